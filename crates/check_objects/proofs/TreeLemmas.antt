@@ -1,0 +1,52 @@
+-- From bytes to the tree that `serde_json` reads, and what stands in it.
+use Rattle.std.proofs.Common.{◌≡◌, ℕ, ◌==◌, not, Bool, true, false, cond, ◌&&◌, ◌||◌, List, [], ◌∷◌, map, Option, Some, None, Bor, String, Global, string_bytes, bytes_eq, refl, ap, length, Ok, Err, arith}
+use Rattle.std.specs.Prelude.{ok_or, IsUtf8}
+use Rattle.std.specs.Str.{is_utf8}
+use Rattle.std.specs.List.{list_any, list_all}
+use Rattle.std.specs.Map.{keys_of}
+use Rattle.std.proofs.lemmas.Str.{IsUtf8-from_is_utf8, is_utf8-from_IsUtf8}
+use Rattle.serde_json.specs.Data.{Data, null, boolean, number, string, array, object, Members}
+use Rattle.serde_json.specs.Find.{as_object}
+use Rattle.serde_json.specs.Read.{read}
+use Rattle.serde_json.specs.View.{view, members_view, items_view}
+use Rattle.serde_json.specs.declared.value.Value.{Value}
+use Rattle.check_objects.specs.declared.error.LoadError.TheVariants as errors
+use Rattle.check_objects.specs.Tree.{tree_of, is_among, only_members, has_only, is_filled}
+
+-- ---- the tree of the bytes
+
+pub tree_some : (bytes : List ℕ) (d : Data) → IsUtf8 bytes → read bytes ≡ Some d → ok_or (tree_of bytes) errors.NotJson ≡ Ok d
+unfolding tree_of
+tree_some bytes d u e = rw (is_utf8-from_IsUtf8 bytes u, e) refl
+
+none_by : (bytes : List ℕ) (b : Bool) → (b ≡ true → read bytes ≡ None) → cond b (read bytes) None ≡ None
+none_by bytes true h = h refl
+none_by bytes false h = refl
+
+pub tree_none : (bytes : List ℕ) → (IsUtf8 bytes → read bytes ≡ None) → ok_or (tree_of bytes) errors.NotJson ≡ Err errors.NotJson
+unfolding tree_of
+tree_none bytes h = rw (none_by bytes (is_utf8 bytes) (λ e. h (IsUtf8-from_is_utf8 bytes e))) refl
+
+-- ---- members and items
+
+pub object_by_members : (d : Data) (ms : Members) → as_object d ≡ Some ms → d ≡ object ms
+object_by_members null ms e = cc
+object_by_members (boolean b) ms e = cc
+object_by_members (number n) ms e = cc
+object_by_members (string s) ms e = cc
+object_by_members (array ds) ms e = cc
+object_by_members (object ms') ms e = cc
+
+among_known : (names : List (Bor (List ℕ))) (key : List ℕ) → list_any (λ name. bytes_eq name.now key) names ≡ is_among (map (λ name. name.now) names) key
+among_known [] key = refl
+among_known (n ∷ ns) key = ap (λ b. bytes_eq n.now key || b) (among_known ns key)
+
+-- the keys of the code's map are the members' names
+pub only_known : (names : List (Bor (List ℕ))) (es : List (String Global × Value)) → list_all (λ key. list_any (λ name. bytes_eq name.now (string_bytes key)) names) (keys_of es) ≡ only_members (map (λ name. name.now) names) (members_view es)
+only_known names [] = refl
+only_known names (e ∷ es) = rw (among_known names (string_bytes e.0), only_known names es) refl
+
+-- a list that isn't empty is filled
+pub filled_by_length : (n : ℕ) (vs : List Value) → n ≡ length vs → not (n == 0) ≡ is_filled (Some (items_view vs))
+filled_by_length n [] e = rw e refl
+filled_by_length n (v ∷ vs) e = let f : (n == 0) ≡ false = grind (arith, e) in ap not f

@@ -1,0 +1,11 @@
+pub mod Place
+pub mod LoadError
+pub mod Configuration
+pub mod Tree
+pub mod Draft
+pub mod Fault
+pub mod Numbering
+pub mod Setup
+pub mod Drafted
+pub mod Entries
+pub mod Kept

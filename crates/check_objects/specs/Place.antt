@@ -1,0 +1,20 @@
+-- The places of a setup document.
+use Rattle.std.specs.Prelude.{ℕ, Some, None}
+use Rattle.check_objects.specs.declared.place.Place.{Place}
+use Rattle.check_objects.specs.declared.place.Part.TheVariants as part
+
+-- the document itself
+abbrev pub the_document : Place
+the_document = record { part = part.Document; index = None }
+
+-- its options
+abbrev pub the_options : Place
+the_options = record { part = part.Options; index = None }
+
+-- its list of hosts, as a whole
+abbrev pub the_hosts : Place
+the_hosts = record { part = part.Hosts; index = None }
+
+-- the host at this index of the list
+abbrev pub host_at : ℕ → Place
+host_at i = record { part = part.Hosts; index = Some i }

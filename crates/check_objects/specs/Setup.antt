@@ -1,0 +1,23 @@
+-- The setup that a document is, or its first refusal: the tree, its drafts, the tests, the numbers.
+use Rattle.std.specs.Prelude.{ℕ, List, length, map, Result, Ok, Err, ok_or, nat_lt, if◌then◌else◌}
+use Rattle.serde_json.specs.Data.{Data}
+use Rattle.check_objects.specs.declared.error.LoadError.{LoadError}
+use Rattle.check_objects.specs.declared.error.LoadError.TheVariants as errors
+use Rattle.check_objects.specs.Configuration.{Configuration}
+use Rattle.check_objects.specs.LoadError.{◌>>=◌}
+use Rattle.check_objects.specs.Tree.{tree_of}
+use Rattle.check_objects.specs.Draft.{Drafts, drafts_of}
+use Rattle.check_objects.specs.Fault.{is_faultless}
+use Rattle.check_objects.specs.Numbering.{named, in_name_order}
+
+-- the setup of drafts without a fault
+abbrev pub configuration : Drafts → Configuration
+configuration drafts = record { options = drafts.options; hosts = in_name_order (map named drafts.hosts) }
+
+-- the setup of a tree
+unfoldable pub setup_of_tree : Data → Result Configuration LoadError
+setup_of_tree d = drafts_of d >>= λ drafts. (is_faultless drafts >>= λ _. Ok (configuration drafts))
+
+-- the setup of a document's bytes
+unfoldable pub setup_of : List ℕ → Result Configuration LoadError
+setup_of bytes = if nat_lt 16777216 (length bytes) then Err errors.TooLong else (ok_or (tree_of bytes) errors.NotJson >>= setup_of_tree)

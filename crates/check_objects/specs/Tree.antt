@@ -1,0 +1,50 @@
+-- The tree that `serde_json` reads, and what its values are read as.
+use Rattle.std.specs.Prelude.{ℕ, ◌&&◌, Bool, true, false, List, [], Option, Some, None, option_and_then, bytes_eq, if◌then◌else◌}
+use Rattle.std.specs.List.{list_any}
+use Rattle.std.specs.Str.{is_utf8}
+use Rattle.serde_json.specs.Data.{Data, null, boolean, number, string, array, object, Items, no_items, item, Members, no_members, member}
+use Rattle.serde_json.specs.Find.{as_number, as_u64, as_array}
+use Rattle.serde_json.specs.Read.{read}
+
+-- the tree of the bytes, if `serde_json` gives a reading
+unfoldable pub tree_of : List ℕ → Option Data
+tree_of bytes = if is_utf8 bytes then read bytes else None
+
+-- whether the name is one of these
+abbrev pub is_among : List (List ℕ) → List ℕ → Bool
+is_among names key = list_any (λ name. bytes_eq name key) names
+
+-- whether each member has one of the names
+abbrev pub only_members : List (List ℕ) → Members → Bool
+only_members names no_members = true
+only_members names (member k d ms) = is_among names k && only_members names ms
+
+-- whether it is an object whose members all have one of the names
+abbrev pub has_only : List (List ℕ) → Data → Bool
+has_only names (object ms) = only_members names ms
+has_only names d = false
+
+-- whether there is an item
+abbrev pub is_filled : Option Items → Bool
+is_filled None = false
+is_filled (Some no_items) = false
+is_filled (Some (item d ds)) = true
+
+-- whether the member is there, and is an array with an item, whatever the item is
+abbrev pub has_items : Option Data → Bool
+has_items value = is_filled (option_and_then as_array value)
+
+-- a whole number from 0 to 2^64 - 1
+abbrev pub whole_number : Data → Option ℕ
+whole_number d = option_and_then as_u64 (as_number d)
+
+-- a member read by parse, or the default where it is absent
+abbrev pub member_or : {A : Type 0} → (Data → Option A) → A → Option Data → Option A
+member_or parse default None = Some default
+member_or parse default (Some d) = parse d
+
+infixl 10 ◌>=>◌
+-- what follows, if there is a value
+abbrev pub ◌>=>◌ : {A B : Type 0} → Option A → (A → Option B) → Option B
+None >=> f = None
+(Some x) >=> f = f x

@@ -1,0 +1,25 @@
+//! The setup that a scheduler works on: the hosts that are checked, their names and numbers.
+//!
+//! A setup is read from one JSON document, whole or not at all. Each fault of a document has a
+//! name of its own, and the first one, in the order of [`LoadError`], is told with its place.
+//! Reading costs time linear in the document, but for the sort of the names; a name is looked up
+//! by its hash.
+#![tactic(auto)]
+
+mod draft;
+mod error;
+mod fault;
+mod numbering;
+mod object;
+mod options;
+mod place;
+mod setup;
+#[cfg(test)]
+mod tests;
+mod tree;
+
+pub use error::LoadError;
+pub use object::Object;
+pub use options::{DelayMethod, Options};
+pub use place::{Part, Place};
+pub use setup::Setup;

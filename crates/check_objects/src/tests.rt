@@ -1,0 +1,191 @@
+//! What no clause says: that good documents are read, and refusals at documents from outside.
+use crate::{DelayMethod, LoadError, Part, Place, Setup};
+use std::alloc::{AllocError, Global};
+use std::test::Fail;
+
+const ONE_HOST: &str =
+    r#"{"options":{"host_inter_check_delay_method":"n"},"hosts":[{"name":"h","max_check_attempts":3}]}"#;
+
+fn place(part: Part, index: Option<usize>) -> Place {
+    Place { part, index }
+}
+
+/// A document with this text as its list of hosts.
+fn with_hosts(alloc: Global, hosts: &str) -> Result<String, AllocError> {
+    format!(in alloc;
+        "{{\"options\":{{\"host_inter_check_delay_method\":\"n\"}},\"hosts\":{hosts}}}"
+    )
+}
+
+/// A document with so many hosts.
+fn of_size(alloc: Global, hosts: usize) -> Result<String, AllocError> {
+    let mut list = String::from_str(alloc, "[")?;
+    for number in 0..hosts {
+        if number > 0 {
+            list.push_str(",")?;
+        }
+        let host = format!(in alloc; "{{\"name\":\"h{number}\",\"max_check_attempts\":3}}")?;
+        list.push_str(host.as_str())?;
+    }
+    list.push_str("]")?;
+    with_hosts(alloc, list.as_str())
+}
+
+#[test]
+fn reads_hosts_in_the_order_of_their_names(rt: HostRuntime) -> Result<(), Fail> {
+    let alloc = rt.alloc();
+    let document = with_hosts(
+        alloc,
+        r#"[{"name":"web","max_check_attempts":255,"check_interval":525600,"retry_interval":0,"enabled":false},
+            {"name":"Db","max_check_attempts":1}]"#,
+    )?;
+    let Ok(setup) = Setup::read(alloc, document.as_bytes()) else {
+        panic!(rt; "the document was refused");
+    };
+    assert_eq!(rt; setup.len(), 2);
+    assert_eq!(rt; setup.hosts(), 2);
+    assert!(rt; !setup.is_empty());
+    assert_eq!(rt; setup.number("web"), Some(1));
+    assert_eq!(rt; setup.number("Db"), Some(0));
+    assert_eq!(rt; setup.number("db"), None);
+    assert_eq!(rt;
+        setup.options().host_inter_check_delay_method,
+        DelayMethod::NoDelay
+    );
+    assert!(rt; setup.len() == 2);
+    if setup.len() == 2 {
+        assert!(rt; setup.name(0) == "Db");
+        let db = *setup.object(0);
+        assert_eq!(rt; (db.check_interval, db.retry_interval), (5, 1));
+        assert_eq!(rt; (db.max_check_attempts, db.enabled), (1, true));
+        let web = *setup.object(1);
+        assert_eq!(rt; (web.check_interval, web.retry_interval), (525_600, 0));
+        assert_eq!(rt; (web.max_check_attempts, web.enabled), (255, false));
+    }
+    Ok(())
+}
+
+#[test]
+fn reads_a_document_without_hosts(rt: HostRuntime) -> Result<(), Fail> {
+    for document in ["{}", r#"{"hosts":[]}"#, r#"{"options":{}}"#] {
+        let Ok(setup) = Setup::read(rt.alloc(), document.as_bytes()) else {
+            panic!(rt; "{document} was refused");
+        };
+        assert!(rt; setup.is_empty());
+        assert_eq!(rt;
+            setup.options().host_inter_check_delay_method,
+            DelayMethod::Smart
+        );
+    }
+    Ok(())
+}
+
+#[test]
+fn refuses_whole_documents(rt: HostRuntime) -> Result<(), Fail> {
+    for (document, want) in [
+        ("", LoadError::NotJson),
+        ("{", LoadError::NotJson),
+        ("[]", LoadError::Shape(place(Part::Document, None))),
+        (
+            r#"{"hots":[]}"#,
+            LoadError::Shape(place(Part::Document, None)),
+        ),
+        (
+            r#"{"services":[]}"#,
+            LoadError::Shape(place(Part::Document, None)),
+        ),
+        (r#"{"hosts":5}"#, LoadError::Shape(place(Part::Hosts, None))),
+        (
+            r#"{"options":5}"#,
+            LoadError::Shape(place(Part::Options, None)),
+        ),
+        (
+            r#"{"hosts":[5]}"#,
+            LoadError::Shape(place(Part::Options, None)),
+        ),
+        (
+            r#"{"options":{"interval_length":60}}"#,
+            LoadError::Shape(place(Part::Options, None)),
+        ),
+        (
+            r#"{"options":{"host_inter_check_delay_method":"s"}}"#,
+            LoadError::Shape(place(Part::Options, None)),
+        ),
+    ] {
+        let refused = Setup::read(rt.alloc(), document.as_bytes());
+        assert!(rt; matches!(&refused, Err(e) if *e == want), "{document}");
+    }
+    Ok(())
+}
+
+#[test]
+fn refuses_lists_of_hosts(rt: HostRuntime) -> Result<(), Fail> {
+    let at = |index: usize| place(Part::Hosts, Some(index));
+    for (hosts, want) in [
+        ("[5]", LoadError::Shape(at(0))),
+        (r#"[{"name":"a"}]"#, LoadError::Shape(at(0))),
+        (
+            r#"[{"name":"a","max_check_attempts":3.0}]"#,
+            LoadError::Shape(at(0)),
+        ),
+        (
+            r#"[{"name":"a","max_check_attempts":3,"parents":[]}]"#,
+            LoadError::Shape(at(0)),
+        ),
+        (
+            r#"[{"name":"a;b","max_check_attempts":3}]"#,
+            LoadError::BadName(at(0)),
+        ),
+        (
+            r#"[{"name":"","max_check_attempts":3}]"#,
+            LoadError::BadName(at(0)),
+        ),
+        (
+            r#"[{"name":"a","max_check_attempts":3},{"name":"a","max_check_attempts":3}]"#,
+            LoadError::Duplicate(at(1)),
+        ),
+        (
+            r#"[{"name":"a","max_check_attempts":0},{"name":"b;","max_check_attempts":3}]"#,
+            LoadError::BadName(at(1)),
+        ),
+        (
+            r#"[{"name":"b","max_check_attempts":3},{"name":"a","max_check_attempts":256}]"#,
+            LoadError::Range(at(1)),
+        ),
+        (
+            r#"[{"name":"a","max_check_attempts":3,"retry_interval":525601}]"#,
+            LoadError::Range(at(0)),
+        ),
+    ] {
+        let document = with_hosts(rt.alloc(), hosts)?;
+        let refused = Setup::read(rt.alloc(), document.as_bytes());
+        assert!(rt; matches!(&refused, Err(e) if *e == want), "{hosts}");
+    }
+    Ok(())
+}
+
+#[test]
+fn counts_objects_and_bytes(rt: HostRuntime) -> Result<(), Fail> {
+    let alloc = rt.alloc();
+    let most = of_size(alloc, 4096)?;
+    assert!(rt; Setup::read(alloc, most.as_bytes()).is_ok());
+    let more = of_size(alloc, 4097)?;
+    let refused = Setup::read(alloc, more.as_bytes());
+    assert!(rt; matches!(&refused, Err(LoadError::TooMany)));
+    let long = vec![in alloc; b' '; 16_777_217]?;
+    let refused = Setup::read(alloc, long.as_slice());
+    assert!(rt; matches!(&refused, Err(LoadError::TooLong)));
+    let refused = Setup::read(alloc, &long[1..]);
+    assert!(rt; matches!(&refused, Err(LoadError::NotJson)));
+    Ok(())
+}
+
+/// With an allocation refused, the answer is want of memory or the ample one.
+#[test]
+fn reads_whole_or_not_at_all(rt: HostRuntime) -> Result<(), Fail> {
+    match Setup::read(rt.alloc(), ONE_HOST.as_bytes()) {
+        Ok(setup) => assert_eq!(rt; setup.number("h"), Some(0)),
+        Err(e) => assert_eq!(rt; e, LoadError::Memory),
+    }
+    Ok(())
+}

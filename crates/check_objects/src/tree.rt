@@ -1,0 +1,89 @@
+//! Looking into the tree that `serde_json` reads from a document.
+ghost use Rattle.std.specs.Prelude.{◌≡◌, map, option_map, ok_or, string_bytes, bytes_eq};
+ghost use Rattle.std.specs.List.{list_all, list_any};
+ghost use Rattle.std.specs.BTreeMap.{keys};
+ghost use Rattle.serde_json.specs.View.{view};
+ghost use Rattle.serde_json.specs.Find.{as_bool};
+ghost use Rattle.check_objects.specs.Tree.{tree_of, has_only, has_items, member_or, whole_number};
+ghost use Rattle.check_objects.specs.LoadError.{Gives};
+
+use crate::error::LoadError;
+use serde_json::{Map, Value};
+use std::alloc::Global;
+
+/// The tree that `serde_json` reads from the bytes.
+pub(crate) fn read_tree(alloc: Global, bytes: &[u8]) -> Result<Value, LoadError>
+    ensures { Gives view result (ok_or (tree_of bytes.now) LoadError.NotJson) }
+{
+    match Value::from_slice(alloc, bytes) {
+        Ok(tree) => Ok(tree),
+        Err(e) => Err(if e.is_memory() {
+            LoadError::Memory
+        } else {
+            LoadError::NotJson
+        }),
+    }
+}
+
+/// Whether the value is an object with no other members than these.
+pub(crate) fn has_only(value: &Value, names: &[&str]) -> bool
+    ensures { result ≡ has_only (map (λ name. name.now) names.now) (view value.now) }
+{
+    match value.as_object() {
+        Some(members) => are_known(members, names),
+        None => false,
+    }
+}
+
+fn are_known(members: &Map<String, Value>, names: &[&str]) -> bool
+    ensures { result ≡
+        list_all (λ key. list_any (λ name. bytes_eq name.now (string_bytes key)) names.now)
+        (keys members.now) }
+{
+    members.keys().all(|key| is_known(key.as_str(), names))
+}
+
+fn is_known(key: &str, names: &[&str]) -> bool
+    ensures { result ≡ list_any (λ name. bytes_eq name.now key.now) names.now }
+{
+    names.iter().any(|name| *name == key)
+}
+
+/// Whether the member is an array with an item.
+pub(crate) fn has_items(value: Option<&Value>) -> bool
+    ensures { result ≡ has_items (option_map (λ v. view v.now) value.entry) }
+{
+    match value {
+        Some(value) => is_filled_array(value),
+        None => false,
+    }
+}
+
+fn is_filled_array(value: &Value) -> bool
+    ensures { result ≡ has_items (option_map (λ v. v) (Some (view value.now))) }
+{
+    match value.as_array() {
+        Some(items) => !items.is_empty(),
+        None => false,
+    }
+}
+
+/// A member's whole number, or the default where the member is absent.
+pub(crate) fn number_or(value: Option<&Value>, default: u64) -> Option<u64>
+    ensures { result ≡ member_or whole_number default (option_map (λ v. view v.now) value.entry) }
+{
+    match value {
+        Some(value) => value.as_u64(),
+        None => Some(default),
+    }
+}
+
+/// A member that is true or false, or the default where it is absent.
+pub(crate) fn bool_or(value: Option<&Value>, default: bool) -> Option<bool>
+    ensures { result ≡ member_or as_bool default (option_map (λ v. view v.now) value.entry) }
+{
+    match value {
+        Some(value) => value.as_bool(),
+        None => Some(default),
+    }
+}

@@ -1,0 +1,3 @@
+mod CandidateLaws
+mod ScanLemmas
+mod StepLaws

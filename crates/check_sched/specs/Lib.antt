@@ -1,0 +1,6 @@
+pub mod ObjectState
+pub mod Candidate
+pub mod State
+pub mod Reply
+pub mod Step
+pub mod Sched

@@ -1,0 +1,39 @@
+//! The search for the object that is checked next: a scan of all objects.
+
+ghost use Rattle.std.specs.Prelude.{◌≡◌, ◌≤◌, length, Some};
+ghost use Rattle.check_sched.specs.Candidate.{candidates_among, earlier_of, least};
+
+use crate::object_state::ObjectState;
+
+/// An object that waits for its check: the time for which it waits, and its number.
+#[derive(Clone, Copy, Debug, PartialEq, Eq)]
+pub(crate) struct Candidate {
+    pub(crate) time: u64,
+    pub(crate) number: u32,
+}
+
+/// The object whose check comes first: the one with the least time, and of those with equal times
+/// the one with the least number. None where no object waits for a check.
+pub(crate) fn least_candidate(objects: &[ObjectState]) -> Option<Candidate>
+    requires { length objects.now ≤ 4096 }
+    ensures { result ≡ least (candidates_among objects.now) }
+{
+    let mut least = None;
+    for (number, object) in objects.iter().enumerate() {
+        if let Some(time) = object.candidate_time() {
+            let number = number as u32;
+            least = Some(earlier(least, Candidate { time, number }));
+        }
+    }
+    least
+}
+
+/// The earlier of the least so far and a candidate with a greater number.
+fn earlier(least: Option<Candidate>, next: Candidate) -> Candidate
+    ensures { result ≡ earlier_of least next }
+{
+    match least {
+        Some(least) if least.time <= next.time => least,
+        _ => next,
+    }
+}

@@ -1,0 +1,22 @@
+//! The sequential scheduler of active checks: which object is checked next, and what each call
+//! answers and leaves.
+//!
+//! A [`Sched`] is made from a setup and the moment at which scheduling starts, and moves by
+//! [`Sched::apply`], one [`Call`] at a time. Moments, times and intervals are in milliseconds.
+//! The rules are those of the Nagios Core 4 manual, chapter "Service and Host Check Scheduling";
+//! where the manual leaves a choice, the profile of this project makes it, and the item says so.
+//!
+//! The modules, from what a caller says to how it is answered: `call` has the calls and their
+//! replies, `object_state` what is kept of one object, `candidate` the search for the object that
+//! is checked next, `sched` the scheduler.
+#![tactic(auto)]
+
+mod call;
+mod candidate;
+mod object_state;
+mod sched;
+#[cfg(test)]
+mod tests;
+
+pub use call::{Call, Refusal, Reply};
+pub use sched::Sched;

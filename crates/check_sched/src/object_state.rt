@@ -1,0 +1,58 @@
+//! What the scheduler keeps of one object between calls.
+
+/// A check that was handed out and hasn't come back: its number, and the moment at which it was
+/// handed out, in milliseconds.
+#[derive(Clone, Copy, Debug, PartialEq, Eq)]
+pub(crate) struct Run {
+    pub(crate) number: u64,
+    pub(crate) start: u64,
+}
+
+/// The scheduling of one object: the time of its next check in milliseconds, the run of the check
+/// that is out, whether its active checks are enabled, and whether its next check is forced.
+#[derive(Clone, Copy, Debug, PartialEq, Eq)]
+pub(crate) struct ObjectState {
+    pub(crate) next: Option<u64>,
+    pub(crate) run: Option<Run>,
+    pub(crate) enabled: bool,
+    pub(crate) forced: bool,
+}
+
+impl ObjectState {
+    ghost use Rattle.std.specs.Prelude.{◌≡◌};
+    ghost use Rattle.check_sched.specs.ObjectState.{candidate_time, opening_object, running_from};
+
+    /// The state of an object when scheduling starts: its first check is at `first`, it doesn't
+    /// run, it is enabled as the setup says, and nothing is forced.
+    pub(crate) fn opening(first: Option<u64>, enabled: bool) -> ObjectState
+        ensures { result ≡ opening_object first enabled }
+    {
+        ObjectState {
+            next: first,
+            run: None,
+            enabled,
+            forced: false,
+        }
+    }
+
+    /// The time for which the object waits: its next time, where it doesn't run and is enabled or
+    /// forced.
+    pub(crate) fn candidate_time(&self) -> Option<u64>
+        ensures { result ≡ candidate_time self.now }
+    {
+        if self.run.is_none() && (self.enabled || self.forced) {
+            self.next
+        } else {
+            None
+        }
+    }
+
+    /// Begins a run: the object loses its next time and its forced mark.
+    pub(crate) fn begin_run(&mut self, run: Run)
+        ensures { self.new ≡ running_from run self.old }
+    {
+        self.next = None;
+        self.run = Some(run);
+        self.forced = false;
+    }
+}

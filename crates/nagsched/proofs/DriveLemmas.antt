@@ -1,0 +1,91 @@
+-- A whole run, and what its faults leave.
+use Rattle.std.proofs.Common.{◌≡◌, ◌≢◌, ℕ, ◌<◌, ◌≤◌, ◌≡◌, true, List, ◌++◌, length, take, Option, Some, None, Result, Ok, Err, refl, sym, ap, ◌∙◌, arith, length-take, inl, inr, ◌⊎◌}
+use Rattle.std.specs.Prelude.{nat_lt, IfSome, IfOk, IfErr, OnOk, IsOkUnless}
+use Rattle.nagsched.specs.declared.drive.Outcome.{Outcome}
+use Rattle.std.specs.Io.KnownBytes.{Appends, Keeps, Consumes}
+use Rattle.std.proofs.lemmas.Bool.{cases_lt}
+use Rattle.std.proofs.lemmas.Bool.Decides.{nat_tests}
+use Rattle.std.proofs.lemmas.List.{take_all}
+use Rattle.nagsched.specs.declared.drive.DriveError.{DriveError}
+use Rattle.nagsched.specs.declared.drive.DriveError.TheVariants as errors
+use Rattle.nagsched.specs.Output.{WroteFront}
+use Rattle.nagsched.specs.Script.{script_of}
+use Rattle.nagsched.specs.Text.{text, script_text}
+use Rattle.nagsched.specs.Drive.{outcome_of, outcome_by, HasRead, AfterFault}
+use Rattle.nagsched.proofs.OutputLemmas.{front_none, front_all, Appends-Keeps}
+
+-- One byte more than an input may have is enough to refuse it.
+script_take_by : (bytes : List ℕ) → (67108864 < length bytes) ⊎ (length bytes ≤ 67108864) → script_of (take 67108865 bytes) ≡ script_of bytes
+unfolding script_of
+script_take_by bytes (inl h) =
+    let a : nat_lt 67108864 (length bytes) ≡ true = grind (arith, nat_tests, h) in
+    let l = length-take 67108865 bytes in
+    let b : nat_lt 67108864 (length (take 67108865 bytes)) ≡ true = grind (arith, nat_tests, h, l) in
+    rw (a, b) refl
+script_take_by bytes (inr h) = let e = take_all 67108865 bytes (omega arith) in rw e refl
+
+pub script_take : (bytes : List ℕ) → script_of (take 67108865 bytes) ≡ script_of bytes
+script_take bytes = script_take_by bytes (cases_lt 67108864 (length bytes))
+
+pub text_take : (start : ℕ) (bytes : List ℕ) → text start (take 67108865 bytes) ≡ text start bytes
+unfolding text
+text_take start bytes = ap (script_text start) (script_take bytes)
+
+pub outcome_take : (bytes : List ℕ) → outcome_of (take 67108865 bytes) ≡ outcome_of bytes
+unfolding outcome_of
+outcome_take bytes = ap outcome_by (script_take bytes)
+
+pub Keeps-same : (known : Option (List ℕ)) → Keeps known known
+Keeps-same None = tt
+Keeps-same (Some xs) = refl
+
+-- ---- faults
+
+pub read_fault : (e : DriveError) (start : ℕ) (had left held : Option (List ℕ)) → e ≢ errors.Write → AfterFault e start had left held held
+read_fault errors.Read start had left held n = Keeps-same held
+read_fault errors.Write start had left held n = absurd (n refl)
+read_fault errors.Memory start None left held n = tt
+read_fault errors.Memory start (Some bytes) left held n = (front_none held (text start bytes), inl (Keeps-same held))
+
+front_of : (start : ℕ) (held holds : Option (List ℕ)) (input bytes : List ℕ) → input ≡ take 67108865 bytes → WroteFront held holds (text start input) → WroteFront held holds (text start bytes)
+front_of start held holds input bytes e f = (f.0, record { front = f.1.front; parts = sym (ap (text start) e ∙ text_take start bytes) ∙ f.1.parts; appended = f.1.appended })
+
+has_read : (left : Option (List ℕ)) (input bytes : List ℕ) → input ≡ take 67108865 bytes → Consumes (Some bytes) left input → HasRead (Some bytes) left bytes
+has_read None input bytes e c = absurd c
+has_read (Some rest) input bytes e c = c ∙ ap (λ l. l ++ rest) e
+
+pub write_fault : (e : DriveError) (start : ℕ) (had left held holds : Option (List ℕ)) (input : List ℕ) → e ≢ errors.Read → IfSome had (λ bytes. input ≡ take 67108865 bytes) → Consumes had left input
+    → WroteFront held holds (text start input) → AfterFault e start had left held holds
+write_fault errors.Read start had left held holds input n all c f = absurd (n refl)
+write_fault errors.Write start None left held holds input n all c f = tt
+write_fault errors.Write start (Some bytes) left held holds input n all c f = (front_of start held holds input bytes all f, inr (has_read left input bytes all c))
+write_fault errors.Memory start None left held holds input n all c f = tt
+write_fault errors.Memory start (Some bytes) left held holds input n all c f = (front_of start held holds input bytes all f, inr (has_read left input bytes all c))
+
+-- ---- runs
+
+pub run_written : (start : ℕ) (had held mid holds : Option (List ℕ)) (input : List ℕ) → IfSome had (λ bytes. input ≡ take 67108865 bytes) → Appends held mid (text start input) → Keeps mid holds
+    → IfSome had (λ bytes. Appends held holds (text start bytes))
+run_written start None held mid holds input all a k = tt
+run_written start (Some bytes) held mid holds input all a k = rw (← text_take start bytes, ← all) (Appends-Keeps held mid holds (text start input) a k)
+
+pub run_read : (had left : Option (List ℕ)) (input : List ℕ) → IfSome had (λ bytes. input ≡ take 67108865 bytes) → Consumes had left input → IfSome had (HasRead had left)
+run_read None left input all c = tt
+run_read (Some bytes) left input all c = has_read left input bytes all c
+
+pub finished_written : (r : Result Outcome DriveError) (start : ℕ) (had held mid holds : Option (List ℕ)) (input : List ℕ) → IfSome had (λ bytes. input ≡ take 67108865 bytes) → Appends held mid (text start input) → Keeps mid holds
+    → OnOk r (IfSome had (λ bytes. Appends held holds (text start bytes)))
+finished_written (Ok x) start had held mid holds input all a k = run_written start had held mid holds input all a k
+finished_written (Err e) start had held mid holds input all a k = tt
+
+pub finished_outcome : (r : Result Outcome DriveError) (had : Option (List ℕ)) (given : Outcome) (input : List ℕ) → IfSome had (λ bytes. input ≡ take 67108865 bytes) → given ≡ outcome_of input → IfOk r (λ o. o ≡ given)
+    → IfOk r (λ o. IfSome had (λ bytes. o ≡ outcome_of bytes))
+finished_outcome (Ok x) None given input all g o = tt
+finished_outcome (Ok x) (Some bytes) given input all g o = o ∙ g ∙ ap outcome_of all ∙ outcome_take bytes
+finished_outcome (Err e) had given input all g o = tt
+
+pub finished_fault : (r : Result Outcome DriveError) (start : ℕ) (had left held mid holds : Option (List ℕ)) (input : List ℕ) → IfSome had (λ bytes. input ≡ take 67108865 bytes) → Consumes had left input
+    → Appends held mid (text start input) → Keeps mid holds → IsOkUnless r errors.Write → IfErr r (λ e. AfterFault e start had left held holds)
+finished_fault (Ok x) start had left held mid holds input all c a k u = tt
+finished_fault (Err e) start had left held mid holds input all c a k u =
+    rw u (write_fault errors.Write start had left held holds input (λ q. cc) all c (front_all held holds (text start input) (Appends-Keeps held mid holds (text start input) a k)))

@@ -1,0 +1,6 @@
+pub mod OutputLemmas
+pub mod InputLemmas
+pub mod CommandLemmas
+pub mod ScriptLemmas
+pub mod TextLemmas
+pub mod DriveLemmas

@@ -1,0 +1,33 @@
+-- The lines of a script.
+use Rattle.std.proofs.Common.{ℕ, ◌==◌, ◌+◌, ◌≤◌, Bool, true, false, cond, List, [], ◌∷◌, length, Option, Some, None, Result, Ok, ◌++◌, ap, arith, Bor}
+use Rattle.std.specs.Iterator.{YieldsFirstRef}
+use Rattle.check_sched.specs.declared.call.Call.{Call}
+use Rattle.nagsched.specs.Command.{◌>>=◌}
+use Rattle.nagsched.specs.Input.{lines_of, onto_first}
+use Rattle.nagsched.specs.declared.input.Lines.{Lines}
+use Rattle.nagsched.specs.declared.refusal.InputRefusal.{InputRefusal}
+
+-- a list of calls that goes on with what follows it
+abbrev pub with_front : List Call → Result (List Call) InputRefusal → Result (List Call) InputRefusal
+with_front front rest = rest >>= λ more. Ok (front ++ more)
+
+-- ---- how many lines there are
+
+length-onto_first : (b : ℕ) (ls : List (List ℕ)) → length (onto_first b ls) ≤ length ls + 1
+length-onto_first b [] = omega arith
+length-onto_first b (l ∷ ls) = omega arith
+
+length_by : (b : ℕ) (ls : List (List ℕ)) (n : ℕ) (t : Bool) → length ls ≤ n → length (cond t ([] ∷ ls) (onto_first b ls)) ≤ n + 1
+length_by b ls n true h = omega arith
+length_by b ls n false h = omega (arith, length-onto_first b ls)
+
+pub length-lines_of : (bs : List ℕ) → length (lines_of bs) ≤ length bs
+length-lines_of [] = omega arith
+length-lines_of (b ∷ bs) = let h = length_by b (lines_of bs) (length bs) (b == 10) (length-lines_of bs) in omega (arith, h)
+
+pub few_lines : (bs : List ℕ) → length bs ≤ 67108864 → length (lines_of bs) ≤ 67108864
+few_lines bs h = omega (arith, length-lines_of bs, h)
+
+pub few_left : (s t : Lines) (r : Option (Bor (List ℕ))) (n : ℕ) → YieldsFirstRef (λ l. lines_of l.rest.now) s r t → length (lines_of s.rest.now) ≤ n → length (lines_of t.rest.now) ≤ n
+few_left s t None n h b = omega (arith, ap length h.1)
+few_left s t (Some x) n h b = omega (arith, ap length h)

@@ -1,0 +1,31 @@
+-- What a run from a reader to a writer leaves, fault or none.
+use Rattle.std.specs.Prelude.{ℕ, ◌⊎◌, List, Option, Some, None, Result, Ok, Err, take, ⊤}
+use Rattle.std.specs.Io.KnownBytes.{Keeps, Consumes}
+use Rattle.nagsched.specs.declared.drive.DriveError.{DriveError}
+use Rattle.nagsched.specs.declared.drive.DriveError.TheVariants as errors
+use Rattle.nagsched.specs.declared.drive.Outcome.{Outcome}
+use Rattle.nagsched.specs.declared.drive.Outcome.TheVariants as outcome
+use Rattle.nagsched.specs.declared.refusal.InputRefusal.{InputRefusal}
+use Rattle.nagsched.specs.Output.{WroteFront}
+use Rattle.nagsched.specs.Script.{Script, script_of}
+use Rattle.nagsched.specs.Text.{text}
+
+abbrev pub outcome_by : Result Script InputRefusal → Outcome
+outcome_by (Ok s) = outcome.Ran
+outcome_by (Err r) = outcome.Refused
+
+-- whether a run on the input makes its calls or refuses it
+unfoldable pub outcome_of : List ℕ → Outcome
+outcome_of input = outcome_by (script_of input)
+
+-- The whole input was read, or one byte more than an input may have.
+abbrev pub HasRead : Option (List ℕ) → Option (List ℕ) → List ℕ → Type 0
+HasRead had left input = Consumes had left (take 67108865 input)
+
+-- What an error leaves, by what the reader had and has left and what the writer held and holds.
+-- After a fault of the reader nothing was written. After any other error a front of the text was,
+-- and nothing at all where the input was read neither to its end nor to the limit.
+abbrev pub AfterFault : DriveError → ℕ → Option (List ℕ) → Option (List ℕ) → Option (List ℕ) → Option (List ℕ) → Type 0
+AfterFault errors.Read start had left held holds = Keeps held holds
+AfterFault e start None left held holds = ⊤
+AfterFault e start (Some input) left held holds = WroteFront held holds (text start input) × (Keeps held holds ⊎ HasRead (Some input) left input)

@@ -1,0 +1,9 @@
+pub mod Input
+pub mod Output
+pub mod Command
+pub mod Script
+pub mod Scripted
+pub mod Agreement
+pub mod Text
+pub mod Drive
+pub mod Session

@@ -1,0 +1,13 @@
+-- What a writer holds after writes that a fault may have cut short.
+use Rattle.std.specs.Prelude.{◌≡◌, ℕ, List, Option, ◌++◌}
+use Rattle.std.specs.Io.KnownBytes.{Appends}
+
+-- the writer took the text up to where `rest` begins, and no more
+pub record WroteUpTo (old new : Option (List ℕ)) (text rest : List ℕ) : Type 0 where
+  pub front : List ℕ
+  pub parts : text ≡ front ++ rest
+  pub appended : Appends old new front
+
+-- the writer took some front of the text, and no more
+abbrev pub WroteFront : Option (List ℕ) → Option (List ℕ) → List ℕ → Type 0
+WroteFront old new text = (rest : List ℕ) × WroteUpTo old new text rest

@@ -1,0 +1,118 @@
+-- The text that a run writes: a function of the start and of the input. The words of each line are
+-- said once, here.
+use Rattle.std.specs.Prelude.{ℕ, List, [], ◌∷◌, ◌++◌, Option, Some, None, Result, Ok, Err, codes, decimal, flat_map}
+use Rattle.check_objects.specs.Configuration.{Configuration, name_of}
+use Rattle.check_objects.specs.declared.error.LoadError.{LoadError}
+use Rattle.check_objects.specs.declared.error.LoadError.TheVariants as load
+use Rattle.check_objects.specs.declared.place.Place.{Place}
+use Rattle.check_objects.specs.declared.place.Part.{Part}
+use Rattle.check_objects.specs.declared.place.Part.TheVariants as part
+use Rattle.check_sched.specs.declared.call.Call.{Call}
+use Rattle.check_sched.specs.declared.call.Reply.{Reply}
+use Rattle.check_sched.specs.declared.call.Reply.TheVariants as reply
+use Rattle.check_sched.specs.declared.call.Refusal.{Refusal}
+use Rattle.check_sched.specs.declared.call.Refusal.TheVariants as refused
+use Rattle.check_sched.specs.State.{State, opening}
+use Rattle.check_sched.specs.Step.{step, replies}
+use Rattle.nagsched.specs.declared.refusal.LineFault.{LineFault}
+use Rattle.nagsched.specs.declared.refusal.LineFault.TheVariants as fault
+use Rattle.nagsched.specs.declared.refusal.InputRefusal.{InputRefusal}
+use Rattle.nagsched.specs.declared.refusal.InputRefusal.TheVariants as refusal
+use Rattle.nagsched.specs.Script.{Script, script_of}
+
+-- a line: its text, ended by a line feed
+abbrev pub line_of : List ℕ → List ℕ
+line_of text = text ++ 10 ∷ []
+
+-- a time in milliseconds, or `none`
+abbrev pub time_text : Option ℕ → List ℕ
+time_text (Some time) = decimal time
+time_text None = codes "none"
+
+-- ---- replies
+
+-- the object with this full name runs under this number
+abbrev pub taken_text : ℕ → List ℕ → List ℕ
+taken_text run name = codes "taken " ++ (decimal run ++ (codes " " ++ name))
+
+-- nothing is due, and this is the time of the next check, if there is one
+abbrev pub idle_text : Option ℕ → List ℕ
+idle_text next = codes "idle " ++ time_text next
+
+-- a refusal for this reason
+abbrev pub refused_text : List ℕ → List ℕ
+refused_text reason = codes "refused " ++ reason
+
+-- why a call was refused
+abbrev pub call_refusal_text : Refusal → List ℕ
+call_refusal_text refused.TimeRange = codes "C2 TimeRange"
+call_refusal_text refused.RunsSpent = codes "C5 RunsSpent"
+
+-- the text of a reply, whose object is told by its full name
+abbrev pub reply_text : Configuration → Reply → List ℕ
+reply_text c (reply.Taken object run) = taken_text run (name_of c object)
+reply_text c (reply.Idle next) = idle_text next
+reply_text c (reply.Refused why) = refused_text (call_refusal_text why)
+
+abbrev pub reply_line : Configuration → Reply → List ℕ
+reply_line c r = line_of (reply_text c r)
+
+-- ---- refusals of the input
+
+-- the part of a setup document: its member, or the document itself
+abbrev pub part_text : Part → List ℕ
+part_text part.Document = codes "document"
+part_text part.Options = codes "options"
+part_text part.Hosts = codes "hosts"
+
+abbrev pub index_text : Option ℕ → List ℕ
+index_text None = []
+index_text (Some i) = codes " " ++ decimal i
+
+-- where in a setup document: the part, and the index where there is one
+abbrev pub place_text : Place → List ℕ
+place_text p = part_text p.part ++ index_text p.index
+
+-- what is wrong with a setup document
+abbrev pub load_text : LoadError → List ℕ
+load_text load.NotJson = codes "L1 NotJson"
+load_text (load.Shape p) = codes "L2 Shape " ++ place_text p
+load_text load.TooMany = codes "L3 TooMany"
+load_text (load.BadName p) = codes "L4 BadName " ++ place_text p
+load_text (load.Duplicate p) = codes "L5 Duplicate " ++ place_text p
+load_text (load.Range p) = codes "L8 Range " ++ place_text p
+load_text load.Memory = codes "L11 Memory"
+load_text load.TooLong = codes "L12 TooLong"
+
+-- what is wrong with a line of a script
+abbrev pub fault_text : LineFault → List ℕ
+fault_text fault.TooLong = codes "S1 TooLong"
+fault_text fault.NotJson = codes "S2 NotJson"
+fault_text fault.Shape = codes "S3 Shape"
+
+-- why an input is refused, and where
+abbrev pub input_refusal_text : InputRefusal → List ℕ
+input_refusal_text (refusal.Setup e) = load_text e
+input_refusal_text (refusal.Line f n) = fault_text f ++ (codes " " ++ decimal n)
+
+abbrev pub refusal_line : InputRefusal → List ℕ
+refusal_line r = line_of (refused_text (input_refusal_text r))
+
+-- ---- the whole text
+
+-- the line of the reply to a call, in this state
+abbrev pub line_from : State → Call → List ℕ
+line_from s c = reply_line s.setup (step s c).1
+
+-- the lines of the replies to the calls, from this state on
+abbrev pub text_from : State → List Call → List ℕ
+text_from s calls = flat_map (reply_line s.setup) (replies s calls)
+
+abbrev pub script_text : ℕ → Result Script InputRefusal → List ℕ
+script_text start (Ok s) = text_from (opening s.setup start) s.calls
+script_text start (Err r) = refusal_line r
+
+-- What a run on the input writes, the scheduler starting at the moment `start`: the one line of the
+-- input's first refusal, or the lines of the replies to its calls, in order.
+unfoldable pub text : ℕ → List ℕ → List ℕ
+text start input = script_text start (script_of input)

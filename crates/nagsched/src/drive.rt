@@ -1,0 +1,184 @@
+//! A run: reads an input, makes its calls on one scheduler, and writes the lines of the replies.
+ghost use Rattle.std.specs.Prelude.{◌≡◌, ◌≤◌, ◌^◌, IfOk, IfErr, IfSome, OnOk, OnErr, IsOkUnless, ◌≢◌};
+ghost use Rattle.std.specs.Io.KnownBytes.{Appends, Keeps};
+ghost use Rattle.check_sched.specs.State.{opening};
+ghost use Rattle.check_sched.specs.Step.{step};
+ghost use Rattle.nagsched.specs.Output.{WroteFront};
+ghost use Rattle.nagsched.specs.Text.{text, text_from, line_from, refusal_line};
+ghost use Rattle.nagsched.specs.Drive.{outcome_of, HasRead, AfterFault};
+
+use crate::input::read_input;
+use crate::output::write_text;
+use crate::refusal::{InputRefusal, ScriptError};
+use crate::script::Script;
+use crate::text::{push_refusal, push_reply};
+use check_sched::{Call, Sched};
+use std::alloc::{AllocError, Global};
+use std::io::{Read, Write};
+use thiserror::Error;
+
+/// How a run ended that met no fault and no want of memory.
+#[derive(Clone, Copy, Debug, PartialEq, Eq)]
+pub enum Outcome {
+    /// Each call of the script was made, and the line of each reply written.
+    Ran,
+    /// The input was refused before any call was made, and the line of its first refusal written.
+    Refused,
+}
+
+/// Why a run ended early.
+#[derive(Clone, Copy, Debug, PartialEq, Eq, Error)]
+pub enum DriveError {
+    /// The reader failed or was interrupted. Nothing was written.
+    #[error("the input could not be read")]
+    Read,
+    /// The writer failed, was interrupted or took no byte, or its flush failed. A front of the text
+    /// was written.
+    #[error("the output could not be written")]
+    Write,
+    /// Memory was wanted. A front of the text was written, and nothing where the input was not
+    /// read.
+    #[error("out of memory")]
+    Memory,
+}
+
+impl From<AllocError> for DriveError {
+    ghost use Rattle.std.specs.Prelude.{◌≡◌};
+    ghost use Rattle.nagsched.specs.declared.drive.DriveError.TheVariants.{Memory};
+
+    ghost from_gives = { λ _ e. e ≡ Memory };
+
+    fn from(_refused: AllocError) -> DriveError {
+        DriveError::Memory
+    }
+}
+
+/// Reads a setup and a script, checks every line, then makes the calls on one scheduler that starts
+/// at the moment `start`, in milliseconds, and writes the line of each reply. An input that is
+/// refused writes the line of its first refusal and nothing else. The writer is flushed once, at
+/// the end.
+///
+/// The input is read whole, but no more than 67,108,865 bytes of it. Any error of the reader or the
+/// writer, an interruption among them, and a write that takes no byte, ends the run.
+pub fn drive<R: Read, W: Write>(
+    alloc: Global,
+    start: u64,
+    reader: &mut R,
+    writer: &mut W,
+) -> Result<Outcome, DriveError>
+    requires { start ≤ 2 ^ 60 }
+    ensures written { OnOk result (IfSome (R.remaining reader.old) (λ input.
+        Appends (W.contents writer.old) (W.contents writer.new) (text start input))) }
+    ensures outcome { IfOk result (λ outcome.
+        IfSome (R.remaining reader.old) (λ input. outcome ≡ outcome_of input)) }
+    ensures read { OnOk result (IfSome (R.remaining reader.old)
+        (HasRead (R.remaining reader.old) (R.remaining reader.new))) }
+    ensures fault { IfErr result (λ e.
+        AfterFault e start (R.remaining reader.old) (R.remaining reader.new)
+        (W.contents writer.old) (W.contents writer.new)) }
+{
+    let input = read_input(alloc, reader)?;
+    let outcome = answer(alloc, start, &input, writer)?;
+    finish(writer, outcome)
+}
+
+/// Writes the text of an input that was read.
+#[tactic(auto, unfolding(crate::specs::Text::text, crate::specs::Drive::outcome_of))]
+fn answer<W: Write>(
+    alloc: Global,
+    start: u64,
+    input: &[u8],
+    writer: &mut W,
+) -> Result<Outcome, DriveError>
+    requires { start ≤ 2 ^ 60 }
+    ensures written { OnOk result
+        (Appends (W.contents writer.old) (W.contents writer.new) (text start input.now)) }
+    ensures outcome { IfOk result (λ outcome. outcome ≡ outcome_of input.now) }
+    ensures fault { OnErr result
+        (WroteFront (W.contents writer.old) (W.contents writer.new) (text start input.now)) }
+    ensures kind { IfErr result (λ e. e ≢ DriveError.Read) }
+{
+    match Script::read(alloc, input) {
+        Ok(script) => run(alloc, start, script, writer),
+        Err(ScriptError::Refused(refusal)) => refuse(alloc, refusal, writer),
+        Err(ScriptError::Memory) => Err(DriveError::Memory),
+    }
+}
+
+/// Makes each call of a script, and writes the line of its reply. One buffer serves all lines.
+fn run<W: Write>(
+    alloc: Global,
+    start: u64,
+    script: Script,
+    writer: &mut W,
+) -> Result<Outcome, DriveError>
+    requires { start ≤ 2 ^ 60 }
+    ensures written { OnOk result (Appends (W.contents writer.old) (W.contents writer.new)
+        (text_from (opening script.setup start) script.calls.items)) }
+    ensures outcome { IfOk result (λ outcome. outcome ≡ Outcome.Ran) }
+    ensures fault { OnErr result (WroteFront (W.contents writer.old) (W.contents writer.new)
+        (text_from (opening script.setup start) script.calls.items)) }
+    ensures kind { IfErr result (λ e. e ≢ DriveError.Read) }
+{
+    let Script { setup, calls } = script;
+    let Ok(mut sched) = Sched::new(alloc, setup, start) else {
+        return Err(DriveError::Memory);
+    };
+    let mut line = String::new(alloc);
+    for call in &calls {
+        make_call(&mut sched, *call, &mut line, writer)?;
+    }
+    Ok(Outcome::Ran)
+}
+
+/// Makes one call, and writes the line of its reply by way of the buffer `line`.
+fn make_call<W: Write>(
+    sched: &mut Sched,
+    call: Call,
+    line: &mut String,
+    writer: &mut W,
+) -> Result<(), DriveError>
+    ensures state { sched.new ≡ (step sched.old call).0 }
+    ensures setup { sched.new.setup ≡ sched.old.setup }
+    ensures written { OnOk result
+        (Appends (W.contents writer.old) (W.contents writer.new) (line_from sched.old call)) }
+    ensures fault { OnErr result
+        (WroteFront (W.contents writer.old) (W.contents writer.new) (line_from sched.old call)) }
+    ensures kind { IfErr result (λ e. e ≢ DriveError.Read) }
+{
+    let reply = sched.apply(call);
+    line.clear();
+    push_reply(line, sched.setup(), reply)?;
+    write_text(writer, line.as_bytes())
+}
+
+/// Writes the line of a refusal.
+fn refuse<W: Write>(
+    alloc: Global,
+    refusal: InputRefusal,
+    writer: &mut W,
+) -> Result<Outcome, DriveError>
+    ensures written { OnOk result
+        (Appends (W.contents writer.old) (W.contents writer.new) (refusal_line refusal)) }
+    ensures outcome { IfOk result (λ outcome. outcome ≡ Outcome.Refused) }
+    ensures fault { OnErr result
+        (WroteFront (W.contents writer.old) (W.contents writer.new) (refusal_line refusal)) }
+    ensures kind { IfErr result (λ e. e ≢ DriveError.Read) }
+{
+    let mut line = String::new(alloc);
+    push_refusal(&mut line, refusal)?;
+    write_text(writer, line.as_bytes())?;
+    Ok(Outcome::Refused)
+}
+
+/// Flushes what was written, and hands the outcome on.
+fn finish<W: Write>(writer: &mut W, outcome: Outcome) -> Result<Outcome, DriveError>
+    ensures kept { Keeps (W.contents writer.old) (W.contents writer.new) }
+    ensures outcome { IfOk result (λ given. given ≡ outcome) }
+    ensures kind { IsOkUnless result DriveError.Write }
+{
+    match writer.flush() {
+        Ok(()) => Ok(outcome),
+        Err(_) => Err(DriveError::Write),
+    }
+}

@@ -1,0 +1,31 @@
+//! Tests of what no clause says: worked inputs whose outputs were written down beforehand, readers
+//! and writers that fail, the limits of an input and its lines, and the program's exit statuses.
+
+mod devices;
+mod faults;
+mod limits;
+mod office;
+mod refusals;
+mod replies;
+mod statuses;
+
+use crate::drive::{Outcome, drive};
+use std::alloc::Global;
+use std::test::Fail;
+
+/// One host `h` with 3 attempts, which is checked first at the scheduler's start.
+const HOST: &str =
+    "{\"options\":{\"host_inter_check_delay_method\":\"n\"},\"hosts\":[{\"name\":\"h\",\"max_check_attempts\":3}]}";
+
+/// What a run on the input writes, from the start 0, and how it ends.
+fn run_on(alloc: Global, input: &[u8]) -> Result<(Vec<u8>, Outcome), Fail> {
+    let mut reader = input;
+    let mut written = Vec::new(alloc);
+    let outcome = drive(alloc, 0, &mut reader, &mut written)?;
+    Ok((written, outcome))
+}
+
+/// The setup with one host, and these lines after it.
+fn with_host(alloc: Global, lines: &str) -> Result<String, Fail> {
+    Ok(format!(in alloc; "{HOST}\n{lines}")?)
+}

@@ -1,0 +1,95 @@
+//! Readers and writers of our own.
+
+use std::alloc::Global;
+use std::io;
+use std::io::{ErrorKind, Read, Write};
+
+/// A reader that gives its bytes, `most` a call, and then fails.
+#[derive(Drop)]
+pub struct FailingReader<'a> {
+    pub bytes: &'a [u8],
+    pub most: usize,
+    pub error: ErrorKind,
+}
+
+impl Read for FailingReader<'_> {
+    fn read(&mut self, buf: &mut [u8]) -> io::Result<usize> {
+        if self.bytes.is_empty() {
+            return Err(io::Error::from(self.error));
+        }
+        let count = buf.len().min(self.most);
+        self.bytes.read(&mut buf[..count])
+    }
+}
+
+/// A reader that gives a front, and then the same byte until it has given `size` bytes. It counts
+/// what it gave.
+#[derive(Drop)]
+pub struct LongReader<'a> {
+    pub front: &'a [u8],
+    pub byte: u8,
+    pub size: usize,
+    pub given: usize,
+}
+
+impl Read for LongReader<'_> {
+    fn read(&mut self, buf: &mut [u8]) -> io::Result<usize> {
+        let count = if self.front.is_empty() {
+            let left = self.size.saturating_sub(self.given);
+            let count = buf.len().min(left);
+            buf[..count].fill(self.byte);
+            count
+        } else {
+            self.front.read(buf)?
+        };
+        self.given = self.given.saturating_add(count);
+        Ok(count)
+    }
+}
+
+/// A writer that takes `room` bytes in all, `most` a call, and then fails. It counts its flushes,
+/// and what it had taken at the last of them.
+#[derive(Drop)]
+pub struct ShortWriter {
+    pub taken: Vec<u8>,
+    pub most: usize,
+    pub room: usize,
+    pub flushes: u32,
+    pub flushed: usize,
+    pub flush_error: Option<ErrorKind>,
+}
+
+impl ShortWriter {
+    /// A writer that takes all, a few bytes a call.
+    pub fn new(alloc: Global, most: usize) -> Self {
+        ShortWriter {
+            taken: Vec::new(alloc),
+            most,
+            room: usize::MAX,
+            flushes: 0,
+            flushed: 0,
+            flush_error: None,
+        }
+    }
+}
+
+impl Write for ShortWriter {
+    fn write(&mut self, buf: &[u8]) -> io::Result<usize> {
+        let room = self.room.saturating_sub(self.taken.len());
+        if room == 0 {
+            return Err(io::Error::from(ErrorKind::BrokenPipe));
+        }
+        let count = buf.len().min(self.most).min(room);
+        self.taken.extend_from_slice(&buf[..count])?;
+        Ok(count)
+    }
+
+    fn flush(&mut self) -> io::Result<()> {
+        self.flushes = self.flushes.saturating_add(1);
+        self.flushed = self.taken.len();
+        match self.flush_error {
+            Some(error) => Err(io::Error::from(error)),
+            None => Ok(()),
+        }
+    }
+}

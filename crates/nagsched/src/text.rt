@@ -1,0 +1,168 @@
+//! The text of replies and refusals. Each has one definition, in `specs/Text.antt`, whatever
+//! subcommand writes it.
+ghost use Rattle.std.specs.Prelude.{◌≡◌, ◌++◌, OnOk, string_bytes};
+ghost use Rattle.check_sched.specs.Reply.{NamesObjectOf};
+ghost use Rattle.nagsched.specs.Text.{line_of, reply_line, taken_text, idle_text, refused_text, refusal_line, call_refusal_text, part_text, fault_text};
+
+use crate::refusal::{InputRefusal, LineFault};
+use check_objects::{LoadError, Part, Place, Setup};
+use check_sched::{Refusal, Reply};
+use std::alloc::AllocError;
+use std::fmt;
+
+/// Appends the line of a reply, with its line feed. The object of the reply is told by its full
+/// name.
+pub fn push_reply(line: &mut String, setup: &Setup, reply: Reply) -> Result<(), AllocError>
+    requires { NamesObjectOf setup.now reply }
+    ensures { OnOk result
+        (string_bytes line.new ≡ string_bytes line.old ++ reply_line setup.now reply) }
+{
+    match reply {
+        Reply::Taken { object, run } => push_taken(line, run, setup.name(object)),
+        Reply::Idle { next } => push_idle(line, TimeText(next)),
+        Reply::Refused(refusal) => push_refused(line, call_refusal_text(refusal)),
+    }
+}
+
+fn push_taken(line: &mut String, run: u64, name: &str) -> Result<(), AllocError>
+    ensures { OnOk result
+        (string_bytes line.new ≡ string_bytes line.old ++ line_of (taken_text run name.now)) }
+{
+    writeln!(line, "taken {run} {name}")
+}
+
+fn push_idle(line: &mut String, next: TimeText) -> Result<(), AllocError>
+    ensures { OnOk result
+        (string_bytes line.new ≡ string_bytes line.old ++ line_of (idle_text next.0)) }
+{
+    writeln!(line, "idle {next}")
+}
+
+fn push_refused(line: &mut String, reason: &str) -> Result<(), AllocError>
+    ensures { OnOk result
+        (string_bytes line.new ≡ string_bytes line.old ++ line_of (refused_text reason.now)) }
+{
+    writeln!(line, "refused {reason}")
+}
+
+/// Appends the line of an input's refusal, with its line feed.
+pub fn push_refusal(line: &mut String, refusal: InputRefusal) -> Result<(), AllocError>
+    ensures { OnOk result
+        (string_bytes line.new ≡ string_bytes line.old ++ refusal_line refusal) }
+{
+    writeln!(line, "refused {refusal}")
+}
+
+impl fmt::Display for InputRefusal {
+    ghost use Rattle.std.specs.Prelude.{Some};
+    ghost use Rattle.nagsched.specs.Text.{input_refusal_text};
+
+    ghost output = { λ refusal. Some (input_refusal_text refusal) };
+
+    fn fmt<W: fmt::Write>(&self, f: &mut fmt::Formatter<W>) -> fmt::Result {
+        match *self {
+            InputRefusal::Setup(error) => {
+                let reason = LoadText(error);
+                write!(f, "{reason}")
+            }
+            InputRefusal::Line { fault, line } => {
+                let reason = fault_text(fault);
+                write!(f, "{reason} {line}")
+            }
+        }
+    }
+}
+
+/// A time in milliseconds, or `none`.
+#[derive(Clone, Copy)]
+struct TimeText(Option<u64>);
+
+impl fmt::Display for TimeText {
+    ghost use Rattle.std.specs.Prelude.{Some};
+    ghost use Rattle.nagsched.specs.Text.{time_text};
+
+    ghost output = { λ t. Some (time_text t.0) };
+
+    fn fmt<W: fmt::Write>(&self, f: &mut fmt::Formatter<W>) -> fmt::Result {
+        match self.0 {
+            Some(time) => write!(f, "{time}"),
+            None => f.write_str("none"),
+        }
+    }
+}
+
+/// Why a call was refused. The call has changed nothing.
+fn call_refusal_text(refusal: Refusal) -> &'static str
+    ensures { result.now ≡ call_refusal_text refusal }
+{
+    match refusal {
+        Refusal::TimeRange => "C2 TimeRange",
+        Refusal::RunsSpent => "C5 RunsSpent",
+    }
+}
+
+/// What is wrong with a line.
+fn fault_text(fault: LineFault) -> &'static str
+    ensures { result.now ≡ fault_text fault }
+{
+    match fault {
+        LineFault::TooLong => "S1 TooLong",
+        LineFault::NotJson => "S2 NotJson",
+        LineFault::Shape => "S3 Shape",
+    }
+}
+
+/// What is wrong with a setup document, and where.
+#[derive(Clone, Copy)]
+struct LoadText(LoadError);
+
+impl fmt::Display for LoadText {
+    ghost use Rattle.std.specs.Prelude.{Some};
+    ghost use Rattle.nagsched.specs.Text.{load_text};
+
+    ghost output = { λ e. Some (load_text e.0) };
+
+    fn fmt<W: fmt::Write>(&self, f: &mut fmt::Formatter<W>) -> fmt::Result {
+        let (reason, place) = match self.0 {
+            LoadError::NotJson => return f.write_str("L1 NotJson"),
+            LoadError::TooMany => return f.write_str("L3 TooMany"),
+            LoadError::Memory => return f.write_str("L11 Memory"),
+            LoadError::TooLong => return f.write_str("L12 TooLong"),
+            LoadError::Shape(place) => ("L2 Shape", PlaceText(place)),
+            LoadError::BadName(place) => ("L4 BadName", PlaceText(place)),
+            LoadError::Duplicate(place) => ("L5 Duplicate", PlaceText(place)),
+            LoadError::Range(place) => ("L8 Range", PlaceText(place)),
+        };
+        write!(f, "{reason} {place}")
+    }
+}
+
+/// A place in a setup document: its part, and the index where there is one.
+#[derive(Clone, Copy)]
+struct PlaceText(Place);
+
+impl fmt::Display for PlaceText {
+    ghost use Rattle.std.specs.Prelude.{Some};
+    ghost use Rattle.nagsched.specs.Text.{place_text};
+
+    ghost output = { λ p. Some (place_text p.0) };
+
+    fn fmt<W: fmt::Write>(&self, f: &mut fmt::Formatter<W>) -> fmt::Result {
+        let part = part_text(self.0.part);
+        match self.0.index {
+            Some(index) => write!(f, "{part} {index}"),
+            None => f.write_str(part),
+        }
+    }
+}
+
+/// A part of a setup document: its member, or the document itself.
+fn part_text(part: Part) -> &'static str
+    ensures { result.now ≡ part_text part }
+{
+    match part {
+        Part::Document => "document",
+        Part::Options => "options",
+        Part::Hosts => "hosts",
+    }
+}
