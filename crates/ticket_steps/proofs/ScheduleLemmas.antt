@@ -1,12 +1,15 @@
 -- What is so after every schedule.
-use Rattle.std.proofs.Common.{◌≡◌, ℕ, ◌+◌, ◌<◌, ◌≤◌, ◌≢◌, List, [], ◌∷◌, ◌++◌, length, take, sym, refl, ap, ◌∙◌, subst, arith, append_assoc, Bool, true, false, cond, eqb}
+use Rattle.std.proofs.Common.{◌≡◌, ℕ, ◌+◌, ◌<◌, ◌≤◌, ◌≢◌, List, [], ◌∷◌, ◌++◌, length, take, get_or, add-one, sym, refl, ap, ◌∙◌, subst, arith, append_assoc, Bool, true, false, cond, eqb}
+use Rattle.std.proofs.Math.Seq.{take-suc}
 use Rattle.std.proofs.lemmas.List.{append-nil}
 use mathlib.Core.Logic.{dite}
 use native.Mathlib.Decide.{ℕ_discrete}
 use Rattle.ticket_steps.specs.declared.kept.Entry.{Entry}
 use Rattle.ticket_steps.specs.declared.events.Event.{Event}
 use Rattle.ticket_steps.specs.Books.{BookState, IsLawfulBook, with_entry, with_refusal}
+use Rattle.ticket_steps.specs.declared.events.Seen.{Seen}
 use Rattle.ticket_steps.specs.CoreStates.{CoreState, opened}
+use Rattle.ticket_steps.specs.Faults.{Shows, LeadsBy}
 use Rattle.ticket_steps.specs.Happenings.{Happening, split, drew, waited, held, recorded, refused, gathered, IsOf, AreOf, recorded_by, Moves, Leads}
 use Rattle.ticket_steps.specs.History.{entry, of}
 use Rattle.ticket_steps.specs.Lawful.{IsLawful}
@@ -69,6 +72,19 @@ module _ {S C R : Type 0} (step : S → C → S × R) where
     leads_of n b c [] t = ap (λ (z : CoreState S C R). of n z.book.entries) t ∙ sym (append-nil (of n b.book.entries))
     leads_of n b c (h ∷ hs) t = leads_of n t.0 c hs t.2 ∙ (ap (λ (l : List (Entry C R)). l ++ recorded_by n hs) (moves_of n b t.0 h t.1)
         ∙ (append_assoc (of n b.book.entries) (recorded_by n (h ∷ [])) (recorded_by n hs) ∙ ap (λ (l : List (Entry C R)). of n b.book.entries ++ l) (sym (recorded-cons n h hs))))
+
+    are_more : (es : List (Event C)) (hs : List (Happening C R)) (e : Event C) (h : Happening C R) → AreOf es hs → IsOf e h → AreOf (es ++ e ∷ []) (hs ++ h ∷ [])
+    are_more [] [] e h t is = (is, tt)
+    are_more [] (x ∷ xs) e h t is = absurd t
+    are_more (x ∷ xs) [] e h t is = absurd t
+    are_more (x ∷ xs) (y ∷ ys) e h t is = (t.0, are_more xs ys e h t.1 is)
+
+    -- one event more, where it is shown
+    pub leads_by_more : (b c d : CoreState S C R) (es : List (Event C)) (k : ℕ) (e : Event C) (seen : Seen R) → LeadsBy step draws b (take k es) c → k < length es → e ≡ get_or es k e → Shows step draws c e seen d
+        → LeadsBy step draws b (take (k + 1) es) d
+    leads_by_more b c d es k e seen t lt read m =
+        let more : take (k + 1) es ≡ take k es ++ e ∷ [] = rw add-one (take-suc es k e lt ∙ ap (λ (x : Event C). take k es ++ x ∷ []) (sym read)) in
+        (t.0 ++ m.0 ∷ [], subst (λ (l : List (Event C)). AreOf l (t.0 ++ m.0 ∷ [])) (sym more) (are_more (take k es) t.0 e m.0 t.1 m.1), leads_more b c d t.0 m.0 t.2 m.3)
 
   pub schedule_lawful : (s : Schedule S C R) → IsSchedule step s → IsLawful s.numbers s.draws s.end
   schedule_lawful s is = leads_lawful s.draws s.numbers (opened s.numbers s.draws s.opening) s.end s.happened (lawful_opened s.numbers s.draws s.opening is.some_number) is.leads

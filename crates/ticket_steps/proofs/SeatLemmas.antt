@@ -10,9 +10,9 @@ use Rattle.ticket_steps.specs.declared.seats.Phase.TheVariants.{Idle, Waiting, H
 use Rattle.ticket_steps.specs.CoreStates.{CoreState}
 use Rattle.ticket_steps.specs.Lawful.{IsSeat, IsLawful}
 use Rattle.ticket_steps.specs.Seats.{tickets_of, holds_one, is_there, tickets_at, holders, answering, Stands}
-use Rattle.ticket_steps.specs.Sums.{total, times, once_below}
+use Rattle.ticket_steps.specs.Sums.{total, times, once_below, counted}
 use Rattle.ticket_steps.proofs.Lists.{at_same}
-use Rattle.ticket_steps.proofs.Totals.{times-same, times-other, times_le, below_le, below_no, below_yes, between, term_le, terms_le, sums_le, sums_lt, only_term, no_term}
+use Rattle.ticket_steps.proofs.Totals.{times-same, times-other, times_le, below_le, below_no, below_yes, between, term_le, terms_le, sums_le, sums_lt, only_term, no_term, counted_last}
 
 abbrev pub tickets : ℕ → CoreSeat → ℕ
 tickets t s = times t (tickets_of s.phase)
@@ -130,3 +130,24 @@ module _ {S C R : Type 0} (numbers draws : ℕ) (c : CoreState S C R) (l : IsLaw
   own_below i p at there = dite (dec_le numbers p.own)
       (λ le. absurd (omega (arith, (l.each i p at).own there, term_le (λ (s : CoreSeat). times p.own s.numbers) c.seats i p at, l.numbered p.own, below_no p.own numbers le)))
       (λ lt. omega arith)
+
+  -- a fresh seat's range is within the numbers
+  pub range_within : (i : ℕ) (p : CoreSeat) → get_elem? c.seats i ≡ some p → p.fresh ≡ true → 0 < length p.numbers → p.own + length p.numbers ≤ numbers
+  range_within i p at fresh some_number =
+      let whole = ((l.each i p at).whole fresh).0 in
+      let k : ℕ = length p.numbers - 1 in
+      let len : k + 1 ≡ length p.numbers = omega arith in
+      let last : 0 < times (p.own + k) p.numbers = omega (arith, counted_last p.own k, ap (times (p.own + k)) (ap (counted p.own) len), ap (times (p.own + k)) whole) in
+      dite (dec_le numbers (p.own + k))
+          (λ le. absurd (omega (arith, last, l.numbered (p.own + k), below_no (p.own + k) numbers le, term_le (λ (s : CoreSeat). times (p.own + k) s.numbers) c.seats i p at)))
+          (λ lt. omega (arith, len))
+
+  -- two seats answer for no more than all numbers, and have ended no more than all calls
+  pub two_numbers : (i k : ℕ) (p q : CoreSeat) → k ≢ i → get_elem? c.seats i ≡ some p → get_elem? c.seats k ≡ some q → length p.numbers + length q.numbers ≤ numbers
+  two_numbers i k p q ne at at' = omega (arith, l.count, terms_le (λ (s : CoreSeat). length s.numbers) c.seats i k p q ne at at')
+
+  pub two_calls : (i k : ℕ) (p q : CoreSeat) → k ≢ i → get_elem? c.seats i ≡ some p → get_elem? c.seats k ≡ some q → p.calls + q.calls ≤ c.served
+  two_calls i k p q ne at at' = omega (arith, l.calls, terms_le (λ (s : CoreSeat). s.calls) c.seats i k p q ne at at')
+
+  pub one_calls : (i : ℕ) (p : CoreSeat) → get_elem? c.seats i ≡ some p → p.calls ≤ c.served
+  one_calls i p at = omega (arith, l.calls, term_le (λ (s : CoreSeat). s.calls) c.seats i p at)

@@ -125,3 +125,15 @@ pub drop-counted : (n k j : ℕ) → k ≤ j → drop k (counted n j) ≡ counte
 drop-counted n zero j h = let e : n + zero ≡ n = omega arith in let d : j - zero ≡ j = omega arith in λ i. counted (sym e i) (sym d i)
 drop-counted n (suc k) zero h = absurd (omega arith)
 drop-counted n (suc k) (suc j) h = let e : n + 1 + k ≡ n + suc k = omega arith in let d : j - k ≡ suc j - suc k = omega arith in drop-counted (n + 1) k j (omega arith) ∙ (λ i. counted (e i) (d i))
+
+-- one number more
+pub counted_more : (n k : ℕ) → counted n (k + 1) ≡ counted n k ++ (n + k) ∷ []
+counted_more n zero = let e : n ≡ n + zero = omega arith in ap (λ (x : ℕ). x ∷ []) e
+counted_more n (suc k) =
+    let e : n + 1 + k ≡ n + suc k = omega arith in
+    let d : suc k + 1 ≡ suc (k + 1) = omega arith in
+    ap (counted n) d ∙ ap (λ (l : List ℕ). n ∷ l) (counted_more (n + 1) k ∙ ap (λ (x : ℕ). counted (n + 1) k ++ x ∷ []) e)
+
+-- the last number of a range is one of its numbers
+pub counted_last : (n k : ℕ) → 0 < times (n + k) (counted n (k + 1))
+counted_last n k = omega (arith, ap (times (n + k)) (counted_more n k), times-append (n + k) (counted n k) ((n + k) ∷ []), times-same (n + k) [])

@@ -9,3 +9,4 @@ pub mod Faults
 pub mod Lawful
 pub mod CounterBooks
 pub mod Schedules
+pub mod Cores
