@@ -1,15 +1,14 @@
 -- Facts that the core's functions cite.
-use Rattle.std.proofs.Common.{mul-le-mul_right, ◌≡◌, ℕ, ◌+◌, ◌-◌, ◌*◌, ◌<◌, ◌≤◌, ◌≢◌, List, [], ◌∷◌, ◌++◌, length, set, sym, refl, ap, ◌∙◌, subst, arith, true, false, Result, Ok, Err}
+use Rattle.std.proofs.Common.{mul-le-mul_right, ◌≡◌, ℕ, ◌+◌, ◌*◌, ◌<◌, ◌≤◌, ◌≢◌, List, [], ◌∷◌, ◌++◌, length, set, sym, refl, ap, ◌∙◌, subst, arith, true}
 use mathlib.Core.Option.{some}
 use lib.ListN.{get_elem?}
 use Rattle.ticket_steps.specs.declared.kept.Entry.{Entry}
 use Rattle.ticket_steps.specs.declared.seats.CoreSeat.{CoreSeat}
-use Rattle.ticket_steps.specs.declared.seats.Phase.TheVariants.{Idle, Waiting, Holding, Gone}
+use Rattle.ticket_steps.specs.declared.seats.Phase.TheVariants.{Idle, Waiting, Holding}
 use Rattle.ticket_steps.specs.Books.{BookState, book_state, with_entry, with_refusal}
 use Rattle.ticket_steps.specs.CoreStates.{CoreState, core_state, opened}
 use Rattle.ticket_steps.specs.Happenings.{split, drew, waited, held, recorded, refused, gathered, with_seats, Moves}
-use Rattle.ticket_steps.specs.Lawful.{IsLawful}
-use Rattle.ticket_steps.specs.Seats.{seat, keeping, given, waiting, holding, ended, joined, gone, Stands}
+use Rattle.ticket_steps.specs.Seats.{seat, keeping, given, waiting, holding, ended, joined, gone}
 use Rattle.ticket_steps.specs.Sums.{counted}
 use Rattle.ticket_steps.proofs.Lists.{at_same, set_swap}
 use Rattle.ticket_steps.proofs.Totals.{length-counted}

@@ -1,5 +1,5 @@
 -- An event is shown or has one fault.
-use Rattle.std.proofs.Common.{◌≡◌, ◌≢◌, ◌↔◌, ℕ, ◌<◌, List, [], ◌∷◌, length, get_or, arith, sym, refl, ap, ◌∙◌, subst, true, Result, Ok, Err}
+use Rattle.std.proofs.Common.{◌≡◌, ◌≢◌, ℕ, ◌<◌, List, length, get_or, arith, sym, refl, ap, ◌∙◌, subst, true, Ok, Err}
 use mathlib.Core.Option.{some}
 use lib.ListN.{get_elem?}
 use Rattle.ticket_steps.specs.declared.seats.CoreSeat.{CoreSeat}
@@ -97,8 +97,11 @@ module _ {S C R : Type 0} (numbers draws : ℕ) (c : CoreState S C R) (l : IsLaw
   same_phase phase k q there' st = ap (λ (s : CoreSeat). s.phase) (sym (phase_is numbers draws c i k own p q phase l at called there there' st)) ∙ st.2
 
   pub unfit_split : (count : ℕ) → ((p.phase ≡ Idle) × (p.fresh ≡ true) × (0 < count) × (count < length p.numbers) → ⊥) → IsFault {C = C} c.seats (Split own count) Phase
-  unfit_split count wrong = (here, λ t. let same = phase_is numbers draws c i t.0 own p t.1 Idle l at called there refl t.2 in
-      wrong (ap (λ (s : CoreSeat). s.phase) (sym same) ∙ t.2.2, ap (λ (s : CoreSeat). s.fresh) (sym same) ∙ t.3, t.4, subst (λ (s : CoreSeat). count < length s.numbers) same t.5))
+  unfit_split count wrong = (
+    here,
+    λ t. let same = phase_is numbers draws c i t.0 own p t.1 Idle l at called there refl t.2 in
+        wrong (ap (λ (s : CoreSeat). s.phase) (sym same) ∙ t.2.2, ap (λ (s : CoreSeat). s.fresh) (sym same) ∙ t.3, t.4, subst (λ (s : CoreSeat). count < length s.numbers) same t.5),
+  )
 
   pub unfit_draw : (p.phase ≡ Idle → ⊥) → IsFault {C = C} c.seats (Draw own) Phase
   unfit_draw wrong = (here, λ t. wrong (same_phase Idle t.0 t.1 refl t.2))
@@ -113,8 +116,11 @@ module _ {S C R : Type 0} (numbers draws : ℕ) (c : CoreState S C R) (l : IsLaw
   unfit_leave call wrong = (here, λ t. wrong t.2 (same_phase (Holding t.2) t.0 t.1 refl t.3))
 
   pub unfit_gather : (k other : ℕ) (q : CoreSeat) → get_elem? c.seats k ≡ some q → q.own ≡ other → is_there q.phase ≡ true → ((own ≢ other) × (p.phase ≡ Idle) × (q.phase ≡ Idle) → ⊥) → IsFault {C = C} c.seats (Gather own other) Phase
-  unfit_gather k other q at' called' there' wrong = ((here, (k, q, at', called', there')), λ t. wrong (
-    t.6,
-    same_phase Idle t.0 t.1 refl t.4,
-    ap (λ (s : CoreSeat). s.phase) (sym (phase_is numbers draws c k t.2 other q t.3 Idle l at' called' there' refl t.5)) ∙ t.5.2,
-  ))
+  unfit_gather k other q at' called' there' wrong = (
+    (here, (k, q, at', called', there')),
+    λ t. wrong (
+      t.6,
+      same_phase Idle t.0 t.1 refl t.4,
+      ap (λ (s : CoreSeat). s.phase) (sym (phase_is numbers draws c k t.2 other q t.3 Idle l at' called' there' refl t.5)) ∙ t.5.2,
+    ),
+  )

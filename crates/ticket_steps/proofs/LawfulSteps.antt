@@ -1,17 +1,15 @@
 -- Whatever happens keeps a core state lawful.
-use Rattle.std.proofs.Common.{◌≡◌, ℕ, ◌+◌, ◌-◌, ◌*◌, ◌<◌, ◌≤◌, ◌≢◌, List, [], ◌∷◌, ◌++◌, length, set, take, drop, sym, refl, ap, ◌∙◌, subst, ⊎_elim, arith, length-append, length-set, zero-add, Bool, true, false, cond}
-use Rattle.std.proofs.lemmas.List.{length-take-le, length-drop}
+use Rattle.std.proofs.Common.{◌≡◌, ℕ, ◌+◌, ◌-◌, ◌*◌, ◌<◌, ◌≢◌, List, [], ◌∷◌, ◌++◌, length, set, take, drop, sym, refl, ap, ◌∙◌, subst, ⊎_elim, arith, length-append, length-set, zero-add, Bool, true, cond}
 use mathlib.Core.Option.{some, some-ne-none}
 use lib.ListN.{get_elem?}
 use Rattle.ticket_steps.specs.declared.seats.CoreSeat.{CoreSeat}
-use Rattle.ticket_steps.specs.declared.seats.Phase.{Phase}
-use Rattle.ticket_steps.specs.declared.seats.Phase.TheVariants.{Idle, Waiting, Holding, Gone}
-use Rattle.ticket_steps.specs.Books.{BookState, with_entry, with_refusal, empty_book}
+use Rattle.ticket_steps.specs.declared.seats.Phase.TheVariants.{Idle, Waiting, Holding}
+use Rattle.ticket_steps.specs.Books.{BookState, with_entry, with_refusal}
 use Rattle.ticket_steps.specs.CoreStates.{CoreState, core_state, opened}
-use Rattle.ticket_steps.specs.Happenings.{Happening, split, drew, waited, held, recorded, refused, gathered, with_seats, after_leave, Moves, Leads}
+use Rattle.ticket_steps.specs.Happenings.{Happening, split, drew, waited, held, recorded, refused, gathered, with_seats, after_leave, Moves}
 use Rattle.ticket_steps.specs.History.{entry}
 use Rattle.ticket_steps.specs.Lawful.{IsSeat, IsLawful, spare}
-use Rattle.ticket_steps.specs.Seats.{tickets_of, is_there, tickets_at, answering, fresh_seat, gone, keeping, given, waiting, holding, ended, joined, Stands}
+use Rattle.ticket_steps.specs.Seats.{tickets_of, is_there, fresh_seat, gone, keeping, given, waiting, holding, ended, joined, Stands}
 use Rattle.ticket_steps.specs.Sums.{total, times, once_below, counted}
 use Rattle.ticket_steps.proofs.Lists.{at_set, at_snoc, at_same, set_else, at_within}
 use Rattle.ticket_steps.proofs.SeatLemmas.{tickets, tickets_idle, tickets_waiting, tickets_holding, sole}

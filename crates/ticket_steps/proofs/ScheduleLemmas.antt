@@ -1,9 +1,7 @@
 -- What is so after every schedule.
-use Rattle.std.proofs.Common.{◌≡◌, ℕ, ◌+◌, ◌<◌, ◌≤◌, ◌≢◌, List, [], ◌∷◌, ◌++◌, length, take, get_or, add-one, sym, refl, ap, ◌∙◌, subst, arith, append_assoc, Bool, true, false, cond, eqb}
+use Rattle.std.proofs.Common.{◌≡◌, ℕ, ◌+◌, ◌<◌, ◌≤◌, List, [], ◌∷◌, ◌++◌, length, take, get_or, add-one, sym, refl, ap, ◌∙◌, subst, arith, append_assoc, true, false, cond, eqb}
 use Rattle.std.proofs.Math.Seq.{take-suc}
 use Rattle.std.proofs.lemmas.List.{append-nil}
-use mathlib.Core.Logic.{dite}
-use native.Mathlib.Decide.{ℕ_discrete}
 use Rattle.ticket_steps.specs.declared.kept.Entry.{Entry}
 use Rattle.ticket_steps.specs.declared.events.Event.{Event}
 use Rattle.ticket_steps.specs.Books.{BookState, IsLawfulBook, with_entry, with_refusal}

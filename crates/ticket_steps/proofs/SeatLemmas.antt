@@ -1,18 +1,17 @@
 -- What a lawful core state says of its seats.
-use Rattle.std.proofs.Common.{◌≡◌, ℕ, ◌+◌, ◌-◌, ◌*◌, ◌<◌, ◌≤◌, ◌≢◌, ◌⊎◌, List, [], ◌∷◌, ◌++◌, length, set, sym, refl, ap, ◌∙◌, subst, ⊎_elim, inl, inr, arith, Bool, true, false}
+use Rattle.std.proofs.Common.{◌≡◌, ℕ, ◌+◌, ◌-◌, ◌<◌, ◌≤◌, ◌≢◌, ◌⊎◌, [], ◌∷◌, length, sym, refl, ap, ◌∙◌, ⊎_elim, inl, inr, arith, true, false}
 use mathlib.Core.Logic.{dite}
 use native.Mathlib.Decide.{ℕ_discrete, dec_le}
-use mathlib.Core.Option.{some, some-ne-none}
+use mathlib.Core.Option.{some}
 use lib.ListN.{get_elem?}
 use Rattle.ticket_steps.specs.declared.seats.CoreSeat.{CoreSeat}
 use Rattle.ticket_steps.specs.declared.seats.Phase.{Phase}
 use Rattle.ticket_steps.specs.declared.seats.Phase.TheVariants.{Idle, Waiting, Holding, Gone}
 use Rattle.ticket_steps.specs.CoreStates.{CoreState}
 use Rattle.ticket_steps.specs.Lawful.{IsSeat, IsLawful}
-use Rattle.ticket_steps.specs.Seats.{tickets_of, holds_one, is_there, tickets_at, holders, answering, Stands}
+use Rattle.ticket_steps.specs.Seats.{tickets_of, holds_one, is_there, tickets_at, holders}
 use Rattle.ticket_steps.specs.Sums.{total, times, once_below, counted}
-use Rattle.ticket_steps.proofs.Lists.{at_same}
-use Rattle.ticket_steps.proofs.Totals.{times-same, times-other, times_le, below_le, below_no, below_yes, between, term_le, terms_le, sums_le, sums_lt, only_term, no_term, counted_last}
+use Rattle.ticket_steps.proofs.Totals.{times-same, times-other, times_le, below_le, below_no, below_yes, between, term_le, terms_le, sums_le, sums_lt, only_term, counted_last}
 
 abbrev pub tickets : ℕ → CoreSeat → ℕ
 tickets t s = times t (tickets_of s.phase)
@@ -139,8 +138,8 @@ module _ {S C R : Type 0} (numbers draws : ℕ) (c : CoreState S C R) (l : IsLaw
       let len : k + 1 ≡ length p.numbers = omega arith in
       let last : 0 < times (p.own + k) p.numbers = omega (arith, counted_last p.own k, ap (times (p.own + k)) (ap (counted p.own) len), ap (times (p.own + k)) whole) in
       dite (dec_le numbers (p.own + k))
-          (λ le. absurd (omega (arith, last, l.numbered (p.own + k), below_no (p.own + k) numbers le, term_le (λ (s : CoreSeat). times (p.own + k) s.numbers) c.seats i p at)))
-          (λ lt. omega (arith, len))
+      (λ le. absurd (omega (arith, last, l.numbered (p.own + k), below_no (p.own + k) numbers le, term_le (λ (s : CoreSeat). times (p.own + k) s.numbers) c.seats i p at)))
+      (λ lt. omega (arith, len))
 
   -- two seats answer for no more than all numbers, and have ended no more than all calls
   pub two_numbers : (i k : ℕ) (p q : CoreSeat) → k ≢ i → get_elem? c.seats i ≡ some p → get_elem? c.seats k ≡ some q → length p.numbers + length q.numbers ≤ numbers

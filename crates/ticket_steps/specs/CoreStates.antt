@@ -1,6 +1,5 @@
 -- The states of the core: the next ticket, the number served, the seats and the book.
-use Rattle.std.specs.Prelude.{◌≡◌, ℕ, ◌*◌, List, [], ◌∷◌}
-use Rattle.ticket_steps.specs.declared.kept.Entry.{Entry}
+use Rattle.std.specs.Prelude.{◌≡◌, ℕ, List, [], ◌∷◌}
 use Rattle.ticket_steps.specs.declared.seats.CoreSeat.{CoreSeat}
 use Rattle.ticket_steps.specs.Books.{BookState, empty_book}
 use Rattle.ticket_steps.specs.Seats.{fresh_seat, holders}

@@ -2,7 +2,7 @@
 use Rattle.std.specs.Prelude.{◌≡◌, ℕ}
 use Rattle.ticket_steps.specs.declared.kept.Kept.{Ghosts}
 use Rattle.ticket_steps.specs.declared.core_steps.Core.{Core}
-use Rattle.ticket_steps.specs.Books.{BookState, book_state}
+use Rattle.ticket_steps.specs.Books.{book_state}
 use Rattle.ticket_steps.specs.CoreStates.{CoreState, core_state}
 
 module _ {K C R : Type 0} {G : Ghosts K C R} where

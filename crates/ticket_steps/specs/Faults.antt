@@ -1,7 +1,5 @@
 -- The faults of an event in a core state, and what one step of the core does.
-use Rattle.std.specs.Prelude.{◌≡◌, ◌≢◌, ◌↔◌, ℕ, ◌<◌, List, [], ◌∷◌, length, take, true, IfOk, OnErr, Result, Ok, Err}
-use mathlib.Core.Option.{some}
-use lib.ListN.{get_elem?}
+use Rattle.std.specs.Prelude.{◌≡◌, ◌≢◌, ◌↔◌, ℕ, ◌<◌, List, length, true, IfOk, OnErr, Result, Err}
 use Rattle.ticket_steps.specs.declared.seats.CoreSeat.{CoreSeat}
 use Rattle.ticket_steps.specs.declared.seats.Phase.TheVariants.{Idle, Waiting, Holding}
 use Rattle.ticket_steps.specs.declared.events.Event.{Event}

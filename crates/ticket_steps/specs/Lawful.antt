@@ -1,14 +1,11 @@
 -- What is so of every core state, whatever schedule led to it.
-use Rattle.std.specs.Prelude.{◌≡◌, ℕ, ◌+◌, ◌-◌, ◌*◌, ◌<◌, ◌≤◌, List, [], ◌∷◌, length, true, false, cond}
+use Rattle.std.specs.Prelude.{◌≡◌, ℕ, ◌+◌, ◌-◌, ◌*◌, ◌<◌, ◌≤◌, [], length, true, false, cond}
 use mathlib.Core.Option.{some}
 use lib.ListN.{get_elem?}
-use Rattle.ticket_steps.specs.declared.kept.Entry.{Entry}
 use Rattle.ticket_steps.specs.declared.seats.CoreSeat.{CoreSeat}
 use Rattle.ticket_steps.specs.declared.seats.Phase.TheVariants.{Holding}
-use Rattle.ticket_steps.specs.CoreStates.{CoreState, opened}
-use Rattle.ticket_steps.specs.Happenings.{Happening, Leads}
-use Rattle.ticket_steps.specs.History.{of}
-use Rattle.ticket_steps.specs.Seats.{is_there, tickets_of, tickets_at, answering}
+use Rattle.ticket_steps.specs.CoreStates.{CoreState}
+use Rattle.ticket_steps.specs.Seats.{is_there, tickets_at, answering}
 use Rattle.ticket_steps.specs.Sums.{total, times, once_below, counted}
 
 -- what is so of each seat, where this number is served

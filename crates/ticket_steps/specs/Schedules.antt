@@ -1,6 +1,5 @@
 -- Schedules: what happened from an opening on, in whatever order the seats stepped, and the core state at the end.
-use Rattle.std.specs.Prelude.{◌≡◌, ℕ, ◌+◌, ◌<◌, ◌≤◌, List, length}
-use Rattle.ticket_steps.specs.declared.seats.CoreSeat.{CoreSeat}
+use Rattle.std.specs.Prelude.{◌≡◌, ℕ, ◌<◌, ◌≤◌, List}
 use Rattle.ticket_steps.specs.CoreStates.{CoreState, opened}
 use Rattle.ticket_steps.specs.Happenings.{Happening, Leads}
 use Rattle.ticket_steps.specs.Seats.{tickets_at}

@@ -15,8 +15,7 @@ pub struct CounterBook {
     refused: u64,
     room: usize,
     ghost reserved: { room ≤ vec_capacity entries },
-    ghost legal: { IsLegal counts 0 entries.items }
-        by { IsLegal-prop counts (Coded-set coded_ℕ) 0 entries.items },
+    ghost legal: { IsLegal counts 0 entries.items } by { IsLegal-prop counts (Coded-set coded_ℕ) 0 entries.items },
     ghost summed: { sum ≡ replay counts 0 entries.items },
 }
 

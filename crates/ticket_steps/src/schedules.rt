@@ -52,5 +52,4 @@ pub fn every_schedule<K: Kept>()
         → (number : ℕ) → answering number s.end.seats ≡ once_below number s.numbers }
     ensures supply { (s : Schedule K.State K.Call K.Reply) → IsSchedule K.step s
         → s.end.next + total (λ (p : CoreSeat). p.left) s.end.seats ≤ s.numbers * s.draws }
-{
-}
+{}

@@ -66,8 +66,16 @@ fn two_seats_take_turns(rt: HostRuntime) -> Result<(), Fail> {
 fn a_fresh_core_has_faults(rt: HostRuntime) -> Result<(), Fail> {
     let mut core = core_of_two(rt.alloc())?;
     assert_eq!(rt; core.step(look(0)), Err(Fault::Phase), "before a draw");
-    assert_eq!(rt; core.step(Event::Split { seat: 0, count: 0 }), Err(Fault::Phase), "of none");
-    assert_eq!(rt; core.step(Event::Split { seat: 0, count: 2 }), Err(Fault::Phase), "of all");
+    assert_eq!(rt;
+        core.step(Event::Split { seat: 0, count: 0 }),
+        Err(Fault::Phase),
+        "of none"
+    );
+    assert_eq!(rt;
+        core.step(Event::Split { seat: 0, count: 2 }),
+        Err(Fault::Phase),
+        "of all"
+    );
     assert_eq!(rt; core.step(gather(0, 0)), Err(Fault::Phase), "into itself");
     assert_eq!(rt; core.step(look(1)), Err(Fault::NoSeat), "before the split");
     assert_eq!(rt; core.step(SPLIT), Ok(Seen::Split));
@@ -93,8 +101,14 @@ fn a_run_stops_at_the_first_fault(rt: HostRuntime) -> Result<(), Fail> {
     assert_eq!(rt; core.run(&events), Err((9, Fault::Phase)));
     let entries = core.book().entries();
     assert_eq!(rt; entries.len(), 2);
-    assert_eq!(rt; (entries[0].pass, entries[0].call, entries[0].reply), (0, 5, 5));
-    assert_eq!(rt; (entries[1].pass, entries[1].call, entries[1].reply), (1, 7, 12));
+    assert_eq!(rt;
+        (entries[0].pass, entries[0].call, entries[0].reply),
+        (0, 5, 5)
+    );
+    assert_eq!(rt;
+        (entries[1].pass, entries[1].call, entries[1].reply),
+        (1, 7, 12)
+    );
     Ok(())
 }
 
@@ -121,7 +135,10 @@ fn a_book_counts_what_it_refuses(rt: HostRuntime) -> Result<(), Fail> {
             }
         }
     }
-    assert_eq!(rt; book.entries().len() as u64, 200u64.wrapping_sub(book.refused()));
+    assert_eq!(rt;
+        book.entries().len() as u64,
+        200u64.wrapping_sub(book.refused())
+    );
     assert_eq!(rt; book.room(), 4);
     Ok(())
 }

@@ -1,7 +1,6 @@
-use Rattle.std.proofs.Common.{rules, ◌≡◌, ◌+◌, ◌<◌, arith, sym, ap, ◌∙◌, refl, List, ℕ, subst}
+use Rattle.std.proofs.Common.{rules, ◌<◌, arith, sym, ap, ◌∙◌, refl}
 use Rattle.std.proofs.lemmas.Bool.{false≢true}
 use Rattle.ticket_steps.specs.declared.seats.CoreSeat.{CoreSeat}
-use Rattle.ticket_steps.specs.declared.seats.Phase.TheVariants.{Idle}
 use Rattle.ticket_steps.specs.declared.events.Event.TheVariants.{Draw}
 use Rattle.ticket_steps.specs.declared.events.Seen.TheVariants.{Drew}
 use Rattle.ticket_steps.specs.declared.events.Fault.TheVariants.{Phase, Spent}

@@ -1,16 +1,15 @@
-use Rattle.std.proofs.Common.{rules, ◌≡◌, ◌≢◌, ◌+◌, ◌-◌, ◌<◌, ◌≤◌, ◌∷◌, ◌++◌, [], arith, sym, ap, ◌∙◌, refl, List, ℕ, subst, set, length, true, false, Ok, Err}
+use Rattle.std.proofs.Common.{rules, ◌≡◌, ◌≢◌, arith, sym, ap, ◌∙◌, refl, ℕ, subst, set, length}
 use Rattle.std.proofs.lemmas.Bool.{false≢true}
 use mathlib.Core.Option.{some}
 use lib.ListN.{get_elem?}
-use Rattle.ticket_steps.specs.declared.kept.NoMemory.{NoMemory}
 use Rattle.ticket_steps.specs.declared.seats.CoreSeat.{CoreSeat}
-use Rattle.ticket_steps.specs.declared.seats.Phase.TheVariants.{Idle, Waiting, Holding}
+use Rattle.ticket_steps.specs.declared.seats.Phase.TheVariants.{Idle}
 use Rattle.ticket_steps.specs.declared.events.Event.TheVariants.{Gather}
 use Rattle.ticket_steps.specs.declared.events.Seen.TheVariants as seen
 use Rattle.ticket_steps.specs.declared.events.Fault.TheVariants.{Phase}
 use Rattle.ticket_steps.specs.Cores.{state_of}
 use Rattle.ticket_steps.specs.Happenings.{gathered}
-use Rattle.ticket_steps.specs.Seats.{joined, gone}
+use Rattle.ticket_steps.specs.Seats.{joined}
 use Rattle.ticket_steps.proofs.CoreLemmas.{gather_moves, few_tickets}
 use Rattle.ticket_steps.proofs.FaultLemmas.{steps_fault, steps_shown, read_is, unfit_gather}
 use Rattle.ticket_steps.proofs.Lists.{at_same, set_else}
@@ -25,14 +24,14 @@ returns-then-seat-other-clause-step g c =
     let e = c.in_ok-at.ensures.found in
     let d = c.in_ok-from.ensures.found in
     let bad : ((c.args.seat ≢ c.args.other) × (e.0.phase ≡ Idle) × (d.0.phase ≡ Idle) → ⊥) = elim c.then-seat-other.branch [
-      then-seat-other-via-then-seat-other w ↦ λ t. t.0 w.if-seat-other.true
+      | then-seat-other-via-then-seat-other w ↦ λ t. t.0 w.if-seat-other.true
       | then-seat-other-via-else-seat-other+then-not-is_idle w ↦ λ t. let is = read_is self.seats.items c.in_ok-at.at e.0 w.index.result.now e.1 w.index.ensures in
-        false≢true (sym w.if-not-is_idle.true ∙ w.is_idle.ensures.1 (ap (λ (s : CoreSeat). s.phase) is ∙ t.1))
+          false≢true (sym w.if-not-is_idle.true ∙ w.is_idle.ensures.1 (ap (λ (s : CoreSeat). s.phase) is ∙ t.1))
       | then-seat-other-via-else-seat-other+else-not-is_idle+then-not-is_idle-2 w ↦ λ t. let is = read_is self.seats.items c.in_ok-from.from d.0 w.index-else-not-is_idle.result.now d.1 w.index-else-not-is_idle.ensures in
-        false≢true (sym w.if-not-is_idle-2.true ∙ w.is_idle-else-not-is_idle.ensures.1 (ap (λ (s : CoreSeat). s.phase) is ∙ t.2))
+          false≢true (sym w.if-not-is_idle-2.true ∙ w.is_idle-else-not-is_idle.ensures.1 (ap (λ (s : CoreSeat). s.phase) is ∙ t.2))
     ] in
     steps_fault g.K.Kept.step self.draws (state_of self) (Gather c.args.seat c.args.other) Phase
-        (unfit_gather self.numbers self.draws (state_of self) self.lawful c.in_ok-at.at c.args.seat e.0 e.1 e.2 e.3 c.in_ok-from.from c.args.other d.0 d.1 d.2 d.3 bad)
+    (unfit_gather self.numbers self.draws (state_of self) self.lawful c.in_ok-at.at c.args.seat e.0 e.1 e.2 e.3 c.in_ok-from.from c.args.other d.0 d.1 d.2 d.3 bad)
 
 pub join-requires-clause-idle : goal.join-requires-clause-idle
 join-requires-clause-idle g c =
@@ -98,7 +97,7 @@ invariant_of-self g c =
     let idle = ap (λ (s : CoreSeat). s.phase) (sym is) ∙ c.is_idle.ensures.0 c.if-not-is_idle.false in
     let idle' = ap (λ (s : CoreSeat). s.phase) (sym from_is) ∙ c.is_idle-else-not-is_idle.ensures.0 c.if-not-is_idle-2.false in
     let move = gather_moves g.K.Kept.step self.draws (state_of self) c.in_ok-at.at c.args.seat e.0 e.1 e.2 c.in_ok-from.from c.args.other d.0 c.give_up-given.new.self c.join.new.self d.1 d.2 idle idle' c.if-seat-other.false
-        c.give_up-given.ensures.gone (c.join.ensures ∙ (λ i. joined (is' i) (was i))) in
+    c.give_up-given.ensures.gone (c.join.ensures ∙ (λ i. joined (is' i) (was i))) in
     record {
       few = search rules;
       few_draws = search rules;
@@ -121,5 +120,5 @@ returns-clause-step g c =
     let idle = ap (λ (s : CoreSeat). s.phase) (sym is) ∙ c.is_idle.ensures.0 c.if-not-is_idle.false in
     let idle' = ap (λ (s : CoreSeat). s.phase) (sym from_is) ∙ c.is_idle-else-not-is_idle.ensures.0 c.if-not-is_idle-2.false in
     let move = gather_moves g.K.Kept.step self.draws (state_of self) c.in_ok-at.at c.args.seat e.0 e.1 e.2 c.in_ok-from.from c.args.other d.0 c.give_up-given.new.self c.join.new.self d.1 d.2 idle idle' c.if-seat-other.false
-        c.give_up-given.ensures.gone (c.join.ensures ∙ (λ i. joined (is' i) (was i))) in
+    c.give_up-given.ensures.gone (c.join.ensures ∙ (λ i. joined (is' i) (was i))) in
     steps_shown g.K.Kept.step self.draws (state_of self) _ (Gather c.args.seat c.args.other) seen.Gathered (gathered c.args.seat c.args.other, refl, refl, move)

@@ -1,4 +1,4 @@
-use Rattle.std.proofs.Common.{rules, ◌≡◌, ◌≢◌, ◌+◌, ◌-◌, ◌<◌, ◌≤◌, ◌∷◌, ◌++◌, [], arith, sym, ap, ◌∙◌, refl, List, ℕ, subst, set, length, true, false, Result, Ok, Err, IfOk, OnErr}
+use Rattle.std.proofs.Common.{rules, ◌≡◌, ◌+◌, ◌∷◌, ◌++◌, [], arith, sym, ap, ◌∙◌, refl, List, ℕ, set, Result, Ok, Err, IfOk, OnErr}
 use mathlib.Core.Option.{some}
 use lib.ListN.{get_elem?}
 use Rattle.ticket_steps.specs.declared.kept.Entry.{Entry}
@@ -8,7 +8,7 @@ use Rattle.ticket_steps.specs.Faults.{Shows}
 use Rattle.ticket_steps.specs.History.{entry, replay, IsLegal}
 use Rattle.ticket_steps.specs.declared.kept.NoMemory.{NoMemory}
 use Rattle.ticket_steps.specs.declared.seats.CoreSeat.{CoreSeat}
-use Rattle.ticket_steps.specs.declared.seats.Phase.TheVariants.{Idle, Waiting, Holding}
+use Rattle.ticket_steps.specs.declared.seats.Phase.TheVariants.{Holding}
 use Rattle.ticket_steps.specs.declared.events.Event.TheVariants.{Leave}
 use Rattle.ticket_steps.specs.declared.events.Seen.TheVariants as seen
 use Rattle.ticket_steps.specs.declared.events.Fault.TheVariants.{Phase}
@@ -30,7 +30,7 @@ leave_shows : (K S C R : Type 0) (step : S → C → S × R) (opening state : K 
     → IfOk reply (λ r. (history new ≡ history old ++ entry own call r ∷ []) × (refusals new ≡ refusals old))
     → OnErr reply ((history new ≡ history old) × (state new ≡ state old) × (refusals new ≡ refusals old + 1))
     → Shows step draws (core_state next served seats (book_state (state old) (history old) (refusals old))) (Leave own call) (seen.Left reply)
-      (core_state next (served + 1) (set seats i w) (book_state (state new) (history new) (refusals new)))
+    (core_state next (served + 1) (set seats i w) (book_state (state new) (history new) (refusals new)))
 leave_shows K S C R step opening state history refusals legal replayed draws next served i own ticket seats p w call old new (Ok r) at called holds is same replied _ =
     let t = recorded_is step (opening old) (opening new) (state old) (state new) (history old) (history new) (refusals old) (refusals new) own call r (replayed old) (replayed new) (legal new) same replied.0 replied.1 in
     let b = core_state next served seats (book_state (state old) (history old) (refusals old)) in
@@ -79,7 +79,7 @@ invariant_of-self g c =
     let is' = read_is self.seats.items c.in_ok-at.at e.0 c.index_mut.result.now e.1 c.index_mut.ensures.value in
     let r = c.record-reply.ensures in
     let shows = leave_shows _ _ _ _ k.step k.opening k.state k.history k.refusals g.met.K.Kept.legal g.met.K.Kept.replayed self.draws self.next self.served c.in_ok-at.at c.args.seat c.in-Holding.field-0 self.seats.items e.0 c.end.new.self
-        c.args.call self.book c.record-reply.new.self c.record-reply.result e.1 e.2 (ap (λ (s : CoreSeat). s.phase) (sym is) ∙ c.in-Holding.is) (c.end.ensures ∙ ap ended is') r.same r.replied r.refused in
+    c.args.call self.book c.record-reply.new.self c.record-reply.result e.1 e.2 (ap (λ (s : CoreSeat). s.phase) (sym is) ∙ c.in-Holding.is) (c.end.ensures ∙ ap ended is') r.same r.replied r.refused in
     record {
       few = search rules;
       few_draws = search rules;
@@ -96,5 +96,5 @@ returns-clause-step g c =
     let is' = read_is self.seats.items c.in_ok-at.at e.0 c.index_mut.result.now e.1 c.index_mut.ensures.value in
     let r = c.record-reply.ensures in
     let shows = leave_shows _ _ _ _ k.step k.opening k.state k.history k.refusals g.met.K.Kept.legal g.met.K.Kept.replayed self.draws self.next self.served c.in_ok-at.at c.args.seat c.in-Holding.field-0 self.seats.items e.0 c.end.new.self
-        c.args.call self.book c.record-reply.new.self c.record-reply.result e.1 e.2 (ap (λ (s : CoreSeat). s.phase) (sym is) ∙ c.in-Holding.is) (c.end.ensures ∙ ap ended is') r.same r.replied r.refused in
+    c.args.call self.book c.record-reply.new.self c.record-reply.result e.1 e.2 (ap (λ (s : CoreSeat). s.phase) (sym is) ∙ c.in-Holding.is) (c.end.ensures ∙ ap ended is') r.same r.replied r.refused in
     steps_shown k.step self.draws (state_of self) _ (Leave c.args.seat c.args.call) (seen.Left c.record-reply.result) shows

@@ -1,8 +1,5 @@
-use Rattle.std.proofs.Common.{rules, ◌≡◌, ◌≢◌, ◌+◌, ◌-◌, ◌<◌, ◌≤◌, ◌∷◌, ◌++◌, [], arith, sym, ap, ◌∙◌, refl, List, ℕ, subst, set, length, true, false, Ok, Err}
-use Rattle.std.proofs.lemmas.Bool.{false≢true}
-use Rattle.ticket_steps.specs.declared.kept.NoMemory.{NoMemory}
+use Rattle.std.proofs.Common.{rules, sym, ap, ◌∙◌, refl}
 use Rattle.ticket_steps.specs.declared.seats.CoreSeat.{CoreSeat}
-use Rattle.ticket_steps.specs.declared.seats.Phase.TheVariants.{Idle, Waiting, Holding}
 use Rattle.ticket_steps.specs.declared.events.Event.TheVariants.{Look}
 use Rattle.ticket_steps.specs.declared.events.Seen.TheVariants as seen
 use Rattle.ticket_steps.specs.declared.events.Fault.TheVariants.{Phase}
@@ -40,7 +37,7 @@ invariant_of-self g c =
     let is = read_is self.seats.items c.in_ok-at.at e.0 c.index.result.now e.1 c.index.ensures in
     let is' = read_is self.seats.items c.in_ok-at.at e.0 c.index_mut.result.now e.1 c.index_mut.ensures.value in
     let move = look_moves g.K.Kept.step self.draws (state_of self) c.in_ok-at.at c.args.seat e.0 e.1 e.2 c.in-Waiting.ticket c.hold.new.self
-        (ap (λ (s : CoreSeat). s.phase) (sym is) ∙ c.in-Waiting.is) c.if-ticket-self.false (c.hold.ensures ∙ ap (holding c.in-Waiting.ticket) is') in
+    (ap (λ (s : CoreSeat). s.phase) (sym is) ∙ c.in-Waiting.is) c.if-ticket-self.false (c.hold.ensures ∙ ap (holding c.in-Waiting.ticket) is') in
     record {
       few = search rules;
       few_draws = search rules;
@@ -55,5 +52,5 @@ returns-clause-step g c =
     let is = read_is self.seats.items c.in_ok-at.at e.0 c.index.result.now e.1 c.index.ensures in
     let is' = read_is self.seats.items c.in_ok-at.at e.0 c.index_mut.result.now e.1 c.index_mut.ensures.value in
     let move = look_moves g.K.Kept.step self.draws (state_of self) c.in_ok-at.at c.args.seat e.0 e.1 e.2 c.in-Waiting.ticket c.hold.new.self
-        (ap (λ (s : CoreSeat). s.phase) (sym is) ∙ c.in-Waiting.is) c.if-ticket-self.false (c.hold.ensures ∙ ap (holding c.in-Waiting.ticket) is') in
+    (ap (λ (s : CoreSeat). s.phase) (sym is) ∙ c.in-Waiting.is) c.if-ticket-self.false (c.hold.ensures ∙ ap (holding c.in-Waiting.ticket) is') in
     steps_shown g.K.Kept.step self.draws (state_of self) _ (Look c.args.seat) seen.Held (held c.args.seat, refl, refl, move)

@@ -1,7 +1,5 @@
-use Rattle.std.proofs.Common.{rules, ◌≡◌, ◌*◌, ◌∷◌, ◌++◌, [], sym, ap, ◌∙◌, subst, List, ℕ, true}
+use Rattle.std.proofs.Common.{rules, ◌≡◌, ◌*◌, ◌∷◌, [], sym, ap, ◌∙◌, subst, true}
 use Rattle.ticket_steps.specs.declared.seats.Phase.TheVariants.{Idle}
-use Rattle.ticket_steps.specs.CoreStates.{core_state, opened}
-use Rattle.ticket_steps.specs.Books.{book_state}
 use Rattle.ticket_steps.specs.History.{replay}
 use Rattle.ticket_steps.specs.Lawful.{IsLawful}
 use Rattle.ticket_steps.specs.Seats.{seat}
@@ -15,7 +13,7 @@ invariant_of-result g c =
     let items : c.push_reserved.new.self.items ≡ seat 0 c.in-Ok.all Idle (c.args.numbers * c.args.draws) 0 true ∷ [] = search rules in
     let state : g.K.Kept.state book ≡ g.K.Kept.opening book = g.met.K.Kept.replayed book ∙ ap (replay g.K.Kept.step (g.K.Kept.opening book)) c.requires.empty.0 in
     let stands = opened_is c.args.numbers c.args.draws (g.K.Kept.opening book) (g.K.Kept.state book) (g.K.Kept.history book) (g.K.Kept.refusals book)
-        c.push_reserved.new.self.items c.in-Ok.all c.in-Ok.ensures items state c.requires.empty.0 c.requires.empty.1 in
+    c.push_reserved.new.self.items c.in-Ok.all c.in-Ok.ensures items state c.requires.empty.0 c.requires.empty.1 in
     record {
       few = search rules;
       few_draws = search rules;
@@ -29,4 +27,4 @@ returns-clause-opened g c =
     let items : c.push_reserved.new.self.items ≡ seat 0 c.in-Ok.all Idle (c.args.numbers * c.args.draws) 0 true ∷ [] = search rules in
     let state : g.K.Kept.state book ≡ g.K.Kept.opening book = g.met.K.Kept.replayed book ∙ ap (replay g.K.Kept.step (g.K.Kept.opening book)) c.requires.empty.0 in
     opened_is c.args.numbers c.args.draws (g.K.Kept.opening book) (g.K.Kept.state book) (g.K.Kept.history book) (g.K.Kept.refusals book)
-        c.push_reserved.new.self.items c.in-Ok.all c.in-Ok.ensures items state c.requires.empty.0 c.requires.empty.1
+    c.push_reserved.new.self.items c.in-Ok.all c.in-Ok.ensures items state c.requires.empty.0 c.requires.empty.1

@@ -1,4 +1,4 @@
-use Rattle.std.proofs.Common.{◌≡◌, ℕ, ◌<◌, arith, rules, sym, ap, ◌∙◌, subst, true, List, length, refl}
+use Rattle.std.proofs.Common.{◌≡◌, ℕ, arith, rules, sym, ap, ◌∙◌, subst, List, length}
 use Rattle.std.proofs.lemmas.Bool.{false≢true}
 use mathlib.Core.Logic.{dite}
 use mathlib.Core.Option.{some}

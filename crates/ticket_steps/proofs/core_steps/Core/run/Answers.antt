@@ -1,4 +1,4 @@
-use Rattle.std.proofs.Common.{◌≡◌, ℕ, ◌∙◌, subst}
+use Rattle.std.proofs.Common.{ℕ, ◌∙◌, subst}
 use Rattle.ticket_steps.specs.Cores.{state_of, draws_of}
 use Rattle.ticket_steps.specs.Faults.{Shows}
 use Rattle.ticket_steps.proofs.ScheduleLemmas.{leads_by_more}

@@ -1,4 +1,4 @@
-use Rattle.std.proofs.Common.{◌≡◌, take}
+use Rattle.std.proofs.Common.{take}
 use Rattle.ticket_steps.specs.Cores.{state_of, draws_of, IsOpenedAlike}
 use Rattle.ticket_steps.specs.Faults.{LeadsBy}
 use Rattle.ticket_steps.proofs.core_steps.Core.run.Given as goal

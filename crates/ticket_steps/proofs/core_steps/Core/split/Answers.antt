@@ -1,10 +1,9 @@
-use Rattle.std.proofs.Common.{rules, ◌≡◌, ◌≢◌, ◌+◌, ◌-◌, ◌<◌, ◌≤◌, ◌∷◌, ◌++◌, [], arith, sym, ap, ◌∙◌, refl, List, ℕ, subst, set, length, Bool, cond, true, false, Ok, Err}
+use Rattle.std.proofs.Common.{rules, ◌≡◌, ◌-◌, ◌<◌, arith, sym, ap, ◌∙◌, refl, subst, length, Bool, cond, true}
 use Rattle.std.proofs.lemmas.Bool.{false≢true}
 use mathlib.Core.Option.{some}
 use lib.ListN.{get_elem?}
-use Rattle.ticket_steps.specs.declared.kept.NoMemory.{NoMemory}
 use Rattle.ticket_steps.specs.declared.seats.CoreSeat.{CoreSeat}
-use Rattle.ticket_steps.specs.declared.seats.Phase.TheVariants.{Idle, Waiting, Holding}
+use Rattle.ticket_steps.specs.declared.seats.Phase.TheVariants.{Idle}
 use Rattle.ticket_steps.specs.declared.events.Event.TheVariants.{Split}
 use Rattle.ticket_steps.specs.declared.events.Seen.TheVariants as seen
 use Rattle.ticket_steps.specs.declared.events.Fault.TheVariants.{Phase}
@@ -43,9 +42,9 @@ split_off-given-requires-clause-few g c =
     let is' = read_is self.seats.items c.in_ok-at.at e.0 c.index_mut.result.now e.1 c.index_mut.ensures.value in
     let fits = c.can_split.ensures.0 c.if-not-can_split.false in
     let within = range_within self.numbers self.draws (state_of self) self.lawful c.in_ok-at.at c.index_mut.result.now
-        (subst (λ (s : CoreSeat). get_elem? self.seats.items c.in_ok-at.at ≡ some s) (sym is') e.1)
-        (ap (λ (s : CoreSeat). s.fresh) (is' ∙ sym is) ∙ fits.1)
-        (let n = ap (λ (s : CoreSeat). length s.numbers) (is' ∙ sym is) in omega (arith, fits.3, n)) in
+    (subst (λ (s : CoreSeat). get_elem? self.seats.items c.in_ok-at.at ≡ some s) (sym is') e.1)
+    (ap (λ (s : CoreSeat). s.fresh) (is' ∙ sym is) ∙ fits.1)
+    (let n = ap (λ (s : CoreSeat). length s.numbers) (is' ∙ sym is) in omega (arith, fits.3, n)) in
     omega (arith, within, self.few)
 
 pub push_reserved-requires : goal.push_reserved-requires
@@ -68,8 +67,8 @@ invariant_of-self g c =
     let fits = c.can_split.ensures.0 c.if-not-can_split.false in
     let less : c.args.count < length e.0.numbers = let n = ap (λ (s : CoreSeat). length s.numbers) is in omega (arith, fits.3, n) in
     let move = split_moves g.K.Kept.step self.draws (state_of self) c.in_ok-at.at c.args.seat e.0 e.1 e.2 c.args.count c.split_off-given.new.self c.split_off-given.result c.push_reserved.new.self.items
-        (ap (λ (s : CoreSeat). s.phase) (sym is) ∙ fits.0) (ap (λ (s : CoreSeat). s.fresh) (sym is) ∙ fits.1) fits.2 less
-        (c.split_off-given.ensures.kept ∙ ap (keeping self.draws c.args.count) is') (c.split_off-given.ensures.given ∙ ap (given self.draws c.args.count) is') c.push_reserved.ensures.items in
+    (ap (λ (s : CoreSeat). s.phase) (sym is) ∙ fits.0) (ap (λ (s : CoreSeat). s.fresh) (sym is) ∙ fits.1) fits.2 less
+    (c.split_off-given.ensures.kept ∙ ap (keeping self.draws c.args.count) is') (c.split_off-given.ensures.given ∙ ap (given self.draws c.args.count) is') c.push_reserved.ensures.items in
     record {
       few = search rules;
       few_draws = search rules;
@@ -86,6 +85,6 @@ returns-clause-step g c =
     let fits = c.can_split.ensures.0 c.if-not-can_split.false in
     let less : c.args.count < length e.0.numbers = let n = ap (λ (s : CoreSeat). length s.numbers) is in omega (arith, fits.3, n) in
     let move = split_moves g.K.Kept.step self.draws (state_of self) c.in_ok-at.at c.args.seat e.0 e.1 e.2 c.args.count c.split_off-given.new.self c.split_off-given.result c.push_reserved.new.self.items
-        (ap (λ (s : CoreSeat). s.phase) (sym is) ∙ fits.0) (ap (λ (s : CoreSeat). s.fresh) (sym is) ∙ fits.1) fits.2 less
-        (c.split_off-given.ensures.kept ∙ ap (keeping self.draws c.args.count) is') (c.split_off-given.ensures.given ∙ ap (given self.draws c.args.count) is') c.push_reserved.ensures.items in
+    (ap (λ (s : CoreSeat). s.phase) (sym is) ∙ fits.0) (ap (λ (s : CoreSeat). s.fresh) (sym is) ∙ fits.1) fits.2 less
+    (c.split_off-given.ensures.kept ∙ ap (keeping self.draws c.args.count) is') (c.split_off-given.ensures.given ∙ ap (given self.draws c.args.count) is') c.push_reserved.ensures.items in
     steps_shown g.K.Kept.step self.draws (state_of self) _ (Split c.args.seat c.args.count) seen.Split (split c.args.seat c.args.count, refl, refl, move)
