@@ -1,5 +1,5 @@
 -- What is so after every schedule.
-use Rattle.std.proofs.Common.{◌≡◌, ℕ, ◌+◌, ◌<◌, ◌≤◌, List, [], ◌∷◌, ◌++◌, length, take, get_or, add-one, sym, refl, ap, ◌∙◌, subst, arith, append_assoc, true, false, cond, eqb}
+use Rattle.std.proofs.Common.{◌≡◌, ℕ, ◌+◌, ◌<◌, ◌≤◌, List, [], ◌∷◌, ◌++◌, length, take, get_or, add-one, sym, refl, ap, ◌∙◌, subst, arith, append_assoc, Bool, true, false, cond, eqb, ne_eqb, ◌≢◌}
 use Rattle.std.proofs.Math.Seq.{take-suc}
 use Rattle.std.proofs.lemmas.List.{append-nil}
 use Rattle.ticket_steps.specs.declared.kept.Entry.{Entry}
@@ -11,10 +11,12 @@ use Rattle.ticket_steps.specs.Faults.{Shows, LeadsBy}
 use Rattle.ticket_steps.specs.Happenings.{Happening, split, drew, waited, held, recorded, refused, gathered, IsOf, AreOf, recorded_by, Moves, Leads}
 use Rattle.ticket_steps.specs.History.{entry, of}
 use Rattle.ticket_steps.specs.Lawful.{IsLawful}
+use Rattle.ticket_steps.specs.Seats.{is_there}
 use Rattle.ticket_steps.specs.Schedules.{Schedule, IsSchedule, IsLine}
 use Rattle.ticket_steps.proofs.Histories.{lawful_empty, lawful_entry, lawful_refusal}
 use Rattle.ticket_steps.proofs.LawfulSteps.{lawful_opened, moves_lawful}
 use Rattle.ticket_steps.proofs.Ofs.{of-append}
+use Rattle.ticket_steps.proofs.SeatLemmas.{own_below}
 use Rattle.ticket_steps.proofs.Totals.{below_yes, below_no}
 
 module _ {S C R : Type 0} (step : S → C → S × R) where
@@ -84,6 +86,25 @@ module _ {S C R : Type 0} (step : S → C → S × R) where
         let more : take (k + 1) es ≡ take k es ++ e ∷ [] = rw add-one (take-suc es k e lt ∙ ap (λ (x : Event C). take k es ++ x ∷ []) (sym read)) in
         (t.0 ++ m.0 ∷ [], subst (λ (l : List (Event C)). AreOf l (t.0 ++ m.0 ∷ [])) (sym more) (are_more (take k es) t.0 e m.0 t.1 m.1), leads_more b c d t.0 m.0 t.2 m.3)
 
+    -- only seats that are there record, and their own numbers are among the numbers
+    moves_strangers : (numbers n : ℕ) (b c : CoreState S C R) (h : Happening C R) → IsLawful numbers draws b → numbers ≤ n → of n b.book.entries ≡ [] → Moves step draws b h c → of n c.book.entries ≡ []
+    moves_strangers numbers n b c (split own count) l le none t = moves_of n b c (split own count) t ∙ (append-nil (of n b.book.entries) ∙ none)
+    moves_strangers numbers n b c (drew own ticket) l le none t = moves_of n b c (drew own ticket) t ∙ (append-nil (of n b.book.entries) ∙ none)
+    moves_strangers numbers n b c (waited own) l le none t = moves_of n b c (waited own) t ∙ (append-nil (of n b.book.entries) ∙ none)
+    moves_strangers numbers n b c (held own) l le none t = moves_of n b c (held own) t ∙ (append-nil (of n b.book.entries) ∙ none)
+    moves_strangers numbers n b c (recorded own call reply) l le none t =
+        let p = t.1 in
+        let below = own_below numbers draws b l t.0 p t.3.0 (ap is_there t.3.2) in
+        let apart : own ≢ n = λ e. omega (arith, below, le, t.3.1, e) in
+        let nothing : recorded_by n (recorded own call reply ∷ []) ≡ [] = ap (λ (x : Bool). cond x (entry own call reply ∷ []) []) (ne_eqb own n apart) in
+        moves_of n b c (recorded own call reply) t ∙ (ap (λ (l : List (Entry C R)). of n b.book.entries ++ l) nothing ∙ (append-nil (of n b.book.entries) ∙ none))
+    moves_strangers numbers n b c (refused own) l le none t = moves_of n b c (refused own) t ∙ (append-nil (of n b.book.entries) ∙ none)
+    moves_strangers numbers n b c (gathered own other) l le none t = moves_of n b c (gathered own other) t ∙ (append-nil (of n b.book.entries) ∙ none)
+
+    pub leads_strangers : (numbers n : ℕ) (b c : CoreState S C R) (hs : List (Happening C R)) → IsLawful numbers draws b → numbers ≤ n → of n b.book.entries ≡ [] → Leads step draws b hs c → of n c.book.entries ≡ []
+    leads_strangers numbers n b c [] l le none t = ap (λ (z : CoreState S C R). of n z.book.entries) t ∙ none
+    leads_strangers numbers n b c (h ∷ hs) l le none t = leads_strangers numbers n t.0 c hs (moves_lawful numbers draws step b t.0 h l t.1) le (moves_strangers numbers n b t.0 h l le none t.1) t.2
+
   pub schedule_lawful : (s : Schedule S C R) → IsSchedule step s → IsLawful s.numbers s.draws s.end
   schedule_lawful s is = leads_lawful s.draws s.numbers (opened s.numbers s.draws s.opening) s.end s.happened (lawful_opened s.numbers s.draws s.opening is.some_number) is.leads
 
@@ -92,6 +113,9 @@ module _ {S C R : Type 0} (step : S → C → S × R) where
 
   pub schedule_of : (s : Schedule S C R) → IsSchedule step s → (n : ℕ) → of n s.end.book.entries ≡ recorded_by n s.happened
   schedule_of s is n = leads_of s.draws n (opened s.numbers s.draws s.opening) s.end s.happened is.leads
+
+  pub schedule_strangers : (s : Schedule S C R) → IsSchedule step s → (n : ℕ) → s.numbers ≤ n → of n s.end.book.entries ≡ []
+  schedule_strangers s is n le = leads_strangers s.draws s.numbers n (opened s.numbers s.draws s.opening) s.end s.happened (lawful_opened s.numbers s.draws s.opening is.some_number) le refl is.leads
 
 pub lawful_line : {S C R : Type 0} (numbers draws : ℕ) (c : CoreState S C R) → IsLawful numbers draws c → c.served ≤ c.next → IsLine c
 lawful_line numbers draws c l le = record {

@@ -1,5 +1,5 @@
 //! What is so after every schedule.
-ghost use Rattle.std.specs.Prelude.{◌≡◌, ℕ, ◌+◌, ◌<◌, ◌≤◌, ◌*◌, List, length, true};
+ghost use Rattle.std.specs.Prelude.{◌≡◌, ℕ, ◌+◌, ◌<◌, ◌≤◌, ◌*◌, List, [], length, true};
 ghost use mathlib.Core.Option.{some};
 ghost use lib.ListN.{get_elem?};
 ghost use Rattle.ticket_steps.specs.declared.seats.CoreSeat.{CoreSeat};
@@ -25,7 +25,7 @@ use crate::kept::Kept;
 ///   all seats (`calls`);
 /// - the book is lawful: its entries are legal, and its state is their replay (`lawful`);
 /// - the entries of each number are the calls that it recorded when it left, in their order
-///   (`entries`);
+///   (`entries`), and there are none of numbers that weren't given out (`strangers`);
 /// - no two seats have the same own number (`named`), and each number is one seat's to answer for
 ///   (`numbered`);
 /// - the tickets drawn and the draws left are together no more than all numbers brought (`supply`).
@@ -44,6 +44,8 @@ pub fn every_schedule<K: Kept>()
         → IsLawfulBook K.step s.opening s.end.book }
     ensures entries { (s : Schedule K.State K.Call K.Reply) → IsSchedule K.step s
         → (number : ℕ) → of number s.end.book.entries ≡ recorded_by number s.happened }
+    ensures strangers { (s : Schedule K.State K.Call K.Reply) → IsSchedule K.step s
+        → (number : ℕ) → s.numbers ≤ number → of number s.end.book.entries ≡ [] }
     ensures named { (s : Schedule K.State K.Call K.Reply) → IsSchedule K.step s
         → (i k : ℕ) (p q : CoreSeat)
         → get_elem? s.end.seats i ≡ some p → is_there p.phase ≡ true
