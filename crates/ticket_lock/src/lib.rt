@@ -16,6 +16,8 @@ mod figures;
 mod lock;
 mod plays;
 mod steps;
+#[cfg(test)]
+mod tests;
 mod tokens;
 mod turns;
 mod views;
