@@ -1,0 +1,4 @@
+pub mod Seen
+pub mod Callers
+pub mod Events
+pub mod Obligations

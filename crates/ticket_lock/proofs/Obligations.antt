@@ -1,0 +1,212 @@
+-- What the calls owe the table: each step keeps the rule, and tells what its play says.
+use Rattle.std.proofs.Common.{◌≡◌, ℕ, suc, ◌+◌, ◌-◌, ◌*◌, ◌%◌, ◌<◌, ◌≤◌, ◌≢◌, ◌⊎◌, List, [], ◌∷◌, ◌++◌, map, length, get_or, set, sym, refl, ap, ◌∙◌, subst, ⊎_elim, arith, true, Option, Some, None}
+use mathlib.Core.Logic.{dite}
+use native.Mathlib.Decide.{ℕ_discrete, dec_le}
+use mathlib.Core.Option.{some, none, some-ne-none}
+use mathlib.Core.List.{IsPrefix}
+use lib.ListN.{get_elem?}
+use Rattle.std.specs.Option.{unwrap_or}
+use Rattle.atomic_table.specs.Table.{State, Me, step, keeps, takes, gives, Allows, Splits, Joins, opening as opens, rest}
+use Rattle.ticket_steps.specs.declared.kept.Entry.{Entry}
+use Rattle.ticket_steps.specs.declared.kept.Kept.{Ghosts}
+use Rattle.ticket_steps.specs.declared.seats.CoreSeat.{CoreSeat}
+use Rattle.ticket_steps.specs.declared.seats.Phase.{Phase}
+use Rattle.ticket_steps.specs.declared.seats.Phase.TheVariants.{Idle, Waiting, Holding}
+use Rattle.ticket_steps.specs.Books.{empty_book}
+use Rattle.ticket_steps.specs.CoreStates.{CoreState, opened}
+use Rattle.ticket_steps.specs.Happenings.{Happening, drew, held, split, gathered}
+use Rattle.ticket_steps.specs.History.{of, IsLegal}
+use Rattle.ticket_steps.specs.Seats.{holds_one, tickets_of}
+use Rattle.ticket_steps.specs.Sums.{total, times}
+use Rattle.ticket_steps.proofs.Lists.{at_snoc, set_else}
+use Rattle.ticket_steps.proofs.Ofs.{of-other}
+use Rattle.ticket_steps.proofs.ScheduleLemmas.{schedule_of}
+use Rattle.ticket_steps.proofs.SeatLemmas.{holds, alone_served, alone, in_line, served_le, one_calls, busy, holder_le, unnumbered_calls, tickets_waiting, tickets_holding}
+use Rattle.ticket_steps.proofs.Totals.{times_le, times-same, below_yes, below_no, term_le}
+use Rattle.ticket_lock.specs.declared.views.Start.{Start}
+use Rattle.ticket_lock.specs.declared.views.View.{View}
+use Rattle.ticket_lock.specs.Callers.{IsHanded}
+use Rattle.ticket_lock.specs.Knowing.{IsKnown}
+use Rattle.ticket_lock.specs.Plays.{DrawTells, LookTells, LeaveTells, SettlingTells}
+use Rattle.ticket_lock.specs.Rule.{IsTableOf, IsRuled}
+use Rattle.ticket_lock.specs.Slots.{IsBook}
+use Rattle.ticket_lock.specs.Steps.{after_settling, Returns}
+use Rattle.ticket_lock.specs.Views.{view, spent_view, first_view, Follows, longer, keeping_view, given_view, drawn_view, joined_view, settled_view, held_view, left_view}
+use Rattle.ticket_lock.proofs.Events.{lawful, next_small, seat_at, draw_event, waiting_same, look_event, leave_event, split_event, gather_event, settle_same, strangers_none}
+use Rattle.ticket_lock.proofs.Seen.{follows_self, follows_longer, longer_is, all_seen, empty_before}
+
+abbrev pub in_hand : {K : Type 0} → K → List (ℕ × Option K) → K
+in_hand d [] = d
+in_hand d (x ∷ xs) = unwrap_or x.1 d
+
+ticket_in : ℕ → Phase → ℕ
+ticket_in d (Waiting t) = t
+ticket_in d _ = d
+
+module _ {K C R : Type 0} (k : Ghosts K C R) (start : Start K) where
+  abbrev V : Type 0
+  V = View K C R
+
+  abbrev Table : Type 0
+  Table = State (Option K) V
+
+  abbrev Rule : Table → Type 0
+  Rule s = IsRuled k start s
+
+  pub starts : (book : K) → k.opening book ≡ (k.opening start.book) → k.history book ≡ [] → k.refusals book ≡ 0 → 0 < start.numbers → start.numbers ≤ 1024 → start.draws ≤ 4294967295
+      → Rule (opens (0 ∷ 0 ∷ []) (Some book ∷ []) (first_view start))
+  starts book state none_kept none_refused some_number few few_draws = ([], opened start.numbers start.draws (k.opening start.book), record {
+    some_number = some_number;
+    few_numbers = few;
+    few_draws = few_draws;
+    words = record { words = refl; seats = refl; leads = refl };
+    slot = record { one_slot = refl; home = λ _. (book, refl, record { opening = state; entries = none_kept; refused = none_refused }) };
+    known = record { each = λ j v e. ⊎_elim (λ t. absurd (some-ne-none v (sym t))) (λ t. subst (λ (w : V). IsKnown {S = k.State} start (empty_book (k.opening start.book)) w) t record {
+      start_is = λ o e'. cc;
+      seen = follows_self _ [];
+      one = follows_self [] [];
+      two = follows_self [] [];
+      within = λ n. omega arith;
+      out = λ t' e'. absurd (cc);
+    }) (at_snoc [] (first_view start) v j e) };
+  })
+
+  pub draws : (n id : ℕ) (me : Me (Option K) V) → me.0.seat.phase ≡ Idle → 0 < me.0.seat.left
+      → Allows Rule n id me 0 (λ x. (x + 1) % 18446744073709551616) (DrawTells (step n 0 1 0 none) me)
+  draws n id me idle some_left s r wide at small =
+      let e = draw_event k start r.0 r.1 s id me r.2 at idle some_left in
+      (drawn_view (get_or s.words 0 0) me.0, keeps, tt, (r.0 ++ drew me.0.seat.own r.1.next ∷ [], e.0, e.2), refl)
+
+  pub looks : (n id t : ℕ) (me : Me (Option K) V) → me.0.seat.phase ≡ Waiting t → me.1 ≡ []
+      → Allows Rule n id me 1 (λ x. x) (LookTells k (step n 1 0 0 none) me)
+  looks n id t me waits bare s r wide at small =
+      let v : V = me.0 in
+      let hs = r.0 in
+      let c = r.1 in
+      let x : ℕ = get_or s.words 1 0 in
+      let is : x ≡ c.served = ap (λ (ws : List ℕ). get_or ws 1 0) r.2.words.words in
+      let l = lawful k start hs c s r.2 in
+      let at' = seat_at k start hs c s r.2 id v at in
+      let old = r.2.known.each id v at in
+      let ticket : (t' : ℕ) → v.seat.phase ≡ Waiting t' → t' ≡ t = λ t' e. let both : Waiting t' ≡ Waiting t = sym e ∙ waits in cc in
+      dite (ℕ_discrete x t)
+      (λ hit.
+      let served : t ≡ c.served = sym hit ∙ is in
+      let e = look_event k start hs c s id me r.2 at (waits ∙ ap Waiting served) in
+      let book : K = e.0 in
+      let has : 0 < times t (tickets_of v.seat.phase) = omega (arith, tickets_waiting t t v.seat waits, times-same t []) in
+      (
+        held_view k c.served v book,
+        takes 0 (Some book),
+        e.1,
+        (hs ++ held v.seat.own ∷ [], e.3.0, e.3.2),
+        λ t' phase. (
+          λ _. (
+            book,
+            (let same : c.served ≡ t' = sym served ∙ sym (ticket t' phase) in λ i. (held_view k (same i) v book, (0, Some book) ∷ bare i)),
+            λ o known. let mine : o ≡ start = old.start_is o known in record {
+              opening = e.2.opening ∙ ap (λ (z : Start K). k.opening z.book) (sym mine);
+              follows = subst (Follows v.seat.numbers v.seen) (sym e.2.entries) old.seen;
+              counted = omega (arith, l.counted, ap length e.2.entries, e.2.refused, ticket t' phase, served);
+              few = omega (arith, ticket t' phase, served, in_line start.numbers start.draws c l id t v.seat at' has, next_small k start hs c s r.2);
+            },
+          ),
+          λ miss. absurd (miss (hit ∙ sym (ticket t' phase))),
+        ),
+      ))
+      (λ miss. (
+        v,
+        keeps,
+        tt,
+        (hs, c, subst (λ (z : Table). IsTableOf k start hs c z) (sym (waiting_same k start s id me at)) r.2),
+        λ t' phase. (
+          λ hit. absurd (miss (hit ∙ ticket t' phase)),
+          λ _. (
+            refl,
+            λ o known. dite (dec_le o.numbers (length v.seat.numbers))
+                (λ all. absurd (miss (is ∙ sym (alone_served start.numbers start.draws c l id t v.seat at' waits (omega (arith, all, ap (λ (z : Start K). z.numbers) (old.start_is o known)))))))
+                (λ fewer. omega arith),
+          ),
+        ),
+      ))
+
+  pub leaves : ((b : K) → IsLegal k.step (k.opening b) (k.history b)) → (n id t : ℕ) (me : Me (Option K) V) (book : K) (o : Start K) → me.1 ≡ (0, Some book) ∷ [] → me.0.seat.phase ≡ Holding t → me.0.start ≡ Some o → Returns k o me.0.seat.own me.0.seen me.0.refused book
+      → Allows Rule n id me 1 (λ x. (x + 1) % 18446744073709551616) (LeaveTells k (step n 1 1 0 none) me)
+  leaves legal n id t me book o hand holder known ret s r wide at small =
+      let v : V = me.0 in
+      let hs = r.0 in
+      let c = r.1 in
+      let mine : o ≡ start = (r.2.known.each id v at).start_is o known in
+      let e = leave_event k start legal hs c s id t me book r.2 at holder hand (subst (λ (z : Start K). Returns k z v.seat.own v.seen v.refused book) mine ret) in
+      let l = lawful k start hs c s r.2 in
+      let at' = seat_at k start hs c s r.2 id v at in
+      let has : 0 < times t (tickets_of v.seat.phase) = omega (arith, tickets_holding t t v.seat holder, times-same t []) in
+      (
+        left_view k v book,
+        gives,
+        tt,
+        (hs ++ e.0 ∷ [], e.2.0, e.2.2),
+        λ b h. (
+          (let same : book ≡ b = ap (in_hand book) (sym hand ∙ h) in λ i. (left_view k v (same i), ap rest hand i)),
+          omega (arith, one_calls start.numbers start.draws c l id v.seat at', in_line start.numbers start.draws c l id t v.seat at' has, next_small k start hs c s r.2),
+        ),
+      )
+
+  pub splits : (id count : ℕ) (v : V) (o : Start K) → v.start ≡ Some o → v.seat.phase ≡ Idle → v.seat.fresh ≡ true → 0 < count → count < length v.seat.numbers → Splits Rule id v (keeping_view count v) (given_view count v)
+  splits id count v o known idle fresh some_count less s r at =
+      let mine : o ≡ start = (r.2.known.each id v at).start_is o known in
+      let e = split_event k start r.0 r.1 s id count v r.2 at (known ∙ ap Some mine) idle fresh some_count less in
+      (r.0 ++ split v.seat.own count ∷ [], e.0, e.2)
+
+  pub joins : (id other : ℕ) (v w : V) → v.seat.phase ≡ Idle → w.seat.phase ≡ Idle → Joins Rule id v other w (joined_view v w) spent_view
+  joins id other v w idle idle' s r at apart at_other =
+      let there : get_elem? s.views other ≡ some w = sym (set_else s.views id other (joined_view v w) apart) ∙ at_other in
+      let e = gather_event k start r.0 r.1 s id other v w r.2 at apart there idle idle' in
+      (r.0 ++ gathered v.seat.own w.seat.own ∷ [], e.0, e.2)
+
+  pub settles : (n id : ℕ) (me : Me (Option K) V) → me.0.seat.phase ≡ Idle → Allows Rule n id me 0 (λ x. x) (SettlingTells (step n 0 0 0 none) me)
+  settles n id me idle s r wide at small =
+      let v : V = me.0 in
+      let hs = r.0 in
+      let c = r.1 in
+      let old = r.2.known.each id v at in
+      let l = lawful k start hs c s r.2 in
+      let at' = seat_at k start hs c s r.2 id v at in
+      (
+        settled_view v,
+        keeps,
+        tt,
+        (hs, c, settle_same k start hs c s id me r.2 at idle),
+        λ is. (
+          refl,
+          follows_longer v.one.numbers v.one.seen v.seen c.book.entries old.one old.seen.0 (rw is (longer_is v.one.seen v.two.seen (λ (q : List (Entry C R)). length v.one.seen ≤ length q) (λ lt. omega arith) (λ _. omega arith))),
+          follows_longer v.two.numbers v.two.seen v.seen c.book.entries old.two old.seen.0 (rw is (longer_is v.one.seen v.two.seen (λ (q : List (Entry C R)). length v.two.seen ≤ length q) (λ _. omega arith) (λ le. le))),
+          omega (arith, l.count, r.2.few_numbers, term_le (λ (p : CoreSeat). length p.numbers) c.seats id v.seat at'),
+          omega (arith, one_calls start.numbers start.draws c l id v.seat at', served_le start.numbers start.draws c l, next_small k start hs c s r.2),
+        ),
+      )
+
+  -- where one idle seat stands for all numbers, the book is home and has what the seat has seen
+  pub closes : (s : Table) (id : ℕ) (v : V) → Rule s → get_elem? s.views id ≡ some v → v.seat.phase ≡ Idle → start.numbers ≤ length v.seat.numbers
+      → (book : K) × (get_elem? s.homes 0 ≡ some (some (Some book))) × (k.opening book ≡ (k.opening start.book)) × (k.history book ≡ v.seen) × (length (k.history book) + k.refusals book ≡ v.seat.calls) × ((p : ℕ) → start.numbers ≤ p → of p (k.history book) ≡ [])
+  closes s id v r at idle all =
+      let hs = r.0 in
+      let c = r.1 in
+      let l = lawful k start hs c s r.2 in
+      let at' = seat_at k start hs c s r.2 id v at in
+      let old = r.2.known.each id v at in
+      let sole = alone start.numbers start.draws c l id v.seat at' all in
+      let free : total holds c.seats ≡ 0 = sole holds (λ j u e gone_is. omega (arith, gone_is, holder_le start.draws c.served u (l.each j u e), times_le c.served (tickets_of u.phase), busy start.draws c.served u (l.each j u e))) ∙ ap holds_one idle in
+      let calls : total (λ (p : CoreSeat). p.calls) c.seats ≡ v.seat.calls = sole (λ (p : CoreSeat). p.calls) (λ j u e gone_is. unnumbered_calls start.draws c.served u (l.each j u e) gone_is) in
+      let there = r.2.slot.home free in
+      let strangers : (p : ℕ) → start.numbers ≤ p → of p c.book.entries ≡ [] = λ p h. strangers_none k start hs c s r.2 p h in
+      let seen : c.book.entries ≡ v.seen = all_seen v.seen c.book.entries old.seen.0 (λ p. dite (dec_le (suc 0) (times p v.seat.numbers))
+      (λ has. old.seen.1 p has)
+      (λ out. empty_before p v.seen c.book.entries old.seen.0 (strangers p (dite (dec_le start.numbers p) (λ le. le) (λ lt. absurd (omega (
+        arith,
+        out,
+        l.numbered p,
+        below_yes p start.numbers (omega arith),
+        sole (λ (q : CoreSeat). times p q.numbers) (λ j u e gone_is. omega (arith, times_le p u.numbers, gone_is)),
+      ))))))) in
+      (there.0, there.1, there.2.opening, there.2.entries ∙ seen, omega (arith, ap length there.2.entries, there.2.refused, l.counted, l.calls, calls), λ p h. ap (of p) there.2.entries ∙ strangers p h)

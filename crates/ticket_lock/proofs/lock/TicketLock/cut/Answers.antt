@@ -1,0 +1,77 @@
+use Rattle.std.proofs.Common.{rules, ◌≡◌, ℕ, ◌+◌, ◌-◌, ◌*◌, arith, refl, sym, ap, ◌∙◌, subst, length}
+use Rattle.ticket_lock.specs.Legal.{IsLegalFrom}
+use Rattle.ticket_lock.specs.Tokens.{caller_in}
+use Rattle.ticket_lock.specs.Views.{draws_in}
+use Rattle.ticket_lock.proofs.Callers.{kept_len, given_len, keeping_is, given_is}
+use Rattle.ticket_lock.proofs.Obligations.{splits}
+use Rattle.ticket_lock.proofs.lock.TicketLock.cut.Goals as goal
+
+pub split_seat-other-requires : goal.split_seat-other-requires
+split_seat-other-requires g c = let s = c.args.seat in (
+  c.requires.lock.0,
+  search rules,
+  splits g.K.Kept _ _ g.N.Count.count s.spot.me.0 _ c.requires.lock.1 s.idle c.requires.fresh (omega (arith, c.requires.is, c.requires.count)) (omega (arith, c.requires.is, c.requires.count)),
+)
+
+pub invariant_of-given : goal.invariant_of-given
+invariant_of-given g c =
+    let s = c.args.seat in
+    let v = s.spot.me.0 in
+    let e = c.split_seat-other.ensures.4 in
+    let n : g.N.Count.count ≡ c.args.count = sym c.requires.is in
+    let draws : draws_in v.start ≡ c.args.self.now.draws = ap draws_in c.requires.lock.1 in
+    let len = given_len v g.N.Count.count c.args.count c.args.self.now.draws n draws (omega (arith, c.requires.count)) in
+    record {
+      bare = ap (λ m. m.1) e;
+      legal = subst (λ m. IsLegalFrom g.K.Kept m.0.start m.0.seen) (sym e) s.legal;
+      idle = ap (λ m. m.0.seat.phase) e;
+      told = record {
+        own = ap (λ m. m.0.seat.own) e ∙ omega (arith, s.told.own, s.told.count, n);
+        count = ap (λ m. length m.0.seat.numbers) e ∙ len;
+        left = ap (λ m. m.0.seat.left) e ∙ (λ i. len i * draws i);
+        calls = ap (λ m. m.0.seat.calls) e;
+        some_number = c.requires.count.0;
+        few_numbers = omega (arith, c.requires.count, s.told.few_numbers, s.told.count);
+        few_calls = omega arith;
+      };
+      fresh_is = ap (λ m. m.0.seat.fresh) e ∙ (sym c.requires.fresh ∙ s.fresh_is);
+      range = λ _. omega (arith, s.range (sym s.fresh_is ∙ c.requires.fresh), c.requires.count, s.told.count);
+    }
+
+pub invariant_of-seat : goal.invariant_of-seat
+invariant_of-seat g c =
+    let s = c.args.seat in
+    let v = s.spot.me.0 in
+    let e = c.split_seat-other.ensures.2 in
+    let n : g.N.Count.count ≡ c.args.count = sym c.requires.is in
+    let draws : draws_in v.start ≡ c.args.self.now.draws = ap draws_in c.requires.lock.1 in
+    let len = kept_len v g.N.Count.count c.args.count c.args.self.now.draws n draws (omega (arith, c.requires.count)) in
+    let kept : length v.seat.numbers - c.args.count ≡ s.figures.count - c.args.count = ap (λ (m : ℕ). m - c.args.count) s.told.count in
+    record {
+      bare = ap (λ m. m.1) e ∙ s.bare;
+      legal = subst (λ m. IsLegalFrom g.K.Kept m.0.start m.0.seen) (sym e) s.legal;
+      idle = ap (λ m. m.0.seat.phase) e;
+      told = record {
+        own = ap (λ m. m.0.seat.own) e ∙ s.told.own;
+        count = ap (λ m. length m.0.seat.numbers) e ∙ (len ∙ kept);
+        left = ap (λ m. m.0.seat.left) e ∙ ((λ i. len i * draws i) ∙ ap (λ (m : ℕ). m * c.args.self.now.draws) kept);
+        calls = ap (λ m. m.0.seat.calls) e ∙ s.told.calls;
+        some_number = omega (arith, c.requires.count, s.told.count);
+        few_numbers = omega (arith, s.told.few_numbers);
+        few_calls = s.told.few_calls;
+      };
+      fresh_is = ap (λ m. m.0.seat.fresh) e ∙ (sym c.requires.fresh ∙ s.fresh_is);
+      range = λ _. omega (arith, s.range (sym s.fresh_is ∙ c.requires.fresh));
+    }
+
+pub returns-clause-kept : goal.returns-clause-kept
+returns-clause-kept g c =
+    let s = c.args.seat in
+    ap (λ m. caller_in m.0) c.split_seat-other.ensures.2
+    ∙ keeping_is s.spot.me.0 g.N.Count.count c.args.count c.args.self.now.draws (sym c.requires.is) (ap draws_in c.requires.lock.1) (omega (arith, c.requires.count))
+
+pub returns-clause-given : goal.returns-clause-given
+returns-clause-given g c =
+    let s = c.args.seat in
+    ap (λ m. caller_in m.0) c.split_seat-other.ensures.4
+    ∙ given_is s.spot.me.0 g.N.Count.count c.args.count c.args.self.now.draws (sym c.requires.is) (ap draws_in c.requires.lock.1) (omega (arith, c.requires.count))

@@ -1,0 +1,64 @@
+-- What is seen of a seat, a turn or a hold: the caller behind it.
+use Rattle.std.specs.Prelude.{◌≡◌, ℕ, ◌+◌, ◌-◌, ◌*◌, ◌<◌, ◌^◌, List, [], ◌∷◌, ◌++◌, length, take, drop, Bool, true, false}
+use Rattle.ticket_steps.specs.declared.kept.Entry.{Entry}
+use Rattle.ticket_steps.specs.declared.kept.Kept.{Ghosts}
+use Rattle.ticket_steps.specs.Sums.{counted}
+use Rattle.ticket_lock.specs.declared.views.Start.{Start}
+use Rattle.ticket_lock.specs.Views.{Follows, longer}
+
+pub record Caller (C R : Type 0) : Type 0 where
+  -- its own number, under which its calls are recorded
+  pub own : ℕ
+  -- the numbers that it answers for
+  pub numbers : List ℕ
+  -- the draws that it has left
+  pub left : ℕ
+  -- the calls that it and the callers gathered into it have ended
+  pub calls : ℕ
+  -- whether it has never drawn, and no other was gathered into it
+  pub fresh : Bool
+  -- the history that it has seen
+  pub seen : List (Entry C R)
+
+module _ {C R : Type 0} where
+  abbrev pub caller : ℕ → List ℕ → ℕ → ℕ → Bool → List (Entry C R) → Caller C R
+  caller own numbers left calls fresh seen = record { own = own; numbers = numbers; left = left; calls = calls; fresh = fresh; seen = seen }
+
+  -- the first caller, for all numbers
+  abbrev pub first_caller : ℕ → ℕ → Caller C R
+  first_caller numbers draws = caller 0 (counted 0 numbers) (numbers * draws) 0 true []
+
+  -- a fresh caller without its last numbers and their draws
+  abbrev pub keeping : ℕ → ℕ → Caller C R → Caller C R
+  keeping draws count c = caller c.own (take (length c.numbers - count) c.numbers) ((length c.numbers - count) * draws) c.calls true c.seen
+
+  -- the caller that is given them
+  abbrev pub given : ℕ → ℕ → Caller C R → Caller C R
+  given draws count c = caller (c.own + (length c.numbers - count)) (drop (length c.numbers - count) c.numbers) (count * draws) 0 true c.seen
+
+  -- a caller that has drawn
+  abbrev pub drawn : Caller C R → Caller C R
+  drawn c = caller c.own c.numbers (c.left - 1) c.calls false c.seen
+
+  -- a caller that has seen this history
+  abbrev pub having_seen : List (Entry C R) → Caller C R → Caller C R
+  having_seen history c = caller c.own c.numbers c.left c.calls c.fresh history
+
+  -- a caller that has ended a call, and has seen the history after it
+  abbrev pub ended : List (Entry C R) → Caller C R → Caller C R
+  ended history c = caller c.own c.numbers c.left (c.calls + 1) c.fresh history
+
+  -- a caller into which another was gathered
+  abbrev pub joined : Caller C R → Caller C R → Caller C R
+  joined c other = caller c.own (c.numbers ++ other.numbers) c.left (c.calls + other.calls) false (longer c.seen other.seen)
+
+module _ {K C R : Type 0} (k : Ghosts K C R) where
+  -- a book that is handed out to a caller whose ticket is served
+  pub record IsHanded (start : Start K) (numbers : List ℕ) (seen : List (Entry C R)) (ticket : ℕ) (book : K) : Type 0 where
+    -- it is the book of the lock's opening
+    pub opening : k.opening book ≡ k.opening start.book
+    -- its entries begin with all that the caller has seen, and have nothing new of the caller's numbers
+    pub follows : Follows numbers seen (k.history book)
+    -- its entries and refusals are the ticket: calls end in the order of their draws
+    pub counted : length (k.history book) + k.refusals book ≡ ticket
+    pub few : ticket < 2 ^ 42

@@ -1,0 +1,13 @@
+-- What a token tells at run time of its seat.
+use Rattle.std.specs.Prelude.{◌≡◌, ◌<◌, ◌≤◌, length}
+use Rattle.ticket_steps.specs.declared.seats.CoreSeat.{CoreSeat}
+use Rattle.ticket_lock.specs.declared.figures.Figures.{Figures}
+
+pub record AreFiguresOf (f : Figures) (s : CoreSeat) : Type 0 where
+  pub own : s.own ≡ f.number
+  pub count : length s.numbers ≡ f.count
+  pub left : s.left ≡ f.left
+  pub calls : s.calls ≡ f.calls
+  pub some_number : 0 < f.count
+  pub few_numbers : f.count ≤ 1024
+  pub few_calls : f.calls ≤ 4398046510080

@@ -1,0 +1,29 @@
+-- The rule, third pass: what each seat has seen begins the one history, and its calls stand there.
+use Rattle.std.specs.Prelude.{◌≡◌, ℕ, ◌+◌, ◌≤◌, List, Option, Some}
+use mathlib.Core.Option.{some}
+use lib.ListN.{get_elem?}
+use Rattle.atomic_table.specs.Table.{State}
+use Rattle.ticket_steps.specs.declared.seats.Phase.TheVariants.{Holding}
+use Rattle.ticket_steps.specs.Books.{BookState}
+use Rattle.ticket_steps.specs.CoreStates.{CoreState}
+use Rattle.ticket_steps.specs.Sums.{times}
+use Rattle.ticket_lock.specs.declared.views.Start.{Start}
+use Rattle.ticket_lock.specs.declared.views.View.{View}
+use Rattle.ticket_lock.specs.Views.{Follows}
+
+module _ {K S C R : Type 0} (start : Start K) where
+  -- what a seat knows, where this is the book at home or with its holder
+  pub record IsKnown (b : BookState S C R) (v : View K C R) : Type 0 where
+    -- it knows how the lock was opened
+    pub start_is : (o : Start K) → v.start ≡ Some o → o ≡ start
+    -- it has seen all entries of the numbers that it answers for
+    pub seen : Follows v.seat.numbers v.seen b.entries
+    -- so have the two seats of which it was made
+    pub one : Follows v.one.numbers v.one.seen b.entries
+    pub two : Follows v.two.numbers v.two.seen b.entries
+    pub within : (number : ℕ) → times number v.one.numbers + times number v.two.numbers ≤ times number v.seat.numbers
+    -- a holder has seen the whole history, and knows how many calls were refused when it took the book out
+    pub out : (ticket : ℕ) → v.seat.phase ≡ Holding ticket → (v.seen ≡ b.entries) × (v.refused ≡ b.refused)
+
+  pub record IsKnownToAll (c : CoreState S C R) (s : State (Option K) (View K C R)) : Type 0 where
+    pub each : (i : ℕ) (v : View K C R) → get_elem? s.views i ≡ some v → IsKnown c.book v

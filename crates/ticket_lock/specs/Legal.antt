@@ -1,0 +1,16 @@
+-- A history that is legal from how the lock was opened.
+use Rattle.std.specs.Prelude.{◌≡◌, List, Option, Some, None}
+use Rattle.std.specs.Coded.{Unit-prop}
+use Rattle.ticket_steps.specs.declared.kept.Entry.{Entry}
+use Rattle.ticket_steps.specs.declared.kept.Kept.{Ghosts}
+use Rattle.ticket_steps.specs.History.{IsLegal, IsLegal-prop}
+use Rattle.ticket_lock.specs.declared.views.Start.{Start}
+
+module _ {K C R : Type 0} (k : Ghosts K C R) where
+  abbrev pub IsLegalFrom : Option (Start K) → List (Entry C R) → Type 0
+  IsLegalFrom None es = Unit {0}
+  IsLegalFrom (Some start) es = IsLegal k.step (k.opening start.book) es
+
+  pub IsLegalFrom-prop : ((a b : R) → IsProp (a ≡ b)) → (start : Option (Start K)) (es : List (Entry C R)) → IsProp (IsLegalFrom start es)
+  IsLegalFrom-prop set None es = Unit-prop
+  IsLegalFrom-prop set (Some start) es = IsLegal-prop k.step set (k.opening start.book) es

@@ -1,0 +1,77 @@
+-- The steps of the lock: the table after each kind, and what it means that a step is one event.
+use Rattle.std.specs.Prelude.{◌≡◌, ℕ, ◌+◌, ◌%◌, ◌<◌, ◌≤◌, List, [], ◌∷◌, ◌++◌, length, slice_index, slice_set, Option, Some, ◌⊎◌}
+use mathlib.Core.Option.{some}
+use lib.ListN.{get_elem?}
+use Rattle.atomic_table.specs.Table.{State, Me, keeps, takes, gives, stepped}
+use Rattle.ticket_steps.specs.declared.kept.Entry.{Entry}
+use Rattle.ticket_steps.specs.declared.kept.Kept.{Ghosts}
+use Rattle.ticket_steps.specs.CoreStates.{CoreState}
+use Rattle.ticket_steps.specs.Happenings.{Happening, Moves}
+use Rattle.ticket_lock.specs.declared.views.Start.{Start}
+use Rattle.ticket_lock.specs.declared.views.View.{View}
+use Rattle.ticket_lock.specs.Rule.{IsTableOf}
+use Rattle.ticket_lock.specs.Views.{spent_view, keeping_view, given_view, drawn_view, joined_view, settled_view, held_view, left_view}
+use Rattle.ticket_lock.specs.Words.{next_word, served_word}
+
+module _ {K C R : Type 0} where
+
+  -- split, a load of the next ticket: the seat id keeps its first numbers, a new seat has the last
+  abbrev pub after_split : State (Option K) (View K C R) → ℕ → ℕ → View K C R → State (Option K) (View K C R)
+  after_split s id count v = record { words = s.words; homes = s.homes; views = slice_set s.views id (keeping_view count v) ++ given_view count v ∷ [] }
+
+  -- draw, an add to the next ticket
+  abbrev pub after_draw : State (Option K) (View K C R) → ℕ → Me (Option K) (View K C R) → State (Option K) (View K C R)
+  after_draw s id me = stepped s next_word ((slice_index s.words next_word + 1) % 18446744073709551616) id me.1 (drawn_view (slice_index s.words next_word) me.0) keeps
+
+  -- look, a load of the number served, by a seat whose ticket it isn't
+  abbrev pub after_waiting : State (Option K) (View K C R) → ℕ → Me (Option K) (View K C R) → State (Option K) (View K C R)
+  after_waiting s id me = stepped s served_word (slice_index s.words served_word) id me.1 me.0 keeps
+
+  -- gather, a load of the next ticket: the seat id takes over another
+  abbrev pub after_gather : State (Option K) (View K C R) → ℕ → View K C R → ℕ → View K C R → State (Option K) (View K C R)
+  after_gather s id v other w = record { words = s.words; homes = s.homes; views = slice_set (slice_set s.views id (joined_view v w)) other spent_view }
+
+  -- the second load of a gather, at which the seat learns what the rule says of it
+  abbrev pub after_settling : State (Option K) (View K C R) → ℕ → Me (Option K) (View K C R) → State (Option K) (View K C R)
+  after_settling s id me = stepped s next_word (slice_index s.words next_word) id me.1 (settled_view me.0) keeps
+
+module _ {K C R : Type 0} (k : Ghosts K C R) where
+  -- look, a load of the number served, by the seat whose ticket it is, which takes the book
+  abbrev pub after_holding : State (Option K) (View K C R) → ℕ → ℕ → Me (Option K) (View K C R) → K → State (Option K) (View K C R)
+  after_holding s id ticket me book = stepped s served_word (slice_index s.words served_word) id me.1 (held_view k ticket me.0 book) (takes 0 (Some book))
+
+  -- leave, an add to the number served, by the holder, whose book is back in its slot
+  abbrev pub after_leaving : State (Option K) (View K C R) → ℕ → Me (Option K) (View K C R) → K → State (Option K) (View K C R)
+  after_leaving s id me book = stepped s served_word ((slice_index s.words served_word + 1) % 18446744073709551616) id me.1 (left_view k me.0 book) gives
+
+  -- the book is the one that was taken out with these entries and refusals, with one more entry of this number or one more refusal
+  pub record Returns (start : Start K) (own : ℕ) (seen : List (Entry C R)) (refused : ℕ) (book : K) : Type 0 where
+    pub opening : k.opening book ≡ k.opening start.book
+    pub more : ((e : Entry C R) × (e.pass ≡ own) × (k.history book ≡ seen ++ e ∷ []) × (k.refusals book ≡ refused)) ⊎ ((k.history book ≡ seen) × (k.refusals book ≡ refused + 1))
+
+  -- a step to the table s from one with the core state c is this one event
+  abbrev pub IsEvent : Start K → List (Happening C R) → CoreState k.State C R → Happening C R → State (Option K) (View K C R) → Type 0
+  IsEvent start happened c h s = (d : CoreState k.State C R) × Moves k.step start.draws c h d × IsTableOf k start (happened ++ h ∷ []) d s
+
+-- one moment of one seat: how the lock was opened, what has happened since, the core state that it led to, the table, and the seat that is about to step
+pub record Moment (K S C R : Type 0) : Type 0 where
+  pub start : Start K
+  pub happened : List (Happening C R)
+  pub core : CoreState S C R
+  pub table : State (Option K) (View K C R)
+  -- the seat's number in the table, its view, and the slots that it owns
+  pub id : ℕ
+  pub me : Me (Option K) (View K C R)
+
+module _ {K C R : Type 0} (k : Ghosts K C R) where
+  pub record IsMoment (m : Moment K k.State C R) : Type 0 where
+    pub ruled : IsTableOf k m.start m.happened m.core m.table
+    pub there : get_elem? m.table.views m.id ≡ some m.me.0
+
+  -- the step to this table takes the core state to the one that this one event leaves
+  abbrev pub IsOneEvent : Moment K k.State C R → Happening C R → State (Option K) (View K C R) → Type 0
+  IsOneEvent m h s = IsEvent k m.start m.happened m.core h s
+
+  -- the step to this table leaves the core state as it was
+  abbrev pub IsNoEvent : Moment K k.State C R → State (Option K) (View K C R) → Type 0
+  IsNoEvent m s = IsTableOf k m.start m.happened m.core s

@@ -1,0 +1,58 @@
+-- What clauses see of the lock, its seats, turns and holds.
+use Rattle.std.specs.Prelude.{◌≡◌, ℕ, List, Some}
+use Rattle.ticket_steps.specs.declared.kept.Kept.{Ghosts}
+use Rattle.ticket_lock.specs.declared.lock.Look.{Look}
+use Rattle.ticket_lock.specs.declared.lock.Look.TheVariants.{Held, Waiting}
+use Rattle.ticket_lock.specs.declared.lock.TicketLock.{TicketLock}
+use Rattle.ticket_lock.specs.declared.tokens.Hold.{Hold}
+use Rattle.ticket_lock.specs.declared.tokens.Seat.{Seat}
+use Rattle.ticket_lock.specs.declared.tokens.Turn.{Turn}
+use Rattle.ticket_lock.specs.declared.views.Start.{Start}
+use Rattle.ticket_lock.specs.declared.views.View.{View}
+use Rattle.ticket_lock.specs.Callers.{Caller, caller}
+
+-- the caller in a view
+abbrev pub caller_in : {K C R : Type 0} → View K C R → Caller C R
+caller_in v = caller v.seat.own v.seat.numbers v.seat.left v.seat.calls v.seat.fresh v.seen
+
+module _ {K C R : Type 0} where
+  -- how this lock was opened
+  abbrev pub start_of : TicketLock K C R → Start K
+  start_of lock = record { book = lock.table.shared.key.book.value; numbers = lock.numbers; draws = lock.draws }
+
+module _ {K C R : Type 0} {G : Ghosts K C R} where
+  -- the caller behind a seat, a turn, a hold
+  abbrev pub seat_of : Seat K C R G → Caller C R
+  seat_of seat = caller_in seat.spot.me.0
+
+  abbrev pub turn_of : Turn K C R G → Caller C R
+  turn_of turn = caller_in turn.spot.me.0
+
+  abbrev pub hold_of : Hold K C R G → Caller C R
+  hold_of hold = caller_in hold.spot.me.0
+
+  -- the ticket of a turn, of a hold
+  abbrev pub ticket_of : Turn K C R G → ℕ
+  ticket_of turn = turn.ticket
+
+  abbrev pub held_ticket_of : Hold K C R G → ℕ
+  held_ticket_of hold = hold.ticket
+
+  -- how many calls were refused when the holder took the book out
+  abbrev pub refused_before : Hold K C R G → ℕ
+  refused_before hold = hold.spot.me.0.refused
+
+  -- it is of this lock
+  abbrev pub IsSeatOf : TicketLock K C R → Seat K C R G → Type 0
+  IsSeatOf lock seat = (seat.spot.table_id ≡ lock.table.shared.table_id) × (seat.spot.me.0.start ≡ Some (start_of lock))
+
+  abbrev pub IsTurnOf : TicketLock K C R → Turn K C R G → Type 0
+  IsTurnOf lock turn = (turn.spot.table_id ≡ lock.table.shared.table_id) × (turn.spot.me.0.start ≡ Some (start_of lock))
+
+  abbrev pub IsHoldOf : TicketLock K C R → Hold K C R G → Type 0
+  IsHoldOf lock hold = (hold.spot.table_id ≡ lock.table.shared.table_id) × (hold.spot.me.0.start ≡ Some (start_of lock))
+
+  -- the two answers of a look
+  abbrev pub MatchLook : Look K C R G → (Hold K C R G → K → Type 0) → (Turn K C R G → Type 0) → Type 0
+  MatchLook (Held hold book) P Q = P hold book
+  MatchLook (Waiting turn) P Q = Q turn

@@ -1,0 +1,27 @@
+//! The running ticket lock: the core of `ticket_steps` over atomic words, for threads.
+//!
+//! Two words and one slot of an `atomic_table`: the next ticket, the number served, and the book.
+//! Callers take part by tokens: a `Seat` draws, a `Turn` looks, a `Hold` leaves. Between any two steps
+//! words and tokens are a state of the core of `ticket_steps`, so what `every_schedule` says of the
+//! core holds of the lock, whatever threads do.
+//!
+//! - `lock`: the lock and its calls.
+//! - `tokens`: seats, turns and holds; `figures`: what they tell at run time.
+//! - `views`: what seats know in proofs, and the rule; `plays`: the kinds of step.
+//! - `turns`: a turn over the counter book, as a layer above takes it.
+//! - `steps`: the law that each kind of step is one event of the core.
+#![tactic(auto)]
+
+mod figures;
+mod lock;
+mod plays;
+mod steps;
+#[cfg(test)]
+mod tests;
+mod tokens;
+mod turns;
+mod views;
+
+pub use lock::{Look, TicketLock};
+pub use steps::every_step;
+pub use tokens::{Hold, Seat, Turn};

@@ -1,0 +1,374 @@
+//! The lock and its calls.
+ghost use Rattle.std.specs.Prelude.{◌≡◌, ◌≢◌, ◌↔◌, ℕ, ◌+◌, ◌*◌, ◌<◌, ◌≤◌, true, false, [], ◌∷◌, ◌++◌, length, Some, None, IsErr, MatchResult, IfOk, IfErr};
+ghost use Rattle.ticket_steps.specs.Books.{book_state, IsLawfulBook};
+ghost use Rattle.ticket_steps.specs.History.{of};
+ghost use Rattle.ticket_steps.specs.declared.seats.Phase.TheVariants.{Holding};
+ghost use Rattle.ticket_lock.specs.Callers.{Caller, first_caller, keeping, given, drawn, having_seen, ended, joined, IsHanded};
+ghost use Rattle.ticket_lock.specs.Steps.{Returns};
+ghost use Rattle.ticket_lock.specs.Views.{Follows};
+
+use crate::figures::Figures;
+use crate::plays::{Count, Draws, Gathers, Leaves, Looks, Settles, Splits};
+use crate::tokens::{Hold, Seat, Spot, Turn};
+use crate::views::{About, Order, View};
+use atomic_table::{Refused, Table};
+use std::alloc::Global;
+use std::marker::Brand;
+use std::snapshot::Snapshot;
+use ticket_steps::{DRAWS, Kept};
+
+type Board<K> = Table<
+    Option<K>,
+    View<K, <K as Kept>::Call, <K as Kept>::Reply>,
+    About<K>,
+    Order<K>,
+    Global,
+>;
+
+/// The word that holds the next ticket.
+const NEXT: usize = 0;
+
+/// The word that holds the number served.
+const SERVED: usize = 1;
+
+/// A ticket lock round a book, for any number of threads.
+///
+/// Each call of a caller takes a ticket (`draw`), looks until its ticket is served (`look`), records
+/// in the book that it is handed, and leaves (`leave`). Calls end in the order of their draws. No
+/// call waits: a caller that isn't served yet is told so, and may look again when it likes.
+///
+/// Whatever the threads do, the history of the book is that of one thread: each call of `ticket_steps`
+/// `Kept` is answered by the sequential step at its place.
+#[derive(Drop)]
+pub struct TicketLock<K: Kept> {
+    pub(crate) table: Board<K>,
+    pub(crate) numbers: u32,
+    pub(crate) draws: u32,
+    ghost sized: { (table.shared.table_id.words ≡ 2) × (table.shared.table_id.slots ≡ 1) },
+    ghost told: { (table.shared.key.numbers ≡ numbers) × (table.shared.key.draws ≡ draws) },
+}
+
+/// What a look finds.
+pub enum Look<K: Kept> {
+    /// The ticket is served: the caller has the book.
+    Held(Hold<K>, K),
+    /// It isn't yet.
+    Waiting(Turn<K>),
+}
+
+impl<K: Kept> TicketLock<K> {
+    ghost use Rattle.ticket_lock.specs.Tokens.{start_of, seat_of, turn_of, hold_of, ticket_of, held_ticket_of, refused_before, IsSeatOf, IsTurnOf, IsHoldOf, MatchLook};
+
+    /// A lock with the book in it, and a seat for all of `numbers`, each of which brings 2^32 - 1
+    /// draws. Where there is no memory for the lock the book comes back as it was.
+    pub fn open(alloc: Global, book: K, numbers: u32) -> Result<(TicketLock<K>, Seat<K>), K>
+        requires numbers { (0 < numbers) × (numbers ≤ 1024) }
+        requires empty { (K.history book ≡ []) × (K.refusals book ≡ 0) }
+        ensures start { IfOk result (λ made. ((start_of made.0).book ≡ book)
+            × ((start_of made.0).numbers ≡ numbers) × ((start_of made.0).draws ≡ DRAWS)) }
+        ensures lock { IfOk result (λ made. IsSeatOf made.0 made.1) }
+        ensures seat { IfOk result (λ made. seat_of made.1 ≡ first_caller numbers DRAWS) }
+        ensures refused { IfErr result (λ back. back ≡ book) }
+    {
+        TicketLock::open_with(alloc, book, numbers, DRAWS)
+    }
+
+    /// As `open`, with so many draws for each number.
+    fn open_with(
+        alloc: Global,
+        book: K,
+        numbers: u32,
+        draws: u32,
+    ) -> Result<(TicketLock<K>, Seat<K>), K>
+        requires numbers { (0 < numbers) × (numbers ≤ 1024) }
+        requires empty { (K.history book ≡ []) × (K.refusals book ≡ 0) }
+        ensures start { IfOk result (λ made. ((start_of made.0).book ≡ book)
+            × ((start_of made.0).numbers ≡ numbers) × ((start_of made.0).draws ≡ draws)) }
+        ensures lock { IfOk result (λ made. IsSeatOf made.0 made.1) }
+        ensures seat { IfOk result (λ made. seat_of made.1 ≡ first_caller numbers draws) }
+        ensures refused { IfErr result (λ back. back ≡ book) }
+    {
+        let about = About {
+            book: Snapshot::of(&book),
+            numbers,
+            draws,
+        };
+        let Ok(mut slots) = Vec::with_capacity(alloc, 1) else {
+            return Err(book);
+        };
+        slots.push_reserved(Some(book));
+        match Table::new(alloc, &[0, 0], slots, &about) {
+            Ok((table, spot)) => {
+                let seat = Seat {
+                    spot,
+                    figures: Figures {
+                        number: 0,
+                        count: numbers,
+                        left: numbers as u64 * draws as u64,
+                        calls: 0,
+                    },
+                    fresh: true,
+                };
+                let lock = TicketLock {
+                    table,
+                    numbers,
+                    draws,
+                };
+                Ok((lock, seat))
+            }
+            Err(Refused { mut slots }) => {
+                let last = slots.pop();
+                let Some(slot) = last else { unreachable!() };
+                let Some(book) = slot else { unreachable!() };
+                slots.destroy_empty();
+                Err(book)
+            }
+        }
+    }
+
+    /// Gives the last `count` numbers of a fresh seat, with their draws, to a new seat, the second.
+    pub fn split(&self, seat: Seat<K>, count: u32) -> (Seat<K>, Seat<K>)
+        requires lock { IsSeatOf self.now seat }
+        requires count { (0 < count) × (count < length (seat_of seat).numbers) }
+        requires fresh { (seat_of seat).fresh ≡ true }
+        ensures lock { IsSeatOf self.now result.0 × IsSeatOf self.now result.1 }
+        ensures kept { seat_of result.0 ≡ keeping (start_of self.now).draws count (seat_of seat) }
+        ensures given { seat_of result.1 ≡ given (start_of self.now).draws count (seat_of seat) }
+    {
+        self.cut::<Brand>(seat, count)
+    }
+
+    /// The same, for a count that proofs can name in a type.
+    fn cut<N: Count>(&self, seat: Seat<K>, count: u32) -> (Seat<K>, Seat<K>)
+        requires is { count ≡ N.count }
+        requires lock { IsSeatOf self.now seat }
+        requires count { (0 < count) × (count < length (seat_of seat).numbers) }
+        requires fresh { (seat_of seat).fresh ≡ true }
+        ensures lock { IsSeatOf self.now result.0 × IsSeatOf self.now result.1 }
+        ensures kept { seat_of result.0 ≡ keeping (start_of self.now).draws count (seat_of seat) }
+        ensures given { seat_of result.1 ≡ given (start_of self.now).draws count (seat_of seat) }
+    {
+        let Seat {
+            mut spot,
+            figures,
+            fresh,
+        } = seat;
+        let other = self.table.shared.split_seat::<Splits<N>>(&mut spot);
+        let kept = figures.count - count;
+        let given = Seat {
+            spot: other,
+            figures: Figures {
+                number: figures.number + kept,
+                count,
+                left: count as u64 * self.draws as u64,
+                calls: 0,
+            },
+            fresh,
+        };
+        let seat = Seat {
+            spot,
+            figures: Figures {
+                number: figures.number,
+                count: kept,
+                left: kept as u64 * self.draws as u64,
+                calls: figures.calls,
+            },
+            fresh,
+        };
+        (seat, given)
+    }
+
+    /// Takes the next ticket, by one of the seat's draws. The seat comes back as it was exactly where
+    /// it has no draw left.
+    pub fn draw(&self, seat: Seat<K>) -> Result<Turn<K>, Seat<K>>
+        requires { IsSeatOf self.now seat }
+        ensures spent { IsErr result ↔ ((seat_of seat).left ≡ 0) }
+        ensures back { IfErr result (λ back. back ≡ seat) }
+        ensures lock { IfOk result (λ turn. IsTurnOf self.now turn) }
+        ensures drawn { IfOk result (λ turn. turn_of turn ≡ drawn (seat_of seat)) }
+    {
+        if seat.figures.left == 0 {
+            return Err(seat);
+        }
+        let Seat {
+            mut spot,
+            figures,
+            fresh: _,
+        } = seat;
+        let ticket = self.table.shared.fetch_add::<Draws<K>>(&mut spot, NEXT, 1);
+        let figures = Figures {
+            number: figures.number,
+            count: figures.count,
+            left: figures.left - 1,
+            calls: figures.calls,
+        };
+        Ok(Turn {
+            spot,
+            figures,
+            ticket,
+        })
+    }
+
+    /// Looks whether the turn's ticket is served. If it is, the book is handed out: its entries begin
+    /// with all that the caller has seen, nothing in them is new of the caller's numbers, and entries
+    /// and refusals together are the ticket. A turn whose seat stands for all numbers is always served.
+    pub fn look(&self, turn: Turn<K>) -> Look<K>
+        requires { IsTurnOf self.now turn }
+        ensures lock { MatchLook result (λ hold book. IsHoldOf self.now hold) (λ back. IsTurnOf self.now back) }
+        ensures caller { MatchLook result
+            (λ hold book. (hold_of hold ≡ having_seen (K.history book) (turn_of turn))
+                × (held_ticket_of hold ≡ ticket_of turn) × (refused_before hold ≡ K.refusals book))
+            (λ back. (turn_of back ≡ turn_of turn) × (ticket_of back ≡ ticket_of turn)) }
+        ensures book { MatchLook result
+            (λ hold book. IsHanded K.Kept (start_of self.now) (turn_of turn).numbers (turn_of turn).seen
+                (ticket_of turn) book)
+            (λ back. length (turn_of turn).numbers < (start_of self.now).numbers) }
+        ensures lawful { MatchLook result
+            (λ hold book. IsLawfulBook K.step (K.opening book)
+                (book_state (K.state book) (K.history book) (K.refusals book)))
+            (λ back. Unit {0}) }
+    {
+        let Turn {
+            mut spot,
+            figures,
+            ticket,
+        } = turn;
+        let served = self.table.shared.load::<Looks<K>>(&mut spot, SERVED);
+        if served == ticket {
+            let book = self.take_book(&mut spot);
+            let hold = Hold {
+                spot,
+                figures,
+                ticket,
+            };
+            return Look::Held(hold, book);
+        }
+        Look::Waiting(Turn {
+            spot,
+            figures,
+            ticket,
+        })
+    }
+
+    /// Puts the book back and ends the turn. The book must be the one that was handed out, with one
+    /// more entry of the hold's own number or one more refusal.
+    pub fn leave(&self, hold: Hold<K>, book: K) -> Seat<K>
+        requires lock { IsHoldOf self.now hold }
+        requires book { Returns K.Kept (start_of self.now) (hold_of hold).own (hold_of hold).seen
+            (refused_before hold) book }
+        ensures lock { IsSeatOf self.now result }
+        ensures ended { seat_of result ≡ ended (K.history book) (hold_of hold) }
+    {
+        let Hold {
+            mut spot,
+            figures,
+            ticket: _,
+        } = hold;
+        self.put_book(&mut spot, book);
+        self.table.shared.fetch_add::<Leaves<K>>(&mut spot, SERVED, 1);
+        let figures = Figures {
+            number: figures.number,
+            count: figures.count,
+            left: figures.left,
+            calls: figures.calls + 1,
+        };
+        Seat {
+            spot,
+            figures,
+            fresh: false,
+        }
+    }
+
+    /// Puts two seats together: the first goes on, answers for the numbers of both and has ended the
+    /// calls of both. It has seen the longer history, to which neither's numbers added anything. The
+    /// second's draws are given up.
+    pub fn gather(&self, seat: Seat<K>, other: Seat<K>) -> Seat<K>
+        requires lock { IsSeatOf self.now seat × IsSeatOf self.now other }
+        ensures lock { IsSeatOf self.now result }
+        ensures joined { seat_of result ≡ joined (seat_of seat) (seat_of other) }
+        ensures seen { Follows (seat_of seat).numbers (seat_of seat).seen (seat_of result).seen }
+        ensures seen_by_other { Follows (seat_of other).numbers (seat_of other).seen (seat_of result).seen }
+    {
+        let Seat {
+            mut spot,
+            figures,
+            fresh: _,
+        } = seat;
+        let Seat {
+            spot: other,
+            figures: more,
+            fresh: _,
+        } = other;
+        self.table.shared.join_seat::<Gathers>(&mut spot, other);
+        self.table.shared.load::<Settles<K>>(&mut spot, NEXT);
+        let figures = Figures {
+            number: figures.number,
+            count: figures.count + more.count,
+            left: figures.left,
+            calls: figures.calls + more.calls,
+        };
+        Seat {
+            spot,
+            figures,
+            fresh: false,
+        }
+    }
+
+    /// Takes the book out for good, where the seat stands for all numbers. It has seen the whole
+    /// history, and its calls are all that were made. Lock and seat come back as they were exactly
+    /// where numbers are missing.
+    pub fn close(self, seat: Seat<K>) -> Result<K, (TicketLock<K>, Seat<K>)>
+        requires { IsSeatOf self seat }
+        ensures missing { IsErr result ↔ (length (seat_of seat).numbers < (start_of self).numbers) }
+        ensures back { IfErr result (λ back. (back.0 ≡ self) × (back.1 ≡ seat)) }
+        ensures opening { IfOk result (λ book. K.opening book ≡ K.opening (start_of self).book) }
+        ensures history { IfOk result (λ book. K.history book ≡ (seat_of seat).seen) }
+        ensures calls { IfOk result (λ book.
+            length (K.history book) + K.refusals book ≡ (seat_of seat).calls) }
+        ensures numbers { IfOk result (λ book. (number : ℕ)
+            → (start_of self).numbers ≤ number → of number (K.history book) ≡ []) }
+        ensures lawful { IfOk result (λ book. IsLawfulBook K.step (K.opening book)
+            (book_state (K.state book) (K.history book) (K.refusals book))) }
+    {
+        if seat.figures.count < self.numbers {
+            return Err((self, seat));
+        }
+        let TicketLock {
+            table,
+            numbers: _,
+            draws: _,
+        } = self;
+        let Seat {
+            spot,
+            figures: _,
+            fresh: _,
+        } = seat;
+        let mut closed = table.close_with(spot);
+        let slot = closed.take(0);
+        closed.free();
+        let Some(book) = slot else { unreachable!() };
+        Ok(book)
+    }
+
+    /// Moves the book out of the slot, which the seat owns.
+    fn take_book(&self, spot: &mut Spot<K>) -> K
+        requires lock { spot.old.table_id ≡ self.now.table.shared.table_id }
+        requires full { (book : K) × (spot.old.me.1 ≡ (0, Some book) ∷ []) }
+        ensures book { spot.old.me.1 ≡ (0, Some result) ∷ [] }
+        ensures taken { spot.new.me ≡ (spot.old.me.0, (0, None) ∷ []) }
+        ensures same { (spot.new.table_id ≡ spot.old.table_id) × (spot.new.id ≡ spot.old.id) }
+    {
+        self.table.shared.exchange(spot, 0, None).unwrap()
+    }
+
+    /// Moves the book back into the slot, which the seat owns.
+    fn put_book(&self, spot: &mut Spot<K>, book: K)
+        requires lock { spot.old.table_id ≡ self.now.table.shared.table_id }
+        requires empty { spot.old.me.1 ≡ (0, None) ∷ [] }
+        ensures put { spot.new.me ≡ (spot.old.me.0, (0, Some book) ∷ []) }
+        ensures same { (spot.new.table_id ≡ spot.old.table_id) × (spot.new.id ≡ spot.old.id) }
+    {
+        let was = self.table.shared.exchange(spot, 0, Some(book));
+        let None = was else { unreachable!() };
+    }
+}

@@ -1,0 +1,75 @@
+//! The kinds of step, and what each tells the seat that steps.
+ghost use Rattle.std.specs.Prelude.{ℕ};
+ghost use Rattle.ticket_lock.specs.Plays.{DrawTells, LookTells, LeaveTells, SettlingTells};
+ghost use Rattle.ticket_lock.specs.Views.{keeping_view, given_view, joined_view, spent_view};
+
+use crate::views::View;
+use atomic_table::{Join, Play, Split};
+use std::marker::{Brand, PhantomData};
+use ticket_steps::Kept;
+
+/// The step of a draw.
+pub(crate) struct Draws<K> {
+    marker: PhantomData<K>,
+}
+
+impl<K: Kept> Play<Option<K>, View<K, K::Call, K::Reply>> for Draws<K> {
+    ghost then = { DrawTells };
+}
+
+/// The step of a look.
+pub(crate) struct Looks<K> {
+    marker: PhantomData<K>,
+}
+
+impl<K: Kept> Play<Option<K>, View<K, K::Call, K::Reply>> for Looks<K> {
+    ghost then = { LookTells K.Kept };
+}
+
+/// The step of a leave.
+pub(crate) struct Leaves<K> {
+    marker: PhantomData<K>,
+}
+
+impl<K: Kept> Play<Option<K>, View<K, K::Call, K::Reply>> for Leaves<K> {
+    ghost then = { LeaveTells K.Kept };
+}
+
+/// How many numbers a split gives away. Each call picks it.
+pub trait Count {
+    ghost count: { ℕ };
+}
+
+impl Count for Brand {
+    ghost count = { 0 };
+}
+
+/// The step of a split.
+pub(crate) struct Splits<N> {
+    marker: PhantomData<N>,
+}
+
+impl<K, C, R, N: Count> Split<View<K, C, R>> for Splits<N> {
+    ghost left = { keeping_view N.count };
+
+    ghost right = { given_view N.count };
+}
+
+/// The step of a gather.
+pub(crate) struct Gathers;
+
+impl<K, C, R> Join<View<K, C, R>> for Gathers {
+    ghost both = { joined_view };
+
+    ghost spent = { spent_view };
+}
+
+/// The second step of a gather: joining two seats tells nothing of the rule, so the joined seat loads
+/// once more, to learn that the two histories are beginnings of one.
+pub(crate) struct Settles<K> {
+    marker: PhantomData<K>,
+}
+
+impl<K: Kept> Play<Option<K>, View<K, K::Call, K::Reply>> for Settles<K> {
+    ghost then = { SettlingTells };
+}

@@ -1,0 +1,172 @@
+//! What no clause says: worked turns, that calls succeed, two threads, and want of memory.
+//!
+//! Each test also passes where any one request for memory is refused (`rt try --test --fail-alloc N`).
+ghost use Rattle.std.specs.Prelude.{◌≡◌, ◌<◌, ◌≤◌, [], IfOk, length, true};
+ghost use Rattle.ticket_steps.specs.CounterBooks.{entries_of, refused_of};
+ghost use Rattle.ticket_steps.specs.Sums.{counted};
+ghost use Rattle.ticket_lock.specs.Tokens.{seat_of, IsSeatOf, IsTurnOf};
+
+use crate::turns::take_turn;
+use crate::{Seat, TicketLock, Turn};
+use std::alloc::{AllocError, Global};
+use std::process::Abort;
+use std::test::Fail;
+use std::thread::join;
+use ticket_steps::counter::CounterBook;
+use ticket_steps::{Entry, Kept};
+
+/// An empty book, at the second try where the first meets want of memory.
+fn empty_book(alloc: Global, room: usize) -> Result<CounterBook, AllocError>
+    ensures { IfOk result (λ book. (entries_of book ≡ []) × (refused_of book ≡ 0)) }
+{
+    match CounterBook::open(alloc, room) {
+        Ok(book) => Ok(book),
+        Err(AllocError) => CounterBook::open(alloc, room),
+    }
+}
+
+/// A lock of two numbers over an empty book, and a seat for each of them. Want of memory hands the
+/// book back as it was, and a second try with memory succeeds.
+fn two_seats(
+    alloc: Global,
+    room: usize,
+) -> Result<(TicketLock<CounterBook>, Seat<CounterBook>, Seat<CounterBook>), AllocError>
+    ensures { IfOk result (λ made. IsSeatOf made.0 made.1 × IsSeatOf made.0 made.2) }
+{
+    let book = empty_book(alloc, room)?;
+    let (lock, seat) = match TicketLock::open(alloc, book, 2) {
+        Ok(made) => made,
+        Err(book) => match TicketLock::open(alloc, book, 2) {
+            Ok(made) => made,
+            Err(_book) => return Err(AllocError),
+        },
+    };
+    let (first, second) = lock.split(seat, 1);
+    Ok((lock, first, second))
+}
+
+/// The entries of a closed book, as plain values.
+fn is_entry(entry: &Entry<u8, u64>, pass: u32, call: u8, reply: u64) -> bool {
+    entry.pass == pass && entry.call == call && entry.reply == reply
+}
+
+#[test]
+fn two_seats_take_turns(rt: HostRuntime) -> Result<(), Fail> {
+    let (lock, first, second) = two_seats(rt.alloc(), 10)?;
+    assert!(rt; first.number() == 0 && first.count() == 1 && first.fresh() && first.calls() == 0);
+    assert!(rt; second.number() == 1 && second.count() == 1 && second.left() == 4_294_967_295);
+    let Ok(a) = lock.draw(first) else {
+        panic!(rt; "spent")
+    };
+    let Ok(b) = lock.draw(second) else {
+        panic!(rt; "spent")
+    };
+    assert!(rt; a.ticket() == 0 && b.ticket() == 1);
+    let b = match take_turn(&lock, b, 7) {
+        Ok((_seat, _reply)) => panic!(rt; "held too early"),
+        Err(turn) => turn,
+    };
+    let (first, five) = match take_turn(&lock, a, 5) {
+        Ok(done) => done,
+        Err(_turn) => panic!(rt; "waits"),
+    };
+    let (second, twelve) = match take_turn(&lock, b, 7) {
+        Ok(done) => done,
+        Err(_turn) => panic!(rt; "waits"),
+    };
+    assert_eq!(rt; (five, twelve), (Ok(5), Ok(12)));
+    let (lock, first) = match lock.close(first) {
+        Ok(_book) => panic!(rt; "closed with a seat missing"),
+        Err(back) => back,
+    };
+    let seat = lock.gather(first, second);
+    assert!(rt; seat.calls() == 2 && seat.count() == 2 && !seat.fresh());
+    let book = match lock.close(seat) {
+        Ok(book) => book,
+        Err((_lock, _seat)) => panic!(rt; "missing"),
+    };
+    let entries = book.entries();
+    assert_eq!(rt; entries.len(), 2);
+    assert!(rt; is_entry(&entries[0], 0, 5, 5) && is_entry(&entries[1], 1, 7, 12));
+    Ok(())
+}
+
+/// How often a caller looks for one turn before the test gives up.
+const LOOKS: u64 = 1_000_000_000;
+
+/// Makes so many calls of 1. The turn comes back where it isn't served in time.
+fn add_ones(
+    lock: &TicketLock<CounterBook>,
+    mut seat: Seat<CounterBook>,
+    calls: u32,
+) -> Result<Seat<CounterBook>, Option<Turn<CounterBook>>>
+    requires { IsSeatOf lock.now seat }
+    ensures { IfOk result (λ seat. IsSeatOf lock.now seat) }
+{
+    for _ in 0..calls {
+        let Ok(turn) = lock.draw(seat) else {
+            return Err(None);
+        };
+        seat = wait_and_add(lock, turn)?;
+    }
+    Ok(seat)
+}
+
+/// One call of 1, looking again and again until it is served.
+fn wait_and_add(
+    lock: &TicketLock<CounterBook>,
+    mut turn: Turn<CounterBook>,
+) -> Result<Seat<CounterBook>, Option<Turn<CounterBook>>>
+    requires { IsTurnOf lock.now turn }
+    ensures { IfOk result (λ seat. IsSeatOf lock.now seat) }
+{
+    for _ in 0..LOOKS {
+        turn = match take_turn(lock, turn, 1) {
+            Ok((seat, _reply)) => return Ok(seat),
+            Err(turn) => turn,
+        };
+    }
+    Err(Some(turn))
+}
+
+/// What a thread hands back, or the end of the test.
+fn seat_back(
+    rt: &impl Abort,
+    lock: &TicketLock<CounterBook>,
+    done: Result<Seat<CounterBook>, Option<Turn<CounterBook>>>,
+) -> Seat<CounterBook>
+    requires { IfOk done (λ seat. IsSeatOf lock.now seat) }
+    ensures { IsSeatOf lock.now result }
+{
+    match done {
+        Ok(seat) => seat,
+        Err(_turn) => panic!(rt; "not served in time"),
+    }
+}
+
+#[test]
+fn two_threads_make_a_thousand_calls_each(rt: HostRuntime) -> Result<(), Fail> {
+    let (lock, first, second) = two_seats(rt.alloc(), 2000)?;
+    let (first, second) = join(
+        &rt,
+        || -> Result<Seat<CounterBook>, Option<Turn<CounterBook>>>
+            requires { IsSeatOf lock first }
+            ensures { IfOk result (λ seat. IsSeatOf lock seat) }
+        { add_ones(&lock, first, 1000) },
+        || -> Result<Seat<CounterBook>, Option<Turn<CounterBook>>>
+            requires { IsSeatOf lock second }
+            ensures { IfOk result (λ seat. IsSeatOf lock seat) }
+        { add_ones(&lock, second, 1000) },
+    );
+    let first = seat_back(&rt, &lock, first);
+    let second = seat_back(&rt, &lock, second);
+    let seat = lock.gather(first, second);
+    assert_eq!(rt; seat.calls(), 2000);
+    let book = match lock.close(seat) {
+        Ok(book) => book,
+        Err((_lock, _seat)) => panic!(rt; "missing"),
+    };
+    assert_eq!(rt; book.entries().len(), 2000);
+    assert_eq!(rt; book.entries()[1999].reply, 2000);
+    Ok(())
+}

@@ -1,0 +1,126 @@
+-- An event is shown or has one fault.
+use Rattle.std.proofs.Common.{◌≡◌, ◌≢◌, ℕ, ◌<◌, List, length, get_or, arith, sym, refl, ap, ◌∙◌, subst, true, Ok, Err}
+use mathlib.Core.Option.{some}
+use lib.ListN.{get_elem?}
+use Rattle.ticket_steps.specs.declared.seats.CoreSeat.{CoreSeat}
+use Rattle.ticket_steps.specs.declared.seats.Phase.{Phase as PhaseOf}
+use Rattle.ticket_steps.specs.declared.seats.Phase.TheVariants.{Idle, Waiting, Holding}
+use Rattle.ticket_steps.specs.declared.events.Event.{Event}
+use Rattle.ticket_steps.specs.declared.events.Event.TheVariants.{Split, Draw, Look, Leave, Gather}
+use Rattle.ticket_steps.specs.declared.events.Seen.{Seen}
+use Rattle.ticket_steps.specs.declared.events.Fault.{Fault}
+use Rattle.ticket_steps.specs.declared.events.Fault.TheVariants.{NoSeat, Phase, Spent}
+use Rattle.ticket_steps.specs.CoreStates.{CoreState}
+use Rattle.ticket_steps.specs.Faults.{NamesSeats, Fits, HasDraw, IsFault, Shows, Steps}
+use Rattle.ticket_steps.specs.Happenings.{Happening, split, drew, waited, held, recorded, refused, gathered, IsOf, Moves}
+use Rattle.ticket_steps.specs.Lawful.{IsLawful}
+use Rattle.ticket_steps.specs.Seats.{IsThere, Stands, is_there}
+use Rattle.ticket_steps.proofs.Lists.{at_same, read_at}
+use Rattle.ticket_steps.proofs.SeatLemmas.{named_once}
+
+-- a seat that stands in a phase of those that are there
+pub stands_there : (seats : List CoreSeat) (i own : ℕ) (phase : PhaseOf) (p : CoreSeat) → is_there phase ≡ true → Stands seats i own phase p → IsThere seats own
+stands_there seats i own phase p there st = (i, p, st.0, st.1, ap is_there st.2 ∙ there)
+
+module _ {C : Type 0} where
+  pub fits_names : (seats : List CoreSeat) (e : Event C) → Fits seats e → NamesSeats seats e
+  fits_names seats (Split own count) t = stands_there seats t.0 own Idle t.1 refl t.2
+  fits_names seats (Draw own) t = stands_there seats t.0 own Idle t.1 refl t.2
+  fits_names seats (Look own) t = stands_there seats t.0 own (Waiting t.2) t.1 refl t.3
+  fits_names seats (Leave own call) t = stands_there seats t.0 own (Holding t.2) t.1 refl t.3
+  fits_names seats (Gather own other) t = (stands_there seats t.0 own Idle t.1 refl t.4, stands_there seats t.2 other Idle t.3 refl t.5)
+
+  -- no event has two faults
+  pub one_fault : (seats : List CoreSeat) (e : Event C) (f k : Fault) → IsFault seats e f → IsFault seats e k → f ≡ k
+  one_fault seats e NoSeat NoSeat a b = refl
+  one_fault seats e NoSeat Phase a b = absurd (a b.0)
+  one_fault seats e NoSeat Spent a b = absurd (a (fits_names seats e b.0))
+  one_fault seats e Phase NoSeat a b = absurd (b a.0)
+  one_fault seats e Phase Phase a b = refl
+  one_fault seats e Phase Spent a b = absurd (a.1 b.0)
+  one_fault seats e Spent NoSeat a b = absurd (b (fits_names seats e a.0))
+  one_fault seats e Spent Phase a b = absurd (b.1 a.0)
+  one_fault seats e Spent Spent a b = refl
+
+  -- what fits and has a draw has no fault
+  no_fault : (seats : List CoreSeat) (e : Event C) (f : Fault) → Fits seats e → HasDraw seats e → IsFault seats e f → ⊥
+  no_fault seats e NoSeat fits draw a = a (fits_names seats e fits)
+  no_fault seats e Phase fits draw a = a.1 fits
+  no_fault seats e Spent fits draw a = a.1 draw
+
+module _ {S C R : Type 0} (step : S → C → S × R) (draws : ℕ) where
+  abbrev May : List CoreSeat → Event C → Type 0
+  May seats e = Fits seats e × HasDraw seats e
+
+  moves_may : (b c : CoreState S C R) (e : Event C) (h : Happening C R) → IsOf e h → Moves step draws b h c → May b.seats e
+  moves_may b c e (split own count) is t = subst (May b.seats) (sym is) ((t.0, t.1, t.2, t.3, t.4, t.5), tt)
+  moves_may b c e (drew own ticket) is t = subst (May b.seats) (sym is) ((t.0, t.1, t.2), (t.0, t.1, t.2, t.3))
+  moves_may b c e (waited own) is t = subst (May b.seats) (sym is) ((t.0, t.1, t.2, t.3), tt)
+  moves_may b c e (held own) is t = subst (May b.seats) (sym is) ((t.0, t.1, b.served, t.2), tt)
+  moves_may b c e (recorded own call reply) is t = subst (May b.seats) (sym is) ((t.0, t.1, t.2, t.3), tt)
+  moves_may b c e (refused own) is t = subst (May b.seats) (sym is.1) ((t.0, t.1, t.2, t.3), tt)
+  moves_may b c e (gathered own other) is t = subst (May b.seats) (sym is) ((t.0, t.1, t.2, t.3, t.4, t.5, t.6), tt)
+
+  -- a step that is shown
+  pub steps_shown : (b c : CoreState S C R) (e : Event C) (seen : Seen R) → Shows step draws b e seen c → Steps step draws b e (Ok seen) c
+  steps_shown b c e seen t = record {
+    shown = t;
+    fault = λ f. (λ h. absurd (cc), λ a. let m = moves_may b c e t.0 t.1 t.3 in absurd (no_fault b.seats e f m.0 m.1 a));
+    same = tt;
+  }
+
+  -- a step that has a fault
+  pub steps_fault : (b : CoreState S C R) (e : Event C) (f : Fault) → IsFault b.seats e f → Steps step draws b e (Err f) b
+  steps_fault b e f a = record {
+    shown = tt;
+    fault = λ k. (λ (h : Err f ≡ Err k). let same : f ≡ k = cc in subst (IsFault b.seats e) same a, λ d. ap Err (one_fault b.seats e f k a d));
+    same = refl;
+  }
+
+-- the seat that is called by a number is the only one
+pub phase_is : {S C R : Type 0} (numbers draws : ℕ) (c : CoreState S C R) (i k own : ℕ) (p q : CoreSeat) (phase : PhaseOf) → IsLawful numbers draws c
+    → get_elem? c.seats i ≡ some p → p.own ≡ own → is_there p.phase ≡ true → is_there phase ≡ true → Stands c.seats k own phase q → q ≡ p
+phase_is numbers draws c i k own p q phase l at called there there' st =
+    let same : k ≡ i = named_once numbers draws c l i k p q at st.0 there (ap is_there st.2 ∙ there') (called ∙ sym st.1) in
+    at_same c.seats i q p (subst (λ (n : ℕ). get_elem? c.seats n ≡ some q) same st.0) at
+
+-- an element that was read at the place where p stands is p
+pub read_is : {A : Type 0} (xs : List A) (i : ℕ) (p x : A) → get_elem? xs i ≡ some p → x ≡ get_or xs i x → x ≡ p
+read_is xs i p x at read = read ∙ read_at xs i p x at
+
+-- a seat that is there, called by its own number: which events it is not fit for
+module _ {S C R : Type 0} (numbers draws : ℕ) (c : CoreState S C R) (l : IsLawful numbers draws c) (i own : ℕ) (p : CoreSeat) (at : get_elem? c.seats i ≡ some p) (called : p.own ≡ own) (there : is_there p.phase ≡ true) where
+  here : IsThere c.seats own
+  here = (i, p, at, called, there)
+
+  same_phase : (phase : PhaseOf) (k : ℕ) (q : CoreSeat) → is_there phase ≡ true → Stands c.seats k own phase q → p.phase ≡ phase
+  same_phase phase k q there' st = ap (λ (s : CoreSeat). s.phase) (sym (phase_is numbers draws c i k own p q phase l at called there there' st)) ∙ st.2
+
+  pub unfit_split : (count : ℕ) → ((p.phase ≡ Idle) × (p.fresh ≡ true) × (0 < count) × (count < length p.numbers) → ⊥) → IsFault {C = C} c.seats (Split own count) Phase
+  unfit_split count wrong = (
+    here,
+    λ t. let same = phase_is numbers draws c i t.0 own p t.1 Idle l at called there refl t.2 in
+        wrong (ap (λ (s : CoreSeat). s.phase) (sym same) ∙ t.2.2, ap (λ (s : CoreSeat). s.fresh) (sym same) ∙ t.3, t.4, subst (λ (s : CoreSeat). count < length s.numbers) same t.5),
+  )
+
+  pub unfit_draw : (p.phase ≡ Idle → ⊥) → IsFault {C = C} c.seats (Draw own) Phase
+  unfit_draw wrong = (here, λ t. wrong (same_phase Idle t.0 t.1 refl t.2))
+
+  pub spent_draw : p.phase ≡ Idle → p.left ≡ 0 → IsFault {C = C} c.seats (Draw own) Spent
+  spent_draw idle none = ((i, p, (at, called, idle)), λ t. let same = phase_is numbers draws c i t.0 own p t.1 Idle l at called there refl t.2 in omega (arith, t.3, ap (λ (s : CoreSeat). s.left) same, none))
+
+  pub unfit_look : ((ticket : ℕ) → p.phase ≡ Waiting ticket → ⊥) → IsFault {C = C} c.seats (Look own) Phase
+  unfit_look wrong = (here, λ t. wrong t.2 (same_phase (Waiting t.2) t.0 t.1 refl t.3))
+
+  pub unfit_leave : (call : C) → ((ticket : ℕ) → p.phase ≡ Holding ticket → ⊥) → IsFault c.seats (Leave own call) Phase
+  unfit_leave call wrong = (here, λ t. wrong t.2 (same_phase (Holding t.2) t.0 t.1 refl t.3))
+
+  pub unfit_gather : (k other : ℕ) (q : CoreSeat) → get_elem? c.seats k ≡ some q → q.own ≡ other → is_there q.phase ≡ true → ((own ≢ other) × (p.phase ≡ Idle) × (q.phase ≡ Idle) → ⊥) → IsFault {C = C} c.seats (Gather own other) Phase
+  unfit_gather k other q at' called' there' wrong = (
+    (here, (k, q, at', called', there')),
+    λ t. wrong (
+      t.6,
+      same_phase Idle t.0 t.1 refl t.4,
+      ap (λ (s : CoreSeat). s.phase) (sym (phase_is numbers draws c k t.2 other q t.3 Idle l at' called' there' refl t.5)) ∙ t.5.2,
+    ),
+  )

@@ -1,0 +1,201 @@
+-- Whatever happens keeps a core state lawful.
+use Rattle.std.proofs.Common.{◌≡◌, ℕ, ◌+◌, ◌-◌, ◌*◌, ◌<◌, ◌≢◌, List, [], ◌∷◌, ◌++◌, length, set, take, drop, sym, refl, ap, ◌∙◌, subst, ⊎_elim, arith, length-append, length-set, zero-add, Bool, true, cond}
+use mathlib.Core.Option.{some, some-ne-none}
+use lib.ListN.{get_elem?}
+use Rattle.ticket_steps.specs.declared.seats.CoreSeat.{CoreSeat}
+use Rattle.ticket_steps.specs.declared.seats.Phase.TheVariants.{Idle, Waiting, Holding}
+use Rattle.ticket_steps.specs.Books.{BookState, with_entry, with_refusal}
+use Rattle.ticket_steps.specs.CoreStates.{CoreState, core_state, opened}
+use Rattle.ticket_steps.specs.Happenings.{Happening, split, drew, waited, held, recorded, refused, gathered, with_seats, after_leave, Moves}
+use Rattle.ticket_steps.specs.History.{entry}
+use Rattle.ticket_steps.specs.Lawful.{IsSeat, IsLawful, spare}
+use Rattle.ticket_steps.specs.Seats.{tickets_of, is_there, fresh_seat, gone, keeping, given, waiting, holding, ended, joined, Stands}
+use Rattle.ticket_steps.specs.Sums.{total, times, once_below, counted}
+use Rattle.ticket_steps.proofs.Lists.{at_set, at_snoc, at_same, set_else, at_within}
+use Rattle.ticket_steps.proofs.SeatLemmas.{tickets, tickets_idle, tickets_waiting, tickets_holding, sole}
+use Rattle.ticket_steps.proofs.Totals.{total-set, total-append, times-same, times-append, times-take-drop, take-counted, drop-counted, length-counted, counted_first, counted_below, below_no, below_more}
+
+-- what is so of each seat stays so where the seat at i goes to w
+each_set : (draws served served' : ℕ) (seats : List CoreSeat) (i : ℕ) (w : CoreSeat) → IsSeat draws served' w → ((j : ℕ) (s : CoreSeat) → j ≢ i → get_elem? seats j ≡ some s → IsSeat draws served' s)
+    → (j : ℕ) (s : CoreSeat) → get_elem? (set seats i w) j ≡ some s → IsSeat draws served' s
+each_set draws served served' seats i w mine others j s e =
+    ⊎_elim (λ (t : (j ≡ i) × (w ≡ s)). subst (IsSeat draws served') t.1 mine) (λ (t : (j ≢ i) × (get_elem? seats j ≡ some s)). others j s t.0 t.1) (at_set seats i j w s e)
+
+each_snoc : (draws served : ℕ) (seats : List CoreSeat) (w : CoreSeat) → IsSeat draws served w → ((j : ℕ) (s : CoreSeat) → get_elem? seats j ≡ some s → IsSeat draws served s)
+    → (j : ℕ) (s : CoreSeat) → get_elem? (seats ++ w ∷ []) j ≡ some s → IsSeat draws served s
+each_snoc draws served seats w new all j s e = ⊎_elim (λ (t : get_elem? seats j ≡ some s). all j s t) (λ (t : w ≡ s). subst (IsSeat draws served) t new) (at_snoc seats w s j e)
+
+-- a fresh seat with a range of numbers
+fresh_is : (draws served n k calls : ℕ) (numbers : List ℕ) → 0 < k → numbers ≡ counted n k → IsSeat draws served (fresh_seat draws n numbers calls)
+fresh_is draws served n k calls numbers h is =
+    let len : length numbers ≡ k = ap length is ∙ length-counted n k in record {
+      holder = λ t e. absurd (cc);
+      own = λ _. omega (arith, ap (times n) is, counted_first n k h);
+      whole = λ _. (is ∙ ap (counted n) (sym len), refl);
+      gone = λ e. absurd (cc);
+    }
+
+-- of two parts of a seat's sums
+sums_split : (seats : List CoreSeat) (i : ℕ) (p a b : CoreSeat) → get_elem? seats i ≡ some p → (g : CoreSeat → ℕ) → total g (set seats i a ++ b ∷ []) + g p ≡ total g seats + g a + g b
+sums_split seats i p a b at g = omega (arith, total-append g (set seats i a) (b ∷ []), total-set g seats i p a at)
+
+module _ {S C R : Type 0} (numbers draws : ℕ) where
+  pub lawful_opened : (state : S) → 0 < numbers → IsLawful {C = C} {R = R} numbers draws (opened numbers draws state)
+  lawful_opened state h =
+      let len : length (counted 0 numbers) ≡ numbers = length-counted 0 numbers in record {
+        each = each_snoc draws 0 [] (fresh_seat draws 0 (counted 0 numbers) 0) (fresh_is draws 0 0 numbers 0 (counted 0 numbers) h refl) (λ j s e. absurd (some-ne-none s (sym e)));
+        tickets = λ t. omega arith;
+        numbered = λ n. omega (arith, counted_below n 0 numbers, below_no n 0 (omega arith), ap (once_below n) (zero-add numbers));
+        count = omega (arith, len);
+        counted = refl;
+        calls = refl;
+        supply = let e : length (counted 0 numbers) * draws ≡ numbers * draws = ap (λ (k : ℕ). k * draws) len in omega (arith, e);
+        places = omega (arith, len);
+      }
+
+  lawful_split : (b : CoreState S C R) (own count i : ℕ) (p : CoreSeat) → IsLawful numbers draws b → Stands b.seats i own Idle p → p.fresh ≡ true → 0 < count → count < length p.numbers
+      → IsLawful numbers draws (with_seats b (set b.seats i (keeping draws count p) ++ given draws count p ∷ []))
+  lawful_split b own count i p l st fresh some_count less =
+      let at = st.0 in
+      let len : ℕ = length p.numbers in
+      let k : ℕ = len - count in
+      let x : CoreSeat = keeping draws count p in
+      let y : CoreSeat = given draws count p in
+      let w = (l.each i p at).whole fresh in
+      let taken : take k p.numbers ≡ counted p.own k = ap (take k) w.0 ∙ take-counted p.own k len (omega arith) in
+      let rest : len - k ≡ count = omega arith in
+      let dropped : drop k p.numbers ≡ counted (p.own + k) count = ap (drop k) w.0 ∙ (drop-counted p.own k len (omega arith) ∙ ap (counted (p.own + k)) rest) in
+      let xs : length x.numbers ≡ k = ap length taken ∙ length-counted p.own k in
+      let ys : length y.numbers ≡ count = ap length dropped ∙ length-counted (p.own + k) count in
+      let sums = sums_split b.seats i p x y at in
+      let left_x : x.left ≡ k * draws = ap (λ (n : ℕ). n * draws) xs in
+      let left_y : y.left ≡ count * draws = ap (λ (n : ℕ). n * draws) ys in
+      let left_p : p.left ≡ (k + count) * draws = w.1 ∙ ap (λ (n : ℕ). n * draws) (let e : len ≡ k + count = omega arith in e) in
+      let spare_p : spare p ≡ len - 1 = ap (λ (f : Bool). cond f (len - 1) 0) fresh in
+      let idle = tickets_idle in
+      record {
+        each = each_snoc draws b.served (set b.seats i x) y (fresh_is draws b.served (p.own + k) count 0 (drop k p.numbers) some_count dropped)
+            (each_set draws b.served b.served b.seats i x (fresh_is draws b.served p.own k p.calls (take k p.numbers) (omega arith) taken) (λ j s _ e. l.each j s e));
+        tickets = λ t. omega (arith, l.tickets t, sums (tickets t), tickets_idle t p st.2);
+        numbered = λ n. omega (arith, l.numbered n, sums (λ (s : CoreSeat). times n s.numbers), times-take-drop n k p.numbers);
+        count = omega (arith, l.count, sums (λ (s : CoreSeat). length s.numbers), xs, ys);
+        counted = l.counted;
+        calls = omega (arith, l.calls, sums (λ (s : CoreSeat). s.calls));
+        supply = omega (arith, l.supply, sums (λ (s : CoreSeat). s.left), left_x, left_y, left_p);
+        places = omega (arith, l.places, sums spare, spare_p, xs, ys, length-append (set b.seats i x) (y ∷ []), length-set b.seats i x, at_within b.seats i p at);
+      }
+
+  lawful_draw : (b : CoreState S C R) (own i : ℕ) (p : CoreSeat) → IsLawful numbers draws b → Stands b.seats i own Idle p → 0 < p.left
+      → IsLawful numbers draws (core_state (b.next + 1) b.served (set b.seats i (waiting b.next p)) b.book)
+  lawful_draw b own i p l st some_left =
+      let at = st.0 in
+      let w : CoreSeat = waiting b.next p in
+      let sums : (g : CoreSeat → ℕ) → total g (set b.seats i w) + g p ≡ total g b.seats + g w = λ g. total-set g b.seats i p w at in record {
+        each = each_set draws b.served b.served b.seats i w record {
+          holder = λ t e. absurd (cc);
+          own = λ _. (l.each i p at).own (ap is_there st.2);
+          whole = λ e. absurd (cc);
+          gone = λ e. absurd (cc);
+        } (λ j s _ e. l.each j s e);
+        tickets = λ t. omega (arith, l.tickets t, sums (tickets t), tickets_idle t p st.2, below_more t b.next);
+        numbered = λ n. omega (arith, l.numbered n, sums (λ (s : CoreSeat). times n s.numbers));
+        count = omega (arith, l.count, sums (λ (s : CoreSeat). length s.numbers));
+        counted = l.counted;
+        calls = omega (arith, l.calls, sums (λ (s : CoreSeat). s.calls));
+        supply = omega (arith, l.supply, sums (λ (s : CoreSeat). s.left));
+        places = omega (arith, l.places, sums spare, length-set b.seats i w);
+      }
+
+  lawful_look : (b : CoreState S C R) (own i : ℕ) (p : CoreSeat) → IsLawful numbers draws b → Stands b.seats i own (Waiting b.served) p
+      → IsLawful numbers draws (with_seats b (set b.seats i (holding b.served p)))
+  lawful_look b own i p l st =
+      let at = st.0 in
+      let w : CoreSeat = holding b.served p in
+      let sums : (g : CoreSeat → ℕ) → total g (set b.seats i w) + g p ≡ total g b.seats + g w = λ g. total-set g b.seats i p w at in record {
+        each = each_set draws b.served b.served b.seats i w record {
+          holder = λ t e. cc;
+          own = λ _. (l.each i p at).own (ap is_there st.2);
+          whole = λ e. (l.each i p at).whole e;
+          gone = λ e. absurd (cc);
+        } (λ j s _ e. l.each j s e);
+        tickets = λ t. omega (arith, l.tickets t, sums (tickets t), tickets_waiting t b.served p st.2);
+        numbered = λ n. omega (arith, l.numbered n, sums (λ (s : CoreSeat). times n s.numbers));
+        count = omega (arith, l.count, sums (λ (s : CoreSeat). length s.numbers));
+        counted = l.counted;
+        calls = omega (arith, l.calls, sums (λ (s : CoreSeat). s.calls));
+        supply = omega (arith, l.supply, sums (λ (s : CoreSeat). s.left));
+        places = omega (arith, l.places, sums spare, length-set b.seats i w);
+      }
+
+  lawful_leave : (b : CoreState S C R) (own i t : ℕ) (p : CoreSeat) (book : BookState S C R) → IsLawful numbers draws b → Stands b.seats i own (Holding t) p
+      → length book.entries + book.refused ≡ b.served + 1 → IsLawful numbers draws (after_leave b i p book)
+  lawful_leave b own i t p book l st grown =
+      let at = st.0 in
+      let served : t ≡ b.served = (l.each i p at).holder t st.2 in
+      let phase : p.phase ≡ Holding b.served = st.2 ∙ ap Holding served in
+      let mine : times b.served (tickets_of p.phase) ≡ 1 = tickets_holding b.served b.served p phase ∙ times-same b.served [] in
+      let w : CoreSeat = ended p in
+      let sums : (g : CoreSeat → ℕ) → total g (set b.seats i w) + g p ≡ total g b.seats + g w = λ g. total-set g b.seats i p w at in record {
+        each = each_set draws b.served (b.served + 1) b.seats i w record {
+          holder = λ t e. absurd (cc);
+          own = λ _. (l.each i p at).own (ap is_there st.2);
+          whole = λ e. (l.each i p at).whole e;
+          gone = λ e. absurd (cc);
+        } (λ j s other e. let is = l.each j s e in record {
+          holder = λ k h. absurd (omega (
+            arith,
+            sole numbers draws b l i j p s at mine other e,
+            tickets_holding b.served k s h,
+            ap (λ (n : ℕ). times b.served (n ∷ [])) (is.holder k h),
+            times-same b.served [],
+          ));
+          own = is.own;
+          whole = is.whole;
+          gone = is.gone;
+        });
+        tickets = λ t. omega (arith, l.tickets t, sums (tickets t), tickets_holding t b.served p phase, below_more t b.served);
+        numbered = λ n. omega (arith, l.numbered n, sums (λ (s : CoreSeat). times n s.numbers));
+        count = omega (arith, l.count, sums (λ (s : CoreSeat). length s.numbers));
+        counted = grown;
+        calls = omega (arith, l.calls, sums (λ (s : CoreSeat). s.calls));
+        supply = omega (arith, l.supply, sums (λ (s : CoreSeat). s.left));
+        places = omega (arith, l.places, sums spare, length-set b.seats i w);
+      }
+
+  lawful_gather : (b : CoreState S C R) (own other i k : ℕ) (p q : CoreSeat) → IsLawful numbers draws b → Stands b.seats i own Idle p → Stands b.seats k other Idle q → own ≢ other
+      → IsLawful numbers draws (with_seats b (set (set b.seats i (joined p q)) k gone))
+  lawful_gather b own other i k p q l st st' apart =
+      let at = st.0 in
+      let w : CoreSeat = joined p q in
+      let ne : k ≢ i = λ e. apart (sym st.1 ∙ (ap (λ (s : CoreSeat). s.own) (at_same b.seats i p q at (subst (λ (n : ℕ). get_elem? b.seats n ≡ some q) e st'.0)) ∙ st'.1)) in
+      let there : get_elem? (set b.seats i w) k ≡ some q = set_else b.seats i k w ne ∙ st'.0 in
+      let sums : (g : CoreSeat → ℕ) → total g (set (set b.seats i w) k gone) + g p + g q ≡ total g b.seats + g w + g gone = λ g. omega (arith, total-set g (set b.seats i w) k q gone there, total-set g b.seats i p w at) in record {
+        each = each_set draws b.served b.served (set b.seats i w) k gone record {
+          holder = λ t e. absurd (cc);
+          own = λ e. absurd (cc);
+          whole = λ e. absurd (cc);
+          gone = λ _. (refl, refl, refl, refl);
+        } (λ j s _ e. each_set draws b.served b.served b.seats i w record {
+          holder = λ t e. absurd (cc);
+          own = λ _. omega (arith, (l.each i p at).own (ap is_there st.2), times-append p.own p.numbers q.numbers);
+          whole = λ e. absurd (cc);
+          gone = λ e. absurd (cc);
+        } (λ j s _ e. l.each j s e) j s e);
+        tickets = λ t. omega (arith, l.tickets t, sums (tickets t), tickets_idle t p st.2, tickets_idle t q st'.2);
+        numbered = λ n. omega (arith, l.numbered n, sums (λ (s : CoreSeat). times n s.numbers), times-append n p.numbers q.numbers);
+        count = omega (arith, l.count, sums (λ (s : CoreSeat). length s.numbers), length-append p.numbers q.numbers);
+        counted = l.counted;
+        calls = omega (arith, l.calls, sums (λ (s : CoreSeat). s.calls));
+        supply = omega (arith, l.supply, sums (λ (s : CoreSeat). s.left));
+        places = omega (arith, l.places, sums spare, length-set (set b.seats i w) k gone, length-set b.seats i w);
+      }
+
+  module _ (step : S → C → S × R) where
+    pub moves_lawful : (b c : CoreState S C R) (h : Happening C R) → IsLawful numbers draws b → Moves step draws b h c → IsLawful numbers draws c
+    moves_lawful b c (split own count) l t = subst (IsLawful numbers draws) (sym t.6) (lawful_split b own count t.0 t.1 l t.2 t.3 t.4 t.5)
+    moves_lawful b c (drew own ticket) l t = subst (IsLawful numbers draws) (sym t.5) (lawful_draw b own t.0 t.1 l t.2 t.3)
+    moves_lawful b c (waited own) l t = subst (IsLawful numbers draws) (sym t.5) l
+    moves_lawful b c (held own) l t = subst (IsLawful numbers draws) (sym t.3) (lawful_look b own t.0 t.1 l t.2)
+    moves_lawful b c (recorded own call reply) l t = subst (IsLawful numbers draws) (sym t.5) (lawful_leave b own t.0 t.2 t.1 (with_entry step own call b.book) l t.3 (omega (arith, l.counted, length-append b.book.entries (entry own call (step b.book.state call).1 ∷ []))))
+    moves_lawful b c (refused own) l t = subst (IsLawful numbers draws) (sym t.4) (lawful_leave b own t.0 t.2 t.1 (with_refusal b.book) l t.3 (omega (arith, l.counted)))
+    moves_lawful b c (gathered own other) l t = subst (IsLawful numbers draws) (sym t.7) (lawful_gather b own other t.0 t.2 t.1 t.3 l t.4 t.5 t.6)

@@ -1,0 +1,9 @@
+pub mod Histories
+pub mod Lists
+pub mod Totals
+pub mod Ofs
+pub mod CoreLemmas
+pub mod SeatLemmas
+pub mod FaultLemmas
+pub mod LawfulSteps
+pub mod ScheduleLemmas

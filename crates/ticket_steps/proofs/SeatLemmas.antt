@@ -1,0 +1,152 @@
+-- What a lawful core state says of its seats.
+use Rattle.std.proofs.Common.{◌≡◌, ℕ, ◌+◌, ◌-◌, ◌<◌, ◌≤◌, ◌≢◌, ◌⊎◌, [], ◌∷◌, length, sym, refl, ap, ◌∙◌, ⊎_elim, inl, inr, arith, true, false}
+use mathlib.Core.Logic.{dite}
+use native.Mathlib.Decide.{ℕ_discrete, dec_le}
+use mathlib.Core.Option.{some}
+use lib.ListN.{get_elem?}
+use Rattle.ticket_steps.specs.declared.seats.CoreSeat.{CoreSeat}
+use Rattle.ticket_steps.specs.declared.seats.Phase.{Phase}
+use Rattle.ticket_steps.specs.declared.seats.Phase.TheVariants.{Idle, Waiting, Holding, Gone}
+use Rattle.ticket_steps.specs.CoreStates.{CoreState}
+use Rattle.ticket_steps.specs.Lawful.{IsSeat, IsLawful}
+use Rattle.ticket_steps.specs.Seats.{tickets_of, holds_one, is_there, tickets_at, holders}
+use Rattle.ticket_steps.specs.Sums.{total, times, once_below, counted}
+use Rattle.ticket_steps.proofs.Totals.{times-same, times-other, times_le, below_le, below_no, below_yes, between, term_le, terms_le, sums_le, sums_lt, only_term, counted_last}
+
+abbrev pub tickets : ℕ → CoreSeat → ℕ
+tickets t s = times t (tickets_of s.phase)
+
+abbrev pub holds : CoreSeat → ℕ
+holds s = holds_one s.phase
+
+-- the ticket of a seat in a known phase
+pub tickets_idle : (t : ℕ) (s : CoreSeat) → s.phase ≡ Idle → times t (tickets_of s.phase) ≡ 0
+tickets_idle t s e = ap (λ (p : Phase). times t (tickets_of p)) e
+
+pub tickets_waiting : (t k : ℕ) (s : CoreSeat) → s.phase ≡ Waiting k → times t (tickets_of s.phase) ≡ times t (k ∷ [])
+tickets_waiting t k s e = ap (λ (p : Phase). times t (tickets_of p)) e
+
+pub tickets_holding : (t k : ℕ) (s : CoreSeat) → s.phase ≡ Holding k → times t (tickets_of s.phase) ≡ times t (k ∷ [])
+tickets_holding t k s e = ap (λ (p : Phase). times t (tickets_of p)) e
+
+holder_le_as : (served : ℕ) (p : Phase) → ((t : ℕ) → p ≡ Holding t → t ≡ served) → holds_one p ≤ times served (tickets_of p)
+holder_le_as served Idle h = omega arith
+holder_le_as served (Waiting t) h = omega arith
+holder_le_as served (Holding t) h = omega (arith, ap (λ (k : ℕ). times served (k ∷ [])) (h t refl), times-same served [])
+holder_le_as served Gone h = omega arith
+
+-- a holder has the number served as its ticket
+pub holder_le : (draws served : ℕ) (s : CoreSeat) → IsSeat draws served s → holds_one s.phase ≤ times served (tickets_of s.phase)
+holder_le draws served s is = holder_le_as served s.phase is.holder
+
+busy_as : (p : Phase) → length (tickets_of p) ≤ 1
+busy_as Idle = omega arith
+busy_as (Waiting t) = omega arith
+busy_as (Holding t) = omega arith
+busy_as Gone = omega arith
+
+gone_none_as : (p : Phase) → is_there p ≡ false → length (tickets_of p) ≡ 0
+gone_none_as Idle h = absurd (cc)
+gone_none_as (Waiting t) h = absurd (cc)
+gone_none_as (Holding t) h = absurd (cc)
+gone_none_as Gone h = refl
+
+there_or_not : (p : Phase) → (is_there p ≡ true) ⊎ (is_there p ≡ false)
+there_or_not p = elim (is_there p) as (λ b. (b ≡ true) ⊎ (b ≡ false)) [ true ↦ inl refl | false ↦ inr refl ]
+
+-- a seat with a ticket answers for some number
+pub busy : (draws served : ℕ) (s : CoreSeat) → IsSeat draws served s → length (tickets_of s.phase) ≤ length s.numbers
+busy draws served s is = ⊎_elim
+    (λ (t : is_there s.phase ≡ true). omega (arith, busy_as s.phase, is.own t, times_le s.own s.numbers))
+    (λ (t : is_there s.phase ≡ false). omega (arith, gone_none_as s.phase t)) (there_or_not s.phase)
+
+-- a seat without numbers has ended no calls
+pub unnumbered_calls : (draws served : ℕ) (s : CoreSeat) → IsSeat draws served s → length s.numbers ≡ 0 → s.calls ≡ 0
+unnumbered_calls draws served s is none = ⊎_elim
+    (λ (t : is_there s.phase ≡ true). absurd (omega (arith, none, is.own t, times_le s.own s.numbers)))
+    (λ (t : is_there s.phase ≡ false). (is.gone t).1) (there_or_not s.phase)
+
+module _ {S C R : Type 0} (numbers draws : ℕ) (c : CoreState S C R) (l : IsLawful numbers draws c) where
+  -- the number served has one seat at most
+  pub one_served : tickets_at c.served c.seats ≡ once_below c.served c.next
+  one_served = omega (arith, l.tickets c.served, below_no c.served c.served (omega arith))
+
+  pub holders_le : holders c.seats ≤ tickets_at c.served c.seats
+  holders_le = sums_le holds (tickets c.served) c.seats (λ k u e. holder_le draws c.served u (l.each k u e))
+
+  pub one_holder : holders c.seats ≤ 1
+  one_holder = omega (arith, holders_le, one_served, below_le c.served c.next)
+
+  -- where the seat that is served waits, no seat holds
+  pub no_holder : (i : ℕ) (p : CoreSeat) → get_elem? c.seats i ≡ some p → p.phase ≡ Waiting c.served → holders c.seats ≡ 0
+  no_holder i p at waits =
+      let mine : times c.served (tickets_of p.phase) ≡ 1 = tickets_waiting c.served c.served p waits ∙ times-same c.served [] in
+      let fewer : holders c.seats < tickets_at c.served c.seats = sums_lt holds (tickets c.served) c.seats i p at (omega (arith, ap holds_one waits, mine))
+      (λ k u e. holder_le draws c.served u (l.each k u e)) in
+      omega (arith, one_served, below_le c.served c.next)
+
+  -- beside the seat that is served no other has its ticket
+  pub sole : (i k : ℕ) (p u : CoreSeat) → get_elem? c.seats i ≡ some p → times c.served (tickets_of p.phase) ≡ 1 → k ≢ i → get_elem? c.seats k ≡ some u → times c.served (tickets_of u.phase) ≡ 0
+  sole i k p u at mine other e = omega (arith, mine, terms_le (tickets c.served) c.seats i k p u other at e, one_served, below_le c.served c.next)
+
+  -- a ticket that a seat has was drawn and isn't left yet
+  pub in_line : (i t : ℕ) (p : CoreSeat) → get_elem? c.seats i ≡ some p → 0 < times t (tickets_of p.phase) → c.served < c.next
+  in_line i t p at has = between t c.served c.next (omega (arith, l.tickets t, term_le (tickets t) c.seats i p at))
+
+  pub served_le : c.served ≤ c.next
+  served_le = dite (dec_le c.served c.next) (λ le. le) (λ gt. absurd (omega (arith, l.tickets c.next, below_no c.next c.next (omega arith), below_yes c.next c.served (omega arith))))
+
+  -- a seat that waits while all others have no numbers is the one that is served
+  pub alone_served : (i t : ℕ) (p : CoreSeat) → get_elem? c.seats i ≡ some p → p.phase ≡ Waiting t → numbers ≤ length p.numbers → t ≡ c.served
+  alone_served i t p at waits all =
+      let mine : times t (tickets_of p.phase) ≡ 1 = tickets_waiting t t p waits ∙ times-same t [] in
+      let one : once_below c.served c.next ≡ 1 = below_yes c.served c.next (in_line i t p at (omega (arith, mine))) in
+      let only : tickets_at c.served c.seats ≡ times c.served (tickets_of p.phase) = only_term (tickets c.served) c.seats i p at
+      (λ k u other e. omega (arith, times_le c.served (tickets_of u.phase), busy draws c.served u (l.each k u e), terms_le (λ (s : CoreSeat). length s.numbers) c.seats i k p u other at e, l.count)) in
+      let found : times c.served (t ∷ []) ≡ 1 = sym (tickets_waiting c.served t p waits) ∙ (sym only ∙ (one_served ∙ one)) in
+      dite (ℕ_discrete c.served t) (λ e. sym e) (λ ne. absurd (omega (arith, times-other c.served t [] ne, found)))
+
+  -- where one seat stands for all numbers, no other seat counts
+  pub alone : (i : ℕ) (p : CoreSeat) → get_elem? c.seats i ≡ some p → numbers ≤ length p.numbers
+      → (g : CoreSeat → ℕ) → ((k : ℕ) (u : CoreSeat) → get_elem? c.seats k ≡ some u → length u.numbers ≡ 0 → g u ≡ 0) → total g c.seats ≡ g p
+  alone i p at all g h = only_term g c.seats i p at
+      (λ k u other e. h k u e (omega (arith, terms_le (λ (s : CoreSeat). length s.numbers) c.seats i k p u other at e, l.count, all)))
+
+  -- two seats that are there and have the same own number are one
+  pub named_once : (i k : ℕ) (p q : CoreSeat) → get_elem? c.seats i ≡ some p → get_elem? c.seats k ≡ some q → is_there p.phase ≡ true → is_there q.phase ≡ true → p.own ≡ q.own → k ≡ i
+  named_once i k p q at at' there there' same = dite (ℕ_discrete k i) (λ e. e) (λ ne. absurd (omega (
+    arith,
+    (l.each i p at).own there,
+    (l.each k q at').own there',
+    ap (λ (n : ℕ). times n q.numbers) same,
+    terms_le (λ (s : CoreSeat). times p.own s.numbers) c.seats i k p q ne at at',
+    l.numbered p.own,
+    below_le p.own numbers,
+  )))
+
+  -- a seat's own number is below the number of numbers
+  pub own_below : (i : ℕ) (p : CoreSeat) → get_elem? c.seats i ≡ some p → is_there p.phase ≡ true → p.own < numbers
+  own_below i p at there = dite (dec_le numbers p.own)
+      (λ le. absurd (omega (arith, (l.each i p at).own there, term_le (λ (s : CoreSeat). times p.own s.numbers) c.seats i p at, l.numbered p.own, below_no p.own numbers le)))
+      (λ lt. omega arith)
+
+  -- a fresh seat's range is within the numbers
+  pub range_within : (i : ℕ) (p : CoreSeat) → get_elem? c.seats i ≡ some p → p.fresh ≡ true → 0 < length p.numbers → p.own + length p.numbers ≤ numbers
+  range_within i p at fresh some_number =
+      let whole = ((l.each i p at).whole fresh).0 in
+      let k : ℕ = length p.numbers - 1 in
+      let len : k + 1 ≡ length p.numbers = omega arith in
+      let last : 0 < times (p.own + k) p.numbers = omega (arith, counted_last p.own k, ap (times (p.own + k)) (ap (counted p.own) len), ap (times (p.own + k)) whole) in
+      dite (dec_le numbers (p.own + k))
+      (λ le. absurd (omega (arith, last, l.numbered (p.own + k), below_no (p.own + k) numbers le, term_le (λ (s : CoreSeat). times (p.own + k) s.numbers) c.seats i p at)))
+      (λ lt. omega (arith, len))
+
+  -- two seats answer for no more than all numbers, and have ended no more than all calls
+  pub two_numbers : (i k : ℕ) (p q : CoreSeat) → k ≢ i → get_elem? c.seats i ≡ some p → get_elem? c.seats k ≡ some q → length p.numbers + length q.numbers ≤ numbers
+  two_numbers i k p q ne at at' = omega (arith, l.count, terms_le (λ (s : CoreSeat). length s.numbers) c.seats i k p q ne at at')
+
+  pub two_calls : (i k : ℕ) (p q : CoreSeat) → k ≢ i → get_elem? c.seats i ≡ some p → get_elem? c.seats k ≡ some q → p.calls + q.calls ≤ c.served
+  two_calls i k p q ne at at' = omega (arith, l.calls, terms_le (λ (s : CoreSeat). s.calls) c.seats i k p q ne at at')
+
+  pub one_calls : (i : ℕ) (p : CoreSeat) → get_elem? c.seats i ≡ some p → p.calls ≤ c.served
+  one_calls i p at = omega (arith, l.calls, term_le (λ (s : CoreSeat). s.calls) c.seats i p at)

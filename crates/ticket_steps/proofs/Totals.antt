@@ -1,0 +1,139 @@
+-- Sums over lists that change at one place, and counts of numbers.
+use Rattle.std.proofs.Common.{◌≡◌, ℕ, zero, suc, ◌+◌, ◌-◌, ◌<◌, ◌≤◌, ◌≢◌, List, [], ◌∷◌, ◌++◌, length, set, take, drop, sym, refl, ap, ◌∙◌, arith, Bool, cond, eq-eqb, ne_eqb, lt-ltb, le-ltb}
+use mathlib.Core.Logic.{dite}
+use native.Mathlib.Decide.{ℕ_discrete, dec_le}
+use mathlib.Core.Option.{some, some-injective, some-ne-none}
+use lib.ListN.{get_elem?}
+use Rattle.ticket_steps.specs.Sums.{total, times, once_below, counted}
+
+abbrev pub one_if : Bool → ℕ
+one_if b = cond b 1 0
+
+module _ {A : Type 0} where
+  module _ (g : A → ℕ) where
+    pub total-append : (l m : List A) → total g (l ++ m) ≡ total g l + total g m
+    total-append [] m = omega arith
+    total-append (x ∷ xs) m = omega (arith, total-append xs m)
+
+    pub total-set : (l : List A) (j : ℕ) (v w : A) → get_elem? l j ≡ some v → total g (set l j w) + g v ≡ total g l + g w
+    total-set [] j v w e = absurd (some-ne-none v (sym e))
+    total-set (x ∷ xs) zero v w e = omega (arith, ap g (some-injective x v e))
+    total-set (x ∷ xs) (suc j) v w e = omega (arith, total-set xs j v w e)
+
+    pub total-same : (l : List A) (j : ℕ) (v w : A) → get_elem? l j ≡ some v → g v ≡ g w → total g (set l j w) ≡ total g l
+    total-same l j v w e same = omega (arith, total-set l j v w e)
+
+    pub term_le : (l : List A) (j : ℕ) (v : A) → get_elem? l j ≡ some v → g v ≤ total g l
+    term_le [] j v e = absurd (some-ne-none v (sym e))
+    term_le (x ∷ xs) zero v e = omega (arith, ap g (some-injective x v e))
+    term_le (x ∷ xs) (suc j) v e = omega (arith, term_le xs j v e)
+
+    pub terms_le : (l : List A) (j k : ℕ) (v u : A) → k ≢ j → get_elem? l j ≡ some v → get_elem? l k ≡ some u → g v + g u ≤ total g l
+    terms_le [] j k v u n e d = absurd (some-ne-none v (sym e))
+    terms_le (x ∷ xs) zero zero v u n e d = absurd (n refl)
+    terms_le (x ∷ xs) zero (suc k) v u n e d = omega (arith, ap g (some-injective x v e), term_le xs k u d)
+    terms_le (x ∷ xs) (suc j) zero v u n e d = omega (arith, ap g (some-injective x u d), term_le xs j v e)
+    terms_le (x ∷ xs) (suc j) (suc k) v u n e d = omega (arith, terms_le xs j k v u (λ h. n (ap suc h)) e d)
+
+    pub no_term : (l : List A) → ((k : ℕ) (u : A) → get_elem? l k ≡ some u → g u ≡ 0) → total g l ≡ 0
+    no_term [] h = refl
+    no_term (x ∷ xs) h = omega (arith, h zero x refl, no_term xs (λ k u d. h (suc k) u d))
+
+    -- no other place counts
+    pub only_term : (l : List A) (j : ℕ) (v : A) → get_elem? l j ≡ some v → ((k : ℕ) (u : A) → k ≢ j → get_elem? l k ≡ some u → g u ≡ 0) → total g l ≡ g v
+    only_term [] j v e h = absurd (some-ne-none v (sym e))
+    only_term (x ∷ xs) zero v e h = omega (arith, ap g (some-injective x v e), no_term xs (λ k u d. h (suc k) u (λ i. omega arith) d))
+    only_term (x ∷ xs) (suc j) v e h = omega (arith, h zero x (λ i. omega arith) refl, only_term xs j v e (λ k u n d. h (suc k) u (λ i. n (omega arith)) d))
+
+  -- a sum that is no greater at any place, and less at one
+  pub sums_le : (f g : A → ℕ) (l : List A) → ((k : ℕ) (u : A) → get_elem? l k ≡ some u → f u ≤ g u) → total f l ≤ total g l
+  sums_le f g [] h = omega arith
+  sums_le f g (x ∷ xs) h = omega (arith, h zero x refl, sums_le f g xs (λ k u d. h (suc k) u d))
+
+  pub sums_lt : (f g : A → ℕ) (l : List A) (j : ℕ) (v : A) → get_elem? l j ≡ some v → f v < g v → ((k : ℕ) (u : A) → get_elem? l k ≡ some u → f u ≤ g u) → total f l < total g l
+  sums_lt f g [] j v e lt h = absurd (some-ne-none v (sym e))
+  sums_lt f g (x ∷ xs) zero v e lt h = omega (arith, ap f (some-injective x v e), ap g (some-injective x v e), sums_le f g xs (λ k u d. h (suc k) u d))
+  sums_lt f g (x ∷ xs) (suc j) v e lt h = omega (arith, h zero x refl, sums_lt f g xs j v e lt (λ k u d. h (suc k) u d))
+
+pub times-same : (n : ℕ) (xs : List ℕ) → times n (n ∷ xs) ≡ 1 + times n xs
+times-same n xs = ap (λ (b : Bool). one_if b + times n xs) (eq-eqb n n refl)
+
+pub times-other : (n x : ℕ) (xs : List ℕ) → n ≢ x → times n (x ∷ xs) ≡ times n xs
+times-other n x xs ne = omega (arith, ap (λ (b : Bool). one_if b) (ne_eqb n x ne))
+
+pub times_le : (n : ℕ) (xs : List ℕ) → times n xs ≤ length xs
+times_le n [] = omega arith
+times_le n (x ∷ xs) = dite (ℕ_discrete n x) (λ e. omega (arith, ap (λ (b : Bool). one_if b) (eq-eqb n x e), times_le n xs)) (λ ne. omega (arith, times-other n x xs ne, times_le n xs))
+
+pub times-append : (n : ℕ) (xs ys : List ℕ) → times n (xs ++ ys) ≡ times n xs + times n ys
+times-append n [] ys = omega arith
+times-append n (x ∷ xs) ys = omega (arith, times-append n xs ys)
+
+pub below_yes : (x n : ℕ) → x < n → once_below x n ≡ 1
+below_yes x n h = ap (λ (b : Bool). one_if b) (lt-ltb x n h)
+
+pub below_no : (x n : ℕ) → n ≤ x → once_below x n ≡ 0
+below_no x n h = ap (λ (b : Bool). one_if b) (le-ltb x n h)
+
+pub below_more : (x n : ℕ) → once_below x n + times x (n ∷ []) ≡ once_below x (n + 1)
+below_more x n = dite (ℕ_discrete x n)
+    (λ e. omega (arith, below_no x n (omega arith), below_yes x (n + 1) (omega arith), ap (λ (b : Bool). one_if b) (eq-eqb x n e)))
+    (λ ne. dite (dec_le x n)
+    (λ le. omega (arith, below_yes x n (omega (arith, ne)), below_yes x (n + 1) (omega arith), times-other x n [] ne))
+    (λ gt. omega (arith, below_no x n (omega arith), below_no x (n + 1) (omega (arith, ne)), times-other x n [] ne)))
+
+-- only the number a is below b and not below a
+pub below_gap : (x a b : ℕ) → a ≤ b → once_below x a ≤ once_below x b
+below_gap x a b le = dite (dec_le (suc x) a) (λ lt. omega (arith, below_yes x a (omega arith), below_yes x b (omega arith))) (λ ge. omega (arith, below_no x a (omega arith)))
+
+pub below_le : (x n : ℕ) → once_below x n ≤ 1
+below_le x n = dite (dec_le (suc x) n) (λ lt. omega (arith, below_yes x n (omega arith))) (λ ge. omega (arith, below_no x n (omega arith)))
+
+-- t is not below a and is below b, so a is below b
+pub between : (t a b : ℕ) → once_below t a < once_below t b → a < b
+between t a b h = dite (dec_le (suc a) b) (λ lt. lt) (λ ge. absurd (omega (arith, below_gap t b a (omega arith))))
+
+pub counted_in : (p n a b : ℕ) → times p (counted n (a + b)) ≡ times p (counted n a) + times p (counted (n + a) b)
+counted_in p n zero b = let e : zero + b ≡ b = omega arith in let d : n + zero ≡ n = omega arith in
+    omega (arith, ap (λ (k : ℕ). times p (counted n k)) e, ap (λ (k : ℕ). times p (counted k b)) d)
+counted_in p n (suc a) b = let e : suc a + b ≡ suc (a + b) = omega arith in let d : n + suc a ≡ n + 1 + a = omega arith in
+    omega (arith, ap (λ (k : ℕ). times p (counted n k)) e, ap (λ (k : ℕ). times p (counted k b)) d, counted_in p (n + 1) a b)
+
+pub length-counted : (n k : ℕ) → length (counted n k) ≡ k
+length-counted n zero = refl
+length-counted n (suc k) = omega (arith, length-counted (n + 1) k)
+
+pub counted_first : (n k : ℕ) → 0 < k → 0 < times n (counted n k)
+counted_first n zero h = absurd (omega arith)
+counted_first n (suc k) h = omega (arith, times-same n (counted (n + 1) k))
+
+pub counted_below : (p n k : ℕ) → times p (counted n k) + once_below p n ≡ once_below p (n + k)
+counted_below p n zero = let d : n + zero ≡ n = omega arith in omega (arith, ap (once_below p) d)
+counted_below p n (suc k) = let d : n + suc k ≡ n + 1 + k = omega arith in omega (arith, ap (once_below p) d, counted_below p (n + 1) k, below_more p n)
+
+pub times-take-drop : (n k : ℕ) (xs : List ℕ) → times n (take k xs) + times n (drop k xs) ≡ times n xs
+times-take-drop n zero xs = omega arith
+times-take-drop n (suc k) [] = omega arith
+times-take-drop n (suc k) (x ∷ xs) = omega (arith, times-take-drop n k xs)
+
+pub take-counted : (n k j : ℕ) → k ≤ j → take k (counted n j) ≡ counted n k
+take-counted n zero j h = refl
+take-counted n (suc k) zero h = absurd (omega arith)
+take-counted n (suc k) (suc j) h = ap (λ (l : List ℕ). n ∷ l) (take-counted (n + 1) k j (omega arith))
+
+pub drop-counted : (n k j : ℕ) → k ≤ j → drop k (counted n j) ≡ counted (n + k) (j - k)
+drop-counted n zero j h = let e : n + zero ≡ n = omega arith in let d : j - zero ≡ j = omega arith in λ i. counted (sym e i) (sym d i)
+drop-counted n (suc k) zero h = absurd (omega arith)
+drop-counted n (suc k) (suc j) h = let e : n + 1 + k ≡ n + suc k = omega arith in let d : j - k ≡ suc j - suc k = omega arith in drop-counted (n + 1) k j (omega arith) ∙ (λ i. counted (e i) (d i))
+
+-- one number more
+pub counted_more : (n k : ℕ) → counted n (k + 1) ≡ counted n k ++ (n + k) ∷ []
+counted_more n zero = let e : n ≡ n + zero = omega arith in ap (λ (x : ℕ). x ∷ []) e
+counted_more n (suc k) =
+    let e : n + 1 + k ≡ n + suc k = omega arith in
+    let d : suc k + 1 ≡ suc (k + 1) = omega arith in
+    ap (counted n) d ∙ ap (λ (l : List ℕ). n ∷ l) (counted_more (n + 1) k ∙ ap (λ (x : ℕ). counted (n + 1) k ++ x ∷ []) e)
+
+-- the last number of a range is one of its numbers
+pub counted_last : (n k : ℕ) → 0 < times (n + k) (counted n (k + 1))
+counted_last n k = omega (arith, ap (times (n + k)) (counted_more n k), times-append (n + k) (counted n k) ((n + k) ∷ []), times-same (n + k) [])

@@ -1,0 +1,18 @@
+use Rattle.ticket_steps.proofs.ScheduleLemmas.{schedule_lawful, schedule_book, schedule_of, schedule_strangers, lawful_line}
+use Rattle.ticket_steps.proofs.SeatLemmas.{one_holder, served_le, named_once}
+use Rattle.ticket_steps.proofs.schedules.every_schedule.Goals as goal
+
+pub returns : goal.returns
+returns g c = record {
+  one_holder = λ s is. one_holder s.numbers s.draws s.end (schedule_lawful g.K.Kept.step s is);
+  holder = λ s is i ticket p at phase. ((schedule_lawful g.K.Kept.step s is).each i p at).holder ticket phase;
+  line = λ s is. let l = schedule_lawful g.K.Kept.step s is in lawful_line s.numbers s.draws s.end l (served_le s.numbers s.draws s.end l);
+  counted = λ s is. (schedule_lawful g.K.Kept.step s is).counted;
+  calls = λ s is. (schedule_lawful g.K.Kept.step s is).calls;
+  lawful = λ s is. schedule_book g.K.Kept.step s is;
+  entries = λ s is. schedule_of g.K.Kept.step s is;
+  strangers = λ s is. schedule_strangers g.K.Kept.step s is;
+  named = λ s is i k p q at there at' there' same. named_once s.numbers s.draws s.end (schedule_lawful g.K.Kept.step s is) i k p q at at' there there' same;
+  numbered = λ s is. (schedule_lawful g.K.Kept.step s is).numbered;
+  supply = λ s is. (schedule_lawful g.K.Kept.step s is).supply;
+}

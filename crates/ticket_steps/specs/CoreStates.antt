@@ -1,0 +1,27 @@
+-- The states of the core: the next ticket, the number served, the seats and the book.
+use Rattle.std.specs.Prelude.{◌≡◌, ℕ, List, [], ◌∷◌}
+use Rattle.ticket_steps.specs.declared.seats.CoreSeat.{CoreSeat}
+use Rattle.ticket_steps.specs.Books.{BookState, empty_book}
+use Rattle.ticket_steps.specs.Seats.{fresh_seat, holders}
+use Rattle.ticket_steps.specs.Sums.{counted}
+
+pub record CoreState (S C R : Type 0) : Type 0 where
+  pub next : ℕ
+  -- the number served: the ticket of the seat whose turn it is
+  pub served : ℕ
+  -- in the order in which they came to be
+  pub seats : List CoreSeat
+  -- as it is at home, or as the holder took it out
+  pub book : BookState S C R
+
+module _ {S C R : Type 0} where
+  abbrev pub core_state : ℕ → ℕ → List CoreSeat → BookState S C R → CoreState S C R
+  core_state next served seats book = record { next = next; served = served; seats = seats; book = book }
+
+  -- the opening: one fresh seat, its own number 0, for all numbers, and an empty book at home
+  abbrev pub opened : ℕ → ℕ → S → CoreState S C R
+  opened numbers draws state = core_state 0 0 (fresh_seat draws 0 (counted 0 numbers) 0 ∷ []) (empty_book state)
+
+  -- the book is out exactly while a seat holds
+  abbrev pub IsHome : CoreState S C R → Type 0
+  IsHome c = holders c.seats ≡ 0

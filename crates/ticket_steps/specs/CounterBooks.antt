@@ -1,0 +1,20 @@
+-- What is seen of a counter book.
+use Rattle.std.specs.Prelude.{ℕ, List}
+use Rattle.ticket_steps.specs.declared.kept.Entry.{Entry}
+use Rattle.ticket_steps.specs.declared.counter.CounterBook.{CounterBook}
+
+-- the history
+abbrev pub entries_of : CounterBook → List (Entry ℕ ℕ)
+entries_of book = book.entries.items
+
+-- the sum of all calls, modulo 2^64
+abbrev pub sum_of : CounterBook → ℕ
+sum_of book = book.sum
+
+-- how many calls were refused
+abbrev pub refused_of : CounterBook → ℕ
+refused_of book = book.refused
+
+-- for how many entries there was room from the start
+abbrev pub room_of : CounterBook → ℕ
+room_of book = book.room

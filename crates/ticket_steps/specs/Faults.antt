@@ -1,0 +1,58 @@
+-- The faults of an event in a core state, and what one step of the core does.
+use Rattle.std.specs.Prelude.{◌≡◌, ◌≢◌, ◌↔◌, ℕ, ◌<◌, List, length, true, IfOk, OnErr, Result, Err}
+use Rattle.ticket_steps.specs.declared.seats.CoreSeat.{CoreSeat}
+use Rattle.ticket_steps.specs.declared.seats.Phase.TheVariants.{Idle, Waiting, Holding}
+use Rattle.ticket_steps.specs.declared.events.Event.{Event}
+use Rattle.ticket_steps.specs.declared.events.Event.TheVariants.{Split, Draw, Look, Leave, Gather}
+use Rattle.ticket_steps.specs.declared.events.Seen.{Seen}
+use Rattle.ticket_steps.specs.declared.events.Fault.{Fault}
+use Rattle.ticket_steps.specs.declared.events.Fault.TheVariants.{NoSeat, Phase, Spent}
+use Rattle.ticket_steps.specs.CoreStates.{CoreState}
+use Rattle.ticket_steps.specs.Happenings.{Happening, shown, IsOf, AreOf, Moves, Leads}
+use Rattle.ticket_steps.specs.Seats.{Stands, IsThere}
+
+module _ {C : Type 0} where
+  -- the seats that an event names are there
+  abbrev pub NamesSeats : List CoreSeat → Event C → Type 0
+  NamesSeats seats (Split own count) = IsThere seats own
+  NamesSeats seats (Draw own) = IsThere seats own
+  NamesSeats seats (Look own) = IsThere seats own
+  NamesSeats seats (Leave own call) = IsThere seats own
+  NamesSeats seats (Gather own other) = IsThere seats own × IsThere seats other
+
+  -- an event fits the phases of its seats; a split also asks for a fresh seat and a count in range
+  abbrev pub Fits : List CoreSeat → Event C → Type 0
+  Fits seats (Split own count) = (i : ℕ) × (p : CoreSeat) × Stands seats i own Idle p × (p.fresh ≡ true) × (0 < count) × (count < length p.numbers)
+  Fits seats (Draw own) = (i : ℕ) × (p : CoreSeat) × Stands seats i own Idle p
+  Fits seats (Look own) = (i : ℕ) × (p : CoreSeat) × (ticket : ℕ) × Stands seats i own (Waiting ticket) p
+  Fits seats (Leave own call) = (i : ℕ) × (p : CoreSeat) × (ticket : ℕ) × Stands seats i own (Holding ticket) p
+  Fits seats (Gather own other) = (i : ℕ) × (p : CoreSeat) × (k : ℕ) × (q : CoreSeat) × Stands seats i own Idle p × Stands seats k other Idle q × (own ≢ other)
+
+  -- a draw has a draw left
+  abbrev pub HasDraw : List CoreSeat → Event C → Type 0
+  HasDraw seats (Split own count) = Unit {0}
+  HasDraw seats (Draw own) = (i : ℕ) × (p : CoreSeat) × Stands seats i own Idle p × (0 < p.left)
+  HasDraw seats (Look own) = Unit {0}
+  HasDraw seats (Leave own call) = Unit {0}
+  HasDraw seats (Gather own other) = Unit {0}
+
+  -- the fault of an event: the first that applies, in the order in which they stand here
+  abbrev pub IsFault : List CoreSeat → Event C → Fault → Type 0
+  IsFault seats event NoSeat = NamesSeats seats event → ⊥
+  IsFault seats event Phase = NamesSeats seats event × (Fits seats event → ⊥)
+  IsFault seats event Spent = Fits seats event × (HasDraw seats event → ⊥)
+
+module _ {S C R : Type 0} (step : S → C → S × R) (draws : ℕ) where
+  -- an event leads from one core state to another, and shows this
+  abbrev pub Shows : CoreState S C R → Event C → Seen R → CoreState S C R → Type 0
+  Shows b event seen c = (h : Happening C R) × IsOf event h × (seen ≡ shown h) × Moves step draws b h c
+
+  -- events lead from one core state to another, whatever came of each of them
+  abbrev pub LeadsBy : CoreState S C R → List (Event C) → CoreState S C R → Type 0
+  LeadsBy b events c = (hs : List (Happening C R)) × AreOf events hs × Leads step draws b hs c
+
+  -- one step: an event is shown, or it has a fault and nothing changes
+  pub record Steps (b : CoreState S C R) (event : Event C) (result : Result (Seen R) Fault) (c : CoreState S C R) : Type 0 where
+    pub shown : IfOk result (λ seen. Shows b event seen c)
+    pub fault : (f : Fault) → (result ≡ Err f) ↔ IsFault b.seats event f
+    pub same : OnErr result (c ≡ b)

@@ -1,0 +1,93 @@
+-- What happens in the core: each event with what came of it, and the states that it leads to.
+use Rattle.std.specs.Prelude.{◌≡◌, ◌≢◌, ℕ, ◌+◌, ◌<◌, List, [], ◌∷◌, ◌++◌, length, slice_set, true, cond, ◌==◌, Ok, Err}
+use Rattle.ticket_steps.specs.declared.kept.Entry.{Entry}
+use Rattle.ticket_steps.specs.declared.seats.CoreSeat.{CoreSeat}
+use Rattle.ticket_steps.specs.declared.seats.Phase.TheVariants.{Idle, Waiting, Holding}
+use Rattle.ticket_steps.specs.declared.events.Event.{Event}
+use Rattle.ticket_steps.specs.declared.events.Event.TheVariants.{Split, Draw, Look, Leave, Gather}
+use Rattle.ticket_steps.specs.declared.events.Seen.{Seen}
+use Rattle.ticket_steps.specs.declared.events.Seen.TheVariants as shows
+use Rattle.ticket_steps.specs.Books.{BookState, with_entry, with_refusal}
+use Rattle.ticket_steps.specs.CoreStates.{CoreState, core_state}
+use Rattle.ticket_steps.specs.History.{entry}
+use Rattle.ticket_steps.specs.Seats.{Stands, keeping, given, waiting, holding, ended, joined, gone}
+
+-- one event with its outcome; seats are named by their own numbers. A leave that was refused for memory keeps nothing of its call
+pub data Happening (C R : Type 0) : Type 0 where
+  split : ℕ → ℕ → Happening C R
+  drew : ℕ → ℕ → Happening C R
+  waited : ℕ → Happening C R
+  held : ℕ → Happening C R
+  recorded : ℕ → C → R → Happening C R
+  refused : ℕ → Happening C R
+  gathered : ℕ → ℕ → Happening C R
+
+module _ {C R : Type 0} where
+  -- what the caller of an event is shown
+  abbrev pub shown : Happening C R → Seen R
+  shown (split own count) = shows.Split
+  shown (drew own ticket) = shows.Drew ticket
+  shown (waited own) = shows.Waiting
+  shown (held own) = shows.Held
+  shown (recorded own call reply) = shows.Left (Ok reply)
+  shown (refused own) = shows.Left (Err (record {}))
+  shown (gathered own other) = shows.Gathered
+
+  -- what happened is this event
+  abbrev pub IsOf : Event C → Happening C R → Type 0
+  IsOf event (split own count) = event ≡ Split own count
+  IsOf event (drew own ticket) = event ≡ Draw own
+  IsOf event (waited own) = event ≡ Look own
+  IsOf event (held own) = event ≡ Look own
+  IsOf event (recorded own call reply) = event ≡ Leave own call
+  IsOf event (refused own) = (call : C) × (event ≡ Leave own call)
+  IsOf event (gathered own other) = event ≡ Gather own other
+
+  -- what happened are these events, one after another
+  abbrev pub AreOf : List (Event C) → List (Happening C R) → Type 0
+  AreOf [] [] = Unit {0}
+  AreOf [] (h ∷ hs) = ⊥
+  AreOf (e ∷ es) [] = ⊥
+  AreOf (e ∷ es) (h ∷ hs) = IsOf e h × AreOf es hs
+
+  -- the calls that a number has recorded, each with its reply, in their order
+  abbrev pub recorded_by : ℕ → List (Happening C R) → List (Entry C R)
+  recorded_by number [] = []
+  recorded_by number (recorded own call reply ∷ hs) = cond (own == number) (entry own call reply ∷ recorded_by number hs) (recorded_by number hs)
+  recorded_by number (_ ∷ hs) = recorded_by number hs
+
+module _ {S C R : Type 0} where
+  -- other seats, and all else as it was
+  abbrev pub with_seats : CoreState S C R → List CoreSeat → CoreState S C R
+  with_seats b seats = core_state b.next b.served seats b.book
+
+  -- the holder at the place i has left: its turn is over, and the book is home with what the leave added
+  abbrev pub after_leave : CoreState S C R → ℕ → CoreSeat → BookState S C R → CoreState S C R
+  after_leave b i p book = core_state b.next (b.served + 1) (slice_set b.seats i (ended p)) book
+
+  module _ (step : S → C → S × R) (draws : ℕ) where
+    -- what happened leads from one core state to another; each number brings so many draws
+    abbrev pub Moves : CoreState S C R → Happening C R → CoreState S C R → Type 0
+    -- a fresh idle seat gives its last numbers, at least one and not all, with all their draws, to a new seat
+    Moves b (split own count) c = (i : ℕ) × (p : CoreSeat) × Stands b.seats i own Idle p × (p.fresh ≡ true) × (0 < count) × (count < length p.numbers)
+        × (c ≡ with_seats b (slice_set b.seats i (keeping draws count p) ++ given draws count p ∷ []))
+    -- an idle seat with a draw left gets the next ticket
+    Moves b (drew own ticket) c = (i : ℕ) × (p : CoreSeat) × Stands b.seats i own Idle p × (0 < p.left) × (ticket ≡ b.next)
+        × (c ≡ core_state (b.next + 1) b.served (slice_set b.seats i (waiting b.next p)) b.book)
+    -- a seat whose ticket isn't the number served goes on waiting
+    Moves b (waited own) c = (i : ℕ) × (p : CoreSeat) × (ticket : ℕ) × Stands b.seats i own (Waiting ticket) p × (ticket ≢ b.served) × (c ≡ b)
+    -- a seat whose ticket is the number served becomes the holder
+    Moves b (held own) c = (i : ℕ) × (p : CoreSeat) × Stands b.seats i own (Waiting b.served) p × (c ≡ with_seats b (slice_set b.seats i (holding b.served p)))
+    -- the holder leaves with its call recorded under its own number, answered by the sequential step
+    Moves b (recorded own call reply) c = (i : ℕ) × (p : CoreSeat) × (ticket : ℕ) × Stands b.seats i own (Holding ticket) p × (reply ≡ (step b.book.state call).1)
+        × (c ≡ after_leave b i p (with_entry step own call b.book))
+    -- the holder leaves with its call refused for memory
+    Moves b (refused own) c = (i : ℕ) × (p : CoreSeat) × (ticket : ℕ) × Stands b.seats i own (Holding ticket) p × (c ≡ after_leave b i p (with_refusal b.book))
+    -- of two idle seats the first takes over the other's numbers and calls
+    Moves b (gathered own other) c = (i : ℕ) × (p : CoreSeat) × (k : ℕ) × (q : CoreSeat) × Stands b.seats i own Idle p × Stands b.seats k other Idle q × (own ≢ other)
+        × (c ≡ with_seats b (slice_set (slice_set b.seats i (joined p q)) k gone))
+
+    -- what happened, one after another, leads from one core state to another
+    abbrev pub Leads : CoreState S C R → List (Happening C R) → CoreState S C R → Type 0
+    Leads b [] c = c ≡ b
+    Leads b (h ∷ hs) c = (d : CoreState S C R) × Moves b h d × Leads d hs c

@@ -1,0 +1,37 @@
+-- What is so of every core state, whatever schedule led to it.
+use Rattle.std.specs.Prelude.{◌≡◌, ℕ, ◌+◌, ◌-◌, ◌*◌, ◌<◌, ◌≤◌, [], length, true, false, cond}
+use mathlib.Core.Option.{some}
+use lib.ListN.{get_elem?}
+use Rattle.ticket_steps.specs.declared.seats.CoreSeat.{CoreSeat}
+use Rattle.ticket_steps.specs.declared.seats.Phase.TheVariants.{Holding}
+use Rattle.ticket_steps.specs.CoreStates.{CoreState}
+use Rattle.ticket_steps.specs.Seats.{is_there, tickets_at, answering}
+use Rattle.ticket_steps.specs.Sums.{total, times, once_below, counted}
+
+-- what is so of each seat, where this number is served
+pub record IsSeat (draws served : ℕ) (s : CoreSeat) : Type 0 where
+  -- a holder's ticket is the number served
+  pub holder : (ticket : ℕ) → s.phase ≡ Holding ticket → ticket ≡ served
+  -- a seat answers for its own number
+  pub own : is_there s.phase ≡ true → 0 < times s.own s.numbers
+  -- a fresh seat has a range of numbers and all their draws
+  pub whole : s.fresh ≡ true → (s.numbers ≡ counted s.own (length s.numbers)) × (s.left ≡ length s.numbers * draws)
+  -- a seat that was gathered into another has nothing left
+  pub gone : is_there s.phase ≡ false → (s.numbers ≡ []) × (s.calls ≡ 0) × (s.left ≡ 0) × (s.fresh ≡ false)
+
+-- how many seats can still be split off a seat
+abbrev pub spare : CoreSeat → ℕ
+spare s = cond s.fresh (length s.numbers - 1) 0
+
+-- what is so of every core state, in numbers
+pub record IsLawful {S C R : Type 0} (numbers draws : ℕ) (c : CoreState S C R) : Type 0 where
+  pub each : (i : ℕ) (s : CoreSeat) → get_elem? c.seats i ≡ some s → IsSeat draws c.served s
+  -- each ticket below the next was left, or is with one seat; no other ticket is with a seat
+  pub tickets : (t : ℕ) → tickets_at t c.seats + once_below t c.served ≡ once_below t c.next
+  -- each number is one seat's to answer for
+  pub numbered : (n : ℕ) → answering n c.seats ≡ once_below n numbers
+  pub count : total (λ (s : CoreSeat). length s.numbers) c.seats ≡ numbers
+  pub counted : length c.book.entries + c.book.refused ≡ c.served
+  pub calls : total (λ (s : CoreSeat). s.calls) c.seats ≡ c.served
+  pub supply : c.next + total (λ (s : CoreSeat). s.left) c.seats ≤ numbers * draws
+  pub places : length c.seats + total spare c.seats ≤ numbers

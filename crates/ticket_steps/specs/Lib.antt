@@ -1,0 +1,12 @@
+pub mod History
+pub mod Counting
+pub mod Books
+pub mod Sums
+pub mod Seats
+pub mod CoreStates
+pub mod Happenings
+pub mod Faults
+pub mod Lawful
+pub mod CounterBooks
+pub mod Schedules
+pub mod Cores

@@ -1,0 +1,246 @@
+//! The core as a program: a step or a list of steps at a time, on one thread.
+ghost use Rattle.std.specs.Prelude.{◌≡◌, ◌↔◌, ℕ, ◌+◌, ◌<◌, ◌≤◌, [], length, take, true, IfOk, IfErr, OnErr, OnOk, Some, slice_get, vec_capacity, vec_len};
+ghost use mathlib.Core.Option.{some};
+ghost use lib.ListN.{get_elem?};
+ghost use Rattle.ticket_steps.specs.Books.{book_state, IsLawfulBook};
+ghost use Rattle.ticket_steps.specs.CoreStates.{core_state, opened};
+ghost use Rattle.ticket_steps.specs.Faults.{IsFault, Shows, LeadsBy, Steps};
+ghost use Rattle.ticket_steps.specs.Lawful.{IsLawful};
+ghost use Rattle.ticket_steps.specs.Seats.{IsThere, Stands, is_there};
+ghost use Rattle.ticket_steps.specs.Sums.{counted};
+
+use crate::events::{Event, Fault, Seen};
+use crate::kept::Kept;
+use crate::seats::{CoreSeat, DRAWS, Phase};
+use std::alloc::{AllocError, Global};
+use std::collections::LinkedList;
+
+/// The core of the lock: its next ticket, the number served, its seats and its book.
+///
+/// Each event is one step of one seat. Whatever events come, in whatever order, the core stays one
+/// of those of which `every_schedule` speaks.
+#[derive(Drop)]
+pub struct Core<K: Kept> {
+    next: u64,
+    served: u64,
+    seats: Vec<CoreSeat>,
+    numbers: u32,
+    draws: u32,
+    book: K,
+    ghost few: { numbers ≤ 1024 },
+    ghost few_draws: { draws ≤ 4294967295 },
+    ghost roomy: { numbers ≤ vec_capacity seats },
+    ghost lawful: { IsLawful numbers draws (core_state next served seats.items
+        (book_state (K.state book) (K.history book) (K.refusals book))) },
+}
+
+impl<K: Kept> Core<K> {
+    ghost use Rattle.ticket_steps.specs.Cores.{state_of, opening_of, numbers_of, draws_of, IsOpenedAlike};
+
+    /// A core with one seat, whose own number is 0, for all of `numbers`, and with the book at home.
+    /// It makes places for all seats that can come to be, so that later only a `Leave` can meet want
+    /// of memory. Where there is no memory for the places the book comes back as it was.
+    pub fn open(alloc: Global, book: K, numbers: u32) -> Result<Core<K>, K>
+        requires numbers { (0 < numbers) × (numbers ≤ 1024) }
+        requires empty { (K.history book ≡ []) × (K.refusals book ≡ 0) }
+        ensures opened { IfOk result (λ core. state_of core ≡ opened numbers DRAWS (K.opening book)) }
+        ensures alike { IfOk result (λ core. (opening_of core ≡ K.opening book)
+            × (numbers_of core ≡ numbers) × (draws_of core ≡ DRAWS)) }
+        ensures refused { IfErr result (λ back. back ≡ book) }
+    {
+        Core::open_with(alloc, book, numbers, DRAWS)
+    }
+
+    /// As `open`, with so many draws for each number.
+    fn open_with(alloc: Global, book: K, numbers: u32, draws: u32) -> Result<Core<K>, K>
+        requires numbers { (0 < numbers) × (numbers ≤ 1024) }
+        requires empty { (K.history book ≡ []) × (K.refusals book ≡ 0) }
+        ensures opened { IfOk result (λ core. state_of core ≡ opened numbers draws (K.opening book)) }
+        ensures alike { IfOk result (λ core. (opening_of core ≡ K.opening book)
+            × (numbers_of core ≡ numbers) × (draws_of core ≡ draws)) }
+        ensures refused { IfErr result (λ back. back ≡ book) }
+    {
+        let Ok(all) = first_numbers(alloc, numbers) else {
+            return Err(book);
+        };
+        let Ok(mut seats) = Vec::with_capacity(alloc, numbers as usize) else {
+            return Err(book);
+        };
+        seats.push_reserved(CoreSeat {
+            own: 0,
+            numbers: all,
+            phase: Phase::Idle,
+            left: numbers as u64 * draws as u64,
+            calls: 0,
+            fresh: true,
+        });
+        Ok(Core {
+            next: 0,
+            served: 0,
+            seats,
+            numbers,
+            draws,
+            book,
+        })
+    }
+
+    /// One event. It is shown what came of it, or it has a fault and nothing changes: `NoSeat` before
+    /// `Phase`, and `Phase` before `Spent`. A `Leave` whose call was refused for want of memory is no
+    /// fault: the seat has left, and is shown the refusal.
+    pub fn step(&mut self, event: Event<K::Call>) -> Result<Seen<K::Reply>, Fault>
+        ensures shown { IfOk result (λ seen.
+            Shows K.step (draws_of self.old) (state_of self.old) event seen (state_of self.new)) }
+        ensures fault { (f : Fault)
+            → (result ≡ Err f) ↔ IsFault (state_of self.old).seats event f }
+        ensures same { OnErr result (state_of self.new ≡ state_of self.old) }
+        ensures alike { IsOpenedAlike self.old self.new }
+        ensures lawful { IsLawful (numbers_of self.new) (draws_of self.new) (state_of self.new) }
+        ensures book { IsLawfulBook K.step (opening_of self.new) (state_of self.new).book }
+    {
+        match event {
+            Event::Split { seat, count } => self.split(seat, count),
+            Event::Draw { seat } => self.draw(seat),
+            Event::Look { seat } => self.look(seat),
+            Event::Leave { seat, call } => self.leave(seat, call),
+            Event::Gather { seat, other } => self.gather(seat, other),
+        }
+    }
+
+    /// Events, one after another, up to the first that has a fault: its place, from 0, and the fault
+    /// are told. The events before it have happened.
+    pub fn run(&mut self, events: &[Event<K::Call>]) -> Result<(), (usize, Fault)>
+        ensures all { OnOk result (
+            LeadsBy K.step (draws_of self.old) (state_of self.old) events.now (state_of self.new)) }
+        ensures place { IfErr result (λ stop. stop.0 < length events.now) }
+        ensures before { IfErr result (λ stop. LeadsBy K.step (draws_of self.old)
+            (state_of self.old) (take stop.0 events.now) (state_of self.new)) }
+        ensures fault { IfErr result (λ stop. (event : Event K.Call)
+            → slice_get events.now stop.0 ≡ Some event
+            → IsFault (state_of self.new).seats event stop.1) }
+        ensures alike { IsOpenedAlike self.old self.new }
+        ensures lawful { IsLawful (numbers_of self.new) (draws_of self.new) (state_of self.new) }
+        ensures book { IsLawfulBook K.step (opening_of self.new) (state_of self.new).book }
+    {
+        for (place, event) in events.iter().enumerate() {
+            if let Err(fault) = self.step(*event) {
+                return Err((place, fault));
+            }
+        }
+        Ok(())
+    }
+
+    /// The book, as it is at home or as the holder took it out.
+    pub fn book(&self) -> &K
+        ensures { book_state (K.state result.now) (K.history result.now) (K.refusals result.now)
+            ≡ (state_of self.now).book }
+    {
+        &self.book
+    }
+
+    fn split(&mut self, seat: u32, count: u32) -> Result<Seen<K::Reply>, Fault>
+        ensures step { Steps K.step (draws_of self.old) (state_of self.old) (Event.Split seat count)
+            result (state_of self.new) }
+        ensures alike { IsOpenedAlike self.old self.new }
+    {
+        let at = self.place_of(seat)?;
+        if !self.seats[at].can_split(count) {
+            return Err(Fault::Phase);
+        }
+        let given = self.seats[at].split_off(count, self.draws);
+        self.seats.push_reserved(given);
+        Ok(Seen::Split)
+    }
+
+    fn draw(&mut self, seat: u32) -> Result<Seen<K::Reply>, Fault>
+        ensures step { Steps K.step (draws_of self.old) (state_of self.old) (Event.Draw seat)
+            result (state_of self.new) }
+        ensures alike { IsOpenedAlike self.old self.new }
+    {
+        let at = self.place_of(seat)?;
+        let place = &self.seats[at];
+        if !place.is_idle() {
+            return Err(Fault::Phase);
+        }
+        if place.left == 0 {
+            return Err(Fault::Spent);
+        }
+        let ticket = self.next;
+        self.seats[at].wait(ticket);
+        self.next += 1;
+        Ok(Seen::Drew(ticket))
+    }
+
+    fn look(&mut self, seat: u32) -> Result<Seen<K::Reply>, Fault>
+        ensures step { Steps K.step (draws_of self.old) (state_of self.old) (Event.Look seat)
+            result (state_of self.new) }
+        ensures alike { IsOpenedAlike self.old self.new }
+    {
+        let at = self.place_of(seat)?;
+        let Phase::Waiting(ticket) = self.seats[at].phase else {
+            return Err(Fault::Phase);
+        };
+        if ticket != self.served {
+            return Ok(Seen::Waiting);
+        }
+        self.seats[at].hold(ticket);
+        Ok(Seen::Held)
+    }
+
+    fn leave(&mut self, seat: u32, call: K::Call) -> Result<Seen<K::Reply>, Fault>
+        ensures step { Steps K.step (draws_of self.old) (state_of self.old) (Event.Leave seat call)
+            result (state_of self.new) }
+        ensures alike { IsOpenedAlike self.old self.new }
+    {
+        let at = self.place_of(seat)?;
+        let Phase::Holding(_) = self.seats[at].phase else {
+            return Err(Fault::Phase);
+        };
+        let reply = self.book.record(seat, call);
+        self.seats[at].end();
+        self.served += 1;
+        Ok(Seen::Left(reply))
+    }
+
+    fn gather(&mut self, seat: u32, other: u32) -> Result<Seen<K::Reply>, Fault>
+        ensures step { Steps K.step (draws_of self.old) (state_of self.old) (Event.Gather seat other)
+            result (state_of self.new) }
+        ensures alike { IsOpenedAlike self.old self.new }
+    {
+        let at = self.place_of(seat)?;
+        let from = self.place_of(other)?;
+        if seat == other || !self.seats[at].is_idle() || !self.seats[from].is_idle() {
+            return Err(Fault::Phase);
+        }
+        let given = self.seats[from].give_up();
+        self.seats[at].join(given);
+        Ok(Seen::Gathered)
+    }
+
+    /// The place in the list of the seat that events call by this number.
+    fn place_of(&self, own: u32) -> Result<usize, Fault>
+        ensures found { IfOk result (λ i. (p : CoreSeat)
+            × (get_elem? (state_of self.now).seats i ≡ some p)
+            × (p.own ≡ own) × (is_there p.phase ≡ true)) }
+        ensures within { IfOk result (λ i. i < vec_len self.now.seats) }
+        ensures missing { IfErr result (λ fault. (fault ≡ Fault.NoSeat)
+            × (IsThere (state_of self.now).seats own → ⊥)) }
+    {
+        for (at, seat) in self.seats.iter().enumerate() {
+            if seat.is_called(own) {
+                return Ok(at);
+            }
+        }
+        Err(Fault::NoSeat)
+    }
+}
+
+/// The numbers from 0 on, so many.
+fn first_numbers(alloc: Global, count: u32) -> Result<LinkedList<u32>, AllocError>
+    ensures { IfOk result (λ numbers. numbers ≡ counted 0 count) }
+{
+    let mut numbers = LinkedList::new(alloc);
+    for number in 0..count {
+        numbers.push_back(number)?;
+    }
+    Ok(numbers)
+}

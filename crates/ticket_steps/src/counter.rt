@@ -1,0 +1,100 @@
+//! The smallest book: a call is a number, and the reply is the sum of all calls so far, modulo 2^64.
+ghost use Rattle.std.specs.Prelude.{◌≡◌, ℕ, ◌+◌, ◌%◌, ◌^◌, ◌<◌, ◌≤◌, [], ◌∷◌, ◌++◌, length, IfOk, OnErr, vec_capacity};
+ghost use Rattle.std.specs.Coded.{Coded-set, coded_ℕ};
+ghost use Rattle.ticket_steps.specs.Counting.{counts};
+ghost use Rattle.ticket_steps.specs.History.{entry, replay, IsLegal, IsLegal-prop};
+
+use crate::kept::{Entry, Kept, NoMemory};
+use std::alloc::{AllocError, Global};
+
+/// A running sum that keeps its history. It is opened with the sum 0.
+#[derive(Drop)]
+pub struct CounterBook {
+    entries: Vec<Entry<u8, u64>>,
+    sum: u64,
+    refused: u64,
+    room: usize,
+    ghost reserved: { room ≤ vec_capacity entries },
+    ghost legal: { IsLegal counts 0 entries.items } by { IsLegal-prop counts (Coded-set coded_ℕ) 0 entries.items },
+    ghost summed: { sum ≡ replay counts 0 entries.items },
+}
+
+impl CounterBook {
+    ghost use Rattle.ticket_steps.specs.CounterBooks.{entries_of, refused_of, room_of};
+
+    /// An empty book with room for so many entries: their calls take no memory. Where there is no
+    /// memory for the room, nothing is made.
+    pub fn open(alloc: Global, room: usize) -> Result<CounterBook, AllocError>
+        ensures empty { IfOk result (λ book. (entries_of book ≡ []) × (refused_of book ≡ 0)) }
+        ensures room { IfOk result (λ book. room_of book ≡ room) }
+    {
+        let entries = Vec::with_capacity(alloc, room)?;
+        Ok(CounterBook {
+            entries,
+            sum: 0,
+            refused: 0,
+            room,
+        })
+    }
+
+    /// For how many entries there was room from the start.
+    pub fn room(&self) -> usize
+        ensures { result ≡ room_of self.now }
+    {
+        self.room
+    }
+}
+
+impl Kept for CounterBook {
+    ghost use Rattle.ticket_steps.specs.CounterBooks.{entries_of, refused_of, sum_of, room_of};
+
+    type Call = u8;
+
+    type Reply = u64;
+
+    ghost State = { ℕ };
+
+    ghost step = { counts };
+
+    ghost opening = { λ _. 0 };
+
+    ghost state = { sum_of };
+
+    ghost history = { entries_of };
+
+    ghost refusals = { refused_of };
+
+    ghost legal = { λ book. book.legal };
+
+    ghost replayed = { λ book. book.summed };
+
+    /// Adds the call to the sum. `NoMemory` comes only where the entries have reached the room.
+    fn record(&mut self, pass: u32, call: u8) -> Result<u64, NoMemory>
+        requires { refused_of self.old < 2 ^ 60 }
+        ensures same { room_of self.new ≡ room_of self.old }
+        ensures replied { IfOk result (λ reply.
+            (entries_of self.new ≡ entries_of self.old ++ entry pass call reply ∷ [])
+            × (refused_of self.new ≡ refused_of self.old)) }
+        ensures refused { OnErr result (
+            (entries_of self.new ≡ entries_of self.old)
+            × (sum_of self.new ≡ sum_of self.old)
+            × (refused_of self.new ≡ refused_of self.old + 1)) }
+        ensures full { OnErr result (room_of self.old ≤ length (entries_of self.old)) }
+    {
+        let reply = self.sum.wrapping_add(call as u64);
+        if self.entries.push(Entry { pass, call, reply }).is_err() {
+            self.refused += 1;
+            return Err(NoMemory);
+        }
+        self.sum = reply;
+        Ok(reply)
+    }
+
+    fn entries(&self) -> &[Entry<u8, u64>] {
+        self.entries.as_slice()
+    }
+
+    fn refused(&self) -> u64 {
+        self.refused
+    }
+}

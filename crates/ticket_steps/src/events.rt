@@ -1,0 +1,44 @@
+//! What a seat may do, what it is shown, and the faults.
+use crate::kept::NoMemory;
+
+/// One step of one seat. A seat is named by its own number.
+#[derive(Clone, Copy, PartialEq, Eq, Debug)]
+pub enum Event<C> {
+    /// The fresh idle seat gives its last `count` numbers, at least one and not all, with their
+    /// draws, to a new seat.
+    Split { seat: u32, count: u32 },
+    /// The idle seat takes the next ticket, by one of its draws.
+    Draw { seat: u32 },
+    /// The waiting seat looks whether its ticket is served, and holds the book if it is.
+    Look { seat: u32 },
+    /// The holder records the call in the book under its own number, and leaves.
+    Leave { seat: u32, call: C },
+    /// The first idle seat takes over the numbers and calls of another idle seat.
+    Gather { seat: u32, other: u32 },
+}
+
+/// What the seat that stepped is shown.
+#[derive(Clone, Copy, PartialEq, Eq, Debug)]
+pub enum Seen<R> {
+    Split,
+    /// The ticket that was drawn.
+    Drew(u64),
+    /// The ticket isn't served yet, and nothing changed.
+    Waiting,
+    Held,
+    /// What `record` answered.
+    Left(Result<R, NoMemory>),
+    Gathered,
+}
+
+/// Why an event doesn't happen. The first that applies is told, and nothing changes.
+#[derive(Clone, Copy, PartialEq, Eq, Debug)]
+pub enum Fault {
+    /// No seat has this own number, or it was gathered into another.
+    NoSeat,
+    /// The event doesn't fit the seat's phase, the seat to be split isn't fresh or the count is out
+    /// of range, or a seat is to be gathered into itself.
+    Phase,
+    /// No draw is left.
+    Spent,
+}

@@ -1,0 +1,71 @@
+//! Books: sequential objects that keep the history of their calls.
+ghost use Rattle.std.specs.Prelude.{◌≡◌, ℕ, ◌+◌, ◌^◌, ◌<◌, List, [], ◌∷◌, ◌++◌, IfOk, OnErr};
+ghost use Rattle.ticket_steps.specs.declared.kept.Entry.{Entry as EntryOf};
+ghost use Rattle.ticket_steps.specs.History.{entry, replay, IsLegal};
+
+/// One call of a history: the number of the seat (or pass) that made it, the call and its reply.
+#[derive(Clone, Copy, PartialEq, Eq, Debug)]
+pub struct Entry<C, R> {
+    pub pass: u32,
+    pub call: C,
+    pub reply: R,
+}
+
+/// A call that was refused for want of memory: it is counted, and nothing else came of it.
+#[derive(Clone, Copy, PartialEq, Eq, Debug)]
+pub struct NoMemory;
+
+/// A sequential object that keeps the history of its calls, each under the number of its caller.
+///
+/// An implementation names its states, its sequential step and, for each value, the state that it
+/// was opened in, its present state, its history and its count of refusals. Four laws hold:
+///
+/// 1. `legal`: each reply of the history is the step's at its point, from the opening state on.
+/// 2. `replayed`: the present state is what the calls of the history leave.
+/// 3. A `record` that answers a reply adds exactly that entry (`replied`) and changes neither the
+///    opening state (`same`) nor the count of refusals.
+/// 4. A `record` that answers `NoMemory` adds one to the refusals and changes nothing else.
+pub trait Kept {
+    type Call: Copy;
+
+    type Reply: Copy;
+
+    ghost State: { Type 0 };
+
+    ghost step: { State → Self.Call → State × Self.Reply };
+
+    ghost opening: { Self → State };
+
+    ghost state: { Self → State };
+
+    ghost history: { Self → List (EntryOf Self.Call Self.Reply) };
+
+    ghost refusals: { Self → ℕ };
+
+    /// Makes one call for the caller with the number `pass`, and keeps it in the history. Where
+    /// memory for the entry is wanting the call isn't made, but counted as refused.
+    fn record(&mut self, pass: u32, call: Self::Call) -> Result<Self::Reply, NoMemory>
+        requires { refusals self.old < 2 ^ 60 }
+        ensures same { opening self.new ≡ opening self.old }
+        ensures replied { IfOk result (λ reply.
+            (history self.new ≡ history self.old ++ entry pass call reply ∷ [])
+            × (refusals self.new ≡ refusals self.old)) }
+        ensures refused { OnErr result (
+            (history self.new ≡ history self.old)
+            × (state self.new ≡ state self.old)
+            × (refusals self.new ≡ refusals self.old + 1)) };
+
+    /// The history, oldest entry first.
+    fn entries(&self) -> &[Entry<Self::Call, Self::Reply>]
+        ensures { result.now ≡ history self.now };
+
+    /// How many calls were refused for want of memory.
+    fn refused(&self) -> u64
+        ensures { result ≡ refusals self.now };
+
+    /// Each reply is the step's at its point.
+    ghost legal: { (book : Self) → IsLegal step (opening book) (history book) };
+
+    /// The state is what the calls leave.
+    ghost replayed: { (book : Self) → state book ≡ replay step (opening book) (history book) };
+}

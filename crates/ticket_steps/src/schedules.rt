@@ -1,0 +1,57 @@
+//! What is so after every schedule.
+ghost use Rattle.std.specs.Prelude.{◌≡◌, ℕ, ◌+◌, ◌<◌, ◌≤◌, ◌*◌, List, [], length, true};
+ghost use mathlib.Core.Option.{some};
+ghost use lib.ListN.{get_elem?};
+ghost use Rattle.ticket_steps.specs.declared.seats.CoreSeat.{CoreSeat};
+ghost use Rattle.ticket_steps.specs.declared.seats.Phase.TheVariants.{Holding};
+ghost use Rattle.ticket_steps.specs.Books.{IsLawfulBook};
+ghost use Rattle.ticket_steps.specs.Happenings.{recorded_by};
+ghost use Rattle.ticket_steps.specs.History.{of};
+ghost use Rattle.ticket_steps.specs.Schedules.{Schedule, IsSchedule, IsLine};
+ghost use Rattle.ticket_steps.specs.Seats.{answering, holders, is_there};
+ghost use Rattle.ticket_steps.specs.Sums.{total, once_below};
+
+use crate::kept::Kept;
+
+/// A law without code: what is so of the core after every schedule, for every kind of book.
+///
+/// A schedule is any list of events by any seats, each with its outcome, from the opening of a core
+/// with an empty book and 1 to 1,024 numbers. Whatever it is, at its end:
+///
+/// - at most one seat holds (`one_holder`), with the number served as its ticket (`holder`);
+/// - the tickets of the waiting and holding seats are the numbers from the number served to the
+///   last one drawn, each once (`line`);
+/// - entries and refusals together are the number served (`counted`), and so are the calls ended by
+///   all seats (`calls`);
+/// - the book is lawful: its entries are legal, and its state is their replay (`lawful`);
+/// - the entries of each number are the calls that it recorded when it left, in their order
+///   (`entries`), and there are none of numbers that weren't given out (`strangers`);
+/// - no two seats have the same own number (`named`), and each number is one seat's to answer for
+///   (`numbered`);
+/// - the tickets drawn and the draws left are together no more than all numbers brought (`supply`).
+pub fn every_schedule<K: Kept>()
+    ensures one_holder { (s : Schedule K.State K.Call K.Reply) → IsSchedule K.step s
+        → holders s.end.seats ≤ 1 }
+    ensures holder { (s : Schedule K.State K.Call K.Reply) → IsSchedule K.step s
+        → (i ticket : ℕ) (p : CoreSeat) → get_elem? s.end.seats i ≡ some p
+        → p.phase ≡ Holding ticket → ticket ≡ s.end.served }
+    ensures line { (s : Schedule K.State K.Call K.Reply) → IsSchedule K.step s → IsLine s.end }
+    ensures counted { (s : Schedule K.State K.Call K.Reply) → IsSchedule K.step s
+        → length s.end.book.entries + s.end.book.refused ≡ s.end.served }
+    ensures calls { (s : Schedule K.State K.Call K.Reply) → IsSchedule K.step s
+        → total (λ (p : CoreSeat). p.calls) s.end.seats ≡ s.end.served }
+    ensures lawful { (s : Schedule K.State K.Call K.Reply) → IsSchedule K.step s
+        → IsLawfulBook K.step s.opening s.end.book }
+    ensures entries { (s : Schedule K.State K.Call K.Reply) → IsSchedule K.step s
+        → (number : ℕ) → of number s.end.book.entries ≡ recorded_by number s.happened }
+    ensures strangers { (s : Schedule K.State K.Call K.Reply) → IsSchedule K.step s
+        → (number : ℕ) → s.numbers ≤ number → of number s.end.book.entries ≡ [] }
+    ensures named { (s : Schedule K.State K.Call K.Reply) → IsSchedule K.step s
+        → (i k : ℕ) (p q : CoreSeat)
+        → get_elem? s.end.seats i ≡ some p → is_there p.phase ≡ true
+        → get_elem? s.end.seats k ≡ some q → is_there q.phase ≡ true → p.own ≡ q.own → k ≡ i }
+    ensures numbered { (s : Schedule K.State K.Call K.Reply) → IsSchedule K.step s
+        → (number : ℕ) → answering number s.end.seats ≡ once_below number s.numbers }
+    ensures supply { (s : Schedule K.State K.Call K.Reply) → IsSchedule K.step s
+        → s.end.next + total (λ (p : CoreSeat). p.left) s.end.seats ≤ s.numbers * s.draws }
+{}

@@ -1,0 +1,144 @@
+//! What no clause says: worked schedules, that calls succeed, and want of memory.
+//!
+//! Each test also passes where any one request for memory is refused (`rt try --test --fail-alloc N`).
+ghost use Rattle.std.specs.Prelude.{◌≡◌, [], IfOk};
+ghost use Rattle.ticket_steps.specs.CounterBooks.{entries_of, refused_of, room_of};
+
+use crate::counter::CounterBook;
+use crate::{Core, Event, Fault, Kept, NoMemory, Seen};
+use std::alloc::{AllocError, Global};
+use std::test::Fail;
+
+/// An empty book, at the second try where the first meets want of memory.
+fn empty_book(alloc: Global, room: usize) -> Result<CounterBook, AllocError>
+    ensures { IfOk result (λ book. (entries_of book ≡ []) × (refused_of book ≡ 0)) }
+{
+    match CounterBook::open(alloc, room) {
+        Ok(book) => Ok(book),
+        Err(AllocError) => CounterBook::open(alloc, room),
+    }
+}
+
+/// A core of two numbers over an empty book with room 10. Want of memory hands the book back as it
+/// was, and a second try with memory succeeds.
+fn core_of_two(alloc: Global) -> Result<Core<CounterBook>, AllocError> {
+    let book = empty_book(alloc, 10)?;
+    match Core::open(alloc, book, 2) {
+        Ok(core) => Ok(core),
+        Err(book) => Core::open(alloc, book, 2).map_err(|_book| AllocError),
+    }
+}
+
+const SPLIT: Event<u8> = Event::Split { seat: 0, count: 1 };
+
+fn draw(seat: u32) -> Event<u8> {
+    Event::Draw { seat }
+}
+
+fn look(seat: u32) -> Event<u8> {
+    Event::Look { seat }
+}
+
+fn leave(seat: u32, call: u8) -> Event<u8> {
+    Event::Leave { seat, call }
+}
+
+fn gather(seat: u32, other: u32) -> Event<u8> {
+    Event::Gather { seat, other }
+}
+
+#[test]
+fn two_seats_take_turns(rt: HostRuntime) -> Result<(), Fail> {
+    let mut core = core_of_two(rt.alloc())?;
+    assert_eq!(rt; core.step(SPLIT), Ok(Seen::Split));
+    assert_eq!(rt; core.step(draw(0)), Ok(Seen::Drew(0)));
+    assert_eq!(rt; core.step(draw(1)), Ok(Seen::Drew(1)));
+    assert_eq!(rt; core.step(look(1)), Ok(Seen::Waiting));
+    assert_eq!(rt; core.step(look(0)), Ok(Seen::Held));
+    assert_eq!(rt; core.step(leave(0, 5)), Ok(Seen::Left(Ok(5))));
+    assert_eq!(rt; core.step(look(1)), Ok(Seen::Held));
+    assert_eq!(rt; core.step(leave(1, 7)), Ok(Seen::Left(Ok(12))));
+    assert_eq!(rt; core.step(gather(0, 1)), Ok(Seen::Gathered));
+    Ok(())
+}
+
+#[test]
+fn a_fresh_core_has_faults(rt: HostRuntime) -> Result<(), Fail> {
+    let mut core = core_of_two(rt.alloc())?;
+    assert_eq!(rt; core.step(look(0)), Err(Fault::Phase), "before a draw");
+    assert_eq!(rt;
+        core.step(Event::Split { seat: 0, count: 0 }),
+        Err(Fault::Phase),
+        "of none"
+    );
+    assert_eq!(rt;
+        core.step(Event::Split { seat: 0, count: 2 }),
+        Err(Fault::Phase),
+        "of all"
+    );
+    assert_eq!(rt; core.step(gather(0, 0)), Err(Fault::Phase), "into itself");
+    assert_eq!(rt; core.step(look(1)), Err(Fault::NoSeat), "before the split");
+    assert_eq!(rt; core.step(SPLIT), Ok(Seen::Split));
+    assert_eq!(rt; core.step(look(1)), Err(Fault::Phase), "after the split");
+    Ok(())
+}
+
+#[test]
+fn a_run_stops_at_the_first_fault(rt: HostRuntime) -> Result<(), Fail> {
+    let mut core = core_of_two(rt.alloc())?;
+    let events = [
+        SPLIT,
+        draw(0),
+        draw(1),
+        look(1),
+        look(0),
+        leave(0, 5),
+        look(1),
+        leave(1, 7),
+        gather(0, 1),
+        look(0),
+    ];
+    assert_eq!(rt; core.run(&events), Err((9, Fault::Phase)));
+    let entries = core.book().entries();
+    assert_eq!(rt; entries.len(), 2);
+    assert_eq!(rt;
+        (entries[0].pass, entries[0].call, entries[0].reply),
+        (0, 5, 5)
+    );
+    assert_eq!(rt;
+        (entries[1].pass, entries[1].call, entries[1].reply),
+        (1, 7, 12)
+    );
+    Ok(())
+}
+
+/// A book with room for four calls is asked for 200. A call for which memory is wanting is counted
+/// and changes nothing else; it comes only past the room, and later calls are answered as if it
+/// hadn't been.
+#[test]
+fn a_book_counts_what_it_refuses(rt: HostRuntime) -> Result<(), Fail> {
+    let mut book = empty_book(rt.alloc(), 4)?;
+    let mut sum = 0u64;
+    for made in 0..200u64 {
+        let kept = book.entries().len();
+        let refused = book.refused();
+        assert!(rt; refused <= made);
+        match book.record(3, 2) {
+            Ok(reply) => {
+                sum = sum.wrapping_add(2);
+                assert!(rt; reply == sum && book.entries().len() == kept + 1);
+                assert_eq!(rt; book.refused(), refused);
+            }
+            Err(NoMemory) => {
+                assert!(rt; 4 <= kept && book.entries().len() == kept);
+                assert_eq!(rt; book.refused(), refused + 1);
+            }
+        }
+    }
+    assert_eq!(rt;
+        book.entries().len() as u64,
+        200u64.wrapping_sub(book.refused())
+    );
+    assert_eq!(rt; book.room(), 4);
+    Ok(())
+}
