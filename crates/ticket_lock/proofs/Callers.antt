@@ -1,5 +1,5 @@
 -- The caller in a view after a split.
-use Rattle.std.proofs.Common.{◌≡◌, ℕ, ◌+◌, ◌-◌, ◌*◌, ◌<◌, ◌≤◌, List, length, take, drop, sym, refl, ap, ◌∙◌, arith, true}
+use Rattle.std.proofs.Common.{◌≡◌, ℕ, ◌+◌, ◌-◌, ◌*◌, ◌≤◌, length, take, drop, ap, ◌∙◌, arith, true}
 use Rattle.std.proofs.lemmas.List.{length-take-le, length-drop}
 use Rattle.ticket_lock.specs.declared.views.View.{View}
 use Rattle.ticket_lock.specs.Callers.{caller, keeping, given}

@@ -1,10 +1,8 @@
 -- Each kind of step is one event, and keeps the rule.
-use Rattle.std.proofs.Common.{◌≡◌, ℕ, suc, ◌+◌, ◌-◌, ◌*◌, ◌%◌, ◌<◌, ◌≤◌, ◌≢◌, ◌⊎◌, List, [], ◌∷◌, ◌++◌, map, length, get_or, set, take, drop, length-set, sym, refl, ap, ◌∙◌, subst, inl, inr, ⊎_elim, arith, true, false, Option, Some, None}
-use mathlib.Core.Logic.{dite}
-use native.Mathlib.Decide.{ℕ_discrete, dec_le}
+use Rattle.std.proofs.Common.{◌≡◌, ℕ, ◌+◌, ◌-◌, ◌%◌, ◌<◌, ◌≤◌, ◌≢◌, ◌⊎◌, List, [], ◌∷◌, ◌++◌, map, length, get_or, set, take, drop, length-set, sym, refl, ap, ◌∙◌, subst, inl, inr, ⊎_elim, arith, true, Option, Some, None}
 use mathlib.Core.Option.{some, none, some-ne-none}
 use mathlib.Core.Option as maybe
-use mathlib.Core.List.{IsPrefix, map-append}
+use mathlib.Core.List.{map-append}
 use lib.ListN.{get_elem?}
 use lib.Seq.{map-set, set-get_or}
 use Rattle.std.proofs.lemmas.List.{append-nil}
@@ -13,31 +11,30 @@ use Rattle.atomic_table.proofs.Lists.{at_map}
 use Rattle.ticket_steps.specs.declared.kept.Entry.{Entry}
 use Rattle.ticket_steps.specs.declared.kept.Kept.{Ghosts}
 use Rattle.ticket_steps.specs.declared.seats.CoreSeat.{CoreSeat}
-use Rattle.ticket_steps.specs.declared.seats.Phase.{Phase}
-use Rattle.ticket_steps.specs.declared.seats.Phase.TheVariants.{Idle, Waiting, Holding, Gone}
-use Rattle.ticket_steps.specs.Books.{BookState, book_state, with_entry, with_refusal, IsLawfulBook}
-use Rattle.ticket_steps.specs.CoreStates.{CoreState, core_state, opened, IsHome}
-use Rattle.ticket_steps.specs.Happenings.{Happening, split, drew, waited, held, recorded, refused, gathered, with_seats, after_leave, Moves, Leads}
-use Rattle.ticket_steps.specs.History.{entry, of, replay, IsLegal}
+use Rattle.ticket_steps.specs.declared.seats.Phase.TheVariants.{Idle, Waiting, Holding}
+use Rattle.ticket_steps.specs.Books.{BookState, with_entry, with_refusal, IsLawfulBook}
+use Rattle.ticket_steps.specs.CoreStates.{CoreState, core_state, opened}
+use Rattle.ticket_steps.specs.Happenings.{Happening, split, drew, held, recorded, refused, gathered, with_seats, after_leave, Moves}
+use Rattle.ticket_steps.specs.History.{entry, of, IsLegal}
 use Rattle.ticket_steps.specs.Lawful.{IsLawful}
-use Rattle.ticket_steps.specs.Seats.{holds_one, is_there, tickets_of, holders, keeping, given, waiting, holding, ended, joined, gone}
-use Rattle.ticket_steps.specs.Sums.{total, times, once_below, counted}
+use Rattle.ticket_steps.specs.Seats.{holds_one, is_there, tickets_of, holders, keeping, given, waiting, holding, ended, gone}
+use Rattle.ticket_steps.specs.Sums.{times}
 use Rattle.ticket_steps.proofs.CoreLemmas.{few_tickets}
 use Rattle.ticket_steps.proofs.Histories.{legal-last-reply}
 use Rattle.ticket_steps.proofs.LawfulSteps.{lawful_opened}
-use Rattle.ticket_steps.proofs.Lists.{at_set, at_snoc, at_same, set_else, set_here, set_again}
+use Rattle.ticket_steps.proofs.Lists.{at_set, at_snoc, set_else, set_here, set_again}
 use Rattle.ticket_steps.proofs.Ofs.{of-other}
 use Rattle.ticket_steps.proofs.ScheduleLemmas.{leads_more, leads_lawful, leads_lawful_book, leads_strangers}
-use Rattle.ticket_steps.proofs.SeatLemmas.{holds, no_holder, sole, in_line, named_once, tickets_waiting, tickets_holding}
-use Rattle.ticket_steps.proofs.Totals.{times-append, times-same, times-take-drop, total-set, total-append, term_le, terms_le, below_le, below_no}
+use Rattle.ticket_steps.proofs.SeatLemmas.{holds, no_holder, sole, in_line, named_once, tickets_holding}
+use Rattle.ticket_steps.proofs.Totals.{times-append, times-same, times-take-drop, total-set, total-append, terms_le, below_le}
 use Rattle.ticket_lock.specs.declared.views.Start.{Start}
 use Rattle.ticket_lock.specs.declared.views.View.{View}
-use Rattle.ticket_lock.specs.Knowing.{IsKnown, IsKnownToAll}
+use Rattle.ticket_lock.specs.Knowing.{IsKnown}
 use Rattle.ticket_lock.specs.Rule.{IsTableOf}
 use Rattle.ticket_lock.specs.Slots.{IsBook}
 use Rattle.ticket_lock.specs.Steps.{after_split, after_draw, after_waiting, after_holding, after_leaving, after_gather, after_settling, Returns, IsEvent}
 use Rattle.ticket_lock.specs.Views.{draws_in, view, seat_in, spent_view, Follows, keeping_view, given_view, drawn_view, joined_view, settled_view, held_view, left_view}
-use Rattle.ticket_lock.proofs.Seen.{follows_self, follows_none, follows_later, follows_fewer, longer_of, prefix_then}
+use Rattle.ticket_lock.proofs.Seen.{follows_self, follows_none, follows_later, follows_fewer, longer_of}
 
 module _ {K C R : Type 0} (k : Ghosts K C R) (start : Start K) where
   abbrev pub V : Type 0
@@ -118,22 +115,25 @@ module _ {K C R : Type 0} (k : Ghosts K C R) (start : Start K) where
       let move : Moves k.step start.draws c (drew v.seat.own c.next) d = (id, v.seat, (at', refl, idle), some_left, refl, refl) in
       let old = r.known.each id v at in
       let words : set s.words 0 ((x + 1) % 18446744073709551616) ≡ (c.next + 1) ∷ c.served ∷ [] =
-          (λ i. set (r.words.words i) 0 ((is i + 1) % 18446744073709551616)) ∙ ap (λ (n : ℕ). n ∷ c.served ∷ []) up in
-      (d, move, record {
-        some_number = r.some_number;
-        few_numbers = r.few_numbers;
-        few_draws = r.few_draws;
-        words = record {
-          words = words;
-          seats = ap (λ (l : List CoreSeat). set l id p) r.words.seats ∙ sym (map-set seat_in s.views id w ∙ ap (λ (n : ℕ). set (map seat_in s.views) id (waiting n v.seat)) is);
-          leads = leads_more k.step start.draws _ c d hs (drew v.seat.own c.next) r.words.leads move;
-        };
-        slot = record {
-          one_slot = r.slot.one_slot;
-          home = λ e. r.slot.home (home_before c.seats id v.seat p at' (ap holds_one idle) e);
-        };
-        known = record { each = known_set c.book s.views id w (known_view c.book v.start (waiting x v.seat) v.seen 0 old.start_is old.seen (λ t e. absurd (cc))) (λ j u _ e. r.known.each j u e) };
-      })
+      (λ i. set (r.words.words i) 0 ((is i + 1) % 18446744073709551616)) ∙ ap (λ (n : ℕ). n ∷ c.served ∷ []) up in (
+        d,
+        move,
+        record {
+          some_number = r.some_number;
+          few_numbers = r.few_numbers;
+          few_draws = r.few_draws;
+          words = record {
+            words = words;
+            seats = ap (λ (l : List CoreSeat). set l id p) r.words.seats ∙ sym (map-set seat_in s.views id w ∙ ap (λ (n : ℕ). set (map seat_in s.views) id (waiting n v.seat)) is);
+            leads = leads_more k.step start.draws _ c d hs (drew v.seat.own c.next) r.words.leads move;
+          };
+          slot = record {
+            one_slot = r.slot.one_slot;
+            home = λ e. r.slot.home (home_before c.seats id v.seat p at' (ap holds_one idle) e);
+          };
+          known = record { each = known_set c.book s.views id w (known_view c.book v.start (waiting x v.seat) v.seen 0 old.start_is old.seen (λ t e. absurd (cc))) (λ j u _ e. r.known.each j u e) };
+        },
+      )
 
   -- a look that waits changes nothing
   pub waiting_same : (s : Table) (id : ℕ) (me : Me (Option K) V) → get_elem? s.views id ≡ some me.0 → after_waiting s id me ≡ s
@@ -151,24 +151,34 @@ module _ {K C R : Type 0} (k : Ghosts K C R) (start : Start K) where
       let w : V = held_view k c.served v book in
       let d : Core = with_seats c (set c.seats id p) in
       let move : Moves k.step start.draws c (held v.seat.own) d = (id, v.seat, (at', refl, waits), refl) in
-      let old = r.known.each id v at in
-      (book, there.1, there.2, (d, move, record {
-        some_number = r.some_number;
-        few_numbers = r.few_numbers;
-        few_draws = r.few_draws;
-        words = record {
-          words = set-get_or s.words 1 0 ∙ r.words.words;
-          seats = ap (λ (q : List CoreSeat). set q id p) r.words.seats ∙ sym (map-set seat_in s.views id w);
-          leads = leads_more k.step start.draws _ c d hs (held v.seat.own) r.words.leads move;
-        };
-        slot = record {
-          one_slot = length-set s.homes 0 none ∙ r.slot.one_slot;
-          home = λ e. absurd (omega (arith, e, total-set holds c.seats id v.seat p at', ap holds_one waits));
-        };
-        known = record { each = known_set c.book s.views id w
-          (known_view c.book v.start (holding c.served v.seat) (k.history book) (k.refusals book) old.start_is
-          (subst (λ (q : List (Entry C R)). Follows v.seat.numbers q c.book.entries) (sym there.2.entries) (follows_self v.seat.numbers c.book.entries)) (λ t e. (there.2.entries, there.2.refused))) (λ j u _ e. r.known.each j u e) };
-      }))
+      let old = r.known.each id v at in (
+        book,
+        there.1,
+        there.2,
+        (
+          d,
+          move,
+          record {
+            some_number = r.some_number;
+            few_numbers = r.few_numbers;
+            few_draws = r.few_draws;
+            words = record {
+              words = set-get_or s.words 1 0 ∙ r.words.words;
+              seats = ap (λ (q : List CoreSeat). set q id p) r.words.seats ∙ sym (map-set seat_in s.views id w);
+              leads = leads_more k.step start.draws _ c d hs (held v.seat.own) r.words.leads move;
+            };
+            slot = record {
+              one_slot = length-set s.homes 0 none ∙ r.slot.one_slot;
+              home = λ e. absurd (omega (arith, e, total-set holds c.seats id v.seat p at', ap holds_one waits));
+            };
+            known = record {
+              each = known_set c.book s.views id w
+                  (known_view c.book v.start (holding c.served v.seat) (k.history book) (k.refusals book) old.start_is
+                  (subst (λ (q : List (Entry C R)). Follows v.seat.numbers q c.book.entries) (sym there.2.entries) (follows_self v.seat.numbers c.book.entries)) (λ t e. (there.2.entries, there.2.refused))) (λ j u _ e. r.known.each j u e);
+            };
+          },
+        ),
+      )
 
   -- the holder leaves: the book is home again, with a history that goes on from the one that it took out, by nothing but entries of its own number
   leave_to : (hs : List (Happening C R)) (c : Core) (s : Table) (id ticket : ℕ) (me : Me (Option K) V) (book : K) (h : Happening C R) (b : BookState k.State C R) → Ruled hs c s → get_elem? s.views id ≡ some me.0 → me.0.seat.phase ≡ Holding ticket
@@ -204,10 +214,11 @@ module _ {K C R : Type 0} (k : Ghosts K C R) (start : Start K) where
           one_slot = ap length here ∙ (length-set s.homes 0 (some (Some book)) ∙ r.slot.one_slot);
           home = λ _. (book, ap (λ (q : List (maybe.Option (Option K))). get_elem? q 0) here ∙ set_here s.homes 0 (some (Some book)) (omega (arith, r.slot.one_slot)), is_book);
         };
-        known = record { each = known_set b s.views id w
-          (known_view b v.start p (k.history book) 0 old.start_is (subst (λ (q : List (Entry C R)). Follows v.seat.numbers q b.entries) (sym is_book.entries) (follows_self v.seat.numbers b.entries)) (λ t e. absurd (cc)))
-          (λ j u other e. let at'' = seat_at hs c s r j u e in
-          known_later c.book b u (r.known.each j u e) zs more
+        known = record {
+          each = known_set b s.views id w
+              (known_view b v.start p (k.history book) 0 old.start_is (subst (λ (q : List (Entry C R)). Follows v.seat.numbers q b.entries) (sym is_book.entries) (follows_self v.seat.numbers b.entries)) (λ t e. absurd (cc)))
+              (λ j u other e. let at'' = seat_at hs c s r j u e in
+              known_later c.book b u (r.known.each j u e) zs more
               (λ n has. others n (λ same. omega (
                 arith,
                 own_in,
@@ -223,7 +234,8 @@ module _ {K C R : Type 0} (k : Ghosts K C R) (start : Start K) where
                 tickets_holding c.served t u.seat e',
                 ap (λ (n : ℕ). times c.served (n ∷ [])) ((l.each j u.seat at'').holder t e'),
                 times-same c.served [],
-              ))) };
+              )));
+        };
       }
 
   -- it is the holder's own number that recorded, or that was refused
@@ -270,26 +282,31 @@ module _ {K C R : Type 0} (k : Ghosts K C R) (start : Start K) where
       let d : Core = with_seats c (set c.seats id p ++ q ∷ []) in
       let move : Moves k.step start.draws c (split v.seat.own count) d = (id, v.seat, (at', refl, idle), fresh, some_count, less, refl) in
       let views : map seat_in (set s.views id a ++ b ∷ []) ≡ set (map seat_in s.views) id p ++ q ∷ [] = map-append seat_in (set s.views id a) (b ∷ [])
-          ∙ (ap (λ (l : List CoreSeat). l ++ b.seat ∷ []) (map-set seat_in s.views id a) ∙ (λ i. set (map seat_in s.views) id (keeping (draws i) count v.seat) ++ given (draws i) count v.seat ∷ [])) in
-      let sums : (m : ℕ) → times m (take n v.seat.numbers) + times m (drop n v.seat.numbers) ≡ times m v.seat.numbers = λ m. times-take-drop m n v.seat.numbers in
-      (d, move, record {
-        some_number = r.some_number;
-        few_numbers = r.few_numbers;
-        few_draws = r.few_draws;
-        words = record {
-          words = r.words.words;
-          seats = ap (λ (l : List CoreSeat). set l id p ++ q ∷ []) r.words.seats ∙ sym views;
-          leads = leads_more k.step start.draws _ c d hs (split v.seat.own count) r.words.leads move;
-        };
-        slot = record {
-          one_slot = r.slot.one_slot;
-          home = λ e. r.slot.home (omega (arith, e, total-append holds (set c.seats id p) (q ∷ []), total-set holds c.seats id v.seat p at', ap holds_one idle));
-        };
-        known = record { each = known_snoc c.book (set s.views id a) b
-          (known_view c.book v.start b.seat v.seen 0 old.start_is (follows_fewer (drop n v.seat.numbers) v.seat.numbers v.seen c.book.entries old.seen (λ m has. omega (arith, has, sums m))) (λ t e. absurd (cc)))
-          (known_set c.book s.views id a
-          (known_view c.book v.start a.seat v.seen 0 old.start_is (follows_fewer (take n v.seat.numbers) v.seat.numbers v.seen c.book.entries old.seen (λ m has. omega (arith, has, sums m))) (λ t e. absurd (cc))) (λ j u _ e. r.known.each j u e)) };
-      })
+      ∙ (ap (λ (l : List CoreSeat). l ++ b.seat ∷ []) (map-set seat_in s.views id a) ∙ (λ i. set (map seat_in s.views) id (keeping (draws i) count v.seat) ++ given (draws i) count v.seat ∷ [])) in
+      let sums : (m : ℕ) → times m (take n v.seat.numbers) + times m (drop n v.seat.numbers) ≡ times m v.seat.numbers = λ m. times-take-drop m n v.seat.numbers in (
+        d,
+        move,
+        record {
+          some_number = r.some_number;
+          few_numbers = r.few_numbers;
+          few_draws = r.few_draws;
+          words = record {
+            words = r.words.words;
+            seats = ap (λ (l : List CoreSeat). set l id p ++ q ∷ []) r.words.seats ∙ sym views;
+            leads = leads_more k.step start.draws _ c d hs (split v.seat.own count) r.words.leads move;
+          };
+          slot = record {
+            one_slot = r.slot.one_slot;
+            home = λ e. r.slot.home (omega (arith, e, total-append holds (set c.seats id p) (q ∷ []), total-set holds c.seats id v.seat p at', ap holds_one idle));
+          };
+          known = record {
+            each = known_snoc c.book (set s.views id a) b
+                (known_view c.book v.start b.seat v.seen 0 old.start_is (follows_fewer (drop n v.seat.numbers) v.seat.numbers v.seen c.book.entries old.seen (λ m has. omega (arith, has, sums m))) (λ t e. absurd (cc)))
+                (known_set c.book s.views id a
+                (known_view c.book v.start a.seat v.seen 0 old.start_is (follows_fewer (take n v.seat.numbers) v.seat.numbers v.seen c.book.entries old.seen (λ m has. omega (arith, has, sums m))) (λ t e. absurd (cc))) (λ j u _ e. r.known.each j u e));
+          };
+        },
+      )
 
   pub gather_event : (hs : List (Happening C R)) (c : Core) (s : Table) (id other : ℕ) (v w : V) → Ruled hs c s → get_elem? s.views id ≡ some v → other ≢ id → get_elem? s.views other ≡ some w
       → v.seat.phase ≡ Idle → w.seat.phase ≡ Idle → IsEvent k start hs c (gathered v.seat.own w.seat.own) (after_gather s id v other w)
@@ -302,31 +319,36 @@ module _ {K C R : Type 0} (k : Ghosts K C R) (start : Start K) where
       let old' = r.known.each other w at_other in
       let d : Core = with_seats c (set (set c.seats id x.seat) other gone) in
       let names : v.seat.own ≢ w.seat.own = λ e. apart (named_once start.numbers start.draws c l id other v.seat w.seat at' there (ap is_there idle) (ap is_there idle') e) in
-      let move : Moves k.step start.draws c (gathered v.seat.own w.seat.own) d = (id, v.seat, other, w.seat, (at', refl, idle), (there, refl, idle'), names, refl) in
-      (d, move, record {
-        some_number = r.some_number;
-        few_numbers = r.few_numbers;
-        few_draws = r.few_draws;
-        words = record {
-          words = r.words.words;
-          seats = ap (λ (q : List CoreSeat). set (set q id x.seat) other gone) r.words.seats ∙ sym (map-set seat_in (set s.views id x) other spent_view ∙ ap (λ (q : List CoreSeat). set q other gone) (map-set seat_in s.views id x));
-          leads = leads_more k.step start.draws _ c d hs (gathered v.seat.own w.seat.own) r.words.leads move;
-        };
-        slot = record {
-          one_slot = r.slot.one_slot;
-          home = λ e. r.slot.home (omega (arith, e, total-set holds (set c.seats id x.seat) other w.seat gone (set_else c.seats id other x.seat apart ∙ there), total-set holds c.seats id v.seat x.seat at', ap holds_one idle, ap holds_one idle'));
-        };
-        known = record { each = known_set c.book (set s.views id x) other spent_view
-          (known_view c.book None gone [] 0 (λ o e. absurd (cc)) (follows_none c.book.entries) (λ t e. absurd (cc)))
-          (λ j u ne e. known_set c.book s.views id x record {
-            start_is = old.start_is;
-            seen = longer_of v.seat.numbers w.seat.numbers v.seen w.seen c.book.entries old.seen old'.seen;
-            one = old.seen;
-            two = old'.seen;
-            within = λ m. omega (arith, times-append m v.seat.numbers w.seat.numbers);
-            out = λ t h. absurd (cc);
-          } (λ i z _ f. r.known.each i z f) j u e) };
-      })
+      let move : Moves k.step start.draws c (gathered v.seat.own w.seat.own) d = (id, v.seat, other, w.seat, (at', refl, idle), (there, refl, idle'), names, refl) in (
+        d,
+        move,
+        record {
+          some_number = r.some_number;
+          few_numbers = r.few_numbers;
+          few_draws = r.few_draws;
+          words = record {
+            words = r.words.words;
+            seats = ap (λ (q : List CoreSeat). set (set q id x.seat) other gone) r.words.seats ∙ sym (map-set seat_in (set s.views id x) other spent_view ∙ ap (λ (q : List CoreSeat). set q other gone) (map-set seat_in s.views id x));
+            leads = leads_more k.step start.draws _ c d hs (gathered v.seat.own w.seat.own) r.words.leads move;
+          };
+          slot = record {
+            one_slot = r.slot.one_slot;
+            home = λ e. r.slot.home (omega (arith, e, total-set holds (set c.seats id x.seat) other w.seat gone (set_else c.seats id other x.seat apart ∙ there), total-set holds c.seats id v.seat x.seat at', ap holds_one idle, ap holds_one idle'));
+          };
+          known = record {
+            each = known_set c.book (set s.views id x) other spent_view
+                (known_view c.book None gone [] 0 (λ o e. absurd (cc)) (follows_none c.book.entries) (λ t e. absurd (cc)))
+                (λ j u ne e. known_set c.book s.views id x record {
+                  start_is = old.start_is;
+                  seen = longer_of v.seat.numbers w.seat.numbers v.seen w.seen c.book.entries old.seen old'.seen;
+                  one = old.seen;
+                  two = old'.seen;
+                  within = λ m. omega (arith, times-append m v.seat.numbers w.seat.numbers);
+                  out = λ t h. absurd (cc);
+                } (λ i z _ f. r.known.each i z f) j u e);
+          };
+        },
+      )
 
   -- the second load of a gather is no event
   pub settle_same : (hs : List (Happening C R)) (c : Core) (s : Table) (id : ℕ) (me : Me (Option K) V) → Ruled hs c s → get_elem? s.views id ≡ some me.0 → me.0.seat.phase ≡ Idle → IsTableOf k start hs c (after_settling s id me)

@@ -1,9 +1,8 @@
 -- What the calls owe the table: each step keeps the rule, and tells what its play says.
-use Rattle.std.proofs.Common.{◌≡◌, ℕ, suc, ◌+◌, ◌-◌, ◌*◌, ◌%◌, ◌<◌, ◌≤◌, ◌≢◌, ◌⊎◌, List, [], ◌∷◌, ◌++◌, map, length, get_or, set, sym, refl, ap, ◌∙◌, subst, ⊎_elim, arith, true, Option, Some, None}
+use Rattle.std.proofs.Common.{◌≡◌, ℕ, suc, ◌+◌, ◌%◌, ◌<◌, ◌≤◌, List, [], ◌∷◌, ◌++◌, length, get_or, sym, refl, ap, ◌∙◌, subst, ⊎_elim, arith, true, Option, Some}
 use mathlib.Core.Logic.{dite}
 use native.Mathlib.Decide.{ℕ_discrete, dec_le}
 use mathlib.Core.Option.{some, none, some-ne-none}
-use mathlib.Core.List.{IsPrefix}
 use lib.ListN.{get_elem?}
 use Rattle.std.specs.Option.{unwrap_or}
 use Rattle.atomic_table.specs.Table.{State, Me, step, keeps, takes, gives, Allows, Splits, Joins, opening as opens, rest}
@@ -13,25 +12,21 @@ use Rattle.ticket_steps.specs.declared.seats.CoreSeat.{CoreSeat}
 use Rattle.ticket_steps.specs.declared.seats.Phase.{Phase}
 use Rattle.ticket_steps.specs.declared.seats.Phase.TheVariants.{Idle, Waiting, Holding}
 use Rattle.ticket_steps.specs.Books.{empty_book}
-use Rattle.ticket_steps.specs.CoreStates.{CoreState, opened}
-use Rattle.ticket_steps.specs.Happenings.{Happening, drew, held, split, gathered}
+use Rattle.ticket_steps.specs.CoreStates.{opened}
+use Rattle.ticket_steps.specs.Happenings.{drew, held, split, gathered}
 use Rattle.ticket_steps.specs.History.{of, IsLegal}
 use Rattle.ticket_steps.specs.Seats.{holds_one, tickets_of}
 use Rattle.ticket_steps.specs.Sums.{total, times}
 use Rattle.ticket_steps.proofs.Lists.{at_snoc, set_else}
-use Rattle.ticket_steps.proofs.Ofs.{of-other}
-use Rattle.ticket_steps.proofs.ScheduleLemmas.{schedule_of}
 use Rattle.ticket_steps.proofs.SeatLemmas.{holds, alone_served, alone, in_line, served_le, one_calls, busy, holder_le, unnumbered_calls, tickets_waiting, tickets_holding}
-use Rattle.ticket_steps.proofs.Totals.{times_le, times-same, below_yes, below_no, term_le}
+use Rattle.ticket_steps.proofs.Totals.{times_le, times-same, below_yes, term_le}
 use Rattle.ticket_lock.specs.declared.views.Start.{Start}
 use Rattle.ticket_lock.specs.declared.views.View.{View}
-use Rattle.ticket_lock.specs.Callers.{IsHanded}
 use Rattle.ticket_lock.specs.Knowing.{IsKnown}
 use Rattle.ticket_lock.specs.Plays.{DrawTells, LookTells, LeaveTells, SettlingTells}
 use Rattle.ticket_lock.specs.Rule.{IsTableOf, IsRuled}
-use Rattle.ticket_lock.specs.Slots.{IsBook}
-use Rattle.ticket_lock.specs.Steps.{after_settling, Returns}
-use Rattle.ticket_lock.specs.Views.{view, spent_view, first_view, Follows, longer, keeping_view, given_view, drawn_view, joined_view, settled_view, held_view, left_view}
+use Rattle.ticket_lock.specs.Steps.{Returns}
+use Rattle.ticket_lock.specs.Views.{spent_view, first_view, Follows, keeping_view, given_view, drawn_view, joined_view, settled_view, held_view, left_view}
 use Rattle.ticket_lock.proofs.Events.{lawful, next_small, seat_at, draw_event, waiting_same, look_event, leave_event, split_event, gather_event, settle_same, strangers_none}
 use Rattle.ticket_lock.proofs.Seen.{follows_self, follows_longer, longer_is, all_seen, empty_before}
 
@@ -55,21 +50,27 @@ module _ {K C R : Type 0} (k : Ghosts K C R) (start : Start K) where
 
   pub starts : (book : K) → k.opening book ≡ (k.opening start.book) → k.history book ≡ [] → k.refusals book ≡ 0 → 0 < start.numbers → start.numbers ≤ 1024 → start.draws ≤ 4294967295
       → Rule (opens (0 ∷ 0 ∷ []) (Some book ∷ []) (first_view start))
-  starts book state none_kept none_refused some_number few few_draws = ([], opened start.numbers start.draws (k.opening start.book), record {
-    some_number = some_number;
-    few_numbers = few;
-    few_draws = few_draws;
-    words = record { words = refl; seats = refl; leads = refl };
-    slot = record { one_slot = refl; home = λ _. (book, refl, record { opening = state; entries = none_kept; refused = none_refused }) };
-    known = record { each = λ j v e. ⊎_elim (λ t. absurd (some-ne-none v (sym t))) (λ t. subst (λ (w : V). IsKnown {S = k.State} start (empty_book (k.opening start.book)) w) t record {
-      start_is = λ o e'. cc;
-      seen = follows_self _ [];
-      one = follows_self [] [];
-      two = follows_self [] [];
-      within = λ n. omega arith;
-      out = λ t' e'. absurd (cc);
-    }) (at_snoc [] (first_view start) v j e) };
-  })
+  starts book state none_kept none_refused some_number few few_draws = (
+    [],
+    opened start.numbers start.draws (k.opening start.book),
+    record {
+      some_number = some_number;
+      few_numbers = few;
+      few_draws = few_draws;
+      words = record { words = refl; seats = refl; leads = refl };
+      slot = record { one_slot = refl; home = λ _. (book, refl, record { opening = state; entries = none_kept; refused = none_refused }) };
+      known = record {
+        each = λ j v e. ⊎_elim (λ t. absurd (some-ne-none v (sym t))) (λ t. subst (λ (w : V). IsKnown {S = k.State} start (empty_book (k.opening start.book)) w) t record {
+          start_is = λ o e'. cc;
+          seen = follows_self _ [];
+          one = follows_self [] [];
+          two = follows_self [] [];
+          within = λ n. omega arith;
+          out = λ t' e'. absurd (cc);
+        }) (at_snoc [] (first_view start) v j e);
+      };
+    },
+  )
 
   pub draws : (n id : ℕ) (me : Me (Option K) V) → me.0.seat.phase ≡ Idle → 0 < me.0.seat.left
       → Allows Rule n id me 0 (λ x. (x + 1) % 18446744073709551616) (DrawTells (step n 0 1 0 none) me)
@@ -94,8 +95,7 @@ module _ {K C R : Type 0} (k : Ghosts K C R) (start : Start K) where
       let served : t ≡ c.served = sym hit ∙ is in
       let e = look_event k start hs c s id me r.2 at (waits ∙ ap Waiting served) in
       let book : K = e.0 in
-      let has : 0 < times t (tickets_of v.seat.phase) = omega (arith, tickets_waiting t t v.seat waits, times-same t []) in
-      (
+      let has : 0 < times t (tickets_of v.seat.phase) = omega (arith, tickets_waiting t t v.seat waits, times-same t []) in (
         held_view k c.served v book,
         takes 0 (Some book),
         e.1,
@@ -140,8 +140,7 @@ module _ {K C R : Type 0} (k : Ghosts K C R) (start : Start K) where
       let e = leave_event k start legal hs c s id t me book r.2 at holder hand (subst (λ (z : Start K). Returns k z v.seat.own v.seen v.refused book) mine ret) in
       let l = lawful k start hs c s r.2 in
       let at' = seat_at k start hs c s r.2 id v at in
-      let has : 0 < times t (tickets_of v.seat.phase) = omega (arith, tickets_holding t t v.seat holder, times-same t []) in
-      (
+      let has : 0 < times t (tickets_of v.seat.phase) = omega (arith, tickets_holding t t v.seat holder, times-same t []) in (
         left_view k v book,
         gives,
         tt,
@@ -171,8 +170,7 @@ module _ {K C R : Type 0} (k : Ghosts K C R) (start : Start K) where
       let c = r.1 in
       let old = r.2.known.each id v at in
       let l = lawful k start hs c s r.2 in
-      let at' = seat_at k start hs c s r.2 id v at in
-      (
+      let at' = seat_at k start hs c s r.2 id v at in (
         settled_view v,
         keeps,
         tt,

@@ -1,5 +1,5 @@
 -- Histories that were seen, and the one history that goes on.
-use Rattle.std.proofs.Common.{◌≡◌, ℕ, suc, ◌+◌, ◌<◌, ◌≤◌, ◌≢◌, List, [], ◌∷◌, ◌++◌, length, sym, refl, ap, ◌∙◌, subst, arith, append_assoc, length-append, Bool, cond, drop, lt-ltb, le-ltb}
+use Rattle.std.proofs.Common.{◌≡◌, ℕ, suc, ◌<◌, ◌≤◌, List, [], ◌∷◌, ◌++◌, length, sym, refl, ap, ◌∙◌, subst, arith, append_assoc, length-append, Bool, cond, drop, lt-ltb, le-ltb}
 use Rattle.std.proofs.lemmas.List.{append-nil}
 use mathlib.Core.Logic.{dite}
 use native.Mathlib.Decide.{dec_le}
@@ -7,7 +7,7 @@ use mathlib.Core.List.{IsPrefix}
 use Rattle.ticket_steps.specs.declared.kept.Entry.{Entry}
 use Rattle.ticket_steps.specs.History.{of}
 use Rattle.ticket_steps.specs.Sums.{times}
-use Rattle.ticket_steps.proofs.Ofs.{of-yes, of-append, of-other}
+use Rattle.ticket_steps.proofs.Ofs.{of-yes, of-append}
 use Rattle.ticket_steps.proofs.Totals.{times-append}
 use Rattle.ticket_lock.specs.Views.{Follows, longer}
 

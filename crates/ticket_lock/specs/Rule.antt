@@ -1,5 +1,5 @@
 -- The rule of the lock's table: what is so of the words, the slot and all views between any two steps.
-use Rattle.std.specs.Prelude.{ℕ, ◌<◌, ◌≤◌, List, Option}
+use Rattle.std.specs.Prelude.{◌<◌, ◌≤◌, List, Option}
 use Rattle.atomic_table.specs.Table.{State}
 use Rattle.ticket_steps.specs.declared.kept.Kept.{Ghosts}
 use Rattle.ticket_steps.specs.CoreStates.{CoreState}

@@ -1,5 +1,5 @@
 -- The rule, second pass: where no seat holds, the book is in its slot. A book is known by its opening state, its entries and its refusals alone.
-use Rattle.std.specs.Prelude.{◌≡◌, List, Option, Some, length}
+use Rattle.std.specs.Prelude.{◌≡◌, Option, Some, length}
 use mathlib.Core.Option.{some}
 use lib.ListN.{get_elem?}
 use Rattle.atomic_table.specs.Table.{State}

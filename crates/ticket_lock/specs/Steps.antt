@@ -1,5 +1,5 @@
 -- The steps of the lock: the table after each kind, and what it means that a step is one event.
-use Rattle.std.specs.Prelude.{◌≡◌, ℕ, ◌+◌, ◌%◌, ◌<◌, ◌≤◌, List, [], ◌∷◌, ◌++◌, length, slice_index, slice_set, Option, Some, ◌⊎◌}
+use Rattle.std.specs.Prelude.{◌≡◌, ℕ, ◌+◌, ◌%◌, List, [], ◌∷◌, ◌++◌, slice_index, slice_set, Option, Some, ◌⊎◌}
 use mathlib.Core.Option.{some}
 use lib.ListN.{get_elem?}
 use Rattle.atomic_table.specs.Table.{State, Me, keeps, takes, gives, stepped}
@@ -14,7 +14,6 @@ use Rattle.ticket_lock.specs.Views.{spent_view, keeping_view, given_view, drawn_
 use Rattle.ticket_lock.specs.Words.{next_word, served_word}
 
 module _ {K C R : Type 0} where
-
   -- split, a load of the next ticket: the seat id keeps its first numbers, a new seat has the last
   abbrev pub after_split : State (Option K) (View K C R) → ℕ → ℕ → View K C R → State (Option K) (View K C R)
   after_split s id count v = record { words = s.words; homes = s.homes; views = slice_set s.views id (keeping_view count v) ++ given_view count v ∷ [] }

@@ -1,5 +1,5 @@
 -- What clauses see of the lock, its seats, turns and holds.
-use Rattle.std.specs.Prelude.{◌≡◌, ℕ, List, Some}
+use Rattle.std.specs.Prelude.{◌≡◌, ℕ, Some}
 use Rattle.ticket_steps.specs.declared.kept.Kept.{Ghosts}
 use Rattle.ticket_lock.specs.declared.lock.Look.{Look}
 use Rattle.ticket_lock.specs.declared.lock.Look.TheVariants.{Held, Waiting}

@@ -217,15 +217,15 @@ impl<K: Kept> TicketLock<K> {
         ensures lock { MatchLook result (λ hold book. IsHoldOf self.now hold) (λ back. IsTurnOf self.now back) }
         ensures caller { MatchLook result
             (λ hold book. (hold_of hold ≡ having_seen (K.history book) (turn_of turn))
-                × (held_ticket_of hold ≡ ticket_of turn) × (refused_before hold ≡ K.refusals book))
+            × (held_ticket_of hold ≡ ticket_of turn) × (refused_before hold ≡ K.refusals book))
             (λ back. (turn_of back ≡ turn_of turn) × (ticket_of back ≡ ticket_of turn)) }
         ensures book { MatchLook result
             (λ hold book. IsHanded K.Kept (start_of self.now) (turn_of turn).numbers (turn_of turn).seen
-                (ticket_of turn) book)
+            (ticket_of turn) book)
             (λ back. length (turn_of turn).numbers < (start_of self.now).numbers) }
         ensures lawful { MatchLook result
             (λ hold book. IsLawfulBook K.step (K.opening book)
-                (book_state (K.state book) (K.history book) (K.refusals book)))
+            (book_state (K.state book) (K.history book) (K.refusals book)))
             (λ back. Unit {0}) }
     {
         let Turn {
@@ -265,7 +265,9 @@ impl<K: Kept> TicketLock<K> {
             ticket: _,
         } = hold;
         self.put_book(&mut spot, book);
-        self.table.shared.fetch_add::<Leaves<K>>(&mut spot, SERVED, 1);
+        self.table
+            .shared
+            .fetch_add::<Leaves<K>>(&mut spot, SERVED, 1);
         let figures = Figures {
             number: figures.number,
             count: figures.count,

@@ -25,8 +25,8 @@ pub fn every_step<K: Kept>()
     ensures look_held { (m : Moment K K.State K.Call K.Reply) → IsMoment K.Kept m
         → m.me.0.seat.phase ≡ Waiting m.core.served
         → (book : K) × (get_elem? m.table.homes 0 ≡ some (some (Some book)))
-            × IsOneEvent K.Kept m (held m.me.0.seat.own)
-                (after_holding K.Kept m.table m.id m.core.served m.me book) }
+        × IsOneEvent K.Kept m (held m.me.0.seat.own)
+        (after_holding K.Kept m.table m.id m.core.served m.me book) }
     ensures look_waits { (m : Moment K K.State K.Call K.Reply) (ticket : ℕ) → IsMoment K.Kept m
         → m.me.0.seat.phase ≡ Waiting ticket → ticket ≢ m.core.served
         → IsNoEvent K.Kept m (after_waiting m.table m.id m.me) }
@@ -34,15 +34,14 @@ pub fn every_step<K: Kept>()
         → m.me.0.seat.phase ≡ Holding ticket → m.me.1 ≡ (0, Some book) ∷ []
         → Returns K.Kept m.start m.me.0.seat.own m.me.0.seen m.me.0.refused book
         → (h : Happening K.Call K.Reply)
-            × (((call : K.Call) × (reply : K.Reply) × (h ≡ recorded m.me.0.seat.own call reply))
-                ⊎ (h ≡ refused m.me.0.seat.own))
-            × IsOneEvent K.Kept m h (after_leaving K.Kept m.table m.id m.me book) }
+        × (((call : K.Call) × (reply : K.Reply) × (h ≡ recorded m.me.0.seat.own call reply))
+        ⊎ (h ≡ refused m.me.0.seat.own))
+        × IsOneEvent K.Kept m h (after_leaving K.Kept m.table m.id m.me book) }
     ensures gather { (m : Moment K K.State K.Call K.Reply) (other : ℕ) (w : ViewOf K K.Call K.Reply)
         → IsMoment K.Kept m → m.me.0.seat.phase ≡ Idle → other ≢ m.id
         → get_elem? m.table.views other ≡ some w → w.seat.phase ≡ Idle
         → IsOneEvent K.Kept m (gathered m.me.0.seat.own w.seat.own)
-            (after_gather m.table m.id m.me.0 other w) }
+        (after_gather m.table m.id m.me.0 other w) }
     ensures settle { (m : Moment K K.State K.Call K.Reply) → IsMoment K.Kept m
         → m.me.0.seat.phase ≡ Idle → IsNoEvent K.Kept m (after_settling m.table m.id m.me) }
-{
-}
+{}

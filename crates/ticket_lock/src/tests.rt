@@ -7,7 +7,7 @@ ghost use Rattle.ticket_steps.specs.Sums.{counted};
 ghost use Rattle.ticket_lock.specs.Tokens.{seat_of, IsSeatOf, IsTurnOf};
 
 use crate::turns::take_turn;
-use crate::{Seat, TicketLock, Turn};
+use crate::{Seat, TicketLock, Turn, every_step};
 use std::alloc::{AllocError, Global};
 use std::process::Abort;
 use std::test::Fail;
@@ -30,7 +30,14 @@ fn empty_book(alloc: Global, room: usize) -> Result<CounterBook, AllocError>
 fn two_seats(
     alloc: Global,
     room: usize,
-) -> Result<(TicketLock<CounterBook>, Seat<CounterBook>, Seat<CounterBook>), AllocError>
+) -> Result<
+    (
+        TicketLock<CounterBook>,
+        Seat<CounterBook>,
+        Seat<CounterBook>,
+    ),
+    AllocError,
+>
     ensures { IfOk result (λ made. IsSeatOf made.0 made.1 × IsSeatOf made.0 made.2) }
 {
     let book = empty_book(alloc, room)?;
@@ -88,6 +95,7 @@ fn two_seats_take_turns(rt: HostRuntime) -> Result<(), Fail> {
     let entries = book.entries();
     assert_eq!(rt; entries.len(), 2);
     assert!(rt; is_entry(&entries[0], 0, 5, 5) && is_entry(&entries[1], 1, 7, 12));
+    every_step::<CounterBook>();
     Ok(())
 }
 

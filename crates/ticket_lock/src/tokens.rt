@@ -12,8 +12,10 @@ use crate::figures::Figures;
 use crate::views::View;
 use ticket_steps::Kept;
 
-pub(crate) type Spot<K> =
-    atomic_table::Seat<Option<K>, View<K, <K as Kept>::Call, <K as Kept>::Reply>>;
+pub(crate) type Spot<K> = atomic_table::Seat<
+    Option<K>,
+    View<K, <K as Kept>::Call, <K as Kept>::Reply>,
+>;
 
 /// A caller that neither waits nor holds.
 ///
@@ -25,8 +27,7 @@ pub struct Seat<K: Kept> {
     pub(crate) figures: Figures,
     pub(crate) fresh: bool,
     ghost bare: { spot.me.1 ≡ [] },
-    ghost legal: { IsLegalFrom K.Kept spot.me.0.start spot.me.0.seen }
-        by { IsLegalFrom-prop K.Kept (Coded-set K.Reply.code) spot.me.0.start spot.me.0.seen },
+    ghost legal: { IsLegalFrom K.Kept spot.me.0.start spot.me.0.seen } by { IsLegalFrom-prop K.Kept (Coded-set K.Reply.code) spot.me.0.start spot.me.0.seen },
     ghost idle: { spot.me.0.seat.phase ≡ Idle },
     ghost told: { AreFiguresOf figures spot.me.0.seat },
     ghost fresh_is: { spot.me.0.seat.fresh ≡ fresh },
@@ -42,8 +43,7 @@ pub struct Turn<K: Kept> {
     pub(crate) figures: Figures,
     pub(crate) ticket: u64,
     ghost bare: { spot.me.1 ≡ [] },
-    ghost legal: { IsLegalFrom K.Kept spot.me.0.start spot.me.0.seen }
-        by { IsLegalFrom-prop K.Kept (Coded-set K.Reply.code) spot.me.0.start spot.me.0.seen },
+    ghost legal: { IsLegalFrom K.Kept spot.me.0.start spot.me.0.seen } by { IsLegalFrom-prop K.Kept (Coded-set K.Reply.code) spot.me.0.start spot.me.0.seen },
     ghost waits: { spot.me.0.seat.phase ≡ Waiting ticket },
     ghost told: { AreFiguresOf figures spot.me.0.seat },
     ghost stale: { spot.me.0.seat.fresh ≡ false },
@@ -58,8 +58,7 @@ pub struct Hold<K: Kept> {
     pub(crate) figures: Figures,
     pub(crate) ticket: u64,
     ghost out: { spot.me.1 ≡ (0, None) ∷ [] },
-    ghost legal: { IsLegalFrom K.Kept spot.me.0.start spot.me.0.seen }
-        by { IsLegalFrom-prop K.Kept (Coded-set K.Reply.code) spot.me.0.start spot.me.0.seen },
+    ghost legal: { IsLegalFrom K.Kept spot.me.0.start spot.me.0.seen } by { IsLegalFrom-prop K.Kept (Coded-set K.Reply.code) spot.me.0.start spot.me.0.seen },
     ghost holds: { spot.me.0.seat.phase ≡ Holding ticket },
     ghost told: { AreFiguresOf figures spot.me.0.seat },
     ghost stale: { spot.me.0.seat.fresh ≡ false },

@@ -20,12 +20,13 @@ pub struct CounterBook {
 }
 
 impl CounterBook {
-    ghost use Rattle.ticket_steps.specs.CounterBooks.{entries_of, refused_of, room_of};
+    ghost use Rattle.ticket_steps.specs.CounterBooks.{entries_of, refused_of, sum_of, room_of};
 
     /// An empty book with room for so many entries: their calls take no memory. Where there is no
     /// memory for the room, nothing is made.
     pub fn open(alloc: Global, room: usize) -> Result<CounterBook, AllocError>
         ensures empty { IfOk result (λ book. (entries_of book ≡ []) × (refused_of book ≡ 0)) }
+        ensures sum { IfOk result (λ book. sum_of book ≡ 0) }
         ensures room { IfOk result (λ book. room_of book ≡ room) }
     {
         let entries = Vec::with_capacity(alloc, room)?;

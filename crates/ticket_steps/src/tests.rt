@@ -5,7 +5,7 @@ ghost use Rattle.std.specs.Prelude.{◌≡◌, [], IfOk};
 ghost use Rattle.ticket_steps.specs.CounterBooks.{entries_of, refused_of, room_of};
 
 use crate::counter::CounterBook;
-use crate::{Core, Event, Fault, Kept, NoMemory, Seen};
+use crate::{Core, Event, Fault, Kept, NoMemory, Seen, every_schedule};
 use std::alloc::{AllocError, Global};
 use std::test::Fail;
 
@@ -59,6 +59,7 @@ fn two_seats_take_turns(rt: HostRuntime) -> Result<(), Fail> {
     assert_eq!(rt; core.step(look(1)), Ok(Seen::Held));
     assert_eq!(rt; core.step(leave(1, 7)), Ok(Seen::Left(Ok(12))));
     assert_eq!(rt; core.step(gather(0, 1)), Ok(Seen::Gathered));
+    every_schedule::<CounterBook>();
     Ok(())
 }
 

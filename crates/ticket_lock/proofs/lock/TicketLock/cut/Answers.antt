@@ -1,4 +1,4 @@
-use Rattle.std.proofs.Common.{rules, ◌≡◌, ℕ, ◌+◌, ◌-◌, ◌*◌, arith, refl, sym, ap, ◌∙◌, subst, length}
+use Rattle.std.proofs.Common.{rules, ◌≡◌, ℕ, ◌-◌, ◌*◌, arith, sym, ap, ◌∙◌, subst, length}
 use Rattle.ticket_lock.specs.Legal.{IsLegalFrom}
 use Rattle.ticket_lock.specs.Tokens.{caller_in}
 use Rattle.ticket_lock.specs.Views.{draws_in}

@@ -1,6 +1,5 @@
 use Rattle.std.proofs.Common.{rules, arith, sym, ap, ◌∙◌, subst, length, length-append}
 use Rattle.ticket_lock.specs.Legal.{IsLegalFrom}
-use Rattle.ticket_lock.specs.Tokens.{caller_in}
 use Rattle.ticket_lock.specs.Views.{longer}
 use Rattle.ticket_lock.proofs.Obligations.{joins, settles}
 use Rattle.ticket_lock.proofs.Seen.{longer_is}

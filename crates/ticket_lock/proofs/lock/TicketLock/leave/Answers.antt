@@ -1,6 +1,4 @@
-use Rattle.std.proofs.Common.{rules, ◌≡◌, arith, sym, ap, ◌∙◌, subst, length, Some, ◌∷◌}
-use Rattle.ticket_steps.specs.History.{IsLegal}
-use Rattle.ticket_lock.specs.Legal.{IsLegalFrom}
+use Rattle.std.proofs.Common.{rules, sym, ap, ◌∙◌, subst}
 use Rattle.ticket_lock.specs.Steps.{Returns}
 use Rattle.ticket_lock.specs.Tokens.{start_of}
 use Rattle.ticket_lock.proofs.Obligations.{leaves}

@@ -1,4 +1,4 @@
-use Rattle.std.proofs.Common.{subst, rules, arith, refl, sym, ap, ◌∙◌, ◌≡◌, Some, ◌∷◌}
+use Rattle.std.proofs.Common.{subst, rules, sym, ap, ◌∙◌, ◌≡◌}
 use Rattle.ticket_steps.specs.History.{IsLegal}
 use Rattle.ticket_lock.specs.Callers.{IsHanded}
 use Rattle.ticket_lock.specs.Figures.{AreFiguresOf}
@@ -19,7 +19,7 @@ invariant_of-hold g c =
     let t = (c.load-served.ensures.2 s.ticket s.waits).0 c.if-served-ticket.true in
     let same : book ≡ t.0 = ap (in_hand t.0) (sym c.take_book-book.ensures.book ∙ ap (λ m. m.1) t.1) in
     let now : c.take_book-book.new.spot.me.0 ≡ held_view k s.ticket s.spot.me.0 book =
-        ap (λ m. m.0) c.take_book-book.ensures.taken ∙ (ap (λ m. m.0) t.1 ∙ ap (held_view k s.ticket s.spot.me.0) (sym same)) in
+    ap (λ m. m.0) c.take_book-book.ensures.taken ∙ (ap (λ m. m.0) t.1 ∙ ap (held_view k s.ticket s.spot.me.0) (sym same)) in
     let handed = subst (IsHanded k (start_of c.args.self.now) s.spot.me.0.seat.numbers s.spot.me.0.seen s.ticket) (sym same) (t.2 _ c.requires.1) in
     record {
       out = ap (λ m. m.1) c.take_book-book.ensures.taken;

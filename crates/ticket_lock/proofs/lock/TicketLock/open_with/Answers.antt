@@ -1,4 +1,4 @@
-use Rattle.std.proofs.Common.{rules, ◌≡◌, ℕ, ◌*◌, ◌∷◌, [], Some, arith, refl, sym, ap, ◌∙◌, subst, length}
+use Rattle.std.proofs.Common.{rules, ◌≡◌, ℕ, ◌*◌, ◌∷◌, [], Some, arith, sym, ap, ◌∙◌, subst, length}
 use Rattle.atomic_table.specs.Table.{opening}
 use Rattle.ticket_steps.proofs.Totals.{length-counted}
 use Rattle.ticket_lock.specs.Legal.{IsLegalFrom}
