@@ -1,3 +1,4 @@
+#![tactic(auto)]
 //! The running ticket lock: the core of `ticket_steps` over atomic words, for threads.
 //!
 //! Two words and one slot of an `atomic_table`: the next ticket, the number served, and the book.
@@ -10,7 +11,6 @@
 //! - `views`: what seats know in proofs, and the rule; `plays`: the kinds of step.
 //! - `turns`: a turn over the counter book, as a layer above takes it.
 //! - `steps`: the law that each kind of step is one event of the core.
-#![tactic(auto)]
 
 mod figures;
 mod lock;

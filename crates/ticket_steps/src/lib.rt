@@ -1,3 +1,4 @@
+#![tactic(auto)]
 //! The pure core of a ticket lock: seats draw tickets, the seat whose ticket is served holds the
 //! book, and what it records there stands in one history.
 //!
@@ -12,7 +13,6 @@
 //! - `events`: what a seat may do, what it is shown, and the faults.
 //! - `core_steps`: the core as a program, a step or a list of steps at a time.
 //! - `schedules`: what is so after every schedule.
-#![tactic(auto)]
 
 mod core_steps;
 pub mod counter;
