@@ -25,7 +25,7 @@ use Rattle.ticket_steps.proofs.LawfulSteps.{lawful_opened}
 use Rattle.ticket_steps.proofs.Lists.{at_set, at_snoc, set_else, set_here, set_again}
 use Rattle.ticket_steps.proofs.Ofs.{of-other}
 use Rattle.ticket_steps.proofs.ScheduleLemmas.{leads_more, leads_lawful, leads_lawful_book, leads_strangers}
-use Rattle.ticket_steps.proofs.SeatLemmas.{holds, no_holder, sole, in_line, named_once, tickets_holding}
+use Rattle.ticket_steps.proofs.SeatLemmas.{holds, one_holder, no_holder, sole, in_line, named_once, tickets_holding}
 use Rattle.ticket_steps.proofs.Totals.{times-append, times-same, times-take-drop, total-set, total-append, terms_le, below_le}
 use Rattle.ticket_lock.specs.declared.views.Start.{Start}
 use Rattle.ticket_lock.specs.declared.views.View.{View}
@@ -130,6 +130,7 @@ module _ {K C R : Type 0} (k : Ghosts K C R) (start : Start K) where
           slot = record {
             one_slot = r.slot.one_slot;
             home = λ e. r.slot.home (home_before c.seats id v.seat p at' (ap holds_one idle) e);
+            away = λ h. r.slot.away (omega (arith, h, total-set holds c.seats id v.seat p at', ap holds_one idle));
           };
           known = record { each = known_set c.book s.views id w (known_view c.book v.start (waiting x v.seat) v.seen 0 old.start_is old.seen (λ t e. absurd (cc))) (λ j u _ e. r.known.each j u e) };
         },
@@ -170,6 +171,7 @@ module _ {K C R : Type 0} (k : Ghosts K C R) (start : Start K) where
             slot = record {
               one_slot = length-set s.homes 0 none ∙ r.slot.one_slot;
               home = λ e. absurd (omega (arith, e, total-set holds c.seats id v.seat p at', ap holds_one waits));
+              away = λ _. set_here s.homes 0 none (omega (arith, r.slot.one_slot));
             };
             known = record {
               each = known_set c.book s.views id w
@@ -213,6 +215,7 @@ module _ {K C R : Type 0} (k : Ghosts K C R) (start : Start K) where
         slot = record {
           one_slot = ap length here ∙ (length-set s.homes 0 (some (Some book)) ∙ r.slot.one_slot);
           home = λ _. (book, ap (λ (q : List (maybe.Option (Option K))). get_elem? q 0) here ∙ set_here s.homes 0 (some (Some book)) (omega (arith, r.slot.one_slot)), is_book);
+          away = λ e. absurd (omega (arith, e, total-set holds c.seats id v.seat p at', ap holds_one holder, one_holder start.numbers start.draws c l));
         };
         known = record {
           each = known_set b s.views id w
@@ -298,6 +301,7 @@ module _ {K C R : Type 0} (k : Ghosts K C R) (start : Start K) where
           slot = record {
             one_slot = r.slot.one_slot;
             home = λ e. r.slot.home (omega (arith, e, total-append holds (set c.seats id p) (q ∷ []), total-set holds c.seats id v.seat p at', ap holds_one idle));
+            away = λ h. r.slot.away (omega (arith, h, total-append holds (set c.seats id p) (q ∷ []), total-set holds c.seats id v.seat p at', ap holds_one idle));
           };
           known = record {
             each = known_snoc c.book (set s.views id a) b
@@ -334,6 +338,7 @@ module _ {K C R : Type 0} (k : Ghosts K C R) (start : Start K) where
           slot = record {
             one_slot = r.slot.one_slot;
             home = λ e. r.slot.home (omega (arith, e, total-set holds (set c.seats id x.seat) other w.seat gone (set_else c.seats id other x.seat apart ∙ there), total-set holds c.seats id v.seat x.seat at', ap holds_one idle, ap holds_one idle'));
+            away = λ h. r.slot.away (omega (arith, h, total-set holds (set c.seats id x.seat) other w.seat gone (set_else c.seats id other x.seat apart ∙ there), total-set holds c.seats id v.seat x.seat at', ap holds_one idle, ap holds_one idle'));
           };
           known = record {
             each = known_set c.book (set s.views id x) other spent_view
@@ -367,6 +372,6 @@ module _ {K C R : Type 0} (k : Ghosts K C R) (start : Start K) where
           seats = r.words.seats ∙ sym views;
           leads = r.words.leads;
         };
-        slot = record { one_slot = r.slot.one_slot; home = r.slot.home };
+        slot = record { one_slot = r.slot.one_slot; home = r.slot.home; away = r.slot.away };
         known = record { each = known_set c.book s.views id w (known_view c.book v.start v.seat v.seen 0 old.start_is old.seen (λ t e. absurd (cc))) (λ j u _ e. r.known.each j u e) };
       }

@@ -58,7 +58,7 @@ module _ {K C R : Type 0} (k : Ghosts K C R) (start : Start K) where
       few_numbers = few;
       few_draws = few_draws;
       words = record { words = refl; seats = refl; leads = refl };
-      slot = record { one_slot = refl; home = λ _. (book, refl, record { opening = state; entries = none_kept; refused = none_refused }) };
+      slot = record { one_slot = refl; home = λ _. (book, refl, record { opening = state; entries = none_kept; refused = none_refused }); away = λ h. absurd (omega (arith, h)) };
       known = record {
         each = λ j v e. ⊎_elim (λ t. absurd (some-ne-none v (sym t))) (λ t. subst (λ (w : V). IsKnown {S = k.State} start (empty_book (k.opening start.book)) w) t record {
           start_is = λ o e'. cc;

@@ -1,11 +1,12 @@
--- The rule, second pass: where no seat holds, the book is in its slot. A book is known by its opening state, its entries and its refusals alone.
-use Rattle.std.specs.Prelude.{◌≡◌, Option, Some, length}
-use mathlib.Core.Option.{some}
+-- The rule, second pass: where no seat holds, the book is in its slot, and while one holds, the slot is out. A book is known by its opening state, its entries and its refusals alone.
+use Rattle.std.specs.Prelude.{◌≡◌, ◌<◌, Option, Some, length}
+use mathlib.Core.Option.{none, some}
 use lib.ListN.{get_elem?}
 use Rattle.atomic_table.specs.Table.{State}
 use Rattle.ticket_steps.specs.declared.kept.Kept.{Ghosts}
 use Rattle.ticket_steps.specs.Books.{BookState}
 use Rattle.ticket_steps.specs.CoreStates.{CoreState, IsHome}
+use Rattle.ticket_steps.specs.Seats.{holders}
 use Rattle.ticket_lock.specs.declared.views.Start.{Start}
 use Rattle.ticket_lock.specs.declared.views.View.{View}
 
@@ -19,3 +20,4 @@ module _ {K C R : Type 0} (k : Ghosts K C R) (start : Start K) where
   pub record IsSlotOf (c : CoreState k.State C R) (s : State (Option K) (View K C R)) : Type 0 where
     pub one_slot : length s.homes ≡ 1
     pub home : IsHome c → (book : K) × (get_elem? s.homes 0 ≡ some (some (Some book))) × IsBook c.book book
+    pub away : 0 < holders c.seats → get_elem? s.homes 0 ≡ some none

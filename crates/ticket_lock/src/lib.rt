@@ -2,9 +2,9 @@
 //! The running ticket lock: the core of `ticket_steps` over atomic words, for threads.
 //!
 //! Two words and one slot of an `atomic_table`: the next ticket, the number served, and the book.
-//! Callers take part by tokens: a `Seat` draws, a `Turn` looks, a `Hold` leaves. Between any two steps
-//! words and tokens are a state of the core of `ticket_steps`, so what `every_schedule` says of the
-//! core holds of the lock, whatever threads do.
+//! Callers take part by tokens: a `Seat` draws, a `Turn` looks, a `Hold` leaves. Between any two
+//! steps words and tokens are a state of the core of `ticket_steps`, so what `every_schedule` says
+//! of the core holds of the lock, whatever threads do.
 //!
 //! - `lock`: the lock and its calls.
 //! - `tokens`: seats, turns and holds; `figures`: what they tell at run time.

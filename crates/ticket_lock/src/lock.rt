@@ -1,5 +1,5 @@
 //! The lock and its calls.
-ghost use Rattle.std.specs.Prelude.{◌≡◌, ◌≢◌, ◌↔◌, ℕ, ◌+◌, ◌*◌, ◌<◌, ◌≤◌, true, false, [], ◌∷◌, ◌++◌, length, Some, None, IsErr, MatchResult, IfOk, IfErr};
+ghost use Rattle.std.specs.Prelude.{⊤, ◌≡◌, ◌≢◌, ◌↔◌, ℕ, ◌+◌, ◌*◌, ◌<◌, ◌≤◌, true, false, [], ◌∷◌, ◌++◌, length, Some, None, IsErr, MatchResult, IfOk, IfErr};
 ghost use Rattle.ticket_steps.specs.Books.{book_state, IsLawfulBook};
 ghost use Rattle.ticket_steps.specs.History.{of};
 ghost use Rattle.ticket_steps.specs.declared.seats.Phase.TheVariants.{Holding};
@@ -33,12 +33,13 @@ const SERVED: usize = 1;
 
 /// A ticket lock round a book, for any number of threads.
 ///
-/// Each call of a caller takes a ticket (`draw`), looks until its ticket is served (`look`), records
-/// in the book that it is handed, and leaves (`leave`). Calls end in the order of their draws. No
-/// call waits: a caller that isn't served yet is told so, and may look again when it likes.
+/// Each call of a caller takes a ticket (`draw`), looks until its ticket is served (`look`),
+/// records in the book that it is handed, and leaves (`leave`). Calls end in the order of their
+/// draws. No call waits: a caller that isn't served yet is told so, and may look again when it
+/// likes. Each call asks that its seat, turn or hold is of this lock.
 ///
-/// Whatever the threads do, the history of the book is that of one thread: each call of `ticket_steps`
-/// `Kept` is answered by the sequential step at its place.
+/// Whatever the threads do, the history of the book is that of one thread: each call is answered by
+/// the book's sequential step at its place.
 #[derive(Drop)]
 pub struct TicketLock<K: Kept> {
     pub(crate) table: Board<K>,
@@ -178,8 +179,8 @@ impl<K: Kept> TicketLock<K> {
         (seat, given)
     }
 
-    /// Takes the next ticket, by one of the seat's draws. The seat comes back as it was exactly where
-    /// it has no draw left.
+    /// Takes the next ticket, by one of the seat's draws. The seat comes back as it was exactly
+    /// where it has no draw left.
     pub fn draw(&self, seat: Seat<K>) -> Result<Turn<K>, Seat<K>>
         requires { IsSeatOf self.now seat }
         ensures spent { IsErr result ↔ ((seat_of seat).left ≡ 0) }
@@ -209,24 +210,26 @@ impl<K: Kept> TicketLock<K> {
         })
     }
 
-    /// Looks whether the turn's ticket is served. If it is, the book is handed out: its entries begin
-    /// with all that the caller has seen, nothing in them is new of the caller's numbers, and entries
-    /// and refusals together are the ticket. A turn whose seat stands for all numbers is always served.
+    /// Looks whether the turn's ticket is served. If it is, the book is handed out: its entries
+    /// begin with all that the caller has seen, nothing in them is new of the caller's numbers, and
+    /// entries and refusals together are the ticket. A turn whose seat stands for all numbers is
+    /// always served.
     pub fn look(&self, turn: Turn<K>) -> Look<K>
         requires { IsTurnOf self.now turn }
-        ensures lock { MatchLook result (λ hold book. IsHoldOf self.now hold) (λ back. IsTurnOf self.now back) }
+        ensures lock { MatchLook result (λ hold book. IsHoldOf self.now hold)
+            (λ back. IsTurnOf self.now back) }
         ensures caller { MatchLook result
             (λ hold book. (hold_of hold ≡ having_seen (K.history book) (turn_of turn))
             × (held_ticket_of hold ≡ ticket_of turn) × (refused_before hold ≡ K.refusals book))
             (λ back. (turn_of back ≡ turn_of turn) × (ticket_of back ≡ ticket_of turn)) }
         ensures book { MatchLook result
-            (λ hold book. IsHanded K.Kept (start_of self.now) (turn_of turn).numbers (turn_of turn).seen
-            (ticket_of turn) book)
+            (λ hold book. IsHanded K.Kept (start_of self.now) (turn_of turn).numbers
+            (turn_of turn).seen (ticket_of turn) book)
             (λ back. length (turn_of turn).numbers < (start_of self.now).numbers) }
         ensures lawful { MatchLook result
             (λ hold book. IsLawfulBook K.step (K.opening book)
             (book_state (K.state book) (K.history book) (K.refusals book)))
-            (λ back. Unit {0}) }
+            (λ back. ⊤) }
     {
         let Turn {
             mut spot,
@@ -281,15 +284,16 @@ impl<K: Kept> TicketLock<K> {
         }
     }
 
-    /// Puts two seats together: the first goes on, answers for the numbers of both and has ended the
-    /// calls of both. It has seen the longer history, to which neither's numbers added anything. The
-    /// second's draws are given up.
+    /// Puts two seats together: the first goes on, answers for the numbers of both and has ended
+    /// the calls of both. It has seen the longer history, to which neither's numbers added anything.
+    /// The second's draws are given up.
     pub fn gather(&self, seat: Seat<K>, other: Seat<K>) -> Seat<K>
         requires lock { IsSeatOf self.now seat × IsSeatOf self.now other }
         ensures lock { IsSeatOf self.now result }
         ensures joined { seat_of result ≡ joined (seat_of seat) (seat_of other) }
         ensures seen { Follows (seat_of seat).numbers (seat_of seat).seen (seat_of result).seen }
-        ensures seen_by_other { Follows (seat_of other).numbers (seat_of other).seen (seat_of result).seen }
+        ensures seen_by_other { Follows (seat_of other).numbers (seat_of other).seen
+            (seat_of result).seen }
     {
         let Seat {
             mut spot,

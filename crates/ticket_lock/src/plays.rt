@@ -64,8 +64,8 @@ impl<K, C, R> Join<View<K, C, R>> for Gathers {
     ghost spent = { spent_view };
 }
 
-/// The second step of a gather: joining two seats tells nothing of the rule, so the joined seat loads
-/// once more, to learn that the two histories are beginnings of one.
+/// The second step of a gather: joining two seats tells nothing of the rule, so the joined seat
+/// loads once more, to learn that the two histories are beginnings of one.
 pub(crate) struct Settles<K> {
     marker: PhantomData<K>,
 }

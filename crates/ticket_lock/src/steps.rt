@@ -12,13 +12,14 @@ use ticket_steps::Kept;
 /// A law without code: at any moment that meets the rule, each kind of step of the lock leads to a
 /// table that meets it again, whose core state is the one that this one event of the core leaves.
 ///
-/// A look that waits leaves the core state as it was (`look_waits`), and so does the second load of a
-/// gather, by which the joined seat learns that its two histories are beginnings of one (`settle`).
+/// A look that waits leaves the core state as it was (`look_waits`), and so does the second load of
+/// a gather, by which the joined seat learns that its two histories are beginnings of one (`settle`).
 pub fn every_step<K: Kept>()
     ensures split { (m : Moment K K.State K.Call K.Reply) (count : ℕ) → IsMoment K.Kept m
         → m.me.0.start ≡ Some m.start → m.me.0.seat.phase ≡ Idle → m.me.0.seat.fresh ≡ true
         → 0 < count → count < length m.me.0.seat.numbers
-        → IsOneEvent K.Kept m (split m.me.0.seat.own count) (after_split m.table m.id count m.me.0) }
+        → IsOneEvent K.Kept m (split m.me.0.seat.own count)
+        (after_split m.table m.id count m.me.0) }
     ensures draw { (m : Moment K K.State K.Call K.Reply) → IsMoment K.Kept m
         → m.me.0.seat.phase ≡ Idle → 0 < m.me.0.seat.left
         → IsOneEvent K.Kept m (drew m.me.0.seat.own m.core.next) (after_draw m.table m.id m.me) }
@@ -30,7 +31,8 @@ pub fn every_step<K: Kept>()
     ensures look_waits { (m : Moment K K.State K.Call K.Reply) (ticket : ℕ) → IsMoment K.Kept m
         → m.me.0.seat.phase ≡ Waiting ticket → ticket ≢ m.core.served
         → IsNoEvent K.Kept m (after_waiting m.table m.id m.me) }
-    ensures leave { (m : Moment K K.State K.Call K.Reply) (ticket : ℕ) (book : K) → IsMoment K.Kept m
+    ensures leave { (m : Moment K K.State K.Call K.Reply) (ticket : ℕ) (book : K)
+        → IsMoment K.Kept m
         → m.me.0.seat.phase ≡ Holding ticket → m.me.1 ≡ (0, Some book) ∷ []
         → Returns K.Kept m.start m.me.0.seat.own m.me.0.seen m.me.0.refused book
         → (h : Happening K.Call K.Reply)

@@ -1,6 +1,7 @@
 //! What no clause says: worked turns, that calls succeed, two threads, and want of memory.
 //!
-//! Each test also passes where any one request for memory is refused (`rt try --test --fail-alloc N`).
+//! The test of one thread also passes where any one request for memory is refused
+//! (`rt try --test --fail-alloc N`).
 ghost use Rattle.std.specs.Prelude.{◌≡◌, ◌<◌, ◌≤◌, [], IfOk, length, true};
 ghost use Rattle.ticket_steps.specs.CounterBooks.{entries_of, refused_of};
 ghost use Rattle.ticket_steps.specs.Sums.{counted};

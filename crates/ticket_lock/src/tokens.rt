@@ -51,8 +51,8 @@ pub struct Turn<K: Kept> {
 
 /// A caller whose turn it is: it has the book in hand.
 ///
-/// It is not `Drop`, so one that isn't spent by `TicketLock::leave` doesn't compile: the book has to
-/// come back.
+/// It is not `Drop`, so one that isn't spent by `TicketLock::leave` doesn't compile: the book has
+/// to come back.
 pub struct Hold<K: Kept> {
     pub(crate) spot: Spot<K>,
     pub(crate) figures: Figures,

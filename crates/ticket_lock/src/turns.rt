@@ -14,7 +14,8 @@ pub(crate) fn take_turn(
     call: u8,
 ) -> Result<(Seat<CounterBook>, Result<u64, NoMemory>), Turn<CounterBook>>
     requires { IsTurnOf lock.now turn }
-    ensures lock { MatchResult result (λ done. IsSeatOf lock.now done.0) (λ back. IsTurnOf lock.now back) }
+    ensures lock { MatchResult result (λ done. IsSeatOf lock.now done.0)
+        (λ back. IsTurnOf lock.now back) }
     ensures calls { MatchResult result (λ done. (seat_of done.0).calls ≡ (turn_of turn).calls + 1)
         (λ back. turn_of back ≡ turn_of turn) }
 {

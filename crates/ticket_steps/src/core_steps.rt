@@ -43,7 +43,8 @@ impl<K: Kept> Core<K> {
     pub fn open(alloc: Global, book: K, numbers: u32) -> Result<Core<K>, K>
         requires numbers { (0 < numbers) × (numbers ≤ 1024) }
         requires empty { (K.history book ≡ []) × (K.refusals book ≡ 0) }
-        ensures opened { IfOk result (λ core. state_of core ≡ opened numbers DRAWS (K.opening book)) }
+        ensures opened { IfOk result (λ core.
+            state_of core ≡ opened numbers DRAWS (K.opening book)) }
         ensures alike { IfOk result (λ core. (opening_of core ≡ K.opening book)
             × (numbers_of core ≡ numbers) × (draws_of core ≡ DRAWS)) }
         ensures refused { IfErr result (λ back. back ≡ book) }
@@ -55,7 +56,8 @@ impl<K: Kept> Core<K> {
     fn open_with(alloc: Global, book: K, numbers: u32, draws: u32) -> Result<Core<K>, K>
         requires numbers { (0 < numbers) × (numbers ≤ 1024) }
         requires empty { (K.history book ≡ []) × (K.refusals book ≡ 0) }
-        ensures opened { IfOk result (λ core. state_of core ≡ opened numbers draws (K.opening book)) }
+        ensures opened { IfOk result (λ core.
+            state_of core ≡ opened numbers draws (K.opening book)) }
         ensures alike { IfOk result (λ core. (opening_of core ≡ K.opening book)
             × (numbers_of core ≡ numbers) × (draws_of core ≡ draws)) }
         ensures refused { IfErr result (λ back. back ≡ book) }
@@ -202,8 +204,8 @@ impl<K: Kept> Core<K> {
     }
 
     fn gather(&mut self, seat: u32, other: u32) -> Result<Seen<K::Reply>, Fault>
-        ensures step { Steps K.step (draws_of self.old) (state_of self.old) (Event.Gather seat other)
-            result (state_of self.new) }
+        ensures step { Steps K.step (draws_of self.old) (state_of self.old)
+            (Event.Gather seat other) result (state_of self.new) }
         ensures alike { IsOpenedAlike self.old self.new }
     {
         let at = self.place_of(seat)?;

@@ -1,6 +1,7 @@
 //! What no clause says: worked schedules, that calls succeed, and want of memory.
 //!
-//! Each test also passes where any one request for memory is refused (`rt try --test --fail-alloc N`).
+//! Each test also passes where any one request for memory is refused
+//! (`rt try --test --fail-alloc N`).
 ghost use Rattle.std.specs.Prelude.{◌≡◌, [], IfOk};
 ghost use Rattle.ticket_steps.specs.CounterBooks.{entries_of, refused_of, room_of};
 
