@@ -2,14 +2,14 @@
 # Times two runs of the built program, and prints one table. Run by hand; no part of the gate.
 #   bench/run.sh [REPEATS]     the best of so many runs is told, 5 where no number is given
 # The inputs are made here: 1,000,000 takes on one host, and 20,000 takes on 4,096 hosts.
-set -euo pipefail
+set -eu
 repeats=${1:-5}
 crate=$(cd "$(dirname "$0")/../crates/nagsched" && pwd)
 work=$(mktemp -d)
 trap 'rm -rf "$work"' EXIT
 
 # Proves and builds the program where it isn't yet.
-(cd "$crate" && rt run > "$work/build.log" 2>&1) || { cat "$work/build.log"; exit 1; }
+(cd "$crate" && rt run < stdin > "$work/build.log" 2>&1) || { cat "$work/build.log"; exit 1; }
 
 # A setup of so many hosts, and then so many takes.
 input() {

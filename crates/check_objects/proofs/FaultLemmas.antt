@@ -1,14 +1,19 @@
--- The first fault of a list, and the first name that stood before.
-use Rattle.std.proofs.Common.{◌≡◌, ℕ, ◌+◌, ◌<◌, ◌≤◌, not, Bool, true, false, cond, List, [], ◌∷◌, ◌++◌, map, length, drop, get_or, Option, Some, None, Bor, bytes_eq, refl, sym, ap, ◌∙◌, Ok, Err, arith}
+-- The first fault of a list, the parents counted, and the first key that stood before.
+use Rattle.std.proofs.Common.{◌≡◌, ℕ, ◌+◌, ◌<◌, ◌≤◌, not, Bool, true, false, cond, List, [], ◌∷◌, ◌++◌, map, length, drop, get_or, Option, Some, None, Bor, bytes_eq, refl, sym, ap, ◌∙◌, Result, Ok, Err, append_assoc, append-nil, arith}
+use Rattle.std.specs.Prelude.{sum_by}
+use Rattle.std.specs.List.{list_any, position}
 use Rattle.std.proofs.lemmas.Grind.{common_steps}
-use Rattle.std.proofs.lemmas.List.{map-append, drop_all}
-use Rattle.std.specs.List.{list_any}
+use Rattle.std.proofs.lemmas.List.{length-map, map-append, drop_all}
+use Rattle.std.proofs.lemmas.List.Sums.{sum_by-cons}
+use Rattle.check_objects.specs.declared.draft.CheckDraft.{CheckDraft}
 use Rattle.check_objects.specs.declared.draft.HostDraft.{HostDraft}
+use Rattle.check_objects.specs.declared.draft.ServiceDraft.{ServiceDraft}
 use Rattle.check_objects.specs.declared.error.LoadError.{LoadError}
-use Rattle.check_objects.specs.LoadError.{refused_at}
-use Rattle.check_objects.specs.Fault.{repeat_after, names_of}
-use Rattle.check_objects.specs.Drafted.{draft}
-use Rattle.check_objects.proofs.ListLemmas.{list_any-map}
+use Rattle.check_objects.specs.LoadError.{◌>>=◌, refused_at}
+use Rattle.check_objects.specs.Fault.{repeat_after}
+use Rattle.check_objects.specs.Drafted.{host, service}
+use Rattle.check_objects.specs.Text.{text}
+use Rattle.check_objects.proofs.ListLemmas.{list_any-map, position-map}
 
 pub refused_some : (fault : ℕ → LoadError) (o : Option ℕ) (i : ℕ) → Some i ≡ o → refused_at fault o ≡ Err (fault i)
 refused_some fault o i e = ap (refused_at fault) (sym e)
@@ -16,32 +21,72 @@ refused_some fault o i e = ap (refused_at fault) (sym e)
 pub refused_none : (fault : ℕ → LoadError) (o : Option ℕ) → None ≡ o → refused_at fault o ≡ Ok tt
 refused_none fault o e = ap (refused_at fault) (sym e)
 
--- ---- names one after another
+-- the first place of a list, seen through a view
+pub refused_there : {A B : Type 0} (fault : ℕ → LoadError) (test : B → Bool) (view : A → B) (xs : List A) (i : ℕ) → Some i ≡ position (λ x. test (view x)) xs
+    → refused_at fault (position test (map view xs)) ≡ Err (fault i)
+refused_there fault test view xs i e = refused_some fault _ i (e ∙ sym (position-map test view xs))
 
--- what a slice of drafts gives past its end
-abbrev pub no_draft : HostDraft
-no_draft = record { name = record { ref_ptr = (0, 0); now = [] }; check_interval = 0; retry_interval = 0; max_check_attempts = 0; enabled = false }
+-- no place of a list, seen through a view
+pub refused_nowhere : {A B : Type 0} (fault : ℕ → LoadError) (test : B → Bool) (view : A → B) (xs : List A) → None ≡ position (λ x. test (view x)) xs
+    → refused_at fault (position test (map view xs)) ≡ Ok tt
+refused_nowhere fault test view xs e = refused_none fault _ (e ∙ sym (position-map test view xs))
 
-abbrev pub texts : List (Bor (List ℕ)) → List (List ℕ)
-texts names = map (λ name. name.now) names
+-- ---- what slices give past their ends
 
-known_text : (names : List (Bor (List ℕ))) (name : List ℕ) (b : Bool) → list_any (λ n. bytes_eq name n.now) names ≡ b → list_any (bytes_eq name) (texts names) ≡ b
-known_text names name b e = list_any-map (bytes_eq name) (λ n. n.now) names ∙ e
+abbrev pub no_check : CheckDraft
+no_check = record { check_interval = 0; retry_interval = 0; max_check_attempts = 0; enabled = false }
 
-pub repeat_here : (names : List (Bor (List ℕ))) (hs : List HostDraft) (i : ℕ) → i < length hs
-    → list_any (λ n. bytes_eq (get_or hs i no_draft).name.now n.now) names ≡ true
-    → repeat_after (texts names) i (names_of (map draft (drop i hs))) ≡ Some i
-repeat_here names hs i below known =
-    let e : drop i hs ≡ get_or hs i no_draft ∷ drop (i + 1) hs = grind (arith, common_steps) in
-    rw (e, known_text names (get_or hs i no_draft).name.now true known) refl
+abbrev pub no_host : HostDraft
+no_host = record { name = record { ref_ptr = (0, 0); now = [] }; parents = record { ref_ptr = (0, 0); now = [] }; check = no_check }
 
-pub repeat_later : (names more : List (Bor (List ℕ))) (hs : List HostDraft) (i : ℕ) → i < length hs
-    → list_any (λ n. bytes_eq (get_or hs i no_draft).name.now n.now) names ≡ false → more ≡ names ++ (get_or hs i no_draft).name ∷ []
-    → repeat_after (texts names) i (names_of (map draft (drop i hs))) ≡ repeat_after (texts more) (i + 1) (names_of (map draft (drop (i + 1) hs)))
-repeat_later names more hs i below new e =
-    let d : drop i hs ≡ get_or hs i no_draft ∷ drop (i + 1) hs = grind (arith, common_steps) in
-    let m : texts more ≡ texts names ++ (get_or hs i no_draft).name.now ∷ [] = ap texts e ∙ map-append (λ n. n.now) names ((get_or hs i no_draft).name ∷ []) in
-    rw (d, known_text names (get_or hs i no_draft).name.now false new, m) refl
+abbrev pub no_service : ServiceDraft
+no_service = record { host = record { ref_ptr = (0, 0); now = [] }; description = record { ref_ptr = (0, 0); now = [] }; check = no_check }
+
+-- ---- parents counted
+
+abbrev pub parents_from : ℕ → List HostDraft → ℕ
+parents_from i hs = sum_by (λ h. length h.parents) (map host (drop i hs))
+
+pub parents_next : (hs : List HostDraft) (i : ℕ) → i < length hs → parents_from i hs ≡ length (get_or hs i no_host).parents.now + parents_from (i + 1) hs
+parents_next hs i below =
+    let e : drop i hs ≡ get_or hs i no_host ∷ drop (i + 1) hs = grind (arith, common_steps) in
+    ap (λ l. sum_by (λ d. length d.parents) (map host l)) e
+    ∙ sum_by-cons (λ d. length d.parents) (host (get_or hs i no_host)) (map host (drop (i + 1) hs))
+    ∙ ap (λ n. n + parents_from (i + 1) hs) (length-map (get_or hs i no_host).parents.now text)
+
+pub parents_end : (hs : List HostDraft) (i : ℕ) → length hs ≤ i → parents_from i hs ≡ 0
+parents_end hs i past = ap (λ l. sum_by (λ d. length d.parents) (map host l)) (drop_all i hs past)
+
+-- ---- keys one after another: D are drafts of the code, K what its set holds of them, and L how the definitions see that
+
+pub dropped_at : {A : Type 0} (xs : List A) (i : ℕ) (none : A) → i < length xs → drop i xs ≡ get_or xs i none ∷ drop (i + 1) xs
+dropped_at xs i none below = grind (arith, common_steps)
+
+pub dropped_as : {A : Type 0} (xs : List A) (i : ℕ) (x : A) → i < length xs → x ≡ get_or xs i x → drop i xs ≡ x ∷ drop (i + 1) xs
+dropped_as xs i x below is = grind (arith, common_steps, is)
+
+module _ {D K L : Type 0} (same : L → L → Bool) (seen : K → L) (keys : List D → List L) (key : D → K) (one : (d : D) (ds : List D) → keys (d ∷ ds) ≡ seen (key d) ∷ keys ds) where
+  was_seen : (ks : List K) (d : D) (b : Bool) → list_any (λ k. same (seen (key d)) (seen k)) ks ≡ b → list_any (same (seen (key d))) (map seen ks) ≡ b
+  was_seen ks d b e = list_any-map (same (seen (key d))) seen ks ∙ e
+
+  first_dropped : (ds : List D) (i : ℕ) (d : D) → drop i ds ≡ d ∷ drop (i + 1) ds → keys (drop i ds) ≡ seen (key d) ∷ keys (drop (i + 1) ds)
+  first_dropped ds i d e = ap keys e ∙ one d (drop (i + 1) ds)
+
+  pub repeat_here : (ks : List K) (ds : List D) (i : ℕ) (d : D) → drop i ds ≡ d ∷ drop (i + 1) ds → list_any (λ k. same (seen (key d)) (seen k)) ks ≡ true
+      → repeat_after same (map seen ks) i (keys (drop i ds)) ≡ Some i
+  repeat_here ks ds i d e known = rw (first_dropped ds i d e, was_seen ks d true known) refl
+
+  pub repeat_later : (ks more : List K) (ds : List D) (i : ℕ) (d : D) → drop i ds ≡ d ∷ drop (i + 1) ds → list_any (λ k. same (seen (key d)) (seen k)) ks ≡ false → more ≡ ks ++ key d ∷ []
+      → repeat_after same (map seen ks) i (keys (drop i ds)) ≡ repeat_after same (map seen more) (i + 1) (keys (drop (i + 1) ds))
+  repeat_later ks more ds i d e new longer =
+      let m : map seen more ≡ map seen ks ++ seen (key d) ∷ [] = ap (map seen) longer ∙ map-append seen ks (key d ∷ []) in
+      rw (first_dropped ds i d e, was_seen ks d false new, m) refl
+
+  -- the keys so far and those to come
+  pub keys_later : (ks more : List K) (ds : List D) (i : ℕ) (d : D) → drop i ds ≡ d ∷ drop (i + 1) ds → more ≡ ks ++ key d ∷ [] → map seen ks ++ keys (drop i ds) ≡ map seen more ++ keys (drop (i + 1) ds)
+  keys_later ks more ds i d e longer =
+      let m : map seen more ≡ map seen ks ++ seen (key d) ∷ [] = ap (map seen) longer ∙ map-append seen ks (key d ∷ []) in
+      rw (first_dropped ds i d e, m) (sym (append_assoc (map seen ks) (seen (key d) ∷ []) (keys (drop (i + 1) ds))))
 
 pub was_known : (b k : Bool) → b ≡ not k → b ≡ false → k ≡ true
 was_known b true e f = refl

@@ -3,3 +3,9 @@ pub mod DraftLemmas
 pub mod ListLemmas
 pub mod FaultLemmas
 pub mod NumberingLemmas
+pub mod SetupLemmas
+pub mod GetterLemmas
+pub mod DepthLemmas
+pub mod ClosingLemmas
+pub mod DependentLemmas
+pub mod NumberLaws

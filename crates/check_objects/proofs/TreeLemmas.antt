@@ -1,17 +1,18 @@
 -- From bytes to the tree that `serde_json` reads, and what stands in it.
-use Rattle.std.proofs.Common.{◌≡◌, ℕ, ◌==◌, not, Bool, true, false, cond, ◌&&◌, ◌||◌, List, [], ◌∷◌, map, Option, Some, None, Bor, String, Global, string_bytes, bytes_eq, refl, ap, length, Ok, Err, arith}
-use Rattle.std.specs.Prelude.{ok_or, IsUtf8}
+use Rattle.std.proofs.Common.{◌≡◌, ℕ, ◌==◌, not, Bool, true, false, cond, ◌&&◌, ◌||◌, List, [], ◌∷◌, map, Option, Some, None, Bor, String, Global, string_bytes, bytes_eq, refl, sym, ap, ◌∙◌, length, Ok, Err, arith}
+use Rattle.std.specs.Prelude.{ok_or, is_some, unwrap_or, IsUtf8}
 use Rattle.std.specs.Str.{is_utf8}
 use Rattle.std.specs.List.{list_any, list_all}
 use Rattle.std.specs.Map.{keys_of}
 use Rattle.std.proofs.lemmas.Str.{IsUtf8-from_is_utf8, is_utf8-from_IsUtf8}
-use Rattle.serde_json.specs.Data.{Data, null, boolean, number, string, array, object, Members}
-use Rattle.serde_json.specs.Find.{as_object}
+use Rattle.serde_json.specs.Data.{Data, null, boolean, number, string, array, object, Items, Members}
+use Rattle.serde_json.specs.Find.{as_object, as_str}
 use Rattle.serde_json.specs.Read.{read}
 use Rattle.serde_json.specs.View.{view, members_view, items_view}
 use Rattle.serde_json.specs.declared.value.Value.{Value}
 use Rattle.check_objects.specs.declared.error.LoadError.TheVariants as errors
-use Rattle.check_objects.specs.Tree.{tree_of, is_among, only_members, has_only, is_filled}
+use Rattle.check_objects.specs.Tree.{tree_of, is_among, only_members, has_only, is_filled, texts_of, ◌>=>◌}
+use Rattle.check_objects.specs.Text.{text}
 
 -- ---- the tree of the bytes
 
@@ -50,3 +51,24 @@ only_known names (e ∷ es) = rw (among_known names (string_bytes e.0), only_kno
 pub filled_by_length : (n : ℕ) (vs : List Value) → n ≡ length vs → not (n == 0) ≡ is_filled (Some (items_view vs))
 filled_by_length n [] e = rw e refl
 filled_by_length n (v ∷ vs) e = let f : (n == 0) ≡ false = grind (arith, e) in ap not f
+
+-- ---- texts
+
+abbrev pub is_text : Value → Bool
+is_text v = is_some (as_str (view v))
+
+one_text_more : (t : Option (List ℕ)) (rest : Option (List (List ℕ))) (ts : List (List ℕ)) (b : Bool) → rest ≡ cond b (Some ts) None
+    → (t >=> λ x. (rest >=> λ xs. Some (x ∷ xs))) ≡ cond (is_some t && b) (Some (unwrap_or t [] ∷ ts)) None
+one_text_more None rest ts b e = refl
+one_text_more (Some x) rest ts true e = rw e refl
+one_text_more (Some x) rest ts false e = rw e refl
+
+texts_by_test : (vs : List Value) → texts_of (items_view vs) ≡ cond (list_all is_text vs) (Some (map text vs)) None
+texts_by_test [] = refl
+texts_by_test (v ∷ vs) = one_text_more (as_str (view v)) (texts_of (items_view vs)) (map text vs) (list_all is_text vs) (texts_by_test vs)
+
+-- the items of an array are its texts, if all of them are texts
+pub texts_of_items : (o : Option Items) (vs ws : List Value) (b : Bool) → Some (items_view vs) ≡ o → ws ≡ vs → list_all is_text ws ≡ b
+    → (o >=> texts_of) ≡ cond b (Some (map text ws)) None
+texts_of_items o vs ws b e same t =
+    ap (λ x. x >=> texts_of) (sym e) ∙ ap (λ l. texts_of (items_view l)) (sym same) ∙ texts_by_test ws ∙ ap (λ x. cond x (Some (map text ws)) None) t

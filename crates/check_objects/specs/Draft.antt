@@ -1,64 +1,98 @@
 -- What a document says, by its tree, before its names and numbers are tested. A document that is not of this shape is refused.
-use Rattle.std.specs.Prelude.{ℕ, ◌+◌, Bool, true, false, List, [], ◌∷◌, Option, Some, None, option_map, option_and_then, Result, Ok, Err, ok_or, codes, bytes_eq, if◌then◌else◌}
+use Rattle.std.specs.Prelude.{ℕ, ◌+◌, Bool, true, false, List, [], ◌∷◌, Option, Some, None, option_and_then, Result, Ok, Err, ok_or, codes, bytes_eq, if◌then◌else◌}
 use Rattle.serde_json.specs.Data.{Data, Items, no_items, item}
 use Rattle.serde_json.specs.Find.{get, as_bool, as_str, as_array}
+use Rattle.check_objects.specs.declared.draft.CheckDraft.{CheckDraft}
 use Rattle.check_objects.specs.declared.error.LoadError.{LoadError}
 use Rattle.check_objects.specs.declared.error.LoadError.TheVariants as errors
 use Rattle.check_objects.specs.declared.options.Options.{Options}
 use Rattle.check_objects.specs.declared.options.DelayMethod.{DelayMethod}
 use Rattle.check_objects.specs.declared.options.DelayMethod.TheVariants as method
+use Rattle.check_objects.specs.declared.place.Place.{Place}
 use Rattle.check_objects.specs.LoadError.{◌>>=◌}
-use Rattle.check_objects.specs.Place.{the_document, the_options, the_hosts, host_at}
-use Rattle.check_objects.specs.Tree.{has_only, has_items, whole_number, member_or, ◌>=>◌}
+use Rattle.check_objects.specs.Place.{the_document, the_options, the_hosts, host_at, the_services, service_at}
+use Rattle.check_objects.specs.Tree.{has_only, has_items, whole_number, member_of, member_or, texts_in, ◌>=>◌}
 
 -- a host as the document has it
 pub record HostDraft : Type 0 where
   pub name : List ℕ
-  pub check_interval : ℕ
-  pub retry_interval : ℕ
-  pub max_check_attempts : ℕ
-  pub enabled : Bool
+  pub parents : List (List ℕ)
+  pub check : CheckDraft
+
+-- a service as the document has it
+pub record ServiceDraft : Type 0 where
+  pub host : List ℕ
+  pub description : List ℕ
+  pub check : CheckDraft
 
 pub record Drafts : Type 0 where
   pub options : Options
   -- in the document's order
   pub hosts : List HostDraft
+  -- in the document's order
+  pub services : List ServiceDraft
 
--- ---- hosts
+-- ---- lists
 
-abbrev pub host_members : List (List ℕ)
-host_members = codes "name" ∷ codes "check_interval" ∷ codes "retry_interval" ∷ codes "max_check_attempts" ∷ codes "enabled" ∷ []
+-- the items of a list from the one at index i on, each in its shape
+abbrev pub items_from : {A : Type 0} → (Data → Option A) → (ℕ → Place) → ℕ → Items → Result (List A) LoadError
+items_from shape place i no_items = Ok []
+items_from shape place i (item d ds) = do
+  first ← ok_or (shape d) (errors.Shape (place i))
+  more ← items_from shape place (i + 1) ds
+  Ok (first ∷ more)
 
--- A host has a name and a maximum of attempts. Its check interval is 5 and its retry interval 1 unless it says so, and it is enabled.
-unfoldable pub host_draft : Data → Option HostDraft
-host_draft d = if has_only host_members d then
-    (option_and_then as_str (get (codes "name") d) >=> λ name.
+-- a member that is a list of such items; without it there are none
+abbrev pub list_of : {A : Type 0} → (Data → Option A) → Place → (ℕ → Place) → Option Data → Result (List A) LoadError
+list_of shape whole place None = Ok []
+list_of shape whole place (Some d) = do
+  items ← ok_or (as_array d) (errors.Shape whole)
+  items_from shape place 0 items
+
+-- ---- hosts and services
+
+-- How an object is checked: its maximum of attempts has to be named. Its check interval is 5 and its retry interval 1 unless it says so, and it is enabled.
+unfoldable pub check_draft : Data → Option CheckDraft
+check_draft d =
     (member_or whole_number 5 (get (codes "check_interval") d) >=> λ check_interval.
     (member_or whole_number 1 (get (codes "retry_interval") d) >=> λ retry_interval.
     (option_and_then whole_number (get (codes "max_check_attempts") d) >=> λ attempts.
     (member_or as_bool true (get (codes "enabled") d) >=> λ enabled.
-    Some (record { name = name; check_interval = check_interval; retry_interval = retry_interval; max_check_attempts = attempts; enabled = enabled }))))))
+    Some (record { check_interval = check_interval; retry_interval = retry_interval; max_check_attempts = attempts; enabled = enabled })))))
+
+abbrev pub host_members : List (List ℕ)
+host_members = codes "name" ∷ codes "parents" ∷ codes "check_interval" ∷ codes "retry_interval" ∷ codes "max_check_attempts" ∷ codes "enabled" ∷ []
+
+-- A host has a name, and may name its parents.
+unfoldable pub host_draft : Data → Option HostDraft
+host_draft d = if has_only host_members d then
+    (option_and_then as_str (get (codes "name") d) >=> λ name.
+    (texts_in (get (codes "parents") d) >=> λ parents.
+    (check_draft d >=> λ check.
+    Some (record { name = name; parents = parents; check = check }))))
     else None
 
--- the hosts from the one at index i on
-abbrev pub drafts_from : ℕ → Items → Result (List HostDraft) LoadError
-drafts_from i no_items = Ok []
-drafts_from i (item d ds) = do
-  host ← ok_or (host_draft d) (errors.Shape (host_at i))
-  hosts ← drafts_from (i + 1) ds
-  Ok (host ∷ hosts)
+abbrev pub service_members : List (List ℕ)
+service_members = codes "host" ∷ codes "description" ∷ codes "check_interval" ∷ codes "retry_interval" ∷ codes "max_check_attempts" ∷ codes "enabled" ∷ []
 
--- the member `hosts`; without it there are none
-abbrev pub hosts_of : Option Data → Result (List HostDraft) LoadError
-hosts_of None = Ok []
-hosts_of (Some d) = do
-  items ← ok_or (as_array d) (errors.Shape the_hosts)
-  drafts_from 0 items
+-- A service names its host and has a description.
+unfoldable pub service_draft : Data → Option ServiceDraft
+service_draft d = if has_only service_members d then
+    (option_and_then as_str (get (codes "host") d) >=> λ host.
+    (option_and_then as_str (get (codes "description") d) >=> λ description.
+    (check_draft d >=> λ check.
+    Some (record { host = host; description = description; check = check }))))
+    else None
 
 -- ---- options
 
 abbrev pub option_members : List (List ℕ)
-option_members = codes "host_inter_check_delay_method" ∷ []
+option_members = codes "interval_length" ∷ codes "service_inter_check_delay_method" ∷ codes "host_inter_check_delay_method" ∷ codes "use_aggressive_host_checking" ∷ []
+
+-- options that are absent have no unknown member
+abbrev pub has_option_members : Option Data → Bool
+has_option_members None = true
+has_option_members (Some d) = has_only option_members d
 
 -- the one method so far
 abbrev pub delay_method : Data → Option DelayMethod
@@ -70,26 +104,26 @@ method_in true None = None
 method_in false None = Some method.Smart
 method_in needed (Some d) = delay_method d
 
-unfoldable pub options_in : Bool → Data → Option Options
-options_in has_host d = if has_only option_members d then
-    (method_in has_host (get (codes "host_inter_check_delay_method") d) >=> λ m.
-    Some (record { host_inter_check_delay_method = m }))
+-- the member `options`; what it doesn't name has its default
+unfoldable pub options_of : Option Data → Bool → Bool → Option Options
+options_of value has_host has_service = if has_option_members value then
+    (member_or whole_number 60 (member_of (codes "interval_length") value) >=> λ interval_length.
+    (method_in has_service (member_of (codes "service_inter_check_delay_method") value) >=> λ service_method.
+    (method_in has_host (member_of (codes "host_inter_check_delay_method") value) >=> λ host_method.
+    (member_or as_bool false (member_of (codes "use_aggressive_host_checking") value) >=> λ aggressive.
+    Some (record { interval_length = interval_length; service_inter_check_delay_method = service_method; host_inter_check_delay_method = host_method; use_aggressive_host_checking = aggressive })))))
     else None
-
--- the member `options`; without it each option has its default
-abbrev pub options_of : Bool → Option Data → Option Options
-options_of has_host None = option_map (λ m. record { host_inter_check_delay_method = m }) (method_in has_host None)
-options_of has_host (Some d) = options_in has_host d
 
 -- ---- the document
 
 abbrev pub document_members : List (List ℕ)
-document_members = codes "options" ∷ codes "hosts" ∷ []
+document_members = codes "options" ∷ codes "hosts" ∷ codes "services" ∷ []
 
--- The document itself is tested first, then its options, then its hosts.
+-- The document itself is tested first, then its options, then its hosts, then its services.
 unfoldable pub drafts_of : Data → Result Drafts LoadError
 drafts_of d = if has_only document_members d then (do
-  options ← ok_or (options_of (has_items (get (codes "hosts") d)) (get (codes "options") d)) (errors.Shape the_options)
-  hosts ← hosts_of (get (codes "hosts") d)
-  Ok (record { options = options; hosts = hosts }))
+  options ← ok_or (options_of (get (codes "options") d) (has_items (get (codes "hosts") d)) (has_items (get (codes "services") d))) (errors.Shape the_options)
+  hosts ← list_of host_draft the_hosts host_at (get (codes "hosts") d)
+  services ← list_of service_draft the_services service_at (get (codes "services") d)
+  Ok (record { options = options; hosts = hosts; services = services }))
     else Err (errors.Shape the_document)

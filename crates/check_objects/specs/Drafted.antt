@@ -1,15 +1,26 @@
 -- The drafts of the code, as the definitions see them.
-use Rattle.std.specs.Prelude.{◌<◌, List, map}
+use Rattle.std.specs.Prelude.{◌<◌, ℕ, List, map}
+use Rattle.std.specs.Borrow.{Bor}
+use Rattle.check_objects.specs.declared.draft.CheckDraft.{CheckDraft}
 use Rattle.check_objects.specs.declared.draft.HostDraft.{HostDraft}
+use Rattle.check_objects.specs.declared.draft.ServiceDraft.{ServiceDraft}
 use Rattle.check_objects.specs.declared.draft.Drafts.{Drafts}
+use Rattle.check_objects.specs.Text.{text}
 use Rattle.check_objects.specs.Draft as spec
 
-abbrev pub draft : HostDraft → spec.HostDraft
-draft h = record { name = h.name.now; check_interval = h.check_interval; retry_interval = h.retry_interval; max_check_attempts = h.max_check_attempts; enabled = h.enabled }
+abbrev pub host : HostDraft → spec.HostDraft
+host h = record { name = h.name.now; parents = map text h.parents.now; check = h.check }
+
+abbrev pub service : ServiceDraft → spec.ServiceDraft
+service s = record { host = s.host.now; description = s.description.now; check = s.check }
 
 abbrev pub drafts : Drafts → spec.Drafts
-drafts d = record { options = d.options; hosts = map draft d.hosts.items }
+drafts d = record { options = d.options; hosts = map host d.hosts.items; services = map service d.services.items }
 
 -- the attempts fit a byte
-abbrev pub HasFewAttempts : HostDraft → Type 0
-HasFewAttempts h = h.max_check_attempts < 256
+abbrev pub HasFewAttempts : CheckDraft → Type 0
+HasFewAttempts c = c.max_check_attempts < 256
+
+-- the texts that references point to
+abbrev pub texts : List (Bor (List ℕ)) → List (List ℕ)
+texts names = map (λ name. name.now) names

@@ -1,17 +1,23 @@
 -- The tests after the shape, each over the whole document, in the order in which they are made.
-use Rattle.std.specs.Prelude.{ℕ, ◌+◌, ◌&&◌, ◌==◌, Bool, not, List, [], ◌∷◌, ◌++◌, length, map, position, Option, Some, None, Result, Ok, Err, bytes_eq, nat_lt, nat_le, if◌then◌else◌}
+use Rattle.std.specs.Prelude.{ℕ, ◌+◌, ◌&&◌, ◌||◌, ◌==◌, Bool, not, List, [], ◌∷◌, ◌++◌, length, map, sum_by, position, Option, Some, None, Result, Ok, Err, bytes_eq, nat_lt, nat_le, if◌then◌else◌}
 use Rattle.std.specs.List.{list_any, list_all}
+use Rattle.check_objects.specs.declared.draft.CheckDraft.{CheckDraft}
 use Rattle.check_objects.specs.declared.error.LoadError.{LoadError}
 use Rattle.check_objects.specs.declared.error.LoadError.TheVariants as errors
+use Rattle.check_objects.specs.declared.options.Options.{Options}
 use Rattle.check_objects.specs.LoadError.{◌>>=◌, refused_at}
-use Rattle.check_objects.specs.Place.{host_at}
-use Rattle.check_objects.specs.Draft.{HostDraft, Drafts}
+use Rattle.check_objects.specs.Place.{the_options, host_at, service_at}
+use Rattle.check_objects.specs.Draft.{HostDraft, ServiceDraft, Drafts}
 
--- ---- count
+-- ---- counts
 
--- at most 4,096 objects
-abbrev pub few_objects : List HostDraft → Result (Unit {0}) LoadError
-few_objects hosts = if nat_lt 4096 (length hosts) then Err errors.TooMany else Ok tt
+-- at most 16,384 parents of all hosts together
+abbrev pub has_few_parents : List HostDraft → Bool
+has_few_parents hosts = nat_le (sum_by (λ h. length h.parents) hosts) 16384
+
+-- at most 4,096 hosts and services together, and few parents
+abbrev pub few_objects : List HostDraft → List ServiceDraft → Result (Unit {0}) LoadError
+few_objects hosts services = if nat_lt 4096 (length hosts + length services) || not (has_few_parents hosts) then Err errors.TooMany else Ok tt
 
 -- ---- names
 
@@ -23,40 +29,90 @@ is_name_byte b = nat_le 32 b && not (b == 127) && not (b == 59)
 abbrev pub is_name : List ℕ → Bool
 is_name name = nat_le 1 (length name) && nat_le (length name) 255 && list_all is_name_byte name
 
--- every name is one; else the first that isn't
-abbrev pub good_names : List HostDraft → Result (Unit {0}) LoadError
-good_names hosts = refused_at (λ i. errors.BadName (host_at i)) (position (λ h. not (is_name h.name)) hosts)
+-- every host has a name that is one; else the first that hasn't
+abbrev pub good_host_names : List HostDraft → Result (Unit {0}) LoadError
+good_host_names hosts = refused_at (λ i. errors.BadName (host_at i)) (position (λ h. not (is_name h.name)) hosts)
+
+-- every service has a description that is one; else the first that hasn't
+abbrev pub good_descriptions : List ServiceDraft → Result (Unit {0}) LoadError
+good_descriptions services = refused_at (λ i. errors.BadName (service_at i)) (position (λ s. not (is_name s.description)) services)
+
+abbrev pub good_names : List HostDraft → List ServiceDraft → Result (Unit {0}) LoadError
+good_names hosts services = good_host_names hosts >>= λ _. good_descriptions services
 
 -- ---- repeats
+
+-- the first key, counted from i on, that is the same as one before it
+abbrev pub repeat_after : {K : Type 0} → (K → K → Bool) → List K → ℕ → List K → Option ℕ
+repeat_after same before i [] = None
+repeat_after same before i (key ∷ keys) = if list_any (same key) before then Some i else repeat_after same (before ++ key ∷ []) (i + 1) keys
+
+-- the first key that is the same as an earlier one
+abbrev pub first_repeat : {K : Type 0} → (K → K → Bool) → List K → Option ℕ
+first_repeat same keys = repeat_after same [] 0 keys
 
 abbrev pub names_of : List HostDraft → List (List ℕ)
 names_of hosts = map (λ h. h.name) hosts
 
--- the first name, counted from i on, that is among those before it
-abbrev pub repeat_after : List (List ℕ) → ℕ → List (List ℕ) → Option ℕ
-repeat_after before i [] = None
-repeat_after before i (name ∷ names) = if list_any (bytes_eq name) before then Some i else repeat_after (before ++ name ∷ []) (i + 1) names
+-- the names of the hosts, if every one stands once; else the first that stood before is told
+abbrev pub host_names : List HostDraft → Result (List (List ℕ)) LoadError
+host_names hosts = refused_at (λ i. errors.Duplicate (host_at i)) (first_repeat bytes_eq (names_of hosts)) >>= λ _. Ok (names_of hosts)
 
--- the first name that an earlier one is equal to
-abbrev pub first_repeat : List (List ℕ) → Option ℕ
-first_repeat names = repeat_after [] 0 names
+-- what a service is known by: its host and its description
+abbrev pub key_of : ServiceDraft → List ℕ × List ℕ
+key_of s = (s.host, s.description)
 
--- every name stands once; else the first that stood before
-abbrev pub no_repeats : List HostDraft → Result (Unit {0}) LoadError
-no_repeats hosts = refused_at (λ i. errors.Duplicate (host_at i)) (first_repeat (names_of hosts))
+abbrev pub same_key : List ℕ × List ℕ → List ℕ × List ℕ → Bool
+same_key p q = bytes_eq p.0 q.0 && bytes_eq p.1 q.1
+
+-- every service stands once; else the first that stood before is told
+abbrev pub no_repeated_services : List ServiceDraft → Result (Unit {0}) LoadError
+no_repeated_services services = refused_at (λ i. errors.Duplicate (service_at i)) (first_repeat same_key (map key_of services))
+
+-- ---- links
+
+-- whether the name is one of these
+abbrev pub is_known : List (List ℕ) → List ℕ → Bool
+is_known names name = list_any (bytes_eq name) names
+
+-- every parent of every host is there; else the first host with one that isn't
+abbrev pub known_parents : List (List ℕ) → List HostDraft → Result (Unit {0}) LoadError
+known_parents names hosts = refused_at (λ i. errors.UnknownHost (host_at i)) (position (λ h. not (list_all (is_known names) h.parents)) hosts)
+
+-- the host of every service is there; else the first service whose isn't
+abbrev pub known_hosts : List (List ℕ) → List ServiceDraft → Result (Unit {0}) LoadError
+known_hosts names services = refused_at (λ i. errors.UnknownHost (service_at i)) (position (λ s. not (is_known names s.host)) services)
 
 -- ---- limits
 
 -- both intervals are at most 525,600 units, a year of minutes, and the attempts 1 to 255
-abbrev pub is_in_range : HostDraft → Bool
-is_in_range h = nat_le h.check_interval 525600 && nat_le h.retry_interval 525600 && nat_le 1 h.max_check_attempts && nat_le h.max_check_attempts 255
+abbrev pub is_in_range : CheckDraft → Bool
+is_in_range c = nat_le c.check_interval 525600 && nat_le c.retry_interval 525600 && nat_le 1 c.max_check_attempts && nat_le c.max_check_attempts 255
 
--- every number is within its limits; else the first host that has one beyond
-abbrev pub good_ranges : List HostDraft → Result (Unit {0}) LoadError
-good_ranges hosts = refused_at (λ i. errors.Range (host_at i)) (position (λ h. not (is_in_range h)) hosts)
+-- a unit of the intervals lasts a second to a day
+abbrev pub good_options : Options → Result (Unit {0}) LoadError
+good_options options = if nat_lt options.interval_length 1 || nat_lt 86400 options.interval_length then Err (errors.Range the_options) else Ok tt
+
+-- the first host with a number beyond its limits
+abbrev pub good_host_ranges : List HostDraft → Result (Unit {0}) LoadError
+good_host_ranges hosts = refused_at (λ i. errors.Range (host_at i)) (position (λ h. not (is_in_range h.check)) hosts)
+
+-- the first service with a number beyond its limits
+abbrev pub good_service_ranges : List ServiceDraft → Result (Unit {0}) LoadError
+good_service_ranges services = refused_at (λ i. errors.Range (service_at i)) (position (λ s. not (is_in_range s.check)) services)
+
+abbrev pub good_ranges : Options → List HostDraft → List ServiceDraft → Result (Unit {0}) LoadError
+good_ranges options hosts services = good_options options >>= λ _. (good_host_ranges hosts >>= λ _. good_service_ranges services)
 
 -- ---- all of them
 
 -- the first refusal after the shape, if there is one
 unfoldable pub is_faultless : Drafts → Result (Unit {0}) LoadError
-is_faultless drafts = few_objects drafts.hosts >>= λ _. (good_names drafts.hosts >>= λ _. (no_repeats drafts.hosts >>= λ _. good_ranges drafts.hosts))
+is_faultless drafts =
+    few_objects drafts.hosts drafts.services >>= λ _.
+    (good_names drafts.hosts drafts.services >>= λ _.
+    (host_names drafts.hosts >>= λ names.
+    (no_repeated_services drafts.services >>= λ _.
+    (known_parents names drafts.hosts >>= λ _.
+    (known_hosts names drafts.services >>= λ _.
+    good_ranges drafts.options drafts.hosts drafts.services)))))

@@ -2,9 +2,12 @@ pub mod Place
 pub mod LoadError
 pub mod Configuration
 pub mod Tree
+pub mod Text
 pub mod Draft
 pub mod Fault
 pub mod Numbering
+pub mod Depth
+pub mod Closing
 pub mod Setup
 pub mod Drafted
 pub mod Entries

@@ -1,28 +1,80 @@
--- The numbers of objects.
-use Rattle.std.specs.Prelude.{ℕ, List, [], ◌∷◌}
-use Rattle.std.specs.Ordering.{nat_cmp, match_ordering}
+-- The numbers of objects: hosts in the order of their names' bytes, then services in the order of their hosts' names and then of their descriptions.
+use Rattle.std.specs.Prelude.{ℕ, ◌==◌, Bool, not, List, [], ◌∷◌, ◌++◌, map, position, bytes_eq, unwrap_or}
+use Rattle.std.specs.List.{list_all}
+use Rattle.std.specs.declared.cmp.Ordering.{Ordering}
+use Rattle.std.specs.BTreeMap.{insert_entry}
+use Rattle.std.specs.Ordering.{nat_cmp, ordering_then}
 use Rattle.std.specs.Cmp.Lexicographic.{slice_cmp}
+use Rattle.check_objects.specs.declared.draft.CheckDraft.{CheckDraft}
 use Rattle.check_objects.specs.declared.object.Object.{Object}
-use Rattle.check_objects.specs.Configuration.{Named}
-use Rattle.check_objects.specs.Draft.{HostDraft}
+use Rattle.check_objects.specs.Configuration.{Host, Service, Configuration}
+use Rattle.check_objects.specs.Draft.{HostDraft, ServiceDraft, Drafts}
+use Rattle.check_objects.specs.Fault.{key_of}
 
--- the object that a draft is
-abbrev pub named : HostDraft → Named
-named h = record {
-  name = h.name;
-  object = record { check_interval = h.check_interval; retry_interval = h.retry_interval; max_check_attempts = h.max_check_attempts; enabled = h.enabled };
+-- ---- the order
+
+-- texts by their bytes
+abbrev pub text_order : List ℕ → List ℕ → Ordering
+text_order a b = slice_cmp nat_cmp a b
+
+-- pairs of texts by the first, and by the second where the first are equal
+abbrev pub pair_order : List ℕ × List ℕ → List ℕ × List ℕ → Ordering
+pair_order p q = ordering_then (text_order p.0 q.0) (text_order p.1 q.1)
+
+-- the items one after another, the value of each put behind its key, in its place among those before it
+abbrev pub placed : {K V A : Type 0} → (K → K → Ordering) → (A → K) → (A → V) → List (K × V) → List A → List (K × V)
+placed order key value done [] = done
+placed order key value done (x ∷ xs) = placed order key value (insert_entry order done (key x) (value x)) xs
+
+-- The values of items in the order of their keys, each behind its key. `numbers_follow_names` says what that is worth: all of them, ascending.
+abbrev pub in_order : {K V A : Type 0} → (K → K → Ordering) → (A → K) → (A → V) → List A → List (K × V)
+in_order order key value xs = placed order key value [] xs
+
+abbrev pub object_of : CheckDraft → Object
+object_of c = record { check_interval = c.check_interval; retry_interval = c.retry_interval; max_check_attempts = c.max_check_attempts; enabled = c.enabled }
+
+-- what is kept of a host behind its name: the object, and its parents' names
+abbrev pub body_of : HostDraft → Object × List (List ℕ)
+body_of h = (object_of h.check, h.parents)
+
+-- the hosts by name
+abbrev pub hosts_in_order : List HostDraft → List (List ℕ × (Object × List (List ℕ)))
+hosts_in_order hosts = in_order text_order (λ h. h.name) body_of hosts
+
+-- the services by host and description
+abbrev pub services_in_order : List ServiceDraft → List ((List ℕ × List ℕ) × Object)
+services_in_order services = in_order pair_order key_of (λ s. object_of s.check) services
+
+-- ---- the numbers
+
+-- the place of a name among these
+abbrev pub number_in : List (List ℕ) → List ℕ → ℕ
+number_in names name = unwrap_or (position (bytes_eq name) names) 0
+
+-- a host, its parents by number
+abbrev pub numbered_host : List (List ℕ) → List ℕ × (Object × List (List ℕ)) → Host
+numbered_host names h = record { name = h.0; object = h.1.0; parents = map (number_in names) h.1.1 }
+
+-- a text with no semicolon in it, as a host's name is
+abbrev pub is_host_name : List ℕ → Bool
+is_host_name name = list_all (λ b. not (b == 59)) name
+
+-- the full name of a service: a semicolon parts the host's name from the description
+abbrev pub full_name : List ℕ × List ℕ → List ℕ
+full_name key = key.0 ++ (59 ∷ key.1)
+
+-- a service, its host by number
+abbrev pub numbered_service : List (List ℕ) → (List ℕ × List ℕ) × Object → Service
+numbered_service names s = record { name = full_name s.0; object = s.1; host = number_in names s.0.0 }
+
+-- the names of hosts in order
+abbrev pub names_in_order : List HostDraft → List (List ℕ)
+names_in_order hosts = map (λ h. h.0) (hosts_in_order hosts)
+
+-- the setup of drafts without a fault
+abbrev pub configuration : Drafts → Configuration
+configuration drafts = record {
+  options = drafts.options;
+  hosts = map (numbered_host (names_in_order drafts.hosts)) (hosts_in_order drafts.hosts);
+  services = map (numbered_service (names_in_order drafts.hosts)) (services_in_order drafts.services);
 }
-
--- an object put in its place by the bytes of its name
-abbrev pub put_named : Named → List Named → List Named
-put_named n [] = n ∷ []
-put_named n (m ∷ ms) = match_ordering (slice_cmp nat_cmp n.name m.name) (n ∷ m ∷ ms) (record { name = m.name; object = n.object } ∷ ms) (m ∷ put_named n ms)
-
--- the objects one after another, each put in its place among those before it
-abbrev pub put_all : List Named → List Named → List Named
-put_all done [] = done
-put_all done (n ∷ ns) = put_all (put_named n done) ns
-
--- The objects in the order of their names' bytes. `numbers_follow_names` says what that is worth: all of them, sorted.
-abbrev pub in_name_order : List Named → List Named
-in_name_order ns = put_all [] ns

@@ -18,3 +18,11 @@ the_hosts = record { part = part.Hosts; index = None }
 -- the host at this index of the list
 abbrev pub host_at : ℕ → Place
 host_at i = record { part = part.Hosts; index = Some i }
+
+-- its list of services, as a whole
+abbrev pub the_services : Place
+the_services = record { part = part.Services; index = None }
+
+-- the service at this index of the list
+abbrev pub service_at : ℕ → Place
+service_at i = record { part = part.Services; index = Some i }

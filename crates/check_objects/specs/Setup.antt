@@ -1,22 +1,23 @@
--- The setup that a document is, or its first refusal: the tree, its drafts, the tests, the numbers.
+-- The setup that a document is, or its first refusal: the tree, its drafts, the tests, the numbers, and that no host is its own parent.
 use Rattle.std.specs.Prelude.{ℕ, List, length, map, Result, Ok, Err, ok_or, nat_lt, if◌then◌else◌}
 use Rattle.serde_json.specs.Data.{Data}
 use Rattle.check_objects.specs.declared.error.LoadError.{LoadError}
 use Rattle.check_objects.specs.declared.error.LoadError.TheVariants as errors
 use Rattle.check_objects.specs.Configuration.{Configuration}
+use Rattle.check_objects.specs.Depth.{has_cycle}
 use Rattle.check_objects.specs.LoadError.{◌>>=◌}
 use Rattle.check_objects.specs.Tree.{tree_of}
-use Rattle.check_objects.specs.Draft.{Drafts, drafts_of}
+use Rattle.check_objects.specs.Draft.{drafts_of}
 use Rattle.check_objects.specs.Fault.{is_faultless}
-use Rattle.check_objects.specs.Numbering.{named, in_name_order}
+use Rattle.check_objects.specs.Numbering.{configuration}
 
--- the setup of drafts without a fault
-abbrev pub configuration : Drafts → Configuration
-configuration drafts = record { options = drafts.options; hosts = in_name_order (map named drafts.hosts) }
+-- the setup, unless some host is its own parent through one parent or more
+abbrev pub without_cycle : Configuration → Result Configuration LoadError
+without_cycle c = if has_cycle (map (λ h. h.parents) c.hosts) then Err errors.ParentCycle else Ok c
 
 -- the setup of a tree
 unfoldable pub setup_of_tree : Data → Result Configuration LoadError
-setup_of_tree d = drafts_of d >>= λ drafts. (is_faultless drafts >>= λ _. Ok (configuration drafts))
+setup_of_tree d = drafts_of d >>= λ drafts. (is_faultless drafts >>= λ _. without_cycle (configuration drafts))
 
 -- the setup of a document's bytes
 unfoldable pub setup_of : List ℕ → Result Configuration LoadError

@@ -1,9 +1,9 @@
 -- The tree that `serde_json` reads, and what its values are read as.
-use Rattle.std.specs.Prelude.{ℕ, ◌&&◌, Bool, true, false, List, [], Option, Some, None, option_and_then, bytes_eq, if◌then◌else◌}
+use Rattle.std.specs.Prelude.{ℕ, ◌&&◌, Bool, true, false, List, [], ◌∷◌, Option, Some, None, option_and_then, bytes_eq, if◌then◌else◌}
 use Rattle.std.specs.List.{list_any}
 use Rattle.std.specs.Str.{is_utf8}
 use Rattle.serde_json.specs.Data.{Data, null, boolean, number, string, array, object, Items, no_items, item, Members, no_members, member}
-use Rattle.serde_json.specs.Find.{as_number, as_u64, as_array}
+use Rattle.serde_json.specs.Find.{get, as_number, as_str, as_u64, as_array}
 use Rattle.serde_json.specs.Read.{read}
 
 -- the tree of the bytes, if `serde_json` gives a reading
@@ -48,3 +48,17 @@ infixl 10 ◌>=>◌
 abbrev pub ◌>=>◌ : {A B : Type 0} → Option A → (A → Option B) → Option B
 None >=> f = None
 (Some x) >=> f = f x
+
+-- a member of an object that may be absent itself
+abbrev pub member_of : List ℕ → Option Data → Option Data
+member_of name value = option_and_then (get name) value
+
+-- the texts of an array, if all its items are texts
+abbrev pub texts_of : Items → Option (List (List ℕ))
+texts_of no_items = Some []
+texts_of (item d ds) = as_str d >=> λ t. (texts_of ds >=> λ ts. Some (t ∷ ts))
+
+-- the texts of a member that is an array of them; without it there are none
+abbrev pub texts_in : Option Data → Option (List (List ℕ))
+texts_in None = Some []
+texts_in (Some d) = as_array d >=> texts_of

@@ -1,28 +1,44 @@
 //! Drafts: what a document says once its members have the right names and kinds.
 //!
-//! Here every fault of shape is found, and no other. Names are borrowed from the tree and numbers
+//! Here every fault of shape is found, and no other. Texts are borrowed from the tree and numbers
 //! are as the document has them.
 ghost use Rattle.std.specs.Prelude.{◌≡◌, map, option_map};
 ghost use Rattle.serde_json.specs.View.{view, items_view};
 ghost use Rattle.check_objects.specs.LoadError.{Gives};
-ghost use Rattle.check_objects.specs.Draft.{host_draft, drafts_of, drafts_from, hosts_of, delay_method, method_in, options_of};
-ghost use Rattle.check_objects.specs.Drafted.{draft, drafts};
+ghost use Rattle.check_objects.specs.Place.{the_hosts, host_at, the_services, service_at};
+ghost use Rattle.check_objects.specs.Draft.{host_draft, service_draft, check_draft, drafts_of, items_from, list_of, delay_method, method_in, options_of, has_option_members};
+ghost use Rattle.check_objects.specs.Drafted.{host, service, drafts};
 
 use crate::error::LoadError;
 use crate::options::{DelayMethod, Options};
 use crate::place::Place;
-use crate::tree::{bool_or, has_items, has_only, number_or};
+use crate::tree::{bool_or, has_items, has_only, member, number_or, texts_in};
 use serde_json::Value;
 use std::alloc::Global;
 
-/// What a document says of a host.
+/// What a document says of how an object is checked.
 #[derive(Clone, Copy)]
-pub(crate) struct HostDraft<'v> {
-    pub(crate) name: &'v str,
+pub(crate) struct CheckDraft {
     pub(crate) check_interval: u64,
     pub(crate) retry_interval: u64,
     pub(crate) max_check_attempts: u64,
     pub(crate) enabled: bool,
+}
+
+/// What a document says of a host. Its parents are texts.
+#[derive(Clone, Copy)]
+pub(crate) struct HostDraft<'v> {
+    pub(crate) name: &'v str,
+    pub(crate) parents: &'v [Value],
+    pub(crate) check: CheckDraft,
+}
+
+/// What a document says of a service.
+#[derive(Clone, Copy)]
+pub(crate) struct ServiceDraft<'v> {
+    pub(crate) host: &'v str,
+    pub(crate) description: &'v str,
+    pub(crate) check: CheckDraft,
 }
 
 /// A document in the right shape.
@@ -30,6 +46,7 @@ pub(crate) struct HostDraft<'v> {
 pub(crate) struct Drafts<'v> {
     pub(crate) options: Options,
     pub(crate) hosts: Vec<HostDraft<'v>>,
+    pub(crate) services: Vec<ServiceDraft<'v>>,
 }
 
 impl<'v> Drafts<'v> {
@@ -38,35 +55,63 @@ impl<'v> Drafts<'v> {
     pub(crate) fn read(alloc: Global, tree: &'v Value) -> Result<Self, LoadError>
         ensures { Gives drafts result (drafts_of (view tree.now)) }
     {
-        if !has_only(tree, &["options", "hosts"]) {
+        if !has_only(tree, &["options", "hosts", "services"]) {
             return Err(LoadError::Shape(Place::DOCUMENT));
         }
         let hosts = tree.get("hosts");
-        let options = read_options(has_items(hosts), tree.get("options")).ok_or(LoadError::Shape(
-            Place::OPTIONS,
-        ))?;
+        let services = tree.get("services");
+        let options = read_options(
+            tree.get("options"),
+            has_items(hosts),
+            has_items(services),
+        ).ok_or(LoadError::Shape(Place::OPTIONS))?;
         let hosts = read_hosts(alloc, hosts)?;
-        Ok(Drafts { options, hosts })
+        let services = read_services(alloc, services)?;
+        Ok(Drafts {
+            options,
+            hosts,
+            services,
+        })
     }
 }
 
-/// The options. Until there is more than one delay method, it has to be named where there is a host.
-#[tactic(auto, unfolding(crate::specs::Draft::options_in))]
-fn read_options(has_host: bool, value: Option<&Value>) -> Option<Options>
-    ensures { result ≡ options_of has_host (option_map (λ v. view v.now) value.entry) }
+/// The options. Until there is more than one delay method, it has to be named for each sort of
+/// object that the document has.
+#[tactic(auto, unfolding(crate::specs::Draft::options_of))]
+fn read_options(value: Option<&Value>, has_host: bool, has_service: bool) -> Option<Options>
+    ensures { result ≡ options_of (option_map (λ v. view v.now) value.entry) has_host has_service }
 {
-    let method = match value {
-        Some(value) => {
-            if !has_only(value, &["host_inter_check_delay_method"]) {
-                return None;
-            }
-            value.get("host_inter_check_delay_method")
-        }
-        None => None,
-    };
+    if !has_option_members(value) {
+        return None;
+    }
+    let service_method = member(value, "service_inter_check_delay_method");
+    let host_method = member(value, "host_inter_check_delay_method");
     Some(Options {
-        host_inter_check_delay_method: method_in(has_host, method)?,
+        interval_length: number_or(member(value, "interval_length"), 60)?,
+        service_inter_check_delay_method: method_in(has_service, service_method)?,
+        host_inter_check_delay_method: method_in(has_host, host_method)?,
+        use_aggressive_host_checking: bool_or(
+            member(value, "use_aggressive_host_checking"),
+            false,
+        )?,
     })
+}
+
+fn has_option_members(value: Option<&Value>) -> bool
+    ensures { result ≡ has_option_members (option_map (λ v. view v.now) value.entry) }
+{
+    match value {
+        Some(value) => has_only(
+            value,
+            &[
+                "interval_length",
+                "service_inter_check_delay_method",
+                "host_inter_check_delay_method",
+                "use_aggressive_host_checking",
+            ],
+        ),
+        None => true,
+    }
 }
 
 fn method_in(needed: bool, value: Option<&Value>) -> Option<DelayMethod>
@@ -89,8 +134,8 @@ fn delay_method(value: &Value) -> Option<DelayMethod>
 }
 
 fn read_hosts<'v>(alloc: Global, value: Option<&'v Value>) -> Result<Vec<HostDraft<'v>>, LoadError>
-    ensures { Gives (λ v. map draft v.items) result
-        (hosts_of (option_map (λ v. view v.now) value.entry)) }
+    ensures { Gives (λ v. map host v.items) result
+        (list_of host_draft the_hosts host_at (option_map (λ v. view v.now) value.entry)) }
 {
     match value {
         Some(value) => {
@@ -102,7 +147,8 @@ fn read_hosts<'v>(alloc: Global, value: Option<&'v Value>) -> Result<Vec<HostDra
 }
 
 fn read_host_list<'v>(alloc: Global, items: &'v [Value]) -> Result<Vec<HostDraft<'v>>, LoadError>
-    ensures { Gives (λ v. map draft v.items) result (drafts_from 0 (items_view items.now)) }
+    ensures { Gives (λ v. map host v.items) result
+        (items_from host_draft host_at 0 (items_view items.now)) }
 {
     let mut hosts = Vec::new(alloc);
     for (index, item) in items.iter().enumerate() {
@@ -112,14 +158,46 @@ fn read_host_list<'v>(alloc: Global, items: &'v [Value]) -> Result<Vec<HostDraft
     Ok(hosts)
 }
 
+fn read_services<'v>(
+    alloc: Global,
+    value: Option<&'v Value>,
+) -> Result<Vec<ServiceDraft<'v>>, LoadError>
+    ensures { Gives (λ v. map service v.items) result
+        (list_of service_draft the_services service_at (option_map (λ v. view v.now) value.entry)) }
+{
+    match value {
+        Some(value) => {
+            let items = value.as_array().ok_or(LoadError::Shape(Place::SERVICES))?;
+            read_service_list(alloc, items)
+        }
+        None => Ok(Vec::new(alloc)),
+    }
+}
+
+fn read_service_list<'v>(
+    alloc: Global,
+    items: &'v [Value],
+) -> Result<Vec<ServiceDraft<'v>>, LoadError>
+    ensures { Gives (λ v. map service v.items) result
+        (items_from service_draft service_at 0 (items_view items.now)) }
+{
+    let mut services = Vec::new(alloc);
+    for (index, item) in items.iter().enumerate() {
+        let draft = read_service(item).ok_or(LoadError::Shape(Place::service(index)))?;
+        services.push(draft)?;
+    }
+    Ok(services)
+}
+
 #[tactic(auto, unfolding(crate::specs::Draft::host_draft))]
 fn read_host(value: &Value) -> Option<HostDraft<'_>>
-    ensures { option_map draft result ≡ host_draft (view value.now) }
+    ensures { option_map host result ≡ host_draft (view value.now) }
 {
     if !has_only(
         value,
         &[
             "name",
+            "parents",
             "check_interval",
             "retry_interval",
             "max_check_attempts",
@@ -130,6 +208,41 @@ fn read_host(value: &Value) -> Option<HostDraft<'_>>
     }
     Some(HostDraft {
         name: value.get("name").and_then(Value::as_str)?,
+        parents: texts_in(value.get("parents"))?,
+        check: read_check(value)?,
+    })
+}
+
+#[tactic(auto, unfolding(crate::specs::Draft::service_draft))]
+fn read_service(value: &Value) -> Option<ServiceDraft<'_>>
+    ensures { option_map service result ≡ service_draft (view value.now) }
+{
+    if !has_only(
+        value,
+        &[
+            "host",
+            "description",
+            "check_interval",
+            "retry_interval",
+            "max_check_attempts",
+            "enabled",
+        ],
+    ) {
+        return None;
+    }
+    Some(ServiceDraft {
+        host: value.get("host").and_then(Value::as_str)?,
+        description: value.get("description").and_then(Value::as_str)?,
+        check: read_check(value)?,
+    })
+}
+
+/// The members that say how an object is checked.
+#[tactic(auto, unfolding(crate::specs::Draft::check_draft))]
+fn read_check(value: &Value) -> Option<CheckDraft>
+    ensures { result ≡ check_draft (view value.now) }
+{
+    Some(CheckDraft {
         check_interval: number_or(value.get("check_interval"), 5)?,
         retry_interval: number_or(value.get("retry_interval"), 1)?,
         max_check_attempts: value.get("max_check_attempts").and_then(Value::as_u64)?,

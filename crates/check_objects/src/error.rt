@@ -2,9 +2,9 @@
 use crate::place::Place;
 use std::alloc::{AllocError, AllocFailed};
 
-/// Why a setup was not read. Each test covers the whole document before the next begins, in the
-/// order of these variants, and the fault of the first place is told. Nothing is made of a
-/// document that is refused. The refusals are our own profile.
+/// Why a setup was not read. `TooLong` is tested first; then each test covers the whole document
+/// before the next begins, in the order of these variants, and the fault of the first place is
+/// told. Nothing is made of a document that is refused. The refusals are our own profile.
 #[derive(Clone, Copy, Debug, PartialEq, Eq)]
 pub enum LoadError {
     /// More than 16,777,216 bytes. Tested first, and without any need of memory.
@@ -13,15 +13,21 @@ pub enum LoadError {
     NotJson,
     /// A member that is unknown, missing or of the wrong kind.
     Shape(Place),
-    /// More than 4,096 objects.
+    /// More than 4,096 hosts and services together, or more than 16,384 parents of all hosts.
     TooMany,
-    /// A host name that is empty, is longer than 255 bytes, or has a `;`, a byte below 32 or the
-    /// byte 127 in it.
+    /// A host name or a service description that is empty, is longer than 255 bytes, or has a `;`,
+    /// a byte below 32 or the byte 127 in it.
     BadName(Place),
-    /// A host with the name of an earlier one. The later one is told.
+    /// A host with the name of an earlier one, or a service with the host and the description of an
+    /// earlier one. The later one is told.
     Duplicate(Place),
-    /// A number out of its limits: an interval above 525,600 units, or attempts not from 1 to 255.
+    /// A host with a parent that isn't there, or a service whose host isn't there.
+    UnknownHost(Place),
+    /// A number out of its limits: an interval above 525,600 units, attempts not from 1 to 255, or
+    /// an `interval_length` not from 1 to 86,400 seconds.
     Range(Place),
+    /// Some host is its own parent, through one parent or more.
+    ParentCycle,
     /// Want of memory, at any growth. It may come in place of any answer but `TooLong`.
     Memory,
 }

@@ -1,53 +1,91 @@
-//! The tests after the shape: count, names, repeats, limits. Each covers the whole document before
-//! the next begins, and tells its first place.
-ghost use Rattle.std.specs.Prelude.{◌≡◌, ◌≤◌, ℕ, map, length, not, position, [], IfNone, OnOk, IsTrue, All, Ok};
+//! The tests after the shape: counts, names, repeats, links, limits. Each covers the whole document
+//! before the next begins, and tells its first place.
+ghost use Rattle.std.specs.Prelude.{◌≡◌, ◌≤◌, ◌+◌, map, length, not, position, IfNone, OnOk, IsTrue, All};
 ghost use Rattle.std.specs.List.{list_all};
-ghost use Rattle.check_objects.specs.LoadError.{Gives, refused_at};
-ghost use Rattle.check_objects.specs.Place.{host_at};
-ghost use Rattle.check_objects.specs.Fault.{few_objects, good_names, no_repeats, good_ranges, is_faultless, is_name_byte, is_name, is_in_range, first_repeat, names_of};
-ghost use Rattle.check_objects.specs.Drafted.{draft, drafts, HasFewAttempts};
+ghost use Rattle.check_objects.specs.LoadError.{Gives};
+ghost use Rattle.check_objects.specs.Fault.{few_objects, has_few_parents, good_names, good_host_names, good_descriptions, host_names, no_repeated_services, known_parents, known_hosts, good_ranges, good_options, good_host_ranges, good_service_ranges, is_faultless, is_name_byte, is_name, is_known, is_in_range};
+ghost use Rattle.check_objects.specs.Drafted.{host, service, drafts, texts, HasFewAttempts};
+ghost use Rattle.check_objects.specs.Text.{text};
 
-use crate::draft::{Drafts, HostDraft};
+use crate::draft::{CheckDraft, Drafts, HostDraft, ServiceDraft};
 use crate::error::LoadError;
+use crate::options::Options;
 use crate::place::Place;
+use crate::tree::text;
 use indexmap::IndexSet;
+use serde_json::Value;
 use std::alloc::Global;
 
 const MAX_OBJECTS: usize = 4096;
+
+const MAX_PARENTS: usize = 16_384;
 
 const MAX_NAME_BYTES: usize = 255;
 
 const MAX_INTERVAL: u64 = 525_600;
 
+const MAX_INTERVAL_LENGTH: u64 = 86_400;
+
 const MAX_ATTEMPTS: u64 = 255;
 
-impl Drafts<'_> {
+impl<'v> Drafts<'v> {
     /// The first fault after the shape, if there is one.
     #[tactic(auto, unfolding(crate::specs::Fault::is_faultless))]
     pub(crate) fn test(&self, alloc: Global) -> Result<(), LoadError>
         ensures exact { Gives (λ u. u) result (is_faultless (drafts self.now)) }
-        ensures few { OnOk result (length self.now.hosts.items ≤ 4096) }
-        ensures in_range { OnOk result (All HasFewAttempts self.now.hosts.items) }
+        ensures few { OnOk result
+            (length self.now.hosts.items + length self.now.services.items ≤ 4096) }
+        ensures hosts { OnOk result (All (λ h. HasFewAttempts h.check) self.now.hosts.items) }
+        ensures services { OnOk result (All (λ s. HasFewAttempts s.check) self.now.services.items) }
     {
-        test_count(&self.hosts)?;
-        test_names(&self.hosts)?;
-        test_repeats(alloc, &self.hosts)?;
-        test_ranges(&self.hosts)
+        test_counts(&self.hosts, &self.services)?;
+        test_names(&self.hosts, &self.services)?;
+        let names = distinct_names(alloc, &self.hosts)?;
+        test_repeated_services(alloc, &self.services)?;
+        test_parents(&self.hosts, &names)?;
+        test_hosts(&self.services, &names)?;
+        test_ranges(&self.options, &self.hosts, &self.services)
     }
 }
 
-fn test_count(hosts: &[HostDraft<'_>]) -> Result<(), LoadError>
-    ensures exact { Gives (λ u. u) result (few_objects (map draft hosts.now)) }
-    ensures few { OnOk result (length hosts.now ≤ 4096) }
+fn test_counts(hosts: &[HostDraft<'_>], services: &[ServiceDraft<'_>]) -> Result<(), LoadError>
+    ensures exact { Gives (λ u. u) result
+        (few_objects (map host hosts.now) (map service services.now)) }
+    ensures few { OnOk result (length hosts.now + length services.now ≤ 4096) }
 {
-    if hosts.len() > MAX_OBJECTS {
+    if hosts.len() > MAX_OBJECTS || services.len() > MAX_OBJECTS - hosts.len() {
+        return Err(LoadError::TooMany);
+    }
+    if !has_few_parents(hosts) {
         return Err(LoadError::TooMany);
     }
     Ok(())
 }
 
-fn test_names(hosts: &[HostDraft<'_>]) -> Result<(), LoadError>
-    ensures { Gives (λ u. u) result (good_names (map draft hosts.now)) }
+fn has_few_parents(hosts: &[HostDraft<'_>]) -> bool
+    ensures { result ≡ has_few_parents (map host hosts.now) }
+{
+    let mut left = MAX_PARENTS;
+    for host in hosts {
+        match left.checked_sub(host.parents.len()) {
+            Some(rest) => left = rest,
+            None => return false,
+        }
+    }
+    true
+}
+
+// ---- names
+
+fn test_names(hosts: &[HostDraft<'_>], services: &[ServiceDraft<'_>]) -> Result<(), LoadError>
+    ensures { Gives (λ u. u) result (good_names (map host hosts.now) (map service services.now)) }
+{
+    test_host_names(hosts)?;
+    test_descriptions(services)
+}
+
+fn test_host_names(hosts: &[HostDraft<'_>]) -> Result<(), LoadError>
+    ensures { Gives (λ u. u) result (good_host_names (map host hosts.now)) }
 {
     match bad_name(hosts) {
         Some(index) => Err(LoadError::BadName(Place::host(index))),
@@ -59,6 +97,23 @@ fn bad_name(hosts: &[HostDraft<'_>]) -> Option<usize>
     ensures { result ≡ position (λ h. not (is_name h.name.now)) hosts.now }
 {
     hosts.iter().position(|host| !is_name(host.name))
+}
+
+fn test_descriptions(services: &[ServiceDraft<'_>]) -> Result<(), LoadError>
+    ensures { Gives (λ u. u) result (good_descriptions (map service services.now)) }
+{
+    match bad_description(services) {
+        Some(index) => Err(LoadError::BadName(Place::service(index))),
+        None => Ok(()),
+    }
+}
+
+fn bad_description(services: &[ServiceDraft<'_>]) -> Option<usize>
+    ensures { result ≡ position (λ s. not (is_name s.description.now)) services.now }
+{
+    services
+        .iter()
+        .position(|service| !is_name(service.description))
 }
 
 fn is_name(name: &str) -> bool
@@ -79,51 +134,155 @@ fn is_name_byte(byte: u8) -> bool
     byte >= 32 && byte != 127 && byte != b';'
 }
 
-fn test_repeats(alloc: Global, hosts: &[HostDraft<'_>]) -> Result<(), LoadError>
-    ensures { Gives (λ u. u) result (no_repeats (map draft hosts.now)) }
-{
-    match repeat(alloc, hosts)? {
-        Some(index) => Err(LoadError::Duplicate(Place::host(index))),
-        None => Ok(()),
-    }
-}
+// ---- repeats
 
-/// The first host with the name of an earlier one.
-fn repeat(alloc: Global, hosts: &[HostDraft<'_>]) -> Result<Option<usize>, LoadError>
-    ensures { Gives (λ o. o) result (Ok (first_repeat (names_of (map draft hosts.now)))) }
+/// The names of the hosts, each of which stands once.
+fn distinct_names<'v>(
+    alloc: Global,
+    hosts: &[HostDraft<'v>],
+) -> Result<IndexSet<&'v str>, LoadError>
+    ensures { Gives (λ s. texts s.keys) result (host_names (map host hosts.now)) }
 {
     let mut names = IndexSet::with_capacity(alloc, hosts.len())?;
     for (index, host) in hosts.iter().enumerate() {
         if !names.insert(host.name)? {
-            return Ok(Some(index));
+            return Err(LoadError::Duplicate(Place::host(index)));
         }
     }
-    Ok(None)
+    Ok(names)
 }
 
-fn test_ranges(hosts: &[HostDraft<'_>]) -> Result<(), LoadError>
-    ensures exact { Gives (λ u. u) result (good_ranges (map draft hosts.now)) }
-    ensures in_range { OnOk result (All HasFewAttempts hosts.now) }
+fn test_repeated_services(alloc: Global, services: &[ServiceDraft<'_>]) -> Result<(), LoadError>
+    ensures { Gives (λ u. u) result (no_repeated_services (map service services.now)) }
 {
-    match out_of_range(hosts) {
+    let mut keys = IndexSet::with_capacity(alloc, services.len())?;
+    for (index, service) in services.iter().enumerate() {
+        if !keys.insert((service.host, service.description))? {
+            return Err(LoadError::Duplicate(Place::service(index)));
+        }
+    }
+    Ok(())
+}
+
+// ---- links
+
+fn test_parents(hosts: &[HostDraft<'_>], names: &IndexSet<&str>) -> Result<(), LoadError>
+    ensures { Gives (λ u. u) result (known_parents (texts names.now.keys) (map host hosts.now)) }
+{
+    match unknown_parent(hosts, names) {
+        Some(index) => Err(LoadError::UnknownHost(Place::host(index))),
+        None => Ok(()),
+    }
+}
+
+fn unknown_parent(hosts: &[HostDraft<'_>], names: &IndexSet<&str>) -> Option<usize>
+    ensures { result ≡
+        position (λ h. not (list_all (λ p. is_known (texts names.now.keys) (text p)) h.parents.now))
+        hosts.now }
+{
+    hosts
+        .iter()
+        .position(|host| !knows_all(names, host.parents))
+}
+
+fn knows_all(names: &IndexSet<&str>, parents: &[Value]) -> bool
+    ensures { result ≡ list_all (λ p. is_known (texts names.now.keys) (text p)) parents.now }
+{
+    parents.iter().all(|parent| knows(names, text(parent)))
+}
+
+fn knows(names: &IndexSet<&str>, name: &str) -> bool
+    ensures { result ≡ is_known (texts names.now.keys) name.now }
+{
+    names.contains(name)
+}
+
+fn test_hosts(services: &[ServiceDraft<'_>], names: &IndexSet<&str>) -> Result<(), LoadError>
+    ensures { Gives (λ u. u) result (known_hosts (texts names.now.keys) (map service services.now)) }
+{
+    match unknown_host(services, names) {
+        Some(index) => Err(LoadError::UnknownHost(Place::service(index))),
+        None => Ok(()),
+    }
+}
+
+fn unknown_host(services: &[ServiceDraft<'_>], names: &IndexSet<&str>) -> Option<usize>
+    ensures { result ≡
+        position (λ s. not (is_known (texts names.now.keys) s.host.now)) services.now }
+{
+    services
+        .iter()
+        .position(|service| !knows(names, service.host))
+}
+
+// ---- limits
+
+fn test_ranges(
+    options: &Options,
+    hosts: &[HostDraft<'_>],
+    services: &[ServiceDraft<'_>],
+) -> Result<(), LoadError>
+    ensures exact { Gives (λ u. u) result
+        (good_ranges options.now (map host hosts.now) (map service services.now)) }
+    ensures hosts { OnOk result (All (λ h. HasFewAttempts h.check) hosts.now) }
+    ensures services { OnOk result (All (λ s. HasFewAttempts s.check) services.now) }
+{
+    test_options(options)?;
+    test_host_ranges(hosts)?;
+    test_service_ranges(services)
+}
+
+fn test_options(options: &Options) -> Result<(), LoadError>
+    ensures { Gives (λ u. u) result (good_options options.now) }
+{
+    if options.interval_length < 1 || options.interval_length > MAX_INTERVAL_LENGTH {
+        return Err(LoadError::Range(Place::OPTIONS));
+    }
+    Ok(())
+}
+
+fn test_host_ranges(hosts: &[HostDraft<'_>]) -> Result<(), LoadError>
+    ensures exact { Gives (λ u. u) result (good_host_ranges (map host hosts.now)) }
+    ensures in_range { OnOk result (All (λ h. HasFewAttempts h.check) hosts.now) }
+{
+    match host_out_of_range(hosts) {
         Some(index) => Err(LoadError::Range(Place::host(index))),
         None => Ok(()),
     }
 }
 
-fn out_of_range(hosts: &[HostDraft<'_>]) -> Option<usize>
-    ensures place { result ≡ position (λ h. not (is_in_range (draft h))) hosts.now }
-    ensures in_range { IfNone result (All HasFewAttempts hosts.now) }
+fn host_out_of_range(hosts: &[HostDraft<'_>]) -> Option<usize>
+    ensures place { result ≡ position (λ h. not (is_in_range h.check)) hosts.now }
+    ensures in_range { IfNone result (All (λ h. HasFewAttempts h.check) hosts.now) }
 {
-    hosts.iter().position(|host| !is_in_range(host))
+    hosts.iter().position(|host| !is_in_range(host.check))
 }
 
-fn is_in_range(host: &HostDraft<'_>) -> bool
-    ensures test { result ≡ is_in_range (draft host.now) }
-    ensures few { IsTrue result → HasFewAttempts host.now }
+fn test_service_ranges(services: &[ServiceDraft<'_>]) -> Result<(), LoadError>
+    ensures exact { Gives (λ u. u) result (good_service_ranges (map service services.now)) }
+    ensures in_range { OnOk result (All (λ s. HasFewAttempts s.check) services.now) }
 {
-    host.check_interval <= MAX_INTERVAL
-        && host.retry_interval <= MAX_INTERVAL
-        && 1 <= host.max_check_attempts
-        && host.max_check_attempts <= MAX_ATTEMPTS
+    match service_out_of_range(services) {
+        Some(index) => Err(LoadError::Range(Place::service(index))),
+        None => Ok(()),
+    }
+}
+
+fn service_out_of_range(services: &[ServiceDraft<'_>]) -> Option<usize>
+    ensures place { result ≡ position (λ s. not (is_in_range s.check)) services.now }
+    ensures in_range { IfNone result (All (λ s. HasFewAttempts s.check) services.now) }
+{
+    services
+        .iter()
+        .position(|service| !is_in_range(service.check))
+}
+
+fn is_in_range(check: CheckDraft) -> bool
+    ensures test { result ≡ is_in_range check }
+    ensures few { IsTrue result → HasFewAttempts check }
+{
+    check.check_interval <= MAX_INTERVAL
+        && check.retry_interval <= MAX_INTERVAL
+        && 1 <= check.max_check_attempts
+        && check.max_check_attempts <= MAX_ATTEMPTS
 }

@@ -1,4 +1,5 @@
-//! The setup that a scheduler works on: the hosts that are checked, their names and numbers.
+//! The setup that a scheduler works on: the hosts and services that are checked, their names and
+//! numbers, and the links between them.
 //!
 //! A setup is read from one JSON document, whole or not at all. Each fault of a document has a
 //! name of its own, and the first one, in the order of [`LoadError`], is told with its place.
@@ -9,9 +10,11 @@
 mod draft;
 mod error;
 mod fault;
+pub mod laws;
 mod numbering;
 mod object;
 mod options;
+mod order;
 mod place;
 mod setup;
 #[cfg(test)]

@@ -1,75 +1,192 @@
-//! The numbers of objects: hosts in the order of their names' bytes.
-ghost use Rattle.std.specs.Prelude.{◌≡◌, ◌≤◌, length, map, IfOk, IsOkUnless, All};
+//! The numbers of objects: hosts in the order of their names' bytes, then services in the order of
+//! their hosts' names and then of their descriptions; and the links between them by number.
+ghost use Rattle.std.specs.Prelude.{◌≡◌, ◌≤◌, ◌<◌, length, map, bytes_eq, IfOk, OnOk, IsOkUnless, All, true, false, [], ◌∷◌, ◌++◌, bytes_eq, string_bytes};
 ghost use Rattle.std.specs.BTreeMap.{btree_map_len};
-ghost use Rattle.check_objects.specs.Numbering.{named, in_name_order};
-ghost use Rattle.check_objects.specs.Drafted.{draft, HasFewAttempts};
-ghost use Rattle.check_objects.specs.Entries.{entry};
+ghost use Rattle.std.specs.List.{list_all, list_any};
+ghost use Rattle.check_objects.specs.Numbering.{hosts_in_order, services_in_order, number_in, numbered_host, numbered_service, object_of, full_name, is_host_name};
+ghost use Rattle.check_objects.specs.Drafted.{host, service, texts, HasFewAttempts};
+ghost use Rattle.check_objects.specs.Entries.{host_entry, service_entry, sorted_host, sorted_service};
+ghost use Rattle.check_objects.specs.Text.{text};
 
-use crate::draft::HostDraft;
+use crate::draft::{CheckDraft, HostDraft, ServiceDraft};
 use crate::error::LoadError;
 use crate::object::Object;
-use indexmap::IndexMap;
+use crate::tree::text;
+use indexmap::{IndexMap, IndexSet};
+use serde_json::Value;
+use smallvec::SmallVec;
 use std::alloc::Global;
 use std::collections::BTreeMap;
 
-/// The objects by name, each at the index that is its number.
-pub(crate) fn number_objects(
-    alloc: Global,
-    drafts: &[HostDraft<'_>],
-) -> Result<IndexMap<String, Object>, LoadError>
-    requires { All HasFewAttempts drafts.now }
-    ensures order { IfOk result (λ m.
-        map entry m.entries ≡ in_name_order (map named (map draft drafts.now))) }
-    ensures few { IfOk result (λ m. length m.entries ≤ length drafts.now) }
-    ensures memory { IsOkUnless result LoadError.Memory }
-{
-    let sorted = sort_by_name(alloc, drafts)?;
-    let numbered = index(alloc, sorted)?;
-    Ok(numbered)
+/// The parents of a host, by number. Most hosts have few.
+pub(crate) type Parents = SmallVec<u32, 4>;
+
+/// A host as the setup keeps it, behind its name.
+#[derive(Drop)]
+pub(crate) struct Host {
+    pub(crate) object: Object,
+    pub(crate) parents: Parents,
 }
 
-/// The objects in the order of their names' bytes.
-fn sort_by_name(
+/// A service as the setup keeps it, behind its full name.
+#[derive(Drop)]
+pub(crate) struct Service {
+    pub(crate) object: Object,
+    pub(crate) host: u32,
+}
+
+/// The hosts in the order of their names' bytes: of each the object, and its parents' names.
+pub(crate) fn sort_hosts<'v>(
     alloc: Global,
-    drafts: &[HostDraft<'_>],
-) -> Result<BTreeMap<String, Object>, LoadError>
-    requires { All HasFewAttempts drafts.now }
+    drafts: &[HostDraft<'v>],
+) -> Result<BTreeMap<&'v str, (Object, &'v [Value])>, LoadError>
+    requires { All (λ h. HasFewAttempts h.check) drafts.now }
     ensures order { IfOk result (λ m.
-        map entry m.entries ≡ in_name_order (map named (map draft drafts.now))) }
+        map sorted_host m.entries ≡ hosts_in_order (map host drafts.now)) }
     ensures few { IfOk result (λ m. btree_map_len m ≤ length drafts.now) }
     ensures memory { IsOkUnless result LoadError.Memory }
 {
-    let mut hosts = BTreeMap::new(alloc);
+    let mut sorted = BTreeMap::new(alloc);
     for draft in drafts {
-        let name = String::from_str(alloc, draft.name)?;
-        hosts.insert(name, object(draft))?;
+        sorted.insert(draft.name, (object(draft.check), draft.parents))?;
+    }
+    Ok(sorted)
+}
+
+/// The services in the order of their hosts' names and then of their descriptions.
+pub(crate) fn sort_services<'v>(
+    alloc: Global,
+    drafts: &[ServiceDraft<'v>],
+) -> Result<BTreeMap<(&'v str, &'v str), Object>, LoadError>
+    requires { All (λ s. HasFewAttempts s.check) drafts.now }
+    ensures order { IfOk result (λ m.
+        map sorted_service m.entries ≡ services_in_order (map service drafts.now)) }
+    ensures few { IfOk result (λ m. btree_map_len m ≤ length drafts.now) }
+    ensures memory { IsOkUnless result LoadError.Memory }
+{
+    let mut sorted = BTreeMap::new(alloc);
+    for draft in drafts {
+        sorted.insert((draft.host, draft.description), object(draft.check))?;
+    }
+    Ok(sorted)
+}
+
+fn object(check: CheckDraft) -> Object
+    requires { HasFewAttempts check }
+    ensures { result ≡ object_of check }
+{
+    Object {
+        check_interval: check.check_interval,
+        retry_interval: check.retry_interval,
+        max_check_attempts: check.max_check_attempts as u8,
+        enabled: check.enabled,
+    }
+}
+
+// ---- links
+
+/// The names of the hosts in order, each at the index that is its number.
+pub(crate) fn number_names<'v>(
+    alloc: Global,
+    sorted: &BTreeMap<&'v str, (Object, &'v [Value])>,
+) -> Result<IndexSet<&'v str>, LoadError>
+    ensures names { IfOk result (λ s. texts s.keys ≡ map (λ e. e.0) (map sorted_host sorted.now.entries)) }
+    ensures memory { IsOkUnless result LoadError.Memory }
+{
+    let mut names = IndexSet::with_capacity(alloc, sorted.len())?;
+    for name in sorted.keys() {
+        names.insert(*name)?;
+    }
+    Ok(names)
+}
+
+/// The number of a host among the names.
+fn number_of(names: &IndexSet<&str>, name: &str) -> u32
+    requires { length names.now.keys ≤ 4096 }
+    ensures { result ≡ number_in (texts names.now.keys) name.now }
+{
+    match names.get_index_of(name) {
+        Some(index) => index as u32,
+        None => 0,
+    }
+}
+
+/// The numbers of a host's parents.
+fn number_parents(
+    alloc: Global,
+    parents: &[Value],
+    names: &IndexSet<&str>,
+) -> Result<Parents, LoadError>
+    requires { length names.now.keys ≤ 4096 }
+    ensures numbers { IfOk result (λ v.
+        v.items ≡ map (number_in (texts names.now.keys)) (map text parents.now)) }
+    ensures memory { IsOkUnless result LoadError.Memory }
+{
+    let mut numbers = SmallVec::new(alloc);
+    for parent in parents {
+        numbers.push(number_of(names, text(parent)))?;
+    }
+    Ok(numbers)
+}
+
+// ---- names to objects
+
+/// The hosts by name, each at the index that is its number.
+pub(crate) fn index_hosts(
+    alloc: Global,
+    sorted: BTreeMap<&str, (Object, &[Value])>,
+    names: &IndexSet<&str>,
+) -> Result<IndexMap<String, Host>, LoadError>
+    requires { length names.now.keys ≤ 4096 }
+    ensures hosts { IfOk result (λ m. map host_entry m.entries
+        ≡ map (numbered_host (texts names.now.keys)) (map sorted_host sorted.entry.entries)) }
+    ensures memory { IsOkUnless result LoadError.Memory }
+{
+    let mut hosts = IndexMap::with_capacity(alloc, sorted.len())?;
+    for (name, (object, parents)) in sorted {
+        let parents = number_parents(alloc, parents, names)?;
+        let name = String::from_str(alloc, name)?;
+        append(&mut hosts, name, Host { object, parents })?;
     }
     Ok(hosts)
 }
 
-/// The same objects in the same order, by index.
-fn index(
+/// The services by full name, each at the index that is its number behind those of the hosts.
+pub(crate) fn index_services(
     alloc: Global,
-    sorted: BTreeMap<String, Object>,
-) -> Result<IndexMap<String, Object>, LoadError>
-    ensures same { IfOk result (λ m. m.entries ≡ sorted.entries) }
+    sorted: BTreeMap<(&str, &str), Object>,
+    names: &IndexSet<&str>,
+) -> Result<IndexMap<String, Service>, LoadError>
+    requires few { length names.now.keys ≤ 4096 }
+    requires parted { list_all (λ e. is_host_name e.0.0.now) sorted.entries ≡ true }
+    ensures services { IfOk result (λ m. map service_entry m.entries
+        ≡ map (numbered_service (texts names.now.keys)) (map sorted_service sorted.entry.entries)) }
     ensures memory { IsOkUnless result LoadError.Memory }
 {
-    let mut indexed = IndexMap::with_capacity(alloc, sorted.len())?;
-    for (name, object) in sorted {
-        indexed.insert(name, object)?;
+    let mut services = IndexMap::with_capacity(alloc, sorted.len())?;
+    for ((host, description), object) in sorted {
+        let name = full_name(alloc, host, description)?;
+        let host = number_of(names, host);
+        append(&mut services, name, Service { object, host })?;
     }
-    Ok(indexed)
+    Ok(services)
 }
 
-fn object(host: &HostDraft<'_>) -> Object
-    requires { HasFewAttempts host.now }
-    ensures { result ≡ (named (draft host.now)).object }
+/// Puts a new name behind those of the map.
+fn append<T: Drop>(map: &mut IndexMap<String, T>, name: String, value: T) -> Result<(), LoadError>
+    requires { list_any (λ e. bytes_eq (string_bytes name) (string_bytes e.0)) map.old.entries
+        ≡ false }
+    ensures last { OnOk result (map.new.entries ≡ map.old.entries ++ (name, value) ∷ []) }
+    ensures memory { IsOkUnless result LoadError.Memory }
 {
-    Object {
-        check_interval: host.check_interval,
-        retry_interval: host.retry_interval,
-        max_check_attempts: host.max_check_attempts as u8,
-        enabled: host.enabled,
-    }
+    map.insert(name, value)?;
+    Ok(())
+}
+
+/// The full name of a service: a semicolon parts the host's name from the description.
+fn full_name(alloc: Global, host: &str, description: &str) -> Result<String, LoadError>
+    ensures name { IfOk result (λ s. string_bytes s ≡ full_name (host.now, description.now)) }
+    ensures memory { IsOkUnless result LoadError.Memory }
+{
+    Ok(format!(in alloc; "{host};{description}")?)
 }

@@ -1,6 +1,6 @@
 //! What a setup says of one object.
 
-/// How one host is checked (manual: Service and Host Check Scheduling; State Types).
+/// How one host or service is checked (manual: Service and Host Check Scheduling; State Types).
 #[derive(Clone, Copy, Debug, PartialEq, Eq)]
 pub struct Object {
     /// From one check to the next, in units of `interval_length`, 0 to 525,600. 0 means that no

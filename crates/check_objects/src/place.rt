@@ -9,6 +9,8 @@ pub enum Part {
     Options,
     /// Its member `hosts`.
     Hosts,
+    /// Its member `services`.
+    Services,
 }
 
 /// Where a fault of the document lies.
@@ -22,7 +24,7 @@ pub struct Place {
 
 impl Place {
     ghost use Rattle.std.specs.Prelude.{◌≡◌};
-    ghost use Rattle.check_objects.specs.Place.{host_at};
+    ghost use Rattle.check_objects.specs.Place.{host_at, service_at};
 
     pub(crate) const DOCUMENT: Place = Place {
         part: Part::Document,
@@ -39,12 +41,27 @@ impl Place {
         index: None,
     };
 
+    pub(crate) const SERVICES: Place = Place {
+        part: Part::Services,
+        index: None,
+    };
+
     /// The host with this index in the document's list.
     pub(crate) fn host(index: usize) -> Place
         ensures { result ≡ host_at index }
     {
         Place {
             part: Part::Hosts,
+            index: Some(index),
+        }
+    }
+
+    /// The service with this index in the document's list.
+    pub(crate) fn service(index: usize) -> Place
+        ensures { result ≡ service_at index }
+    {
+        Place {
+            part: Part::Services,
             index: Some(index),
         }
     }

@@ -1,17 +1,24 @@
-//! The setup: the objects that are checked, with their names and numbers.
-ghost use Rattle.std.specs.Prelude.{◌≡◌, ◌<◌, ◌≤◌, length, Ok, option_map, slice_get, Err, ◌==◌, All};
-ghost use Rattle.check_objects.specs.Configuration.{object_count, objects_of, number_of, name_of};
-ghost use Rattle.check_objects.specs.Setup.{setup_of, configuration};
+//! The setup: the objects that are checked, with their names and numbers, and their links.
+ghost use Rattle.std.specs.Prelude.{◌≡◌, ◌<◌, ◌≤◌, length, map, Ok, option_map, slice_get, Some, IfSome, IfOk, IsOkUnless, Err, ◌==◌, All};
+ghost use Rattle.check_objects.specs.Configuration.{object_count, host_count, objects_of, number_of, name_of, host_of, parents_of, IsSetup};
+ghost use Rattle.check_objects.specs.Numbering.{configuration};
+ghost use Rattle.check_objects.specs.Setup.{setup_of, without_cycle};
+ghost use Rattle.check_objects.specs.Fault.{is_faultless};
 ghost use Rattle.check_objects.specs.Drafted.{HasFewAttempts};
+ghost use Rattle.check_objects.specs.Entries.{host_entry};
 ghost use Rattle.check_objects.specs.LoadError.{Gives};
 
 use crate::draft::Drafts;
 use crate::error::LoadError;
-use crate::numbering::number_objects;
+use crate::numbering::{
+    Host, Parents, Service, index_hosts, index_services, number_names, sort_hosts, sort_services,
+};
 use crate::object::Object;
 use crate::options::Options;
+use crate::order::order_by_links;
 use crate::tree::read_tree;
 use indexmap::IndexMap;
+use smallvec::SmallVec;
 use std::alloc::Global;
 use std::marker::Model;
 
@@ -19,12 +26,14 @@ const MAX_DOCUMENT_BYTES: usize = 16_777_216;
 
 /// The objects that are checked, with their names and numbers.
 ///
-/// Numbers begin at 0 and follow the bytes of the hosts' names. A setup never changes once it is
+/// Numbers begin at 0. Hosts come first, in the order of their names' bytes; then services, in the
+/// order of their hosts' names and then of their descriptions. A setup never changes once it is
 /// read. Contracts see it as a `Configuration`.
 #[derive(Drop)]
 pub struct Setup {
     options: Options,
-    hosts: IndexMap<String, Object>,
+    hosts: IndexMap<String, Host>,
+    services: IndexMap<String, Service>,
 }
 
 impl Model for Setup {
@@ -57,41 +66,64 @@ impl Setup {
         let tree = read_tree(alloc, bytes)?;
         let drafts = Drafts::read(alloc, &tree)?;
         drafts.test(alloc)?;
-        Setup::of_drafts(alloc, &drafts)
+        let setup = Setup::of_drafts(alloc, &drafts)?;
+        setup.without_cycle(alloc)
     }
 
+    /// The setup of drafts without a fault.
     fn of_drafts(alloc: Global, document: &Drafts<'_>) -> Result<Setup, LoadError>
-        requires few { length document.now.hosts.items ≤ 4096 }
-        requires in_range { All HasFewAttempts document.now.hosts.items }
-        ensures { Gives (λ s. s) result (Ok (configuration (drafts document.now))) }
+        requires faultless { is_faultless (drafts document.now) ≡ Ok tt }
+        requires hosts { All (λ h. HasFewAttempts h.check) document.now.hosts.items }
+        requires services { All (λ s. HasFewAttempts s.check) document.now.services.items }
+        ensures setup { IfOk result (λ s. s ≡ configuration (drafts document.now)) }
+        ensures memory { IsOkUnless result LoadError.Memory }
     {
-        let hosts = number_objects(alloc, &document.hosts)?;
+        let hosts = sort_hosts(alloc, &document.hosts)?;
+        let services = sort_services(alloc, &document.services)?;
+        let names = number_names(alloc, &hosts)?;
+        let hosts = index_hosts(alloc, hosts, &names)?;
+        let services = index_services(alloc, services, &names)?;
         Ok(Setup {
             options: document.options,
             hosts,
+            services,
         })
     }
 
-    /// How many objects there are, 0 to 4,096.
+    /// The setup, unless some host is its own parent through one parent or more.
+    fn without_cycle(self, alloc: Global) -> Result<Setup, LoadError>
+        ensures { Gives (λ s. s) result (without_cycle self) }
+    {
+        let links = parent_links(alloc, &self.hosts)?;
+        match order_by_links(alloc, &links)? {
+            Some(_) => Ok(self),
+            None => Err(LoadError::ParentCycle),
+        }
+    }
+
+    /// How many objects there are, 0 to 4,096. A caller learns here besides what is true of every
+    /// setup: its links are to hosts, and its numbers are within their limits.
     pub fn len(&self) -> usize
         ensures count { result ≡ object_count self.now }
         ensures few { result ≤ 4096 }
+        ensures setup { IsSetup self.now }
     {
-        self.hosts.len()
+        self.hosts.len() + self.services.len()
     }
 
     /// Whether there is no object.
     pub fn is_empty(&self) -> bool
         ensures { result ≡ (object_count self.now == 0) }
     {
-        self.hosts.is_empty()
+        self.len() == 0
     }
 
     /// How many hosts there are. They have the numbers below this one.
     pub fn hosts(&self) -> usize
-        ensures { result ≡ length self.now.hosts }
+        ensures count { result ≡ host_count self.now }
+        ensures within { result ≤ object_count self.now }
     {
-        self.len()
+        self.hosts.len()
     }
 
     /// The options, each with its default where the document has none.
@@ -101,13 +133,20 @@ impl Setup {
         &self.options
     }
 
-    /// The full name of the object with this number.
+    /// The full name of the object with this number: a host's name, or a service's
+    /// `host;description`.
     pub fn name(&self, number: u32) -> &str
         requires { number < object_count self.now }
         ensures { result.now ≡ name_of self.now number }
     {
-        let (name, _) = self.hosts.get_index(number as usize).unwrap();
-        name.as_str()
+        let index = number as usize;
+        if index < self.hosts.len() {
+            let (name, _) = self.hosts.get_index(index).unwrap();
+            name.as_str()
+        } else {
+            let (name, _) = self.services.get_index(index - self.hosts.len()).unwrap();
+            name.as_str()
+        }
     }
 
     /// How the object with this number is checked.
@@ -116,15 +155,66 @@ impl Setup {
         ensures { option_map (λ o. o.object) (slice_get (objects_of self.now) number)
             ≡ Some result.now }
     {
-        let (_, object) = self.hosts.get_index(number as usize).unwrap();
-        object
+        let index = number as usize;
+        if index < self.hosts.len() {
+            let (_, host) = self.hosts.get_index(index).unwrap();
+            &host.object
+        } else {
+            let (_, service) = self.services.get_index(index - self.hosts.len()).unwrap();
+            &service.object
+        }
     }
 
     /// The number of the object with this full name, or None where there is no such object.
     pub fn number(&self, name: &str) -> Option<u32>
         ensures { result ≡ number_of self.now name.now }
     {
-        let index = self.hosts.get_index_of(name)?;
-        Some(index as u32)
+        match self.hosts.get_index_of(name) {
+            Some(index) => Some(index as u32),
+            None => {
+                let index = self.services.get_index_of(name)?;
+                Some((self.hosts.len() + index) as u32)
+            }
+        }
     }
+
+    /// The number of the service's host, or None for a host.
+    pub fn host_of(&self, number: u32) -> Option<u32>
+        requires { number < object_count self.now }
+        ensures host { result ≡ host_of self.now number }
+        ensures within { IfSome result (λ h. h < host_count self.now) }
+    {
+        let index = number as usize;
+        if index < self.hosts.len() {
+            return None;
+        }
+        let (_, service) = self.services.get_index(index - self.hosts.len()).unwrap();
+        Some(service.host)
+    }
+
+    /// The numbers of the host's parents, in the document's order. A service has none.
+    pub fn parents(&self, number: u32) -> &[u32]
+        requires { number < object_count self.now }
+        ensures parents { result.now ≡ parents_of self.now number }
+        ensures within { All (λ p. p < host_count self.now) result.now }
+    {
+        match self.hosts.get_index(number as usize) {
+            Some((_, host)) => host.parents.as_slice(),
+            None => &[],
+        }
+    }
+}
+
+/// The parents of each host, by number.
+fn parent_links(alloc: Global, hosts: &IndexMap<String, Host>) -> Result<Vec<Parents>, LoadError>
+    ensures links { IfOk result (λ v.
+        map (λ l. l.items) v.items ≡ map (λ h. h.parents) (map host_entry hosts.now.entries)) }
+    ensures memory { IsOkUnless result LoadError.Memory }
+{
+    let mut links = Vec::with_capacity(alloc, hosts.len())?;
+    for number in 0..hosts.len() {
+        let (_, host) = hosts.get_index(number).unwrap();
+        links.push(SmallVec::from_slice(alloc, host.parents.as_slice())?)?;
+    }
+    Ok(links)
 }

@@ -90,10 +90,6 @@ fn refuses_whole_documents(rt: HostRuntime) -> Result<(), Fail> {
             r#"{"hots":[]}"#,
             LoadError::Shape(place(Part::Document, None)),
         ),
-        (
-            r#"{"services":[]}"#,
-            LoadError::Shape(place(Part::Document, None)),
-        ),
         (r#"{"hosts":5}"#, LoadError::Shape(place(Part::Hosts, None))),
         (
             r#"{"options":5}"#,
@@ -104,8 +100,8 @@ fn refuses_whole_documents(rt: HostRuntime) -> Result<(), Fail> {
             LoadError::Shape(place(Part::Options, None)),
         ),
         (
-            r#"{"options":{"interval_length":60}}"#,
-            LoadError::Shape(place(Part::Options, None)),
+            r#"{"options":{"interval_length":0}}"#,
+            LoadError::Range(place(Part::Options, None)),
         ),
         (
             r#"{"options":{"host_inter_check_delay_method":"s"}}"#,
@@ -129,7 +125,7 @@ fn refuses_lists_of_hosts(rt: HostRuntime) -> Result<(), Fail> {
             LoadError::Shape(at(0)),
         ),
         (
-            r#"[{"name":"a","max_check_attempts":3,"parents":[]}]"#,
+            r#"[{"name":"a","max_check_attempts":3,"parents":[1]}]"#,
             LoadError::Shape(at(0)),
         ),
         (
@@ -164,6 +160,110 @@ fn refuses_lists_of_hosts(rt: HostRuntime) -> Result<(), Fail> {
     Ok(())
 }
 
+/// Host h and service s of it, at 3 attempts each; what stands in the marks is the service's host.
+fn with_service(alloc: Global, host: &str, options: &str) -> Result<String, AllocError> {
+    format!(in alloc;
+        "{{\"options\":{{\"service_inter_check_delay_method\":\"n\",\"host_inter_check_delay_method\":\"n\"{options}}},\"hosts\":[{{\"name\":\"h\",\"check_interval\":0,\"max_check_attempts\":3}}],\"services\":[{{\"host\":\"{host}\",\"description\":\"s\",\"max_check_attempts\":3}}]}}"
+    )
+}
+
+#[test]
+fn reads_services_behind_the_hosts(rt: HostRuntime) -> Result<(), Fail> {
+    let alloc = rt.alloc();
+    let document = with_service(
+        alloc,
+        "h",
+        r#","interval_length":1,"use_aggressive_host_checking":true"#,
+    )?;
+    let Ok(setup) = Setup::read(alloc, document.as_bytes()) else {
+        panic!(rt; "the document was refused");
+    };
+    assert_eq!(rt; (setup.len(), setup.hosts()), (2, 1));
+    assert_eq!(rt; setup.number("h"), Some(0));
+    assert_eq!(rt; setup.number("h;s"), Some(1));
+    assert_eq!(rt; setup.number("s"), None);
+    assert_eq!(rt; setup.options().interval_length, 1);
+    assert!(rt; setup.options().use_aggressive_host_checking);
+    if setup.len() == 2 {
+        assert!(rt; setup.name(1) == "h;s");
+        assert_eq!(rt; setup.object(0).check_interval, 0);
+        assert_eq!(rt; setup.object(1).check_interval, 5);
+        assert_eq!(rt; (setup.host_of(0), setup.host_of(1)), (None, Some(0)));
+        assert!(rt; setup.parents(0).is_empty());
+        assert!(rt; setup.parents(1).is_empty());
+    }
+    Ok(())
+}
+
+#[test]
+fn numbers_services_by_host_and_description(rt: HostRuntime) -> Result<(), Fail> {
+    // By full names "a b;x" would stand before "a;y", since a space is below a semicolon.
+    let document =
+        r#"{"options":{"service_inter_check_delay_method":"n","host_inter_check_delay_method":"n"},
+        "hosts":[{"name":"a b","max_check_attempts":1},{"name":"a","max_check_attempts":1,"parents":["a b"]}],
+        "services":[{"host":"a b","description":"x","max_check_attempts":1},
+            {"host":"a","description":"z","max_check_attempts":1},
+            {"host":"a","description":"y","max_check_attempts":1}]}"#;
+    let Ok(setup) = Setup::read(rt.alloc(), document.as_bytes()) else {
+        panic!(rt; "the document was refused");
+    };
+    for (name, number) in [("a", 0), ("a b", 1), ("a;y", 2), ("a;z", 3), ("a b;x", 4)] {
+        assert_eq!(rt; setup.number(name), Some(number), "{name}");
+    }
+    assert_eq!(rt; setup.len(), 5);
+    if setup.len() == 5 {
+        assert!(rt; setup.parents(0) == [1].as_slice());
+        assert_eq!(rt; (setup.host_of(3), setup.host_of(4)), (Some(0), Some(1)));
+    }
+    Ok(())
+}
+
+#[test]
+fn refuses_services_and_links(rt: HostRuntime) -> Result<(), Fail> {
+    let alloc = rt.alloc();
+    let host = |index: usize| place(Part::Hosts, Some(index));
+    let service = |index: usize| place(Part::Services, Some(index));
+    let unknown = with_service(alloc, "x", "")?;
+    let range = with_service(alloc, "h", r#","interval_length":0"#)?;
+    let twice = with_service(
+        alloc,
+        r#"h","description":"s","max_check_attempts":1},{"host":"h"#,
+        "",
+    )?;
+    let cycle = with_hosts(
+        alloc,
+        r#"[{"name":"a","max_check_attempts":3,"parents":["b"]},{"name":"b","max_check_attempts":3,"parents":["a"]}]"#,
+    )?;
+    let own = with_hosts(
+        alloc,
+        r#"[{"name":"b","max_check_attempts":3},{"name":"a","max_check_attempts":3,"parents":["b","a"]}]"#,
+    )?;
+    let missing = with_hosts(
+        alloc,
+        r#"[{"name":"b","max_check_attempts":3},{"name":"a","max_check_attempts":3,"parents":["b","c"]}]"#,
+    )?;
+    for (document, want) in [
+        (unknown.as_str(), LoadError::UnknownHost(service(0))),
+        (range.as_str(), LoadError::Range(place(Part::Options, None))),
+        (twice.as_str(), LoadError::Duplicate(service(1))),
+        (cycle.as_str(), LoadError::ParentCycle),
+        (own.as_str(), LoadError::ParentCycle),
+        (missing.as_str(), LoadError::UnknownHost(host(1))),
+        (
+            r#"{"services":5}"#,
+            LoadError::Shape(place(Part::Services, None)),
+        ),
+        (
+            r#"{"services":[5]}"#,
+            LoadError::Shape(place(Part::Options, None)),
+        ),
+    ] {
+        let refused = Setup::read(alloc, document.as_bytes());
+        assert!(rt; matches!(&refused, Err(e) if *e == want), "{document}");
+    }
+    Ok(())
+}
+
 #[test]
 fn counts_objects_and_bytes(rt: HostRuntime) -> Result<(), Fail> {
     let alloc = rt.alloc();
@@ -178,6 +278,12 @@ fn counts_objects_and_bytes(rt: HostRuntime) -> Result<(), Fail> {
     let refused = Setup::read(alloc, &long[1..]);
     assert!(rt; matches!(&refused, Err(LoadError::NotJson)));
     Ok(())
+}
+
+/// The laws have no code; a call of one shows that there is something to call.
+#[test]
+fn laws_are_there() {
+    crate::laws::numbers_follow_names();
 }
 
 /// With an allocation refused, the answer is want of memory or the ample one.

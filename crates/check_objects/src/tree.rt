@@ -1,10 +1,11 @@
 //! Looking into the tree that `serde_json` reads from a document.
-ghost use Rattle.std.specs.Prelude.{◌≡◌, map, option_map, ok_or, string_bytes, bytes_eq};
+ghost use Rattle.std.specs.Prelude.{◌≡◌, map, option_map, ok_or, is_some, string_bytes, bytes_eq};
 ghost use Rattle.std.specs.List.{list_all, list_any};
 ghost use Rattle.std.specs.BTreeMap.{keys};
 ghost use Rattle.serde_json.specs.View.{view};
-ghost use Rattle.serde_json.specs.Find.{as_bool};
-ghost use Rattle.check_objects.specs.Tree.{tree_of, has_only, has_items, member_or, whole_number};
+ghost use Rattle.serde_json.specs.Find.{as_bool, as_str};
+ghost use Rattle.check_objects.specs.Tree.{tree_of, has_only, has_items, member_of, member_or, texts_in, whole_number};
+ghost use Rattle.check_objects.specs.Text.{text};
 ghost use Rattle.check_objects.specs.LoadError.{Gives};
 
 use crate::error::LoadError;
@@ -49,6 +50,17 @@ fn is_known(key: &str, names: &[&str]) -> bool
     names.iter().any(|name| *name == key)
 }
 
+/// A member of an object that may be absent itself.
+pub(crate) fn member<'v>(value: Option<&'v Value>, name: &str) -> Option<&'v Value>
+    ensures { option_map (λ v. view v.now) result
+        ≡ member_of name.now (option_map (λ v. view v.now) value.entry) }
+{
+    match value {
+        Some(value) => value.get(name),
+        None => None,
+    }
+}
+
 /// Whether the member is an array with an item.
 pub(crate) fn has_items(value: Option<&Value>) -> bool
     ensures { result ≡ has_items (option_map (λ v. view v.now) value.entry) }
@@ -86,4 +98,35 @@ pub(crate) fn bool_or(value: Option<&Value>, default: bool) -> Option<bool>
         Some(value) => value.as_bool(),
         None => Some(default),
     }
+}
+
+/// A member that is an array of texts; without it there are none.
+pub(crate) fn texts_in<'v>(value: Option<&'v Value>) -> Option<&'v [Value]>
+    ensures { option_map (λ items. map text items.now) result
+        ≡ texts_in (option_map (λ v. view v.now) value.entry) }
+{
+    match value {
+        Some(value) => texts(value),
+        None => Some(&[]),
+    }
+}
+
+fn texts<'v>(value: &'v Value) -> Option<&'v [Value]>
+    ensures { option_map (λ items. map text items.now) result ≡ texts_in (Some (view value.now)) }
+{
+    let items = value.as_array()?;
+    if are_texts(items) { Some(items) } else { None }
+}
+
+fn are_texts(items: &[Value]) -> bool
+    ensures { result ≡ list_all (λ v. is_some (as_str (view v))) items.now }
+{
+    items.iter().all(|item| item.as_str().is_some())
+}
+
+/// The text of a value that is one.
+pub(crate) fn text(value: &Value) -> &str
+    ensures { result.now ≡ text value.now }
+{
+    value.as_str().unwrap_or("")
 }

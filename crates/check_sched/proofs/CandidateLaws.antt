@@ -8,7 +8,7 @@ use Rattle.check_sched.specs.declared.object_state.ObjectState.{ObjectState}
 use Rattle.check_sched.specs.declared.candidate.Candidate.{Candidate}
 use Rattle.check_sched.specs.ObjectState.{candidate_time}
 use Rattle.check_sched.specs.Candidate.{candidate, candidates_among, due_among, is_before, least}
-use Rattle.check_sched.specs.State.{is_time}
+use Rattle.check_sched.specs.State.{is_time, is_moment, is_in_time}
 
 -- ---- tests
 
@@ -239,12 +239,13 @@ times_by : (k : ℕ) (t : Option ℕ) (cs : List Candidate) → is_time t ≡ tr
 times_by k None cs l e = e
 times_by k (Some t) cs l e = both_and (nat_le t (2 ^ 61)) _ l e
 
-times_from : (k : ℕ) (objects : List ObjectState) → list_all (λ o. is_time o.next) objects ≡ true → list_all (λ c. nat_le c.time (2 ^ 61)) (filter_map (λ p. candidate p.0 p.1) (enumerate_from k objects)) ≡ true
+times_from : (k : ℕ) (objects : List ObjectState) → list_all is_in_time objects ≡ true → list_all (λ c. nat_le c.time (2 ^ 61)) (filter_map (λ p. candidate p.0 p.1) (enumerate_from k objects)) ≡ true
 times_from k [] e = refl
 times_from k (o ∷ objects) e =
-    let both = and_both (is_time o.next) (list_all (λ x. is_time x.next) objects) e in
-    times_by k (candidate_time o) _ (time_by _ o.next both.0) (times_from (k + 1) objects both.1)
+    let both = and_both (is_in_time o) (list_all is_in_time objects) e in
+    let here = and_both (is_time o.next) (is_moment o.run) both.0 in
+    times_by k (candidate_time o) _ (time_by _ o.next here.0) (times_from (k + 1) objects both.1)
 
 -- where no next time is past the limit, no candidate's is
-pub candidates_times : (objects : List ObjectState) → list_all (λ o. is_time o.next) objects ≡ true → list_all (λ c. nat_le c.time (2 ^ 61)) (candidates_among objects) ≡ true
+pub candidates_times : (objects : List ObjectState) → list_all is_in_time objects ≡ true → list_all (λ c. nat_le c.time (2 ^ 61)) (candidates_among objects) ≡ true
 candidates_times objects e = times_from 0 objects e

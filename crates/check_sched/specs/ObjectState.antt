@@ -17,3 +17,7 @@ candidate_time o = if is_none o.run && (o.enabled || o.forced) then o.next else 
 -- The object is being checked: it runs, has no next time, and isn't forced any more.
 abbrev pub running_from : Run → ObjectState → ObjectState
 running_from run o = record { next = None; run = Some run; enabled = o.enabled; forced = false }
+
+-- The object isn't being checked any more, and has its next check at this time, if at all.
+abbrev pub ended : Option ℕ → ObjectState → ObjectState
+ended next o = record { next = next; run = None; enabled = o.enabled; forced = o.forced }

@@ -1,8 +1,13 @@
 -- The state of a scheduler as contracts see it, and the state that it opens with.
-use Rattle.std.specs.Prelude.{ℕ, ◌^◌, ◌≤◌, ◌≡◌, ◌&&◌, ◌==◌, Bool, true, not, List, length, map, Option, Some, None, option_map, option_and_then, slice_get, nat_le, if◌then◌else◌}
+use Rattle.std.specs.Prelude.{ℕ, zero, suc, ◌+◌, ◌^◌, ◌≤◌, ◌≡◌, ◌&&◌, ◌==◌, Bool, true, false, not, List, [], ◌∷◌, length, map, Option, Some, None, option_map, option_and_then, slice_get, nat_le, nat_lt, unwrap_or, if◌then◌else◌}
 use Rattle.std.specs.List.{list_all, enumerate_from}
+use Rattle.std.specs.Option.{option_map_or}
 use Rattle.check_objects.specs.declared.object.Object.{Object}
-use Rattle.check_objects.specs.Configuration.{Configuration, objects_of, object_count}
+use Rattle.check_objects.specs.Configuration.{Configuration, objects_of, object_count, host_count, IsSetup}
+use Rattle.check_rules.specs.declared.standing.Standing.{Standing}
+use Rattle.check_rules.specs.State.{is_host_state}
+use Rattle.check_rules.specs.Standing.{pending_standing, is_lawful}
+use Rattle.check_sched.specs.declared.object_state.Run.{Run}
 use Rattle.check_sched.specs.declared.object_state.ObjectState.{ObjectState}
 use Rattle.check_sched.specs.ObjectState.{opening_object}
 
@@ -10,8 +15,10 @@ pub record State : Type 0 where
   pub setup : Configuration
   -- the moment at which scheduling started
   pub start : ℕ
-  -- by number
+  -- the scheduling of each object, by number
   pub objects : List ObjectState
+  -- what is known of each object, by number
+  pub standings : List Standing
   -- how many runs were handed out
   pub runs : ℕ
 
@@ -22,6 +29,18 @@ next_of number s = option_and_then (λ o. o.next) (slice_get s.objects number)
 -- the number of the run of the object with this number, if it is being checked
 abbrev pub run_number_of : ℕ → State → Option ℕ
 run_number_of number s = option_map (λ r. r.number) (option_and_then (λ o. o.run) (slice_get s.objects number))
+
+-- what is known of the object with this number
+abbrev pub standing_at : List Standing → ℕ → Standing
+standing_at standings number = unwrap_or (slice_get standings number) (pending_standing true)
+
+-- whether the object with this number is a host: hosts have the first numbers
+abbrev pub is_host : Configuration → ℕ → Bool
+is_host setup number = nat_lt number (host_count setup)
+
+-- the maximum of check attempts of the object with this number
+abbrev pub max_attempts_of : Configuration → ℕ → ℕ
+max_attempts_of setup number = option_map_or (λ o. o.object.max_check_attempts) (slice_get (objects_of setup) number) 1
 
 -- ---- the opening
 
@@ -39,9 +58,13 @@ opening_time setup start number = option_and_then (λ o. if is_scheduled o.objec
 abbrev pub opening_objects : Configuration → ℕ → List ObjectState
 opening_objects setup start = map (λ p. opening_object (opening_time setup start p.0) p.1.object.enabled) (enumerate_from 0 (objects_of setup))
 
+-- no object was ever checked
+abbrev pub opening_standings : Configuration → List Standing
+opening_standings setup = map (λ p. pending_standing (is_host setup p.0)) (enumerate_from 0 (objects_of setup))
+
 -- the state that a scheduler opens with: no run was handed out
 abbrev pub opening : Configuration → ℕ → State
-opening setup start = record { setup = setup; start = start; objects = opening_objects setup start; runs = 0 }
+opening setup start = record { setup = setup; start = start; objects = opening_objects setup start; standings = opening_standings setup; runs = 0 }
 
 -- ---- what is true of every scheduler
 
@@ -50,9 +73,26 @@ abbrev pub is_time : Option ℕ → Bool
 is_time None = true
 is_time (Some time) = nat_le time (2 ^ 61)
 
+-- a run, if there is one, began at 2^60 milliseconds at the latest
+abbrev pub is_moment : Option Run → Bool
+is_moment None = true
+is_moment (Some run) = nat_le run.start (2 ^ 60)
+
+-- the next time of an object, and the start of its run, are within their limits
+abbrev pub is_in_time : ObjectState → Bool
+is_in_time o = is_time o.next && is_moment o.run
+
+-- the object with this number can have this standing: it is lawful for the object's maximum of
+-- attempts, and its state is one of hosts where the object is a host
+pub record IsStandingOf (setup : Configuration) (number : ℕ) (standing : Standing) : Type 0 where
+  pub lawful : is_lawful standing (max_attempts_of setup number) ≡ true
+  pub sort : is_host_state standing.state ≡ is_host setup number
+
 -- what is true of every state that a scheduler can be in
 pub record IsState (s : State) : Type 0 where
+  pub valid_setup : IsSetup s.setup
   pub one_each : length s.objects ≡ object_count s.setup
-  pub few : object_count s.setup ≤ 4096
+  pub one_standing_each : length s.standings ≡ object_count s.setup
   pub runs : s.runs ≤ 2 ^ 60
-  pub times : list_all (λ o. is_time o.next) s.objects ≡ true
+  pub times : list_all is_in_time s.objects ≡ true
+  pub standings : (number : ℕ) (standing : Standing) → slice_get s.standings number ≡ Some standing → IsStandingOf s.setup number standing

@@ -8,12 +8,13 @@
 //!
 //! The modules, from what a caller says to how it is answered: `call` has the calls and their
 //! replies, `object_state` what is kept of one object, `candidate` the search for the object that
-//! is checked next, `sched` the scheduler.
+//! is checked next, `report` what the result of a check makes of an object, `sched` the scheduler.
 #![tactic(auto)]
 
 mod call;
 mod candidate;
 mod object_state;
+mod report;
 mod sched;
 #[cfg(test)]
 mod tests;

@@ -20,7 +20,7 @@ pub(crate) struct ObjectState {
 
 impl ObjectState {
     ghost use Rattle.std.specs.Prelude.{◌≡◌};
-    ghost use Rattle.check_sched.specs.ObjectState.{candidate_time, opening_object, running_from};
+    ghost use Rattle.check_sched.specs.ObjectState.{candidate_time, ended, opening_object, running_from};
 
     /// The state of an object when scheduling starts: its first check is at `first`, it doesn't
     /// run, it is enabled as the setup says, and nothing is forced.
@@ -54,5 +54,13 @@ impl ObjectState {
         self.next = None;
         self.run = Some(run);
         self.forced = false;
+    }
+
+    /// Ends the run: the object has its next check at `next`, if at all.
+    pub(crate) fn end_run(&mut self, next: Option<u64>)
+        ensures { self.new ≡ ended next self.old }
+    {
+        self.next = next;
+        self.run = None;
     }
 }

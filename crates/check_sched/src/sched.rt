@@ -1,15 +1,26 @@
 //! The scheduler: its calls, and what can be read of it between them.
 
 ghost use Rattle.std.specs.Prelude.{◌≡◌, ◌<◌, ◌≤◌, ◌^◌, IfSome, IfOk, IfErr, OnOk};
-ghost use Rattle.check_objects.specs.Configuration.{object_count};
-ghost use Rattle.check_sched.specs.State.{opening, opening_objects, opening_time, next_of, run_number_of};
+ghost use Rattle.check_objects.specs.Configuration.{IsSetup, object_count};
+ghost use Rattle.check_sched.specs.State.{
+  IsStandingOf,
+  next_of,
+  opening,
+  opening_objects,
+  opening_standings,
+  opening_time,
+  run_number_of,
+  standing_at,
+};
 ghost use Rattle.check_sched.specs.Step.{step};
 ghost use Rattle.check_sched.specs.Reply.{OnRefused, NamesObjectOf, TellsTimesUpTo};
 
 use crate::call::{Call, Refusal, Reply};
 use crate::candidate::least_candidate;
 use crate::object_state::{ObjectState, Run};
+use crate::report::{is_changed, judged, next_after};
 use check_objects::Setup;
+use check_rules::{Code, Standing, pending};
 use std::alloc::{AllocError, Global};
 use std::marker::Model;
 
@@ -26,6 +37,7 @@ pub struct Sched {
     setup: Setup,
     start: u64,
     objects: Vec<ObjectState>,
+    standings: Vec<Standing>,
     runs: u64,
 }
 
@@ -54,15 +66,19 @@ impl Sched {
         ensures ok { IfOk result (λ scheduler. scheduler ≡ opening setup start) }
         ensures err { IfErr result (λ handed_back. handed_back ≡ setup) }
     {
-        match opening_objects(alloc, &setup, start) {
-            Ok(objects) => Ok(Sched {
-                setup,
-                start,
-                objects,
-                runs: 0,
-            }),
-            Err(AllocError) => Err(setup),
-        }
+        let Ok(objects) = opening_objects(alloc, &setup, start) else {
+            return Err(setup);
+        };
+        let Ok(standings) = opening_standings(alloc, &setup) else {
+            return Err(setup);
+        };
+        Ok(Sched {
+            setup,
+            start,
+            objects,
+            standings,
+            runs: 0,
+        })
     }
 
     /// Answers one call and moves the scheduler on, as `step` says. It needs no memory.
@@ -83,6 +99,7 @@ impl Sched {
     {
         match call {
             Call::Take { now } => self.take(now),
+            Call::Report { object, run, code } => self.report(object, run, code),
         }
     }
 
@@ -121,6 +138,36 @@ impl Sched {
         }
     }
 
+    /// Takes the result of a run, which ends: the object's standing and next time follow from it.
+    fn report(&mut self, object: u32, run: u64, code: Code) -> Reply
+        ensures state { self.new ≡ (step self.old (Call.Report object run code)).0 }
+        ensures reply { result ≡ (step self.old (Call.Report object run code)).1 }
+        ensures times { TellsTimesUpTo (2 ^ 61) result }
+    {
+        let index = object as usize;
+        if index >= self.objects.len() {
+            return Reply::Refused(Refusal::UnknownObject);
+        }
+        let state = self.objects[index];
+        let Some(running) = state.run else {
+            return Reply::Refused(Refusal::NotRunning);
+        };
+        if running.number != run {
+            return Reply::Refused(Refusal::WrongRun);
+        }
+        let before = self.standings[index];
+        let standing = judged(&self.setup, &self.standings, object, code);
+        let changed = is_changed(before, standing);
+        let next = next_after(&self.setup, object, standing, running.start, state.next);
+        self.objects[index].end_run(next);
+        self.standings[index] = standing;
+        Reply::Standing {
+            standing,
+            changed,
+            next,
+        }
+    }
+
     /// The setup that the scheduler was made from.
     pub fn setup(&self) -> &Setup
         ensures { result.now ≡ self.now.setup }
@@ -133,6 +180,15 @@ impl Sched {
         ensures { result ≡ self.now.start }
     {
         self.start
+    }
+
+    /// What is known of the object with this number: its state, kind and attempt.
+    pub fn standing(&self, number: u32) -> Standing
+        requires { number < object_count self.now.setup }
+        ensures value { result ≡ standing_at self.now.standings number }
+        ensures lawful { IsStandingOf self.now.setup number result }
+    {
+        self.standings[number as usize]
     }
 
     /// The time of the next check of the object with this number, in milliseconds, or None where
@@ -158,7 +214,7 @@ impl Sched {
 /// The state of each object of the setup when scheduling starts, by number.
 fn opening_objects(alloc: Global, setup: &Setup, start: u64) -> Result<Vec<ObjectState>, AllocError>
     ensures items { IfOk result (λ objects. objects.items ≡ opening_objects setup.now start) }
-    ensures few { OnOk result (object_count setup.now ≤ 4096) }
+    ensures valid_setup { OnOk result (IsSetup setup.now) }
 {
     let count = setup.len();
     let mut objects = Vec::with_capacity(alloc, count)?;
@@ -182,4 +238,16 @@ fn opening_time(setup: &Setup, start: u64, number: u32) -> Option<u64>
     } else {
         None
     }
+}
+
+/// What is known of each object when scheduling starts, by number: none was ever checked.
+fn opening_standings(alloc: Global, setup: &Setup) -> Result<Vec<Standing>, AllocError>
+    ensures { IfOk result (λ standings. standings.items ≡ opening_standings setup.now) }
+{
+    let count = setup.len();
+    let mut standings = Vec::with_capacity(alloc, count)?;
+    for index in 0..count {
+        standings.push(pending(index < setup.hosts()))?;
+    }
+    Ok(standings)
 }

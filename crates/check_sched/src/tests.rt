@@ -6,16 +6,37 @@ ghost use Rattle.std.specs.Prelude.{◌≤◌, ◌^◌};
 
 use crate::{Call, Refusal, Reply, Sched};
 use check_objects::{LoadError, Setup};
+use check_rules::{Code, Kind, Standing, State, pending};
 use std::alloc::Global;
+use std::process::Abort;
 use std::test::Fail;
 
-const ONE_HOST: &[u8] =
-    b"{\"options\":{\"host_inter_check_delay_method\":\"n\"},\"hosts\":[{\"name\":\"h\",\"max_check_attempts\":3}]}";
+const ONE_HOST: &[u8] = br#"{"options":{"host_inter_check_delay_method":"n"},"hosts":[{"name":"h","max_check_attempts":3}]}"#;
+
+/// The same, where a code 1 of a host is a problem.
+const ONE_AGGRESSIVE_HOST: &[u8] = br#"{"options":{"host_inter_check_delay_method":"n","use_aggressive_host_checking":true},"hosts":[{"name":"h","max_check_attempts":3}]}"#;
 
 /// Four hosts, in the order of their numbers: `a` and `d` are scheduled, `b` has the check interval
 /// 0, `c` is disabled.
-const FOUR_HOSTS: &[u8] =
-    b"{\"options\":{\"host_inter_check_delay_method\":\"n\"},\"hosts\":[{\"name\":\"d\",\"max_check_attempts\":3},{\"name\":\"b\",\"check_interval\":0,\"max_check_attempts\":3},{\"name\":\"c\",\"max_check_attempts\":3,\"enabled\":false},{\"name\":\"a\",\"max_check_attempts\":3}]}";
+const FOUR_HOSTS: &[u8] = br#"{"options":{"host_inter_check_delay_method":"n"},"hosts":[{"name":"d","max_check_attempts":3},{"name":"b","check_interval":0,"max_check_attempts":3},{"name":"c","max_check_attempts":3,"enabled":false},{"name":"a","max_check_attempts":3}]}"#;
+
+/// Host 0, which is never due, and its service 1, with 3 attempts, 5 minutes and 1 minute.
+const ONE_SERVICE: &[u8] = br#"{"options":{"service_inter_check_delay_method":"n","host_inter_check_delay_method":"n"},"hosts":[{"name":"h","check_interval":0,"max_check_attempts":3}],"services":[{"host":"h","description":"s","max_check_attempts":3}]}"#;
+
+/// The same, with a second as the unit of intervals.
+const ONE_SERVICE_IN_SECONDS: &[u8] = br#"{"options":{"interval_length":1,"service_inter_check_delay_method":"n","host_inter_check_delay_method":"n"},"hosts":[{"name":"h","check_interval":0,"max_check_attempts":3}],"services":[{"host":"h","description":"s","max_check_attempts":3}]}"#;
+
+/// The same, with a check interval of 1 minute.
+const ONE_SERVICE_EACH_MINUTE: &[u8] = br#"{"options":{"service_inter_check_delay_method":"n","host_inter_check_delay_method":"n"},"hosts":[{"name":"h","check_interval":0,"max_check_attempts":3}],"services":[{"host":"h","description":"s","max_check_attempts":3,"check_interval":1}]}"#;
+
+/// The same, with a single attempt of the service.
+const ONE_ATTEMPT: &[u8] = br#"{"options":{"service_inter_check_delay_method":"n","host_inter_check_delay_method":"n"},"hosts":[{"name":"h","check_interval":0,"max_check_attempts":3}],"services":[{"host":"h","description":"s","max_check_attempts":1}]}"#;
+
+/// A host that is checked and its service, with 4 attempts each.
+const HOST_AND_SERVICE: &[u8] = br#"{"options":{"service_inter_check_delay_method":"n","host_inter_check_delay_method":"n"},"hosts":[{"name":"h","check_interval":5,"max_check_attempts":4}],"services":[{"host":"h","description":"s","max_check_attempts":4}]}"#;
+
+/// Host 0 behind its parent, host 1.
+const BEHIND_A_PARENT: &[u8] = br#"{"options":{"host_inter_check_delay_method":"n"},"hosts":[{"name":"h","parents":["p"],"max_check_attempts":3},{"name":"p","max_check_attempts":3}]}"#;
 
 const LAST_MOMENT: u64 = 1_152_921_504_606_846_976;
 
@@ -32,11 +53,44 @@ fn opened(alloc: Global, document: &[u8], start: u64) -> Result<Sched, Fail>
     let setup = setup_of(alloc, document)?;
     match Sched::new(alloc, setup, start) {
         Ok(scheduler) => Ok(scheduler),
-        Err(setup) => Ok(
-            Sched::new(alloc, setup, start)
-                .ok()
-                .ok_or("no memory twice")?,
-        ),
+        Err(setup) => Ok(Sched::new(alloc, setup, start)
+            .ok()
+            .ok_or("no memory twice")?),
+    }
+}
+
+/// Makes each call on a scheduler that starts at 0, and compares the replies.
+fn answers_as(rt: &impl Abort, alloc: Global, document: &[u8], calls: &[(Call, Reply)]) -> Result<(), Fail> {
+    let mut scheduler = opened(alloc, document, 0)?;
+    for (call, want) in calls {
+        assert_eq!(rt; scheduler.apply(*call), *want, "{call:?}");
+    }
+    Ok(())
+}
+
+fn report(object: u32, run: u64, code: Code) -> Call {
+    Call::Report { object, run, code }
+}
+
+/// The reply to a result; `last_hard` is that of the new standing.
+fn standing(
+    state: State,
+    kind: Kind,
+    attempt: u8,
+    last_hard: State,
+    changed: bool,
+    next: Option<u64>,
+) -> Reply {
+    Reply::Standing {
+        standing: Standing {
+            checked: true,
+            state,
+            kind,
+            attempt,
+            last_hard,
+        },
+        changed,
+        next,
     }
 }
 
@@ -49,26 +103,17 @@ fn opens_with_ample_memory(rt: HostRuntime) -> Result<(), Fail> {
 
 #[test]
 fn takes_a_host_once(rt: HostRuntime) -> Result<(), Fail> {
-    let mut scheduler = opened(rt.alloc(), ONE_HOST, 0)?;
-    assert_eq!(rt;
-        scheduler.apply(Call::Take { now: 0 }),
-        Reply::Taken { object: 0, run: 1 }
-    );
-    assert_eq!(rt;
-        scheduler.apply(Call::Take { now: 0 }),
-        Reply::Idle { next: None }
-    );
-    Ok(())
+    let calls = [
+        (Call::Take { now: 0 }, Reply::Taken { object: 0, run: 1 }),
+        (Call::Take { now: 0 }, Reply::Idle { next: None }),
+    ];
+    answers_as(&rt, rt.alloc(), ONE_HOST, &calls)
 }
 
 #[test]
 fn an_empty_setup_is_idle(rt: HostRuntime) -> Result<(), Fail> {
-    let mut scheduler = opened(rt.alloc(), b"{}", 0)?;
-    assert_eq!(rt;
-        scheduler.apply(Call::Take { now: 0 }),
-        Reply::Idle { next: None }
-    );
-    Ok(())
+    let calls = [(Call::Take { now: 0 }, Reply::Idle { next: None })];
+    answers_as(&rt, rt.alloc(), b"{}", &calls)
 }
 
 #[test]
@@ -91,7 +136,6 @@ fn takes_equal_times_by_number(rt: HostRuntime) -> Result<(), Fail> {
 fn tells_what_it_holds(rt: HostRuntime) -> Result<(), Fail> {
     let mut scheduler = opened(rt.alloc(), FOUR_HOSTS, 1000)?;
     assert_eq!(rt; scheduler.start(), 1000);
-    assert_eq!(rt; scheduler.setup().len(), 4);
     let taken = scheduler.apply(Call::Take { now: 2000 });
     assert_eq!(rt; taken, Reply::Taken { object: 0, run: 1 });
     assert_eq!(rt; scheduler.setup().len(), 4);
@@ -101,12 +145,143 @@ fn tells_what_it_holds(rt: HostRuntime) -> Result<(), Fail> {
         (2, None, None),
         (3, Some(1000), None),
     ] {
-        assert_eq!(rt;
-            scheduler.next_of(number),
-            next,
-            "the next time of {number}"
-        );
+        assert_eq!(rt; scheduler.next_of(number), next, "the next time of {number}");
         assert_eq!(rt; scheduler.running(number), run, "the run of {number}");
+        assert_eq!(rt; scheduler.standing(number), pending(true), "{number}");
     }
     Ok(())
+}
+
+#[test]
+fn results_of_a_service(rt: HostRuntime) -> Result<(), Fail> {
+    use Kind::{Hard, Soft};
+    use State::{Critical, Ok, Unknown, Warning};
+    let mut scheduler = opened(rt.alloc(), ONE_SERVICE_EACH_MINUTE, 0)?;
+    let mut run = 0;
+    for (code, state, kind, attempt, last_hard, changed) in [
+        (Code::Ok, Ok, Hard, 1, Ok, false),
+        (Code::Critical, Critical, Soft, 1, Ok, true),
+        (Code::Warning, Warning, Soft, 2, Ok, true),
+        (Code::Critical, Critical, Hard, 3, Critical, true),
+        (Code::Warning, Warning, Hard, 3, Warning, true),
+        (Code::Warning, Warning, Hard, 3, Warning, false),
+        (Code::Ok, Ok, Hard, 1, Ok, true),
+        (Code::Ok, Ok, Hard, 1, Ok, false),
+        (Code::Unknown, Unknown, Soft, 1, Ok, true),
+        (Code::Ok, Ok, Soft, 2, Ok, true),
+        (Code::Ok, Ok, Hard, 1, Ok, false),
+    ] {
+        assert!(rt; run < 11);
+        let now = 60_000 * run;
+        run += 1;
+        let taken = scheduler.apply(Call::Take { now });
+        assert_eq!(rt; taken, Reply::Taken { object: 1, run });
+        let want = standing(state, kind, attempt, last_hard, changed, Some(now + 60_000));
+        assert_eq!(rt; scheduler.apply(report(1, run, code)), want, "run {run}");
+    }
+    Result::Ok(())
+}
+
+#[test]
+fn a_single_attempt_is_hard_at_once(rt: HostRuntime) -> Result<(), Fail> {
+    use State::Critical;
+    let calls = [
+        (Call::Take { now: 0 }, Reply::Taken { object: 1, run: 1 }),
+        (
+            report(1, 1, Code::Critical),
+            standing(Critical, Kind::Hard, 1, Critical, true, Some(300_000)),
+        ),
+    ];
+    answers_as(&rt, rt.alloc(), ONE_ATTEMPT, &calls)
+}
+
+#[test]
+fn a_service_of_a_host_that_is_down(rt: HostRuntime) -> Result<(), Fail> {
+    use State::{Critical, Down, Up};
+    let calls = [
+        (Call::Take { now: 0 }, Reply::Taken { object: 0, run: 1 }),
+        (
+            report(0, 1, Code::Critical),
+            standing(Down, Kind::Soft, 1, Up, true, Some(60_000)),
+        ),
+        (Call::Take { now: 0 }, Reply::Taken { object: 1, run: 2 }),
+        (
+            report(1, 2, Code::Critical),
+            standing(Critical, Kind::Hard, 4, Critical, true, Some(300_000)),
+        ),
+    ];
+    answers_as(&rt, rt.alloc(), HOST_AND_SERVICE, &calls)
+}
+
+#[test]
+fn a_host_behind_a_parent_that_is_down(rt: HostRuntime) -> Result<(), Fail> {
+    use Kind::Soft;
+    use State::{Down, Unreachable, Up};
+    let calls = [
+        (Call::Take { now: 0 }, Reply::Taken { object: 0, run: 1 }),
+        (Call::Take { now: 0 }, Reply::Taken { object: 1, run: 2 }),
+        (
+            report(1, 2, Code::Critical),
+            standing(Down, Soft, 1, Up, true, Some(60_000)),
+        ),
+        (
+            report(0, 1, Code::Critical),
+            standing(Unreachable, Soft, 1, Up, true, Some(60_000)),
+        ),
+        (Call::Take { now: 60_000 }, Reply::Taken { object: 0, run: 3 }),
+        (
+            report(0, 3, Code::Warning),
+            standing(Up, Soft, 2, Up, true, Some(360_000)),
+        ),
+    ];
+    answers_as(&rt, rt.alloc(), BEHIND_A_PARENT, &calls)
+}
+
+#[test]
+fn a_warning_of_a_host(rt: HostRuntime) -> Result<(), Fail> {
+    use State::{Down, Up};
+    let taken = (Call::Take { now: 0 }, Reply::Taken { object: 0, run: 1 });
+    let down = standing(Down, Kind::Soft, 1, Up, true, Some(60_000));
+    let calls = [taken, (report(0, 1, Code::Warning), down)];
+    answers_as(&rt, rt.alloc(), ONE_AGGRESSIVE_HOST, &calls)?;
+    let up = standing(Up, Kind::Hard, 1, Up, false, Some(300_000));
+    let calls = [taken, (report(0, 1, Code::Warning), up)];
+    answers_as(&rt, rt.alloc(), ONE_HOST, &calls)
+}
+
+#[test]
+fn intervals_count_in_units(rt: HostRuntime) -> Result<(), Fail> {
+    use State::{Critical, Ok};
+    let calls = [
+        (Call::Take { now: 0 }, Reply::Taken { object: 1, run: 1 }),
+        (
+            report(1, 1, Code::Critical),
+            standing(Critical, Kind::Soft, 1, Ok, true, Some(1000)),
+        ),
+    ];
+    answers_as(&rt, rt.alloc(), ONE_SERVICE_IN_SECONDS, &calls)
+}
+
+#[test]
+fn refuses_results_that_nobody_awaits(rt: HostRuntime) -> Result<(), Fail> {
+    use State::Ok;
+    let fine = standing(Ok, Kind::Hard, 1, Ok, false, Some(300_000));
+    let calls = [
+        (
+            report(2, 1, Code::Ok),
+            Reply::Refused(Refusal::UnknownObject),
+        ),
+        (report(1, 1, Code::Ok), Reply::Refused(Refusal::NotRunning)),
+        (Call::Take { now: 0 }, Reply::Taken { object: 1, run: 1 }),
+        (report(1, 1, Code::Ok), fine),
+        (report(1, 1, Code::Ok), Reply::Refused(Refusal::NotRunning)),
+        (
+            Call::Take { now: 300_000 },
+            Reply::Taken { object: 1, run: 2 },
+        ),
+        (report(1, 1, Code::Critical), Reply::Refused(Refusal::WrongRun)),
+        (report(1, 3, Code::Critical), Reply::Refused(Refusal::WrongRun)),
+        (Call::Take { now: 300_000 }, Reply::Idle { next: None }),
+    ];
+    answers_as(&rt, rt.alloc(), ONE_SERVICE, &calls)
 }

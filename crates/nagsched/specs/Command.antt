@@ -4,6 +4,9 @@ use Rattle.std.specs.List.{list_all}
 use Rattle.serde_json.specs.Data.{Data, Items, no_items, item}
 use Rattle.serde_json.specs.Find.{as_array, as_str}
 use Rattle.check_objects.specs.Tree.{tree_of, whole_number}
+use Rattle.check_objects.specs.Configuration.{Configuration, number_of}
+use Rattle.check_rules.specs.declared.state.Code.{Code}
+use Rattle.check_rules.specs.declared.state.Code.TheVariants as code
 use Rattle.check_sched.specs.declared.call.Call.{Call}
 use Rattle.check_sched.specs.declared.call.Call.TheVariants as call
 use Rattle.nagsched.specs.declared.refusal.LineFault.{LineFault}
@@ -32,25 +35,43 @@ abbrev pub take_call : Items → Result Call LineFault
 take_call (item now no_items) = take_at (whole_number now)
 take_call members = Err fault.Shape
 
+-- a plugin's return code, 0 to 3
+abbrev pub code_of : ℕ → Option Code
+code_of number = if number == 0 then Some code.Ok else (if number == 1 then Some code.Warning
+    else (if number == 2 then Some code.Critical else (if number == 3 then Some code.Unknown else None)))
+
+-- a report of these members, each None where it is of the wrong kind: first the kinds, then the return code, then the
+-- name
+abbrev pub report_of : Configuration → Option (List ℕ) → Option ℕ → Option ℕ → Result Call LineFault
+report_of c (Some name) (Some run) (Some number) = ok_or (code_of number) fault.Code >>= λ code.
+    (ok_or (number_of c name) fault.UnknownName >>= λ object. Ok (call.Report object run code))
+report_of c name run number = Err fault.Shape
+
+-- `["report",name,run,code]`: the check of the object `name` that runs under the number `run` returned `code`
+abbrev pub report_call : Configuration → Items → Result Call LineFault
+report_call c (item name (item run (item number no_items))) = report_of c (as_str name) (whole_number run) (whole_number number)
+report_call c members = Err fault.Shape
+
 -- ---- the call of a tree
 
 -- the call of a word with these members after it
-abbrev pub call_by : Option (List ℕ) → Items → Result Call LineFault
-call_by (Some word) members = if bytes_eq word (codes "take") then take_call members else Err fault.Shape
-call_by None members = Err fault.Shape
+abbrev pub call_by : Configuration → Option (List ℕ) → Items → Result Call LineFault
+call_by c (Some word) members = if bytes_eq word (codes "take") then take_call members
+    else (if bytes_eq word (codes "report") then report_call c members else Err fault.Shape)
+call_by c None members = Err fault.Shape
 
 -- the call of an array's members, the word first
-abbrev pub call_in : Items → Result Call LineFault
-call_in no_items = Err fault.Shape
-call_in (item word members) = call_by (as_str word) members
+abbrev pub call_in : Configuration → Items → Result Call LineFault
+call_in c no_items = Err fault.Shape
+call_in c (item word members) = call_by c (as_str word) members
 
-abbrev pub call_of_array : Option Items → Result Call LineFault
-call_of_array (Some items) = call_in items
-call_of_array None = Err fault.Shape
+abbrev pub call_of_array : Configuration → Option Items → Result Call LineFault
+call_of_array c (Some items) = call_in c items
+call_of_array c None = Err fault.Shape
 
--- the call that a tree is
-abbrev pub call_of : Data → Result Call LineFault
-call_of d = call_of_array (as_array d)
+-- the call that a tree is, over this setup
+abbrev pub call_of : Configuration → Data → Result Call LineFault
+call_of c d = call_of_array c (as_array d)
 
 -- ---- the call of a line
 
@@ -59,8 +80,7 @@ abbrev pub at_line : {A : Type 0} → ℕ → Result A LineFault → Result A In
 at_line n (Ok x) = Ok x
 at_line n (Err e) = Err (refusal.Line e n)
 
--- the call of the line with number n, or its first fault: too long, then no JSON, then another
--- shape
-unfoldable pub command_of : ℕ → List ℕ → Result Call InputRefusal
-command_of n line = if nat_lt 4096 (length line) then Err (refusal.Line fault.TooLong n)
-    else (ok_or (tree_of line) (refusal.Line fault.NotJson n) >>= λ d. at_line n (call_of d))
+-- the call of the line with number n, or its first fault: too long, then no JSON, then those of the command
+unfoldable pub command_of : Configuration → ℕ → List ℕ → Result Call InputRefusal
+command_of c n line = if nat_lt 4096 (length line) then Err (refusal.Line fault.TooLong n)
+    else (ok_or (tree_of line) (refusal.Line fault.NotJson n) >>= λ d. at_line n (call_of c d))

@@ -16,10 +16,10 @@ pub record Script : Type 0 where
   pub calls : List Call
 
 -- The calls of the lines, which count from n on. A blank line is passed over, but counted.
-abbrev pub calls_from : ℕ → List (List ℕ) → Result (List Call) InputRefusal
-calls_from n [] = Ok []
-calls_from n (line ∷ lines) = if is_blank line then calls_from (n + 1) lines
-    else (command_of n line >>= λ first. (calls_from (n + 1) lines >>= λ more. Ok (first ∷ more)))
+abbrev pub calls_from : Configuration → ℕ → List (List ℕ) → Result (List Call) InputRefusal
+calls_from c n [] = Ok []
+calls_from c n (line ∷ lines) = if is_blank line then calls_from c (n + 1) lines
+    else (command_of c n line >>= λ first. (calls_from c (n + 1) lines >>= λ more. Ok (first ∷ more)))
 
 -- a refusal of the setup document as a refusal of the input
 abbrev pub in_setup : Result Configuration LoadError → Result Configuration InputRefusal
@@ -29,7 +29,7 @@ in_setup (Err e) = Err (refusal.Setup e)
 -- Line 1 is the setup document, whole, and every later line a command.
 abbrev pub script_in : List (List ℕ) → Result Script InputRefusal
 script_in [] = in_setup (setup_of []) >>= λ c. Ok (record { setup = c; calls = [] })
-script_in (line ∷ lines) = in_setup (setup_of line) >>= λ c. (calls_from 2 lines >>= λ cs. Ok (record { setup = c; calls = cs }))
+script_in (line ∷ lines) = in_setup (setup_of line) >>= λ c. (calls_from c 2 lines >>= λ cs. Ok (record { setup = c; calls = cs }))
 
 -- the script of an input, whose length is tested before all else
 unfoldable pub script_of : List ℕ → Result Script InputRefusal

@@ -1,13 +1,20 @@
 -- The text that a run writes: a function of the start and of the input. The words of each line are
 -- said once, here.
-use Rattle.std.specs.Prelude.{ℕ, List, [], ◌∷◌, ◌++◌, Option, Some, None, Result, Ok, Err, codes, decimal, flat_map}
+use Rattle.std.specs.Prelude.{ℕ, Bool, true, false, if◌then◌else◌, List, [], ◌∷◌, ◌++◌, Option, Some, None, Result, Ok, Err, codes, decimal, flat_map}
+use Rattle.std.specs.List.{zip}
 use Rattle.check_objects.specs.Configuration.{Configuration, name_of}
 use Rattle.check_objects.specs.declared.error.LoadError.{LoadError}
 use Rattle.check_objects.specs.declared.error.LoadError.TheVariants as load
 use Rattle.check_objects.specs.declared.place.Place.{Place}
 use Rattle.check_objects.specs.declared.place.Part.{Part}
 use Rattle.check_objects.specs.declared.place.Part.TheVariants as part
+use Rattle.check_rules.specs.declared.standing.Kind.{Kind}
+use Rattle.check_rules.specs.declared.standing.Kind.TheVariants as kind
+use Rattle.check_rules.specs.declared.standing.Standing.{Standing}
+use Rattle.check_rules.specs.declared.state.State.TheVariants as state
+use Rattle.check_rules.specs.declared.state.State as rules
 use Rattle.check_sched.specs.declared.call.Call.{Call}
+use Rattle.check_sched.specs.declared.call.Call.TheVariants as call
 use Rattle.check_sched.specs.declared.call.Reply.{Reply}
 use Rattle.check_sched.specs.declared.call.Reply.TheVariants as reply
 use Rattle.check_sched.specs.declared.call.Refusal.{Refusal}
@@ -39,23 +46,59 @@ taken_text run name = codes "taken " ++ (decimal run ++ (codes " " ++ name))
 abbrev pub idle_text : Option ℕ → List ℕ
 idle_text next = codes "idle " ++ time_text next
 
+abbrev pub state_word : rules.State → List ℕ
+state_word state.Ok = codes "OK"
+state_word state.Warning = codes "WARNING"
+state_word state.Critical = codes "CRITICAL"
+state_word state.Unknown = codes "UNKNOWN"
+state_word state.Up = codes "UP"
+state_word state.Down = codes "DOWN"
+state_word state.Unreachable = codes "UNREACHABLE"
+
+-- the state of an object, or PENDING where it was never checked
+abbrev pub state_text : Standing → List ℕ
+state_text s = if s.checked then state_word s.state else codes "PENDING"
+
+abbrev pub kind_text : Kind → List ℕ
+kind_text kind.Soft = codes "SOFT"
+kind_text kind.Hard = codes "HARD"
+
+-- whether a state differs from the one before
+abbrev pub changed_text : Bool → List ℕ
+changed_text true = codes "yes"
+changed_text false = codes "no"
+
+-- how the object with this full name stands, and when it is checked next
+abbrev pub standing_text : Standing → Bool → Option ℕ → List ℕ → List ℕ
+standing_text s changed next name = codes "standing " ++ (state_text s ++ (codes " " ++ (kind_text s.kind ++ (codes " " ++
+    (decimal s.attempt ++ (codes " " ++ (changed_text changed ++ (codes " " ++ (time_text next ++ (codes " " ++ name))))))))))
+
+-- the full name of the object that a call asks for, or nothing where it asks for none
+abbrev pub asked_name : Configuration → Call → List ℕ
+asked_name c (call.Take now) = []
+asked_name c (call.Report object run code) = name_of c object
+
 -- a refusal for this reason
 abbrev pub refused_text : List ℕ → List ℕ
 refused_text reason = codes "refused " ++ reason
 
 -- why a call was refused
 abbrev pub call_refusal_text : Refusal → List ℕ
+call_refusal_text refused.UnknownObject = codes "C1 UnknownObject"
 call_refusal_text refused.TimeRange = codes "C2 TimeRange"
+call_refusal_text refused.NotRunning = codes "C3 NotRunning"
+call_refusal_text refused.WrongRun = codes "C4 WrongRun"
 call_refusal_text refused.RunsSpent = codes "C5 RunsSpent"
 
--- the text of a reply, whose object is told by its full name
-abbrev pub reply_text : Configuration → Reply → List ℕ
-reply_text c (reply.Taken object run) = taken_text run (name_of c object)
-reply_text c (reply.Idle next) = idle_text next
-reply_text c (reply.Refused why) = refused_text (call_refusal_text why)
+-- The text of the reply to a call. The object is told by its full name: the one of the reply, or else of the call.
+abbrev pub reply_text : Configuration → Call → Reply → List ℕ
+reply_text c asked (reply.Taken object run) = taken_text run (name_of c object)
+reply_text c asked (reply.Idle next) = idle_text next
+reply_text c asked (reply.Standing standing changed next) = standing_text standing changed next (asked_name c asked)
+reply_text c asked (reply.Refused why) = refused_text (call_refusal_text why)
 
-abbrev pub reply_line : Configuration → Reply → List ℕ
-reply_line c r = line_of (reply_text c r)
+abbrev pub reply_line : Configuration → Call → Reply → List ℕ
+reply_line c asked r = line_of (reply_text c asked r)
 
 -- ---- refusals of the input
 
@@ -64,6 +107,7 @@ abbrev pub part_text : Part → List ℕ
 part_text part.Document = codes "document"
 part_text part.Options = codes "options"
 part_text part.Hosts = codes "hosts"
+part_text part.Services = codes "services"
 
 abbrev pub index_text : Option ℕ → List ℕ
 index_text None = []
@@ -80,7 +124,9 @@ load_text (load.Shape p) = codes "L2 Shape " ++ place_text p
 load_text load.TooMany = codes "L3 TooMany"
 load_text (load.BadName p) = codes "L4 BadName " ++ place_text p
 load_text (load.Duplicate p) = codes "L5 Duplicate " ++ place_text p
+load_text (load.UnknownHost p) = codes "L6 UnknownHost " ++ place_text p
 load_text (load.Range p) = codes "L8 Range " ++ place_text p
+load_text load.ParentCycle = codes "L10 ParentCycle"
 load_text load.Memory = codes "L11 Memory"
 load_text load.TooLong = codes "L12 TooLong"
 
@@ -89,6 +135,8 @@ abbrev pub fault_text : LineFault → List ℕ
 fault_text fault.TooLong = codes "S1 TooLong"
 fault_text fault.NotJson = codes "S2 NotJson"
 fault_text fault.Shape = codes "S3 Shape"
+fault_text fault.Code = codes "S4 Code"
+fault_text fault.UnknownName = codes "S5 UnknownName"
 
 -- why an input is refused, and where
 abbrev pub input_refusal_text : InputRefusal → List ℕ
@@ -102,11 +150,11 @@ refusal_line r = line_of (refused_text (input_refusal_text r))
 
 -- the line of the reply to a call, in this state
 abbrev pub line_from : State → Call → List ℕ
-line_from s c = reply_line s.setup (step s c).1
+line_from s c = reply_line s.setup c (step s c).1
 
 -- the lines of the replies to the calls, from this state on
 abbrev pub text_from : State → List Call → List ℕ
-text_from s calls = flat_map (reply_line s.setup) (replies s calls)
+text_from s calls = flat_map (λ p. reply_line s.setup p.0 p.1) (zip calls (replies s calls))
 
 abbrev pub script_text : ℕ → Result Script InputRefusal → List ℕ
 script_text start (Ok s) = text_from (opening s.setup start) s.calls

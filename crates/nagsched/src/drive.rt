@@ -148,7 +148,7 @@ fn make_call<W: Write>(
 {
     let reply = sched.apply(call);
     line.clear();
-    push_reply(line, sched.setup(), reply)?;
+    push_reply(line, sched.setup(), call, reply)?;
     write_text(writer, line.as_bytes())
 }
 

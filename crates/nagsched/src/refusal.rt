@@ -13,6 +13,10 @@ pub enum LineFault {
     NotJson,
     /// The line is no array, its word is unknown, or its members are wrong in number or kind.
     Shape,
+    /// A return code above 3. (Manual: "Plugin API"; a plugin may return no other.)
+    Code,
+    /// The setup has no object of that full name.
+    UnknownName,
 }
 
 /// The first refusal of an input. It comes before any call is made.

@@ -39,7 +39,7 @@ impl Script {
         let mut lines = Lines::new(input);
         let document = lines.next().unwrap_or(&[]);
         let setup = read_setup(alloc, document)?;
-        let calls = read_calls(alloc, lines)?;
+        let calls = read_calls(alloc, &setup, lines)?;
         Ok(Script { setup, calls })
     }
 }
@@ -57,15 +57,16 @@ fn read_setup(alloc: Global, document: &[u8]) -> Result<Setup, ScriptError>
 
 /// The calls of the lines from line 2 on. A blank line is passed over, whatever its length, but
 /// counted.
-fn read_calls(alloc: Global, lines: Lines<'_>) -> Result<Vec<Call>, ScriptError>
+fn read_calls(alloc: Global, setup: &Setup, lines: Lines<'_>) -> Result<Vec<Call>, ScriptError>
     requires { length (lines_of lines.rest.now) ≤ 67108864 }
-    ensures { Gives (λ v. v.items) result (calls_from 2 (lines_of lines.entry.rest.now)) }
+    ensures { Gives (λ v. v.items) result
+        (calls_from setup.now 2 (lines_of lines.entry.rest.now)) }
 {
     let mut calls = Vec::new(alloc);
     let mut number = 2;
     for line in lines {
         if !is_blank(line) {
-            calls.push(read_command(alloc, line, number)?)?;
+            calls.push(read_command(alloc, setup, line, number)?)?;
         }
         number += 1;
     }

@@ -7,6 +7,7 @@ mod limits;
 mod office;
 mod refusals;
 mod replies;
+mod reports;
 mod statuses;
 
 use crate::drive::{Outcome, drive};

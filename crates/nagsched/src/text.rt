@@ -1,25 +1,43 @@
 //! The text of replies and refusals. Each has one definition, in `specs/Text.antt`, whatever
 //! subcommand writes it.
 ghost use Rattle.std.specs.Prelude.{◌≡◌, ◌++◌, OnOk, string_bytes};
+ghost use Rattle.check_objects.specs.Configuration.{name_of};
 ghost use Rattle.check_sched.specs.Reply.{NamesObjectOf};
-ghost use Rattle.nagsched.specs.Text.{line_of, reply_line, taken_text, idle_text, refused_text, refusal_line, call_refusal_text, part_text, fault_text};
+ghost use Rattle.nagsched.specs.Text.{line_of, reply_line, taken_text, idle_text, standing_text, asked_name, state_text, kind_text, changed_text, refused_text, refusal_line, call_refusal_text, part_text, fault_text};
 
 use crate::refusal::{InputRefusal, LineFault};
 use check_objects::{LoadError, Part, Place, Setup};
-use check_sched::{Refusal, Reply};
+use check_rules::{Kind, Standing, State};
+use check_sched::{Call, Refusal, Reply};
 use std::alloc::AllocError;
 use std::fmt;
 
-/// Appends the line of a reply, with its line feed. The object of the reply is told by its full
-/// name.
-pub fn push_reply(line: &mut String, setup: &Setup, reply: Reply) -> Result<(), AllocError>
+/// Appends the line of the reply to a call, with its line feed. Objects are told by their full
+/// names.
+pub fn push_reply(
+    line: &mut String,
+    setup: &Setup,
+    call: Call,
+    reply: Reply,
+) -> Result<(), AllocError>
     requires { NamesObjectOf setup.now reply }
     ensures { OnOk result
-        (string_bytes line.new ≡ string_bytes line.old ++ reply_line setup.now reply) }
+        (string_bytes line.new ≡ string_bytes line.old ++ reply_line setup.now call reply) }
 {
     match reply {
         Reply::Taken { object, run } => push_taken(line, run, setup.name(object)),
         Reply::Idle { next } => push_idle(line, TimeText(next)),
+        Reply::Standing {
+            standing,
+            changed,
+            next,
+        } => push_standing(
+            line,
+            standing,
+            changed,
+            TimeText(next),
+            asked_name(setup, call),
+        ),
         Reply::Refused(refusal) => push_refused(line, call_refusal_text(refusal)),
     }
 }
@@ -36,6 +54,82 @@ fn push_idle(line: &mut String, next: TimeText) -> Result<(), AllocError>
         (string_bytes line.new ≡ string_bytes line.old ++ line_of (idle_text next.0)) }
 {
     writeln!(line, "idle {next}")
+}
+
+fn push_standing(
+    line: &mut String,
+    standing: Standing,
+    changed: bool,
+    next: TimeText,
+    name: &str,
+) -> Result<(), AllocError>
+    ensures { OnOk result (string_bytes line.new ≡
+        string_bytes line.old ++ line_of (standing_text standing changed next.0 name.now)) }
+{
+    let state = state_text(standing);
+    let kind = kind_text(standing.kind);
+    let attempt = standing.attempt;
+    let changed = changed_text(changed);
+    writeln!(
+        line,
+        "standing {state} {kind} {attempt} {changed} {next} {name}"
+    )
+}
+
+/// The full name of the object that a call asks for, or nothing where it asks for none.
+fn asked_name(setup: &Setup, call: Call) -> &str
+    ensures { result.now ≡ asked_name setup.now call }
+{
+    match call {
+        Call::Take { .. } => "",
+        Call::Report { object, .. } => name_or_nothing(setup, object),
+    }
+}
+
+/// The full name of an object, or nothing where the setup has no object of this number.
+fn name_or_nothing(setup: &Setup, number: u32) -> &str
+    ensures { result.now ≡ name_of setup.now number }
+{
+    if (number as usize) < setup.len() {
+        setup.name(number)
+    } else {
+        ""
+    }
+}
+
+/// The state of an object, or `PENDING` where it was never checked.
+fn state_text(standing: Standing) -> &'static str
+    ensures { result.now ≡ state_text standing }
+{
+    if !standing.checked {
+        return "PENDING";
+    }
+    match standing.state {
+        State::Ok => "OK",
+        State::Warning => "WARNING",
+        State::Critical => "CRITICAL",
+        State::Unknown => "UNKNOWN",
+        State::Up => "UP",
+        State::Down => "DOWN",
+        State::Unreachable => "UNREACHABLE",
+    }
+}
+
+/// The kind of a state.
+fn kind_text(kind: Kind) -> &'static str
+    ensures { result.now ≡ kind_text kind }
+{
+    match kind {
+        Kind::Soft => "SOFT",
+        Kind::Hard => "HARD",
+    }
+}
+
+/// Whether a state differs from the one before.
+fn changed_text(changed: bool) -> &'static str
+    ensures { result.now ≡ changed_text changed }
+{
+    if changed { "yes" } else { "no" }
 }
 
 fn push_refused(line: &mut String, reason: &str) -> Result<(), AllocError>
@@ -96,7 +190,10 @@ fn call_refusal_text(refusal: Refusal) -> &'static str
     ensures { result.now ≡ call_refusal_text refusal }
 {
     match refusal {
+        Refusal::UnknownObject => "C1 UnknownObject",
         Refusal::TimeRange => "C2 TimeRange",
+        Refusal::NotRunning => "C3 NotRunning",
+        Refusal::WrongRun => "C4 WrongRun",
         Refusal::RunsSpent => "C5 RunsSpent",
     }
 }
@@ -109,6 +206,8 @@ fn fault_text(fault: LineFault) -> &'static str
         LineFault::TooLong => "S1 TooLong",
         LineFault::NotJson => "S2 NotJson",
         LineFault::Shape => "S3 Shape",
+        LineFault::Code => "S4 Code",
+        LineFault::UnknownName => "S5 UnknownName",
     }
 }
 
@@ -126,11 +225,13 @@ impl fmt::Display for LoadText {
         let (reason, place) = match self.0 {
             LoadError::NotJson => return f.write_str("L1 NotJson"),
             LoadError::TooMany => return f.write_str("L3 TooMany"),
+            LoadError::ParentCycle => return f.write_str("L10 ParentCycle"),
             LoadError::Memory => return f.write_str("L11 Memory"),
             LoadError::TooLong => return f.write_str("L12 TooLong"),
             LoadError::Shape(place) => ("L2 Shape", PlaceText(place)),
             LoadError::BadName(place) => ("L4 BadName", PlaceText(place)),
             LoadError::Duplicate(place) => ("L5 Duplicate", PlaceText(place)),
+            LoadError::UnknownHost(place) => ("L6 UnknownHost", PlaceText(place)),
             LoadError::Range(place) => ("L8 Range", PlaceText(place)),
         };
         write!(f, "{reason} {place}")
@@ -164,5 +265,6 @@ fn part_text(part: Part) -> &'static str
         Part::Document => "document",
         Part::Options => "options",
         Part::Hosts => "hosts",
+        Part::Services => "services",
     }
 }

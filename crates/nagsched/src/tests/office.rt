@@ -1,31 +1,74 @@
-//! The small office network of `examples/office.txt`, with the output of `examples/office.out`.
+//! The small office network of `examples/office.txt`, with the output of `examples/office.out`: its
+//! gateway goes down and comes back, and its mail service goes down and stays so.
 
 use super::run_on;
 use crate::drive::Outcome;
 use std::test::Fail;
 
-const INPUT: &str = "{\"options\":{\"host_inter_check_delay_method\":\"n\"},\"hosts\":[\
-{\"name\":\"gateway\",\"check_interval\":1,\"max_check_attempts\":5},\
-{\"name\":\"file-server\",\"check_interval\":5,\"retry_interval\":1,\"max_check_attempts\":3},\
-{\"name\":\"mail-server\",\"max_check_attempts\":3},\
-{\"name\":\"printer-2nd-floor\",\"check_interval\":10,\"max_check_attempts\":2},\
-{\"name\":\"old-scanner\",\"max_check_attempts\":1,\"enabled\":false},\
-{\"name\":\"door-display\",\"check_interval\":0,\"max_check_attempts\":1}]}
+const INPUT: &str =
+    "{\"options\":{\"host_inter_check_delay_method\":\"n\",\"service_inter_check_delay_method\":\"n\"},\"hosts\":[\
+{\"name\":\"gateway\",\"max_check_attempts\":3},\
+{\"name\":\"file-server\",\"parents\":[\"gateway\"],\"max_check_attempts\":3},\
+{\"name\":\"mail-server\",\"parents\":[\"gateway\"],\"max_check_attempts\":3},\
+{\"name\":\"printer-2nd-floor\",\"parents\":[\"gateway\"],\"check_interval\":10,\"max_check_attempts\":2},\
+{\"name\":\"old-scanner\",\"parents\":[\"gateway\"],\"max_check_attempts\":1,\"enabled\":false}],\
+\"services\":[{\"host\":\"mail-server\",\"description\":\"smtp\",\"max_check_attempts\":3},\
+{\"host\":\"file-server\",\"description\":\"disk\",\"max_check_attempts\":3},\
+{\"host\":\"printer-2nd-floor\",\"description\":\"toner\",\"check_interval\":60,\"max_check_attempts\":1}]}
 [\"take\",0]
 [\"take\",0]
+[\"report\",\"gateway\",2,2]
+[\"report\",\"file-server\",1,2]
+[\"take\",0]
+[\"report\",\"mail-server\",3,0]
+[\"take\",0]
+[\"report\",\"printer-2nd-floor\",4,0]
+[\"take\",0]
+[\"report\",\"file-server;disk\",5,1]
+[\"take\",0]
+[\"report\",\"mail-server;smtp\",6,2]
+[\"take\",0]
+[\"report\",\"printer-2nd-floor;toner\",7,1]
 
-[\"take\",1500]
-[\"take\",3000]
+[\"take\",30000]
 [\"take\",60000]
-[\"take\",1152921504606846977]
+[\"take\",60000]
+[\"report\",\"gateway\",9,0]
+[\"report\",\"file-server\",8,0]
+[\"take\",60000]
+[\"report\",\"mail-server;smtp\",10,2]
+
+[\"take\",120000]
+[\"report\",\"mail-server;smtp\",11,2]
+[\"report\",\"mail-server;smtp\",11,0]
+[\"take\",120000]
 ";
 
 const OUTPUT: &str = "taken 1 file-server
 taken 2 gateway
+standing DOWN SOFT 1 yes 60000 gateway
+standing UNREACHABLE SOFT 1 yes 60000 file-server
 taken 3 mail-server
+standing UP HARD 1 no 300000 mail-server
 taken 4 printer-2nd-floor
-idle none
-refused C2 TimeRange
+standing UP HARD 1 no 600000 printer-2nd-floor
+taken 5 file-server;disk
+standing WARNING HARD 3 yes 300000 file-server;disk
+taken 6 mail-server;smtp
+standing CRITICAL SOFT 1 yes 60000 mail-server;smtp
+taken 7 printer-2nd-floor;toner
+standing WARNING HARD 1 yes 3600000 printer-2nd-floor;toner
+idle 60000
+taken 8 file-server
+taken 9 gateway
+standing UP SOFT 2 yes 360000 gateway
+standing UP SOFT 2 yes 360000 file-server
+taken 10 mail-server;smtp
+standing CRITICAL SOFT 2 no 120000 mail-server;smtp
+taken 11 mail-server;smtp
+standing CRITICAL HARD 3 no 420000 mail-server;smtp
+refused C3 NotRunning
+idle 300000
 ";
 
 #[test]

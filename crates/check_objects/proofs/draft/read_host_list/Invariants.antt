@@ -1,9 +1,10 @@
 use Rattle.std.proofs.Common.{◌≡◌, map, drop}
 use Rattle.serde_json.specs.View.{items_view}
-use Rattle.check_objects.specs.Draft.{drafts_from}
-use Rattle.check_objects.specs.Drafted.{draft}
+use Rattle.check_objects.specs.Draft.{items_from, host_draft}
+use Rattle.check_objects.specs.Drafted.{host}
 use Rattle.check_objects.specs.LoadError.{with_front}
+use Rattle.check_objects.specs.Place.{host_at}
 use Rattle.check_objects.proofs.draft.read_host_list.Given as goal
 
 abbrev pub invariant-loop-index : goal.invariant-loop-index
-invariant-loop-index l = drafts_from 0 (items_view l.items) ≡ with_front (map draft l.hosts.items) (drafts_from l.index (items_view (drop l.index l.items)))
+invariant-loop-index l = items_from host_draft host_at 0 (items_view l.items) ≡ with_front (map host l.hosts.items) (items_from host_draft host_at l.index (items_view (drop l.index l.items)))

@@ -1,6 +1,6 @@
 use Rattle.std.proofs.Common.{◌∙◌, ◌++◌, ◌∷◌, [], ap, arith}
 use Rattle.std.proofs.lemmas.List.{take_all}
-use Rattle.check_sched.proofs.StepLaws.{length-opening_objects, opening_seen}
+use Rattle.check_sched.proofs.OpeningLaws.{length-opening_objects, opening_seen}
 use Rattle.check_sched.proofs.sched.opening_objects.Goals as goal
 
 pub loop-index-preserved : goal.loop-index-preserved

@@ -1,9 +1,18 @@
-use Rattle.std.proofs.Common.{sym, ◌∙◌}
-use Rattle.check_objects.proofs.NumberingLemmas.{number_at}
+use Rattle.std.proofs.Common.{sym, ap, ◌∙◌, ◌+◌, length, option_map, Some}
+use Rattle.check_objects.proofs.GetterLemmas.{number_front, number_back}
 use Rattle.check_objects.proofs.setup.Setup.number.Goals as goal
 
-pub returns-in_err-index : goal.returns-in_err-index
-returns-in_err-index c = rw (← c.self.view_is) (c.from_residual.ensures ∙ c.in_err-index.ensures.index ∙ number_at c.args.name.now c.self.inside.hosts.entries)
+pub returns-in-Some : goal.returns-in-Some
+returns-in-Some c = rw (← c.self.view_is) (number_front c.self.inside.hosts.entries c.self.inside.services.entries c.args.name.now c.in-Some.index c.in-Some.ensures.index)
 
-pub returns : goal.returns
-returns c = rw (← c.self.view_is) (c.in_ok-index.ensures.index ∙ number_at c.args.name.now c.self.inside.hosts.entries)
+pub returns-in_err-index-in-None : goal.returns-in_err-index-in-None
+returns-in_err-index-in-None c =
+    rw (← c.self.view_is) (c.from_residual.ensures
+    ∙ ap (option_map (λ j. length c.self.inside.hosts.entries + j)) c.in_err-index-in-None.ensures.index
+    ∙ number_back c.self.inside.hosts.entries c.self.inside.services.entries c.args.name.now c.in-None.ensures.index)
+
+pub returns-in_ok-index-in-None : goal.returns-in_ok-index-in-None
+returns-in_ok-index-in-None c =
+    rw (← c.self.view_is) (ap (λ l. Some (l + c.in_ok-index-in-None.index)) c.len.ensures.len
+    ∙ ap (option_map (λ j. length c.self.inside.hosts.entries + j)) c.in_ok-index-in-None.ensures.index
+    ∙ number_back c.self.inside.hosts.entries c.self.inside.services.entries c.args.name.now c.in-None.ensures.index)

@@ -6,7 +6,8 @@ use Rattle.check_sched.specs.State.{State}
 use Rattle.check_sched.specs.Sched.{state_of}
 use Rattle.check_sched.specs.Step.{taken, update_at}
 use Rattle.check_sched.proofs.ScanLemmas.{scan_tells}
-use Rattle.check_sched.proofs.StepLaws.{set_is_update, candidate_within, taken_is_state, take_when_due, take_when_early, take_when_none, least_time}
+use Rattle.check_sched.proofs.TakeLaws.{candidate_within, taken_is_state, take_when_due, take_when_early, take_when_none, least_time}
+use Rattle.check_sched.proofs.UpdateLaws.{set_is_update}
 use Rattle.check_sched.proofs.sched.Sched.take.Goals as goal
 
 pub index_mut-requires : goal.index_mut-requires
@@ -24,13 +25,13 @@ written c =
 
 -- the state that the write leaves
 left : (c : goal.After-self-in-Some-1) (objects : List ObjectState) → objects ≡ update_at c.in-Some.least.number (running_from (record { number = c.self.inside.runs + 1; start = c.args.now })) c.self.inside.objects.items
-    → let s : State = record { setup = c.self.inside.setup; start = c.self.inside.start; objects = objects; runs = c.self.inside.runs + 1 } in s ≡ taken c.args.now c.in-Some.least.number (state_of c.self.inside)
-left c objects e i = record { setup = c.self.inside.setup; start = c.self.inside.start; objects = e i; runs = c.self.inside.runs + 1 }
+    → let s : State = record { setup = c.self.inside.setup; start = c.self.inside.start; objects = objects; standings = c.self.inside.standings.items; runs = c.self.inside.runs + 1 } in s ≡ taken c.args.now c.in-Some.least.number (state_of c.self.inside)
+left c objects e i = record { setup = c.self.inside.setup; start = c.self.inside.start; objects = e i; standings = c.self.inside.standings.items; runs = c.self.inside.runs + 1 }
 
 pub invariant_of-self : goal.invariant_of-self
 invariant_of-self c =
     let spare : c.self.inside.runs < 2 ^ 60 = omega arith in
-    rw (left c _ (written c)) (taken_is_state c.args.now c.in-Some.least.number (state_of c.self.inside) c.self.invariant spare)
+    rw (left c _ (written c)) (taken_is_state c.args.now c.in-Some.least.number (state_of c.self.inside) c.self.invariant (omega arith) spare)
 
 pub returns-in-Some-clause-state : goal.returns-in-Some-clause-state
 returns-in-Some-clause-state c =

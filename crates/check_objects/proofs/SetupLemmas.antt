@@ -1,0 +1,302 @@
+-- What a document without a fault gives: few objects, links to hosts, and full names in two parts.
+use Rattle.std.proofs.Common.{◌≡◌, ℕ, suc, ◌+◌, ◌<◌, ◌≤◌, ◌==◌, ◌&&◌, ◌||◌, not, Bool, true, false, cond, List, [], ◌∷◌, ◌++◌, map, length, Bor, Option, Some, None, bytes_eq, refl, sym, ap, subst, ◌∙◌, Result, Ok, Err, Ordering, Less, Equal, Greater, arith}
+use Rattle.std.specs.Prelude.{nat_lt, nat_le, unwrap_or}
+use Rattle.std.specs.BTreeMap.{insert_entry}
+use Rattle.std.specs.List.{list_any, list_all, position, position_or_len, prefix_len}
+use Rattle.std.specs.Ordering.{match_ordering}
+use Rattle.std.proofs.lemmas.Bool.Decides.{nat_tests}
+use Rattle.std.proofs.lemmas.List.{length-map}
+use Rattle.std.proofs.lemmas.List.Folds.{list_all-append}
+use Rattle.std.proofs.lemmas.Slice.Eq.{bytes_eq-Decides}
+use Rattle.check_objects.specs.declared.error.LoadError.{LoadError}
+use Rattle.check_objects.specs.declared.error.LoadError.TheVariants as errors
+use Rattle.check_objects.specs.declared.options.Options.{Options}
+use Rattle.check_objects.specs.declared.object.Object.{Object}
+use Rattle.check_objects.specs.Configuration.{Configuration, Host, Service, IsSetup, is_object_in_range, named_host, named_service, objects_of}
+use Rattle.check_objects.specs.Closing.{are_within}
+use Rattle.check_objects.specs.Drafted.{texts}
+use Rattle.check_objects.specs.Draft.{Drafts, HostDraft, ServiceDraft}
+use Rattle.check_objects.specs.Fault.{is_faultless, is_name, is_name_byte, is_known, names_of, few_objects, has_few_parents, key_of, good_names, good_host_names, good_descriptions, host_names, first_repeat, no_repeated_services, known_parents, known_hosts, good_ranges, good_host_ranges, good_options, good_service_ranges, is_in_range}
+use Rattle.check_objects.specs.LoadError.{◌>>=◌, refused_at}
+use Rattle.check_objects.specs.Place.{host_at, service_at}
+use Rattle.check_objects.specs.Numbering.{placed, number_in, numbered_host, numbered_service, hosts_in_order, services_in_order, names_in_order, configuration, is_host_name, object_of, body_of, text_order, pair_order}
+use Rattle.check_objects.proofs.ListLemmas.{list_all-map}
+
+-- ---- nothing was refused
+
+first_ok : {B : Type 0} (a : Result (Unit {0}) LoadError) (f : Unit {0} → Result B LoadError) (y : B) → (a >>= f) ≡ Ok y → a ≡ Ok tt
+first_ok (Ok u) f y e = refl
+first_ok (Err x) f y e = cc
+
+rest_ok : {B : Type 0} (a : Result (Unit {0}) LoadError) (f : Unit {0} → Result B LoadError) (y : B) → (a >>= f) ≡ Ok y → f tt ≡ Ok y
+rest_ok (Ok u) f y e = e
+rest_ok (Err x) f y e = cc
+
+nowhere : (fault : ℕ → LoadError) (o : Option ℕ) → refused_at fault o ≡ Ok tt → o ≡ None
+nowhere fault None e = refl
+nowhere fault (Some i) e = cc
+
+prefix_all_by : {A : Type 0} (p : A → Bool) (x : A) (xs : List A) (b : Bool) → p x ≡ b → (nat_lt (prefix_len p xs) (length xs) ≡ false → list_all p xs ≡ true)
+    → nat_lt (cond b (1 + prefix_len p xs) 0) (suc (length xs)) ≡ false → (b && list_all p xs) ≡ true
+prefix_all_by p x xs true t more e = more (let h : nat_lt (1 + prefix_len p xs) (suc (length xs)) ≡ false = e in grind (arith, nat_tests, h))
+prefix_all_by p x xs false t more e = absurd (let h : nat_lt 0 (suc (length xs)) ≡ false = e in grind (arith, nat_tests, h))
+
+prefix_all : {A : Type 0} (p : A → Bool) (xs : List A) → nat_lt (prefix_len p xs) (length xs) ≡ false → list_all p xs ≡ true
+prefix_all p [] e = refl
+prefix_all p (x ∷ xs) e = prefix_all_by p x xs (p x) refl (prefix_all p xs) e
+
+none_by : (b : Bool) (i : ℕ) → cond b (Some i) None ≡ None → b ≡ false
+none_by true i e = cc
+none_by false i e = refl
+
+twice_not : (b : Bool) → not (not b) ≡ b
+twice_not true = refl
+twice_not false = refl
+
+-- where no element fails a test, all pass it
+all_by_position : {A : Type 0} (p : A → Bool) (xs : List A) → position (λ x. not (p x)) xs ≡ None → list_all p xs ≡ true
+all_by_position p xs e =
+    let agree : (λ x. not (not (p x))) ≡ p = λ i x. twice_not (p x) i in
+    ap (λ q. list_all q xs) (sym agree) ∙ prefix_all (λ x. not (not (p x))) xs (none_by _ _ e)
+
+-- ---- names and what they don't have
+
+both_true : (a b : Bool) → (a && b) ≡ true → (a ≡ true) × (b ≡ true)
+both_true true b e = (refl, e)
+both_true false b e = cc
+
+all_weaker : {A : Type 0} (p q : A → Bool) → ((x : A) → p x ≡ true → q x ≡ true) → (xs : List A) → list_all p xs ≡ true → list_all q xs ≡ true
+all_weaker p q f [] e = refl
+all_weaker p q f (x ∷ xs) e = let b = both_true (p x) (list_all p xs) e in rw (f x b.0, all_weaker p q f xs b.1) refl
+
+name_byte_parts : (a b c : Bool) → (a && b && c) ≡ true → c ≡ true
+name_byte_parts true true c e = e
+name_byte_parts true false c e = cc
+name_byte_parts false b c e = cc
+
+name_parts : (a b c : Bool) → (a && b && c) ≡ true → c ≡ true
+name_parts a b c e = name_byte_parts a b c e
+
+-- a name has no semicolon
+pub name_is_host_name : (name : List ℕ) → is_name name ≡ true → is_host_name name ≡ true
+name_is_host_name name e =
+    all_weaker is_name_byte (λ b. not (b == 59)) (λ b h. name_byte_parts (nat_le 32 b) (not (b == 127)) (not (b == 59)) h) name
+    (name_parts (nat_le 1 (length name)) (nat_le (length name) 255) (list_all is_name_byte name) e)
+
+known_by : (q : List ℕ → Bool) (name other : List ℕ) (names : List (List ℕ)) (b : Bool) → bytes_eq name other ≡ b → q other ≡ true → (b || list_any (bytes_eq name) names) ≡ true → (list_any (bytes_eq name) names ≡ true → q name ≡ true) → q name ≡ true
+known_by q name other names true same good e more = ap q ((bytes_eq-Decides name other).0 same) ∙ good
+known_by q name other names false same good e more = more e
+
+-- what is true of each of these names is true of one that is known among them
+known_good : (q : List ℕ → Bool) (name : List ℕ) (names : List (List ℕ)) → list_all q names ≡ true → is_known names name ≡ true → q name ≡ true
+known_good q name [] g e = cc
+known_good q name (other ∷ names) g e =
+    let b = both_true (q other) (list_all q names) g in
+    known_by q name other names (bytes_eq name other) refl b.0 e (known_good q name names b.1)
+
+-- ---- lists in order
+
+module _ {K V A : Type 0} (order : K → K → Ordering) (key : A → K) (value : A → V) where
+  match_length : (o : Ordering) (a b c : List (K × V)) (low high : ℕ) → (low ≤ length a) × (length a ≤ high) → (low ≤ length b) × (length b ≤ high) → (low ≤ length c) × (length c ≤ high)
+      → (low ≤ length (match_ordering o a b c)) × (length (match_ordering o a b c) ≤ high)
+  match_length Less a b c low high x y z = x
+  match_length Equal a b c low high x y z = y
+  match_length Greater a b c low high x y z = z
+
+  -- one more, unless its key was there
+  inserted_length : (es : List (K × V)) (k : K) (v : V) → (1 ≤ length (insert_entry order es k v)) × (length (insert_entry order es k v) ≤ 1 + length es)
+  inserted_length [] k v = (omega arith, omega arith)
+  inserted_length (e ∷ es) k v =
+      let more = inserted_length es k v in
+      match_length (order k e.0) ((k, v) ∷ e ∷ es) ((e.0, v) ∷ es) (e ∷ insert_entry order es k v) 1 (1 + suc (length es)) (omega arith, omega arith) (omega arith, omega arith) (omega arith, omega (arith, more.1))
+
+  pub placed_few : (done : List (K × V)) (xs : List A) → length (placed order key value done xs) ≤ length done + length xs
+  placed_few done [] = omega arith
+  placed_few done (x ∷ xs) =
+      let more = placed_few (insert_entry order done (key x) (value x)) xs in
+      let one = inserted_length done (key x) (value x) in
+      omega (arith, more, one.1)
+
+  pub placed_some : (done : List (K × V)) (xs : List A) → 0 < length done + length xs → 0 < length (placed order key value done xs)
+  placed_some done [] h = omega arith
+  placed_some done (x ∷ xs) h =
+      let one = inserted_length done (key x) (value x) in
+      placed_some (insert_entry order done (key x) (value x)) xs (omega (arith, one.0))
+
+  match_good : (p : K × V → Bool) (o : Ordering) (a b c : List (K × V)) → list_all p a ≡ true → list_all p b ≡ true → list_all p c ≡ true → list_all p (match_ordering o a b c) ≡ true
+  match_good p Less a b c x y z = x
+  match_good p Equal a b c x y z = y
+  match_good p Greater a b c x y z = z
+
+  inserted_good : (p : K → Bool) (es : List (K × V)) (k : K) (v : V) → p k ≡ true → list_all (λ e. p e.0) es ≡ true → list_all (λ e. p e.0) (insert_entry order es k v) ≡ true
+  inserted_good p [] k v g h = rw g refl
+  inserted_good p (e ∷ es) k v g h =
+      let b = both_true (p e.0) (list_all (λ x. p x.0) es) h in
+      match_good (λ x. p x.0) (order k e.0) _ _ _ (rw (g, b.0, b.1) refl) (rw (b.0, b.1) refl) (rw (b.0, inserted_good p es k v g b.1) refl)
+
+  -- what is true of each key is true of each key in order
+  pub placed_good : (p : K → Bool) (done : List (K × V)) (xs : List A) → list_all (λ e. p e.0) done ≡ true → list_all (λ x. p (key x)) xs ≡ true → list_all (λ e. p e.0) (placed order key value done xs) ≡ true
+  placed_good p done [] d h = d
+  placed_good p done (x ∷ xs) d h =
+      let b = both_true (p (key x)) (list_all (λ y. p (key y)) xs) h in
+      placed_good p (insert_entry order done (key x) (value x)) xs (inserted_good p done (key x) (value x) b.0 d) b.1
+
+  inserted_value : (q : V → Bool) (es : List (K × V)) (k : K) (v : V) → q v ≡ true → list_all (λ e. q e.1) es ≡ true → list_all (λ e. q e.1) (insert_entry order es k v) ≡ true
+  inserted_value q [] k v g h = rw g refl
+  inserted_value q (e ∷ es) k v g h =
+      let b = both_true (q e.1) (list_all (λ x. q x.1) es) h in
+      match_good (λ x. q x.1) (order k e.0) _ _ _ (rw (g, b.0, b.1) refl) (rw (g, b.1) refl) (rw (b.0, inserted_value q es k v g b.1) refl)
+
+  -- what is true of each value is true of each value in order
+  pub placed_values : (q : V → Bool) (done : List (K × V)) (xs : List A) → list_all (λ e. q e.1) done ≡ true → list_all (λ x. q (value x)) xs ≡ true → list_all (λ e. q e.1) (placed order key value done xs) ≡ true
+  placed_values q done [] d h = d
+  placed_values q done (x ∷ xs) d h =
+      let b = both_true (q (value x)) (list_all (λ y. q (value y)) xs) h in
+      placed_values q (insert_entry order done (key x) (value x)) xs (inserted_value q done (key x) (value x) b.0 d) b.1
+
+-- ---- numbers
+
+number_by : (b : Bool) (i n : ℕ) → nat_lt i n ≡ b → 0 < n → nat_lt (unwrap_or (cond b (Some i) None) 0) n ≡ true
+number_by true i n e h = e
+number_by false i n e h = grind (arith, nat_tests, h)
+
+number_below : (names : List (List ℕ)) (name : List ℕ) → 0 < length names → nat_lt (number_in names name) (length names) ≡ true
+number_below names name h = number_by (nat_lt (position_or_len (bytes_eq name) names) (length names)) (position_or_len (bytes_eq name) names) (length names) refl h
+
+numbers_below : (names : List (List ℕ)) (n : ℕ) → n ≡ length names → 0 < length names → (ts : List (List ℕ)) → list_all (λ p. nat_lt p n) (map (number_in names) ts) ≡ true
+numbers_below names n e h [] = refl
+numbers_below names n e h (t ∷ ts) = let here : nat_lt (number_in names t) n ≡ true = ap (nat_lt (number_in names t)) e ∙ number_below names t h in rw (here, numbers_below names n e h ts) refl
+
+hosts_linked : (names : List (List ℕ)) (n : ℕ) → n ≡ length names → 0 < length names → (hs : List (List ℕ × (Object × List (List ℕ)))) → list_all (λ h. list_all (λ p. nat_lt p n) h.parents) (map (numbered_host names) hs) ≡ true
+hosts_linked names n e h [] = refl
+hosts_linked names n e h (x ∷ hs) = rw (numbers_below names n e h x.1.1, hosts_linked names n e h hs) refl
+
+services_hosted : (names : List (List ℕ)) (n : ℕ) → n ≡ length names → 0 < length names → (ss : List ((List ℕ × List ℕ) × Object)) → list_all (λ s. nat_lt s.host n) (map (numbered_service names) ss) ≡ true
+services_hosted names n e h [] = refl
+services_hosted names n e h (x ∷ ss) = let here : nat_lt (number_in names x.0.0) n ≡ true = ap (nat_lt (number_in names x.0.0)) e ∙ number_below names x.0.0 h in rw (here, services_hosted names n e h ss) refl
+
+names_length : (hs : List (List ℕ × (Object × List (List ℕ)))) → length (map (numbered_host (map (λ h. h.0) hs)) hs) ≡ length (map (λ h. h.0) hs)
+names_length hs = length-map hs (numbered_host (map (λ h. h.0) hs)) ∙ sym (length-map hs (λ h. h.0))
+
+linked_by : (hs : List (List ℕ × (Object × List (List ℕ)))) → list_all (λ h. list_all (λ p. nat_lt p (length (map (numbered_host (map (λ x. x.0) hs)) hs))) h.parents) (map (numbered_host (map (λ x. x.0) hs)) hs) ≡ true
+linked_by [] = refl
+linked_by (x ∷ hs) = hosts_linked (map (λ y. y.0) (x ∷ hs)) _ (names_length (x ∷ hs)) (omega arith) (x ∷ hs)
+
+-- ---- a document without a fault
+
+-- what the tests say of a document that passed them
+pub record IsFaultless (ds : Drafts) : Type 0 where
+  pub few : length ds.hosts + length ds.services ≤ 4096
+  pub named : list_all (λ h. is_name h.name) ds.hosts ≡ true
+  pub known : list_all (λ s. is_known (names_of ds.hosts) s.host) ds.services ≡ true
+  pub ranged : good_ranges ds.options ds.hosts ds.services ≡ Ok tt
+
+few_by : (a b : Bool) (n : ℕ) (y : Result (Unit {0}) LoadError) → y ≡ Ok tt → nat_lt 4096 n ≡ a → cond (a || b) (Err errors.TooMany) (Ok tt) ≡ y → n ≤ 4096
+few_by true b n y o e h = cc
+few_by false b n y o e h = grind (arith, nat_tests, e)
+
+names_ok : {A B : Type 0} (r : Result (Unit {0}) LoadError) (x : A) (f : A → Result B LoadError) (y : B) → ((r >>= λ _. Ok x) >>= f) ≡ Ok y → f x ≡ Ok y
+names_ok (Ok u) x f y e = e
+names_ok (Err z) x f y e = cc
+
+-- the tests after the names, and those after the repeats
+abbrev pub links_and_limits : Drafts → List (List ℕ) → Result (Unit {0}) LoadError
+links_and_limits ds names = known_parents names ds.hosts >>= λ _. (known_hosts names ds.services >>= λ _. good_ranges ds.options ds.hosts ds.services)
+
+abbrev pub repeats_and_more : Drafts → List (List ℕ) → Result (Unit {0}) LoadError
+repeats_and_more ds names = no_repeated_services ds.services >>= λ _. links_and_limits ds names
+
+pub faultless : (ds : Drafts) → is_faultless ds ≡ Ok tt → IsFaultless ds
+unfolding is_faultless
+faultless ds e =
+    let names = names_of ds.hosts in
+    let names_and_more = λ (u : Unit {0}). good_names ds.hosts ds.services >>= λ _. (host_names ds.hosts >>= repeats_and_more ds) in
+    let counted : few_objects ds.hosts ds.services ≡ Ok tt = first_ok (few_objects ds.hosts ds.services) names_and_more tt e in
+    let after_counts = rest_ok (few_objects ds.hosts ds.services) names_and_more tt e in
+    let named : good_names ds.hosts ds.services ≡ Ok tt = first_ok (good_names ds.hosts ds.services) (λ _. host_names ds.hosts >>= repeats_and_more ds) tt after_counts in
+    let after_names = rest_ok (good_names ds.hosts ds.services) (λ _. host_names ds.hosts >>= repeats_and_more ds) tt after_counts in
+    let after_repeats = names_ok (refused_at (λ i. errors.Duplicate (host_at i)) (first_repeat bytes_eq names)) names (repeats_and_more ds) tt after_names in
+    let linked = rest_ok (no_repeated_services ds.services) (λ _. links_and_limits ds names) tt after_repeats in
+    let hosted = rest_ok (known_parents names ds.hosts) (λ _. known_hosts names ds.services >>= λ _. good_ranges ds.options ds.hosts ds.services) tt linked in
+    let known : known_hosts names ds.services ≡ Ok tt = first_ok (known_hosts names ds.services) (λ _. good_ranges ds.options ds.hosts ds.services) tt hosted in
+    record {
+      few = few_by (nat_lt 4096 (length ds.hosts + length ds.services)) (not (has_few_parents ds.hosts)) (length ds.hosts + length ds.services) (Ok tt) refl refl counted;
+      named = all_by_position (λ h. is_name h.name) ds.hosts (nowhere (λ i. errors.BadName (host_at i)) _ (first_ok (good_host_names ds.hosts) (λ _. good_descriptions ds.services) tt named));
+      known = all_by_position (λ s. is_known names s.host) ds.services (nowhere (λ i. errors.UnknownHost (service_at i)) _ known);
+      ranged = rest_ok (known_hosts names ds.services) (λ _. good_ranges ds.options ds.hosts ds.services) tt hosted;
+    }
+
+-- the host of every service has a name without a semicolon
+parted_from : (ds : Drafts) → IsFaultless ds → list_all (λ s. is_host_name s.host) ds.services ≡ true
+parted_from ds f =
+    let names : list_all is_host_name (names_of ds.hosts) ≡ true =
+    list_all-map is_host_name (λ h. h.name) ds.hosts ∙ all_weaker (λ h. is_name h.name) (λ h. is_host_name h.name) (λ h e. name_is_host_name h.name e) ds.hosts f.named in
+    all_weaker (λ s. is_known (names_of ds.hosts) s.host) (λ s. is_host_name s.host) (λ s e. known_good is_host_name s.host (names_of ds.hosts) names e) ds.services f.known
+
+pub parted : (ds : Drafts) → is_faultless ds ≡ Ok tt → list_all (λ e. is_host_name e.0.0) (services_in_order ds.services) ≡ true
+parted ds e = placed_good pair_order key_of (λ s. object_of s.check) (λ k. is_host_name k.0) [] ds.services refl (parted_from ds (faultless ds e))
+
+pub few_hosts : (ds : Drafts) → is_faultless ds ≡ Ok tt → length (hosts_in_order ds.hosts) ≤ 4096
+few_hosts ds e =
+    let f = faultless ds e in
+    let h = placed_few text_order (λ h. h.name) body_of [] ds.hosts in
+    omega (arith, f.few, h)
+
+hosted_by : (hosts : List HostDraft) (services : List ServiceDraft) → list_all (λ s. is_known (names_of hosts) s.host) services ≡ true → (ns : List (List ℕ)) (n : ℕ) → n ≡ length ns → (0 < length hosts → 0 < length ns)
+    → list_all (λ s. nat_lt s.host n) (map (numbered_service ns) (services_in_order services)) ≡ true
+hosted_by hosts [] k ns n e some = refl
+hosted_by [] (s ∷ services) k ns n e some = cc
+hosted_by (h ∷ hosts) (s ∷ services) k ns n e some = services_hosted ns n e (some (omega arith)) (services_in_order (s ∷ services))
+
+unit_by : (a b : Bool) (n : ℕ) (y : Result (Unit {0}) LoadError) (e : LoadError) → y ≡ Ok tt → nat_lt 86400 n ≡ b → cond (a || b) (Err e) (Ok tt) ≡ y → n ≤ 86400
+unit_by true b n y e o t h = cc
+unit_by false true n y e o t h = cc
+unit_by false false n y e o t h = grind (arith, nat_tests, t)
+
+-- a unit of the intervals is within its limit
+pub unit_in_range : (options : Options) (hosts : List HostDraft) (services : List ServiceDraft) → good_ranges options hosts services ≡ Ok tt → options.interval_length ≤ 86400
+unit_in_range options hosts services e =
+    unit_by (nat_lt options.interval_length 1) (nat_lt 86400 options.interval_length) options.interval_length (Ok tt) _ refl refl (first_ok (good_options options) (λ _. good_host_ranges hosts >>= λ _. good_service_ranges services) tt e)
+
+-- and so are the numbers of every object
+pub objects_in_range : (ds : Drafts) → good_ranges ds.options ds.hosts ds.services ≡ Ok tt → list_all (λ o. is_object_in_range o.object) (objects_of (configuration ds)) ≡ true
+objects_in_range ds e =
+    let after_options = rest_ok (good_options ds.options) (λ _. good_host_ranges ds.hosts >>= λ _. good_service_ranges ds.services) tt e in
+    let hosts : list_all (λ h. is_in_range h.check) ds.hosts ≡ true = all_by_position (λ h. is_in_range h.check) ds.hosts (nowhere (λ i. errors.Range (host_at i)) _ (first_ok (good_host_ranges ds.hosts) (λ _. good_service_ranges ds.services) tt after_options)) in
+    let services : list_all (λ s. is_in_range s.check) ds.services ≡ true = all_by_position (λ s. is_in_range s.check) ds.services (nowhere (λ i. errors.Range (service_at i)) _ (rest_ok (good_host_ranges ds.hosts) (λ _. good_service_ranges ds.services) tt after_options)) in
+    let ns = names_in_order ds.hosts in
+    let hosts_placed = placed_values text_order (λ h. h.name) body_of (λ v. is_object_in_range v.0) [] ds.hosts refl hosts in
+    let services_placed = placed_values pair_order key_of (λ s. object_of s.check) is_object_in_range [] ds.services refl services in
+    let hosts_numbered : list_all (λ o. is_object_in_range o.object) (map named_host (map (numbered_host ns) (hosts_in_order ds.hosts))) ≡ true =
+      list_all-map (λ o. is_object_in_range o.object) named_host (map (numbered_host ns) (hosts_in_order ds.hosts)) ∙ list_all-map (λ h. is_object_in_range h.object) (numbered_host ns) (hosts_in_order ds.hosts) ∙ hosts_placed in
+    let services_numbered : list_all (λ o. is_object_in_range o.object) (map named_service (map (numbered_service ns) (services_in_order ds.services))) ≡ true =
+      list_all-map (λ o. is_object_in_range o.object) named_service (map (numbered_service ns) (services_in_order ds.services)) ∙ list_all-map (λ s. is_object_in_range s.object) (numbered_service ns) (services_in_order ds.services) ∙ services_placed in
+    list_all-append (λ o. is_object_in_range o.object) (map named_host (map (numbered_host ns) (hosts_in_order ds.hosts))) (map named_service (map (numbered_service ns) (services_in_order ds.services))) ∙ rw (hosts_numbered, services_numbered) refl
+
+-- what a document without a fault gives is a setup
+pub configuration_is_setup : (ds : Drafts) → is_faultless ds ≡ Ok tt → IsSetup (configuration ds)
+configuration_is_setup ds e =
+    let f = faultless ds e in
+    let hs = hosts_in_order ds.hosts in
+    let ns = names_in_order ds.hosts in
+    let h = placed_few text_order (λ h. h.name) body_of [] ds.hosts in
+    let s = placed_few pair_order key_of (λ s. object_of s.check) [] ds.services in
+    let some : 0 < length ds.hosts → 0 < length ns = λ x. let y = placed_some text_order (λ h. h.name) body_of [] ds.hosts (omega (arith, x)) in omega (arith, y, length-map hs (λ h. h.0)) in
+    record {
+      few = omega (arith, f.few, h, s, length-map hs (numbered_host ns), length-map (services_in_order ds.services) (numbered_service ns));
+      linked = linked_by hs;
+      hosted = hosted_by ds.hosts ds.services f.known ns (length (map (numbered_host ns) hs)) (names_length hs) some;
+      interval_length = unit_in_range ds.options ds.hosts ds.services f.ranged;
+      ranges = objects_in_range ds f.ranged;
+    }
+
+-- the names of few hosts are few
+pub few_names : (keys : List (Bor (List ℕ))) (sorted ordered : List (List ℕ × (Object × List (List ℕ)))) → texts keys ≡ map (λ e. e.0) sorted → sorted ≡ ordered → length ordered ≤ 4096 → length keys ≤ 4096
+few_names keys sorted ordered e o h = omega (arith, length-map keys (λ k. k.now), ap length e, length-map sorted (λ x. x.0), ap length o)
+
+-- the links that are kept of hosts are to hosts
+pub links_within : {L : Type 0} (items : L → List ℕ) (hosts : List Host) (links : List L) → map items links ≡ map (λ h. h.parents) hosts → list_all (λ h. list_all (λ p. nat_lt p (length hosts)) h.parents) hosts ≡ true
+    → are_within (length links) (map items links) ≡ true
+links_within items hosts links e linked =
+    let n : length links ≡ length hosts = omega (arith, length-map links items, ap length e, length-map hosts (λ h. h.parents)) in
+    ap (λ l. are_within (length links) l) e ∙ list_all-map (λ ls. list_all (λ p. nat_lt p (length links)) ls) (λ h. h.parents) hosts ∙ ap (λ k. list_all (λ h. list_all (λ p. nat_lt p k) h.parents) hosts) n ∙ linked

@@ -1,0 +1,8 @@
+use Rattle.std.proofs.Common.{◌≡◌, ◌++◌, map, drop}
+use Rattle.check_objects.specs.Drafted.{texts}
+use Rattle.check_objects.specs.Numbering.{number_in}
+use Rattle.check_objects.specs.Text.{text}
+use Rattle.check_objects.proofs.numbering.number_parents.Given as goal
+
+abbrev pub invariant-loop-parent : goal.invariant-loop-parent
+invariant-loop-parent l = map (number_in (texts l.names.keys)) (map text l.parents) ≡ l.numbers.items ++ map (number_in (texts l.names.keys)) (map text (drop l.parent-index l.parents))

@@ -1,0 +1,19 @@
+use Rattle.std.proofs.Common.{◌∙◌, map, is_some, get_or, refl}
+use Rattle.check_objects.specs.Drafted.{service}
+use Rattle.check_objects.specs.Fault.{key_of}
+use Rattle.check_objects.specs.Numbering.{pair_order, object_of}
+use Rattle.check_objects.proofs.FaultLemmas.{dropped_at, no_service}
+use Rattle.check_objects.proofs.NumberingLemmas.{placed_next, one_more}
+use Rattle.check_objects.proofs.numbering.sort_services.Goals as goal
+
+pub loop-draft-preserved : goal.loop-draft-preserved
+loop-draft-preserved c =
+    let ds = c.args.drafts.now in
+    let i = c.loop-draft.draft-index in
+    let draft = get_or ds i no_service in
+    record {
+      order = c.loop-draft.invariant.order
+          ∙ placed_next _ pair_order (λ k. (k.0.now, k.1.now)) (λ v. v) (λ a b. refl) key_of (λ s. object_of s.check) (map service) service (λ d more. refl) c.loop-draft.sorted.entries c.insert.new.self.entries (draft.host, draft.description) c.object.result ds i draft
+          (dropped_at ds i no_service c.loop-draft-test.true) c.in_ok-insert.ensures.entries refl c.object.ensures;
+      few = one_more (is_some c.in_ok-insert.field-0) _ _ _ c.in_ok-insert.ensures.len c.loop-draft.invariant.few;
+    }

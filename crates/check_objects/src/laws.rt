@@ -1,0 +1,22 @@
+//! Laws of the definitions, each the contract of a function without parameters and code.
+ghost use Rattle.std.specs.Prelude.{◌≡◌, Ok, map};
+ghost use Rattle.std.specs.List.Sorted.{IsPermutation, IsStrictlySortedBy};
+ghost use Rattle.check_objects.specs.Draft.{Drafts};
+ghost use Rattle.check_objects.specs.Fault.{is_faultless, key_of};
+ghost use Rattle.check_objects.specs.Numbering.{body_of, object_of, hosts_in_order, services_in_order, text_order, pair_order};
+
+/// What the numbers of a setup are worth, for every document without a fault: the hosts in order are
+/// all hosts of the document (`hosts`), and their names ascend by their bytes (`names_ascend`); the
+/// services in order are all its services (`services`), and they ascend by the bytes of their hosts'
+/// names and then of their descriptions (`pairs_ascend`). Ascending is strict: no two are equal.
+pub fn numbers_follow_names()
+    ensures hosts { (d : Drafts) → is_faultless d ≡ Ok tt
+        → IsPermutation (map (λ h. (h.name, body_of h)) d.hosts) (hosts_in_order d.hosts) }
+    ensures names_ascend { (d : Drafts) → is_faultless d ≡ Ok tt
+        → IsStrictlySortedBy text_order (map (λ e. e.0) (hosts_in_order d.hosts)) }
+    ensures services { (d : Drafts) → is_faultless d ≡ Ok tt
+        → IsPermutation (map (λ s. (key_of s, object_of s.check)) d.services)
+        (services_in_order d.services) }
+    ensures pairs_ascend { (d : Drafts) → is_faultless d ≡ Ok tt
+        → IsStrictlySortedBy pair_order (map (λ e. e.0) (services_in_order d.services)) }
+{}

@@ -1,0 +1,4 @@
+pub mod State
+pub mod Standing
+pub mod Reachability
+pub mod Verdict

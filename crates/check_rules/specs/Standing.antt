@@ -1,0 +1,57 @@
+-- What is known of an object.
+use Rattle.std.specs.Prelude.{ℕ, Bool, true, false, not, ◌&&◌, ◌||◌, ◌==◌, nat_lt, nat_le, if◌then◌else◌}
+use Rattle.check_rules.specs.declared.state.State.{State}
+use Rattle.check_rules.specs.declared.standing.Kind.{Kind}
+use Rattle.check_rules.specs.declared.standing.Kind.TheVariants as kind
+use Rattle.check_rules.specs.declared.standing.Phase.{Phase}
+use Rattle.check_rules.specs.declared.standing.Phase.TheVariants as phase
+use Rattle.check_rules.specs.declared.standing.Standing.{Standing}
+use Rattle.check_rules.specs.State.{is_problem, is_host_state, fine_state}
+
+-- a host or a service that was never checked (our own profile)
+abbrev pub pending_standing : Bool → Standing
+pending_standing is_host = record { checked = false; state = fine_state is_host; kind = kind.Hard; attempt = 1; last_hard = fine_state is_host }
+
+-- an object that was never checked stands as pending
+abbrev pub as_checked : Standing → Standing
+as_checked s = if s.checked then s else pending_standing (is_host_state s.state)
+
+-- Whether an object is up, or a service OK: it has no problem, or was never checked. (That one
+-- never checked counts as up is our own profile.)
+abbrev pub is_up : Standing → Bool
+is_up s = not s.checked || not (is_problem s.state)
+
+-- The phase of a problem, by its kind.
+abbrev pub problem_phase : Kind → Phase
+problem_phase kind.Soft = phase.SoftProblem
+problem_phase kind.Hard = phase.HardProblem
+
+-- The phase that an object is in: fine at OK and UP, else a soft or a hard problem. ("State Types".)
+abbrev pub phase_of : Standing → Phase
+phase_of s = if is_problem s.state then problem_phase s.kind else phase.Fine
+
+abbrev pub is_soft_problem_phase : Phase → Bool
+is_soft_problem_phase phase.Fine = false
+is_soft_problem_phase phase.SoftProblem = true
+is_soft_problem_phase phase.HardProblem = false
+
+-- whether an object is a soft problem
+abbrev pub is_soft_problem : Standing → Bool
+is_soft_problem s = is_soft_problem_phase (phase_of s)
+
+-- The attempts of a phase: a problem is soft before the last attempt and hard at it. ("State
+-- Types"; the attempt of OK and UP is our own profile.)
+abbrev pub is_attempt_of : Phase → ℕ → ℕ → Bool
+is_attempt_of phase.Fine attempt max = nat_le 1 attempt && nat_le attempt max
+is_attempt_of phase.SoftProblem attempt max = nat_le 1 attempt && nat_lt attempt max
+is_attempt_of phase.HardProblem attempt max = attempt == max
+
+-- Unless there is a hard problem, the last hard state is OK or UP.
+abbrev pub is_last_hard_of : Phase → State → Bool
+is_last_hard_of phase.Fine last_hard = not (is_problem last_hard)
+is_last_hard_of phase.SoftProblem last_hard = not (is_problem last_hard)
+is_last_hard_of phase.HardProblem last_hard = true
+
+-- whether an object with this maximum of attempts can have this standing
+abbrev pub is_lawful : Standing → ℕ → Bool
+is_lawful s max = is_attempt_of (phase_of s) s.attempt max && is_last_hard_of (phase_of s) s.last_hard

@@ -1,0 +1,51 @@
+-- Return codes and states.
+use Rattle.std.specs.Prelude.{ℕ, Bool, true, false, not, ◌==◌, if◌then◌else◌}
+use Rattle.check_rules.specs.declared.state.Code.{Code}
+use Rattle.check_rules.specs.declared.state.Code.TheVariants as code
+use Rattle.check_rules.specs.declared.state.State.{State}
+use Rattle.check_rules.specs.declared.state.State.TheVariants as state
+
+-- Whether a state is one of hosts: UP, DOWN and UNREACHABLE are.
+abbrev pub is_host_state : State → Bool
+is_host_state state.Ok = false
+is_host_state state.Warning = false
+is_host_state state.Critical = false
+is_host_state state.Unknown = false
+is_host_state state.Up = true
+is_host_state state.Down = true
+is_host_state state.Unreachable = true
+
+-- Whether a state is a problem: any but OK and UP. ("State Types".)
+abbrev pub is_problem : State → Bool
+is_problem state.Ok = false
+is_problem state.Warning = true
+is_problem state.Critical = true
+is_problem state.Unknown = true
+is_problem state.Up = false
+is_problem state.Down = true
+is_problem state.Unreachable = true
+
+-- UP for a host, OK for a service
+abbrev pub fine_state : Bool → State
+fine_state is_host = if is_host then state.Up else state.Ok
+
+-- The state of a service by the return code of its check. ("Plugin API".)
+abbrev pub service_state_of : Code → State
+service_state_of code.Ok = state.Ok
+service_state_of code.Warning = state.Warning
+service_state_of code.Critical = state.Critical
+service_state_of code.Unknown = state.Unknown
+
+-- a number for each state, to tell them apart
+abbrev pub state_number : State → ℕ
+state_number state.Ok = 0
+state_number state.Warning = 1
+state_number state.Critical = 2
+state_number state.Unknown = 3
+state_number state.Up = 4
+state_number state.Down = 5
+state_number state.Unreachable = 6
+
+-- whether two states are different
+abbrev pub is_another_state : State → State → Bool
+is_another_state s t = not (state_number s == state_number t)

@@ -1,0 +1,23 @@
+//! The rules by which results of checks become states: what a return code means for a service and
+//! for a host, and the verdict on a result, which is the state, its kind and the attempt.
+//!
+//! The rules are those of the Nagios Core 4 manual, chapters "Plugin API", "Host Checks",
+//! "Determining Status and Reachability of Network Hosts" and "State Types"; where the manual
+//! leaves a choice, the profile of this project makes it, and the item says so. Every function is
+//! pure: it changes nothing and takes no memory.
+//!
+//! The modules: `state` has return codes and states, `standing` what is known of an object,
+//! `verdicts` the verdict on a result, `reachability` the state of a host by its parents.
+#![tactic(auto)]
+
+mod reachability;
+mod standing;
+mod state;
+#[cfg(test)]
+mod tests;
+mod verdicts;
+
+pub use reachability::host_state;
+pub use standing::{Kind, Standing, lawful, pending};
+pub use state::{Code, State, service_state};
+pub use verdicts::verdict;

@@ -1,0 +1,110 @@
+//! What is known of an object: its state, the kind of that state, the attempt.
+
+ghost use Rattle.std.specs.Prelude.{◌≡◌};
+ghost use Rattle.check_rules.specs.Standing.{as_checked, is_lawful, is_soft_problem, is_up, pending_standing, phase_of};
+
+use crate::state::State;
+
+/// Whether a state is soft, which is to be confirmed by further checks, or hard. (Manual: "State
+/// Types".)
+#[derive(Clone, Copy, Debug, PartialEq, Eq)]
+pub enum Kind {
+    Soft,
+    Hard,
+}
+
+/// What is known of an object.
+#[derive(Clone, Copy, Debug, PartialEq, Eq)]
+pub struct Standing {
+    /// Whether a result has ever come in.
+    pub checked: bool,
+    /// The current state; of an object that was never checked `Ok` or `Up`.
+    pub state: State,
+    /// The kind of the current state.
+    pub kind: Kind,
+    /// The number of the check attempt, 1 to the object's maximum.
+    pub attempt: u8,
+    /// The state of the last result whose state was hard; before one `Ok` or `Up`.
+    pub last_hard: State,
+}
+
+/// The three phases of the manual's "State Types": no problem, a problem that is being retried, a
+/// problem that is confirmed.
+#[derive(Clone, Copy, Debug, PartialEq, Eq)]
+pub(crate) enum Phase {
+    Fine,
+    SoftProblem,
+    HardProblem,
+}
+
+impl Standing {
+    /// Whether the host is up, or the service OK: it has no problem, or it was never checked. (That
+    /// one never checked counts as up is our own profile.)
+    pub fn is_up(self) -> bool
+        ensures { result ≡ is_up self }
+    {
+        !self.checked || !self.state.is_problem()
+    }
+
+    /// Whether the object is a soft problem, which is being retried.
+    pub fn is_soft_problem(self) -> bool
+        ensures { result ≡ is_soft_problem self }
+    {
+        matches!(self.phase(), Phase::SoftProblem)
+    }
+
+    /// The phase that the object is in.
+    pub(crate) fn phase(self) -> Phase
+        ensures { result ≡ phase_of self }
+    {
+        if !self.state.is_problem() {
+            return Phase::Fine;
+        }
+        match self.kind {
+            Kind::Soft => Phase::SoftProblem,
+            Kind::Hard => Phase::HardProblem,
+        }
+    }
+
+    /// This standing, or that of an object that was never checked as [`pending`].
+    pub(crate) fn as_checked(self) -> Standing
+        ensures { result ≡ as_checked self }
+    {
+        if self.checked {
+            self
+        } else {
+            pending(self.state.is_host())
+        }
+    }
+}
+
+/// The standing of a host, or of a service, that was never checked: `Up` or `Ok`, hard, attempt 1.
+/// (Our own profile.)
+pub fn pending(is_host: bool) -> Standing
+    ensures { result ≡ pending_standing is_host }
+{
+    let state = State::fine(is_host);
+    Standing {
+        checked: false,
+        state,
+        kind: Kind::Hard,
+        attempt: 1,
+        last_hard: state,
+    }
+}
+
+/// Whether an object with `max` check attempts can have this standing. A soft problem has an
+/// attempt from 1 to `max - 1`, a hard problem the attempt `max`, and OK and UP one from 1 to
+/// `max`; and but for hard problems the last hard state is OK or UP. (Our own profile, after the
+/// manual's "State Types".)
+pub fn lawful(standing: Standing, max: u8) -> bool
+    ensures { result ≡ is_lawful standing max }
+{
+    let attempt = standing.attempt;
+    let was_fine = !standing.last_hard.is_problem();
+    match standing.phase() {
+        Phase::Fine => 1 <= attempt && attempt <= max && was_fine,
+        Phase::SoftProblem => 1 <= attempt && attempt < max && was_fine,
+        Phase::HardProblem => attempt == max,
+    }
+}

@@ -1,0 +1,286 @@
+-- Laws of reports: the standing and the next time that a result gives are within their limits.
+use Rattle.std.proofs.Common.{◌≡◌, ℕ, zero, suc, ◌+◌, ◌-◌, ◌*◌, ◌<◌, ◌≤◌, ◌^◌, Bool, true, false, not, ◌&&◌, ◌==◌, cond, List, [], ◌∷◌, ◌++◌, length, map, get_or, Option, Some, None, option_map, refl, sym, ap, subst, ◌∙◌, arith, IfSome}
+use Rattle.std.specs.Prelude.{nat_lt, nat_le, option_and_then, slice_get, unwrap_or}
+use Rattle.std.specs.List.{list_all}
+use Rattle.std.specs.Option.{option_or, option_map_or}
+use Rattle.std.proofs.Math.Nat.{mul-le-mul_left}
+use Rattle.std.proofs.lemmas.Bool.Decides.{nat_tests}
+use Rattle.std.proofs.lemmas.List.{length-map, length-append}
+use Rattle.std.proofs.lemmas.Option.{slice_get-get_or, slice_get_within, slice_get_read}
+use Rattle.check_objects.specs.declared.object.Object.{Object}
+use Rattle.check_objects.specs.Configuration.{Configuration, Named, Service, objects_of, object_count, host_count, host_of, IsSetup, is_object_in_range}
+use Rattle.check_rules.specs.declared.state.Code.{Code}
+use Rattle.check_rules.specs.declared.state.Code.TheVariants as code
+use Rattle.check_rules.specs.declared.state.State as rules
+use Rattle.check_rules.specs.declared.state.State.TheVariants as state
+use Rattle.check_rules.specs.declared.standing.Standing.{Standing}
+use Rattle.check_rules.specs.State.{is_host_state, service_state_of}
+use Rattle.check_rules.specs.Standing.{is_lawful, is_up, is_soft_problem}
+use Rattle.check_rules.specs.Reachability.{host_state_of, is_problem_of_host, is_cut_off}
+use Rattle.check_rules.specs.Verdict.{verdict_on}
+use Rattle.check_rules.proofs.VerdictLaws.{verdict_is_lawful}
+use Rattle.check_objects.specs.Configuration.{parents_of}
+use Rattle.check_rules.specs.Standing.{pending_standing}
+use Rattle.check_sched.specs.declared.object_state.ObjectState.{ObjectState}
+use Rattle.check_sched.specs.declared.object_state.Run.{Run}
+use Rattle.check_sched.specs.declared.call.Reply.{Reply}
+use Rattle.check_sched.specs.declared.call.Reply.TheVariants as reply
+use Rattle.check_sched.specs.declared.call.Refusal.TheVariants as refusal
+use Rattle.check_sched.specs.ObjectState.{ended}
+use Rattle.check_sched.specs.State.{State, IsState, IsStandingOf, is_host, is_time, is_moment, is_in_time, max_attempts_of, standing_at}
+use Rattle.check_sched.specs.Step.{report_object, report_run, report_step, report_taken, reported, standing_reply}
+use Rattle.check_sched.proofs.CandidateLaws.{and_both, both_and}
+use Rattle.check_sched.proofs.UpdateLaws.{length-update_at, all-update_at, each-update_at, all_at_place, none_there}
+use Rattle.check_sched.specs.Report.{interval_after, judged, judged_by, milliseconds, next_after, time_after}
+
+-- ---- hosts and services
+
+none_past : (services : List Service) (i : ℕ) → option_map (λ s. s.host) (slice_get services i) ≡ None → length services ≤ i
+none_past [] i e = omega arith
+none_past (s ∷ services) zero e = cc
+none_past (s ∷ services) (suc i) e = let more = none_past services i e in omega (arith, more)
+
+no_host_by : (setup : Configuration) (n : ℕ) (b : Bool) → nat_lt n (host_count setup) ≡ b → n < object_count setup → cond b None (option_map (λ s. s.host) (slice_get setup.services (n - host_count setup))) ≡ None → b ≡ true
+no_host_by setup n true e h f = refl
+no_host_by setup n false e h f =
+    let past = none_past setup.services (n - host_count setup) f in
+    let least : host_count setup ≤ n = grind (arith, nat_tests, e) in
+    let count : object_count setup ≡ host_count setup + length setup.services = simp (length-append, length-map) refl in
+    absurd (omega (arith, past, least, count, h))
+
+-- hosts are objects
+pub host_count-below : (setup : Configuration) → host_count setup ≤ object_count setup
+host_count-below setup =
+    let count : object_count setup ≡ host_count setup + length setup.services = simp (length-append, length-map) refl in
+    omega (arith, count)
+
+-- an object of the setup without a host is a host
+pub is_host-none : (setup : Configuration) (n : ℕ) → n < object_count setup → host_of setup n ≡ None → is_host setup n ≡ true
+is_host-none setup n h e = no_host_by setup n (nat_lt n (host_count setup)) refl h e
+
+host_by : (setup : Configuration) (n host : ℕ) (b : Bool) → cond b None (option_map (λ s. s.host) (slice_get setup.services (n - host_count setup))) ≡ Some host → b ≡ false
+host_by setup n host true e = cc
+host_by setup n host false e = refl
+
+-- an object with a host is a service
+pub is_host-some : (setup : Configuration) (n host : ℕ) → host_of setup n ≡ Some host → is_host setup n ≡ false
+is_host-some setup n host e = host_by setup n host (nat_lt n (host_count setup)) e
+
+-- the limits of an object's numbers
+pub object_in_range : (setup : Configuration) (n : ℕ) (o : Named) → IsSetup setup → slice_get (objects_of setup) n ≡ Some o → is_object_in_range o.object ≡ true
+object_in_range setup n o h e = all_at_place (λ x. is_object_in_range x.object) (objects_of setup) n o h.ranges e
+
+pub one_attempt : (o : Object) → is_object_in_range o ≡ true → 1 ≤ o.max_check_attempts
+one_attempt o e = grind (arith, nat_tests, e)
+
+attempts_by : (setup : Configuration) (n : ℕ) (found : Option Named) → IsSetup setup → slice_get (objects_of setup) n ≡ found → 1 ≤ option_map_or (λ o. o.object.max_check_attempts) found 1
+attempts_by setup n None h e = omega arith
+attempts_by setup n (Some o) h e = one_attempt o.object (object_in_range setup n o h e)
+
+-- an object has one check attempt at least
+pub some_attempts : (setup : Configuration) (n : ℕ) → IsSetup setup → 1 ≤ max_attempts_of setup n
+some_attempts setup n h = attempts_by setup n (slice_get (objects_of setup) n) h refl
+
+-- the maximum of attempts of an object that is there
+pub max_attempts_at : (found : Option Named) (o : Object) → option_map (λ x. x.object) found ≡ Some o → o.max_check_attempts ≡ option_map_or (λ x. x.object.max_check_attempts) found 1
+max_attempts_at None o e = cc
+max_attempts_at (Some x) o e = let same : x.object ≡ o = cc in ap (λ y. y.max_check_attempts) (sym same)
+
+-- ---- the standing
+
+host_sort_by : (a b : Bool) → is_host_state (cond a (cond b state.Unreachable state.Down) state.Up) ≡ true
+host_sort_by true true = refl
+host_sort_by true false = refl
+host_sort_by false b = refl
+
+-- the state of a host is one of hosts
+pub host_sort : (setup : Configuration) (standings : List Standing) (n : ℕ) (c : Code) → is_host_state (host_state_of setup standings n c) ≡ true
+host_sort setup standings n c = host_sort_by (is_problem_of_host setup.options.use_aggressive_host_checking c) (is_cut_off standings (parents_of setup n))
+
+-- the state of a service is one of services
+pub service_sort : (c : Code) → is_host_state (service_state_of c) ≡ false
+service_sort code.Ok = refl
+service_sort code.Warning = refl
+service_sort code.Critical = refl
+service_sort code.Unknown = refl
+
+judged_is_standing_by : (setup : Configuration) (standings : List Standing) (n : ℕ) (c : Code) (host : Option ℕ) → IsSetup setup → n < object_count setup → host_of setup n ≡ host → IsStandingOf setup n (standing_at standings n)
+    → IsStandingOf setup n (judged_by host setup standings n c)
+judged_is_standing_by setup standings n c None h l e b = record {
+  lawful = verdict_is_lawful (standing_at standings n) (host_state_of setup standings n c) (max_attempts_of setup n) true (some_attempts setup n h) b.lawful;
+  sort = host_sort setup standings n c ∙ sym (is_host-none setup n l e);
+}
+judged_is_standing_by setup standings n c (Some host) h l e b = record {
+  lawful = verdict_is_lawful (standing_at standings n) (service_state_of c) (max_attempts_of setup n) (is_up (standing_at standings host)) (some_attempts setup n h) b.lawful;
+  sort = service_sort c ∙ sym (is_host-some setup n host e);
+}
+
+-- an object can have the standing that a result gives it
+pub judged_is_standing : (setup : Configuration) (standings : List Standing) (n : ℕ) (c : Code) → IsSetup setup → n < object_count setup → IsStandingOf setup n (standing_at standings n) → IsStandingOf setup n (judged setup standings n c)
+judged_is_standing setup standings n c h l b = judged_is_standing_by setup standings n c (host_of setup n) h l refl b
+
+-- ---- the next time
+
+-- an interval within its limit is at most 45,411,840,000,000 milliseconds
+pub milliseconds_bound : (interval unit : ℕ) → interval ≤ 525600 → unit ≤ 86400 → interval * unit * 1000 ≤ 45411840000000
+milliseconds_bound interval unit a b =
+    let first : interval * unit ≤ interval * 86400 = mul-le-mul_left interval b in
+    omega (arith, first, a)
+
+interval_by : (o : Object) (soft : Bool) → is_object_in_range o ≡ true → cond soft o.retry_interval o.check_interval ≤ 525600
+interval_by o true e = grind (arith, nat_tests, e)
+interval_by o false e = grind (arith, nat_tests, e)
+
+-- the interval to the next check is within its limit
+pub interval_bound : (o : Object) (standing : Standing) → is_object_in_range o ≡ true → interval_after o standing ≤ 525600
+interval_bound o standing e = interval_by o (is_soft_problem standing) e
+
+read_by : (setup : Configuration) (n : ℕ) (o : Object) (found : Option Named) → IsSetup setup → slice_get (objects_of setup) n ≡ found → option_map (λ x. x.object) found ≡ Some o → is_object_in_range o ≡ true
+read_by setup n o None h e f = cc
+read_by setup n o (Some x) h e f = let same : x.object ≡ o = cc in subst (λ y. is_object_in_range y ≡ true) same (object_in_range setup n x h e)
+
+-- the same of an object that was read at its place
+pub object_read_in_range : (setup : Configuration) (n : ℕ) (o : Object) → IsSetup setup → option_map (λ x. x.object) (slice_get (objects_of setup) n) ≡ Some o → is_object_in_range o ≡ true
+object_read_in_range setup n o h f = read_by setup n o (slice_get (objects_of setup) n) h refl f
+
+time_by : (none : Bool) (time : ℕ) → time ≤ 2 ^ 61 → is_time (cond none None (Some time)) ≡ true
+time_by true time h = refl
+time_by false time h = grind (arith, nat_tests, h)
+
+interval_next_by : (setup : Configuration) (n : ℕ) (standing : Standing) (start : ℕ) (found : Option Named) → IsSetup setup → start ≤ 2 ^ 60 → slice_get (objects_of setup) n ≡ found
+    → is_time (option_and_then (λ o. time_after setup start (interval_after o.object standing)) found) ≡ true
+interval_next_by setup n standing start None h l e = refl
+interval_next_by setup n standing start (Some o) h l e =
+    let bound = milliseconds_bound (interval_after o.object standing) setup.options.interval_length (interval_bound o.object standing (object_in_range setup n o h e)) h.interval_length in
+    time_by (interval_after o.object standing == 0) (start + milliseconds setup (interval_after o.object standing)) (omega (arith, bound, l))
+
+next_by : (setup : Configuration) (n : ℕ) (standing : Standing) (start : ℕ) (already : Option ℕ) → IsSetup setup → start ≤ 2 ^ 60 → is_time already ≡ true → is_time (next_after setup n standing start already) ≡ true
+next_by setup n standing start None h l t = interval_next_by setup n standing start (slice_get (objects_of setup) n) h l refl
+next_by setup n standing start (Some time) h l t = t
+
+-- the next time after a report is at most 2^61
+pub next_in_time : (setup : Configuration) (n : ℕ) (standing : Standing) (start : ℕ) (already : Option ℕ) → IsSetup setup → start ≤ 2 ^ 60 → is_time already ≡ true → is_time (next_after setup n standing start already) ≡ true
+next_in_time setup n standing start already h l t = next_by setup n standing start already h l t
+
+-- ---- the state
+
+standing_by : (s : State) (n : ℕ) (found : Option Standing) → IsState s → n < object_count s.setup → slice_get s.standings n ≡ found → IsStandingOf s.setup n (unwrap_or found (pending_standing true))
+standing_by s n None is_state h e = let past = none_there s.standings n e in absurd (omega (arith, past, h, is_state.one_standing_each))
+standing_by s n (Some t) is_state h e = is_state.standings n t e
+
+-- an object that is there has a standing that it can have
+pub standing_of_state : (s : State) (n : ℕ) → IsState s → n < object_count s.setup → IsStandingOf s.setup n (standing_at s.standings n)
+standing_of_state s n is_state h = standing_by s n (slice_get s.standings n) is_state h refl
+
+-- a run began at 2^60 at the latest
+pub start_of_state : (s : State) (n : ℕ) (o : ObjectState) (r : Run) → IsState s → slice_get s.objects n ≡ Some o → o.run ≡ Some r → r.start ≤ 2 ^ 60
+start_of_state s n o r is_state e f =
+    let both = and_both (is_time o.next) (is_moment o.run) (all_at_place is_in_time s.objects n o is_state.times e) in
+    let moment : is_moment (Some r) ≡ true = ap is_moment (sym f) ∙ both.1 in
+    grind (arith, nat_tests, moment)
+
+-- a next time is at most 2^61
+pub next_of_state : (s : State) (n : ℕ) (o : ObjectState) → IsState s → slice_get s.objects n ≡ Some o → is_time o.next ≡ true
+next_of_state s n o is_state e = (and_both (is_time o.next) (is_moment o.run) (all_at_place is_in_time s.objects n o is_state.times e)).0
+
+-- a report leaves the state one that a scheduler can be in
+pub reported_is_state : (n : ℕ) (standing : Standing) (next : Option ℕ) (s : State) → IsState s → is_time next ≡ true → IsStandingOf s.setup n standing → IsState (reported n standing next s)
+reported_is_state n standing next s is_state t new = record {
+  valid_setup = is_state.valid_setup;
+  one_each = length-update_at n _ s.objects ∙ is_state.one_each;
+  one_standing_each = length-update_at n _ s.standings ∙ is_state.one_standing_each;
+  runs = is_state.runs;
+  times = all-update_at is_in_time n (ended next) s.objects is_state.times (λ o e. both_and (is_time next) true t refl);
+  standings = each-update_at (IsStandingOf s.setup) n standing s.standings is_state.standings new;
+}
+
+-- what a report makes of the standing and the next time is within the limits
+pub report_standing : (n : ℕ) (c : Code) (o : ObjectState) (s : State) → IsState s → slice_get s.objects n ≡ Some o → IsStandingOf s.setup n (judged s.setup s.standings n c)
+report_standing n c o s is_state e =
+    let within : n < object_count s.setup = let l = slice_get_within s.objects n o e in omega (arith, l, is_state.one_each) in
+    judged_is_standing s.setup s.standings n c is_state.valid_setup within (standing_of_state s n is_state within)
+
+pub report_next : (n : ℕ) (c : Code) (o : ObjectState) (r : Run) (s : State) → IsState s → slice_get s.objects n ≡ Some o → o.run ≡ Some r → is_time (next_after s.setup n (judged s.setup s.standings n c) r.start o.next) ≡ true
+report_next n c o r s is_state e f = next_in_time s.setup n (judged s.setup s.standings n c) r.start o.next is_state.valid_setup (start_of_state s n o r is_state e f) (next_of_state s n o is_state e)
+
+-- a time that passes the test is at most 2^61
+pub is_time_reads : (next : Option ℕ) → is_time next ≡ true → IfSome next (λ time. time ≤ 2 ^ 61)
+is_time_reads None e = tt
+is_time_reads (Some time) e = grind (arith, nat_tests, e)
+
+-- ---- Report, by its four answers
+
+report_run_by : (P : State × Reply → Type 0) (n run : ℕ) (c : Code) (o : ObjectState) (r : Run) (s : State) (same : Bool)
+    → (same ≡ false → P (s, reply.Refused refusal.WrongRun))
+    → (same ≡ true → P (report_taken n r.start c o s))
+    → P (cond same (report_taken n r.start c o s) (s, reply.Refused refusal.WrongRun))
+report_run_by P n run c o r s true wrong take = take refl
+report_run_by P n run c o r s false wrong take = wrong refl
+
+report_by : (P : State × Reply → Type 0) (n run : ℕ) (c : Code) (s : State) (found : Option ObjectState)
+    → (found ≡ None → P (s, reply.Refused refusal.UnknownObject))
+    → ((o : ObjectState) → found ≡ Some o → o.run ≡ None → P (s, reply.Refused refusal.NotRunning))
+    → ((o : ObjectState) (r : Run) → found ≡ Some o → o.run ≡ Some r → (r.number == run) ≡ false → P (s, reply.Refused refusal.WrongRun))
+    → ((o : ObjectState) (r : Run) → found ≡ Some o → o.run ≡ Some r → (r.number == run) ≡ true → P (report_taken n r.start c o s))
+    → P (report_object n run c found s)
+report_by P n run c s None unknown idle wrong take = unknown refl
+report_by P n run c s (Some o) unknown idle wrong take = by_run o.run refl
+  where
+    by_run : (running : Option Run) → o.run ≡ running → P (report_run n run c o running s)
+    by_run None e = idle o refl e
+    by_run (Some r) e = report_run_by P n run c o r s (r.number == run) (λ f. wrong o r refl e f) (λ f. take o r refl e f)
+
+-- what is true of a Report is what is true of each of its four answers
+pub report_cases : (P : State × Reply → Type 0) (n run : ℕ) (c : Code) (s : State)
+    → (slice_get s.objects n ≡ None → P (s, reply.Refused refusal.UnknownObject))
+    → ((o : ObjectState) → slice_get s.objects n ≡ Some o → o.run ≡ None → P (s, reply.Refused refusal.NotRunning))
+    → ((o : ObjectState) (r : Run) → slice_get s.objects n ≡ Some o → o.run ≡ Some r → (r.number == run) ≡ false → P (s, reply.Refused refusal.WrongRun))
+    → ((o : ObjectState) (r : Run) → slice_get s.objects n ≡ Some o → o.run ≡ Some r → (r.number == run) ≡ true → P (report_taken n r.start c o s))
+    → P (report_step n run c s)
+report_cases P n run c s unknown idle wrong take = report_by P n run c s (slice_get s.objects n) unknown idle wrong take
+
+-- what a Report answers where its run is the object's
+pub report_when_running : (n run : ℕ) (c : Code) (s : State) (o : ObjectState) (r : Run) → slice_get s.objects n ≡ Some o → o.run ≡ Some r → r.number ≡ run → report_step n run c s ≡ report_taken n r.start c o s
+report_when_running n run c s o r e f g =
+    let same : (r.number == run) ≡ true = grind (arith, nat_tests, g) in
+    rw (e, f, same) refl
+
+-- what a Report answers, by the standing and the next time that it makes
+pub report_answers : (n run : ℕ) (c : Code) (s : State) (o : ObjectState) (r : Run) (standing : Standing) (next : Option ℕ) → slice_get s.objects n ≡ Some o → o.run ≡ Some r → r.number ≡ run
+    → standing ≡ judged s.setup s.standings n c → next ≡ next_after s.setup n standing r.start o.next
+    → report_step n run c s ≡ (reported n standing next s, standing_reply n standing next s)
+report_answers n run c s o r standing next e f g j k =
+    report_when_running n run c s o r e f g
+    ∙ ap (λ t. answered t (next_after s.setup n t r.start o.next)) (sym j)
+    ∙ ap (λ x. answered standing x) (sym k)
+  where
+    answered : Standing → Option ℕ → State × Reply
+    answered t x = (reported n t x s, standing_reply n t x s)
+
+-- ---- what is read at a place
+
+-- the element at a place, as the code reads it
+pub read_at : {X : Type 0} (xs : List X) (n : ℕ) (x : X) → n < length xs → x ≡ get_or xs n x → slice_get xs n ≡ Some x
+read_at xs n x h e = slice_get_read xs (length xs) n x refl h e
+
+-- the standing at a place, as the code reads it
+pub standing_read : (standings : List Standing) (n : ℕ) (before : Standing) → n < length standings → before ≡ get_or standings n before → standing_at standings n ≡ before
+standing_read standings n before h e = ap (λ found. unwrap_or found (pending_standing true)) (read_at standings n before h e)
+
+pub standing_index : (standings : List Standing) (n : ℕ) (d : Standing) → n < length standings → standing_at standings n ≡ get_or standings n d
+standing_index standings n d h = ap (λ found. unwrap_or found (pending_standing true)) (slice_get-get_or standings n d h)
+
+-- a time that is at most 2^61 passes the test
+pub is_time_holds : (next : Option ℕ) → IfSome next (λ time. time ≤ 2 ^ 61) → is_time next ≡ true
+is_time_holds None h = refl
+is_time_holds (Some time) h = grind (arith, nat_tests, h)
+
+-- ---- the standing that the code makes
+
+pub judged_when_host : (setup : Configuration) (standings : List Standing) (n : ℕ) (c : Code) (before : Standing) (max : ℕ) (found : rules.State) (made : Standing) → host_of setup n ≡ None → standing_at standings n ≡ before
+    → max ≡ max_attempts_of setup n → found ≡ host_state_of setup standings n c → made ≡ verdict_on before found max true → made ≡ judged setup standings n c
+judged_when_host setup standings n c before max found made e b m f v = v ∙ (λ i. verdict_on (sym b i) (f i) (m i) true) ∙ sym (ap (λ h. judged_by h setup standings n c) e)
+
+pub judged_when_service : (setup : Configuration) (standings : List Standing) (n host : ℕ) (c : Code) (before : Standing) (max : ℕ) (found : rules.State) (up : Bool) (made : Standing) → host_of setup n ≡ Some host → standing_at standings n ≡ before
+    → max ≡ max_attempts_of setup n → found ≡ service_state_of c → up ≡ is_up (standing_at standings host) → made ≡ verdict_on before found max up → made ≡ judged setup standings n c
+judged_when_service setup standings n host c before max found up made e b m f u v = v ∙ (λ i. verdict_on (sym b i) (f i) (m i) (u i)) ∙ sym (ap (λ h. judged_by h setup standings n c) e)

@@ -1,0 +1,44 @@
+-- Laws of one place changed in a list, and of what is true at each place.
+use Rattle.std.proofs.Common.{◌≡◌, ℕ, zero, suc, ◌+◌, ◌<◌, ◌≤◌, Bool, true, false, ◌&&◌, List, [], ◌∷◌, length, get_or, set, Option, Some, None, refl, ap, subst, arith}
+use Rattle.std.specs.Prelude.{slice_get}
+use Rattle.std.specs.List.{list_all}
+use Rattle.check_sched.specs.Step.{update_at}
+use Rattle.check_sched.proofs.CandidateLaws.{and_both, both_and}
+
+pub length-update_at : {X : Type 0} (n : ℕ) (f : X → X) (xs : List X) → length (update_at n f xs) ≡ length xs
+length-update_at n f [] = refl
+length-update_at zero f (x ∷ xs) = refl
+length-update_at (suc n) f (x ∷ xs) = ap suc (length-update_at n f xs)
+
+pub set_is_update : {X : Type 0} (n : ℕ) (f : X → X) (xs : List X) (d y : X) → n < length xs → y ≡ f (get_or xs n d) → set xs n y ≡ update_at n f xs
+set_is_update n f [] d y h e = absurd (omega arith)
+set_is_update zero f (x ∷ xs) d y h e = ap (λ z. z ∷ xs) e
+set_is_update (suc n) f (x ∷ xs) d y h e = ap (λ l. x ∷ l) (set_is_update n f xs d y (omega arith) e)
+
+-- a test that each passes, and that what is put in the place passes
+pub all-update_at : {X : Type 0} (p : X → Bool) (n : ℕ) (f : X → X) (xs : List X) → list_all p xs ≡ true → ((x : X) → p x ≡ true → p (f x) ≡ true) → list_all p (update_at n f xs) ≡ true
+all-update_at p n f [] e h = refl
+all-update_at p zero f (x ∷ xs) e h = let b = and_both (p x) (list_all p xs) e in both_and (p (f x)) (list_all p xs) (h x b.0) b.1
+all-update_at p (suc n) f (x ∷ xs) e h = let b = and_both (p x) (list_all p xs) e in both_and (p x) _ b.0 (all-update_at p n f xs b.1 h)
+
+-- what is true of each, by its place, and of what is put in one place
+pub each-update_at : {X : Type 0} (P : ℕ → X → Type 0) (n : ℕ) (y : X) (xs : List X) → ((k : ℕ) (x : X) → slice_get xs k ≡ Some x → P k x) → P n y → (k : ℕ) (x : X) → slice_get (update_at n (λ before. y) xs) k ≡ Some x → P k x
+each-update_at P n y [] each new k x e = each k x e
+each-update_at P zero y (z ∷ xs) each new zero x e = let same : y ≡ x = cc in subst (λ w. P 0 w) same new
+each-update_at P zero y (z ∷ xs) each new (suc k) x e = each (suc k) x e
+each-update_at P (suc n) y (z ∷ xs) each new zero x e = each zero x e
+each-update_at P (suc n) y (z ∷ xs) each new (suc k) x e = each-update_at (λ j w. P (suc j) w) n y xs (λ j w f. each (suc j) w f) new k x e
+
+-- ---- places
+
+-- what each passes, the one at a place passes
+pub all_at_place : {X : Type 0} (p : X → Bool) (xs : List X) (n : ℕ) (x : X) → list_all p xs ≡ true → slice_get xs n ≡ Some x → p x ≡ true
+all_at_place p [] n x h e = cc
+all_at_place p (y ∷ xs) zero x h e = let same : y ≡ x = cc in subst (λ z. p z ≡ true) same (and_both (p y) (list_all p xs) h).0
+all_at_place p (y ∷ xs) (suc n) x h e = all_at_place p xs n x (and_both (p y) (list_all p xs) h).1 e
+
+-- a place with nothing at it is past the end
+pub none_there : {X : Type 0} (xs : List X) (n : ℕ) → slice_get xs n ≡ None → length xs ≤ n
+none_there [] n e = omega arith
+none_there (x ∷ xs) zero e = cc
+none_there (x ∷ xs) (suc n) e = let more = none_there xs n e in omega (arith, more)

@@ -1,0 +1,41 @@
+-- What the result of a check makes of an object.
+use Rattle.std.specs.Prelude.{ℕ, ◌+◌, ◌*◌, ◌==◌, Bool, true, false, List, Option, Some, None, option_and_then, slice_get, if◌then◌else◌}
+use Rattle.std.specs.Option.{option_or}
+use Rattle.check_objects.specs.declared.object.Object.{Object}
+use Rattle.check_objects.specs.Configuration.{Configuration, objects_of, host_of}
+use Rattle.check_rules.specs.declared.state.Code.{Code}
+use Rattle.check_rules.specs.declared.standing.Standing.{Standing}
+use Rattle.check_rules.specs.State.{service_state_of}
+use Rattle.check_rules.specs.Standing.{is_up, is_soft_problem}
+use Rattle.check_rules.specs.Reachability.{host_state_of}
+use Rattle.check_rules.specs.Verdict.{verdict_on}
+use Rattle.check_sched.specs.State.{standing_at, max_attempts_of}
+
+-- The standing of an object after the result of its check, by its host, if it is a service. The
+-- state of a host goes by its parents, and the verdict on a service by whether its host is up now.
+-- ("Host Checks", "State Types"; that the host's current state counts is our own profile.)
+abbrev pub judged_by : Option ℕ → Configuration → List Standing → ℕ → Code → Standing
+judged_by None setup standings number code = verdict_on (standing_at standings number) (host_state_of setup standings number code) (max_attempts_of setup number) true
+judged_by (Some host) setup standings number code = verdict_on (standing_at standings number) (service_state_of code) (max_attempts_of setup number) (is_up (standing_at standings host))
+
+abbrev pub judged : Configuration → List Standing → ℕ → Code → Standing
+judged setup standings number code = judged_by (host_of setup number) setup standings number code
+
+-- The interval to the next check, in units of interval_length: the retry interval while the object
+-- is a soft problem, else the check interval. ("Service and Host Check Scheduling", "State Types".)
+abbrev pub interval_after : Object → Standing → ℕ
+interval_after o standing = if is_soft_problem standing then o.retry_interval else o.check_interval
+
+-- an interval in milliseconds: interval_length is in seconds
+abbrev pub milliseconds : Configuration → ℕ → ℕ
+milliseconds setup interval = interval * setup.options.interval_length * 1000
+
+-- The time of the next check is the interval after the start of this one; an interval of 0 gives
+-- none. (Our own profile.)
+abbrev pub time_after : Configuration → ℕ → ℕ → Option ℕ
+time_after setup start interval = if interval == 0 then None else Some (start + milliseconds setup interval)
+
+-- The next time after a report: one that was set while the check ran stays; else it goes by the
+-- interval. (Our own profile.)
+abbrev pub next_after : Configuration → ℕ → Standing → ℕ → Option ℕ → Option ℕ
+next_after setup number standing start already = option_or already (option_and_then (λ o. time_after setup start (interval_after o.object standing)) (slice_get (objects_of setup) number))

@@ -1,0 +1,108 @@
+//! What the result of a check makes of an object: its standing and its next time.
+
+ghost use Rattle.std.specs.Prelude.{◌≡◌, ◌<◌, ◌≤◌, ◌^◌, ◌*◌, IfSome, length, option_map, slice_get, Some};
+ghost use Rattle.check_objects.specs.Configuration.{IsSetup, object_count, objects_of};
+ghost use Rattle.check_rules.specs.State.{is_another_state};
+ghost use Rattle.check_sched.specs.State.{IsStandingOf, max_attempts_of, standing_at};
+ghost use Rattle.check_sched.specs.Report.{interval_after, judged, next_after, milliseconds};
+
+use check_objects::{Object, Setup};
+use check_rules::{Code, Standing, host_state, service_state, verdict};
+
+/// The standing of the object with this number after its check returned this code, beside the
+/// standings of all objects, by number.
+pub(crate) fn judged(setup: &Setup, standings: &[Standing], number: u32, code: Code) -> Standing
+    requires there { number < object_count setup.now }
+    requires one_each { length standings.now ≡ object_count setup.now }
+    requires valid_setup { IsSetup setup.now }
+    requires before { IsStandingOf setup.now number (standing_at standings.now number) }
+    ensures { result ≡ judged setup.now standings.now number code }
+{
+    let before = standing_at(standings, number);
+    let max = max_attempts(setup, number);
+    match setup.host_of(number) {
+        None => verdict(
+            before,
+            host_state(setup, standings, number, code),
+            max,
+            true,
+        ),
+        Some(host) => {
+            let host_up = standing_at(standings, host).is_up();
+            verdict(before, service_state(code), max, host_up)
+        }
+    }
+}
+
+/// What is known of the object with this number.
+fn standing_at(standings: &[Standing], number: u32) -> Standing
+    requires { number < length standings.now }
+    ensures { result ≡ standing_at standings.now number }
+{
+    standings[number as usize]
+}
+
+/// The maximum of check attempts of the object with this number.
+fn max_attempts(setup: &Setup, number: u32) -> u8
+    requires there { number < object_count setup.now }
+    requires valid_setup { IsSetup setup.now }
+    ensures value { result ≡ max_attempts_of setup.now number }
+    ensures some { 1 ≤ result }
+{
+    setup.object(number).max_check_attempts
+}
+
+/// Whether the state differs from the one before.
+pub(crate) fn is_changed(before: Standing, after: Standing) -> bool
+    ensures { result ≡ is_another_state after.state before.state }
+{
+    after.state != before.state
+}
+
+/// The time of the check that follows one that began at `start`: `already`, where a time was set
+/// while it ran, else the interval after the start; None where the interval is 0.
+pub(crate) fn next_after(
+    setup: &Setup,
+    number: u32,
+    standing: Standing,
+    start: u64,
+    already: Option<u64>,
+) -> Option<u64>
+    requires there { number < object_count setup.now }
+    requires valid_setup { IsSetup setup.now }
+    requires moment { start ≤ 2 ^ 60 }
+    requires in_time { IfSome already (λ time. time ≤ 2 ^ 61) }
+    ensures value { result ≡ next_after setup.now number standing start already }
+    ensures within { IfSome result (λ time. time ≤ 2 ^ 61) }
+{
+    if already.is_some() {
+        return already;
+    }
+    let interval = interval_after(setup.object(number), standing);
+    if interval == 0 {
+        return None;
+    }
+    Some(start + milliseconds(setup, interval))
+}
+
+/// The interval to the next check, in units of `interval_length`: the retry interval while the
+/// object is a soft problem, else the check interval.
+fn interval_after(object: &Object, standing: Standing) -> u64
+    ensures { result ≡ interval_after object.now standing }
+{
+    if standing.is_soft_problem() {
+        object.retry_interval
+    } else {
+        object.check_interval
+    }
+}
+
+/// An interval of units of `interval_length`, in milliseconds.
+fn milliseconds(setup: &Setup, interval: u64) -> u64
+    requires valid_setup { IsSetup setup.now }
+    requires interval { interval ≤ 525600 }
+    ensures value { result ≡ milliseconds setup.now interval }
+    ensures within { result ≤ 525600 * 86400 * 1000 }
+{
+    interval * setup.options().interval_length * 1000
+}
