@@ -11,7 +11,7 @@ verdict-requires-clause-lawful c = rw (c.standing_at-before.ensures, c.max_attem
 
 pub verdict-requires-clause-same_sort : goal.verdict-requires-clause-same_sort
 verdict-requires-clause-same_sort c =
-    let a_host = is_host-none c.args.setup.now c.args.number c.requires.there (sym c.host_of.ensures.value ∙ c.in-None.is) in
+    let a_host = is_host-none c.args.setup.now c.args.number c.requires.there (sym c.host_of.ensures.host ∙ c.in-None.is) in
     rw (c.standing_at-before.ensures, c.requires.before.sort, a_host) c.host_state.ensures.of_host
 
 pub verdict-requires-in-Some-clause-attempts : goal.verdict-requires-in-Some-clause-attempts
@@ -22,15 +22,15 @@ verdict-requires-in-Some-clause-lawful c = rw (c.standing_at-before.ensures, c.m
 
 pub verdict-requires-in-Some-clause-same_sort : goal.verdict-requires-in-Some-clause-same_sort
 verdict-requires-in-Some-clause-same_sort c =
-    let a_service = is_host-some c.args.setup.now c.args.number c.in-Some.host (sym c.host_of.ensures.value ∙ c.in-Some.is) in
+    let a_service = is_host-some c.args.setup.now c.args.number c.in-Some.host (sym c.host_of.ensures.host ∙ c.in-Some.is) in
     rw (c.standing_at-before.ensures, c.requires.before.sort, a_service) c.service_state.ensures.of_service
 
 pub returns-in-None : goal.returns-in-None
 returns-in-None c =
     judged_when_host c.args.setup.now c.args.standings.now c.args.number c.args.code c.standing_at-before.result c.max_attempts-max.result c.host_state.result c.verdict.result
-    (sym c.host_of.ensures.value ∙ c.in-None.is) (sym c.standing_at-before.ensures) c.max_attempts-max.ensures.value c.host_state.ensures.value c.verdict.ensures.table
+    (sym c.host_of.ensures.host ∙ c.in-None.is) (sym c.standing_at-before.ensures) c.max_attempts-max.ensures.value c.host_state.ensures.value c.verdict.ensures.table
 
 pub returns-in-Some : goal.returns-in-Some
 returns-in-Some c =
     judged_when_service c.args.setup.now c.args.standings.now c.args.number c.in-Some.host c.args.code c.standing_at-before.result c.max_attempts-max.result c.service_state.result c.is_up-host_up.result c.verdict-in-Some.result
-    (sym c.host_of.ensures.value ∙ c.in-Some.is) (sym c.standing_at-before.ensures) c.max_attempts-max.ensures.value c.service_state.ensures.value (c.is_up-host_up.ensures ∙ ap is_up c.standing_at.ensures) c.verdict-in-Some.ensures.table
+    (sym c.host_of.ensures.host ∙ c.in-Some.is) (sym c.standing_at-before.ensures) c.max_attempts-max.ensures.value c.service_state.ensures.value (c.is_up-host_up.ensures ∙ ap is_up c.standing_at.ensures) c.verdict-in-Some.ensures.table

@@ -8,7 +8,7 @@ use Rattle.check_sched.proofs.sched.opening_standings.Goals as goal
 pub loop-index-preserved : goal.loop-index-preserved
 loop-index-preserved c =
     let there : c.loop-index.index < object_count c.args.setup.now = omega arith in
-    let pushed = standing_seen c.args.setup.now c.loop-index.index c.pending.result _ there c.pending.ensures (ap (λ hosts. nat_lt c.loop-index.index hosts) c.hosts.ensures) in
+    let pushed = standing_seen c.args.setup.now c.loop-index.index c.pending.result _ there c.pending.ensures (ap (λ hosts. nat_lt c.loop-index.index hosts) c.hosts.ensures.count) in
     c.in_ok-push.ensures.items ∙ ap (λ os. os ++ c.pending.result ∷ []) c.loop-index.invariant ∙ pushed
 
 pub returns : goal.returns
