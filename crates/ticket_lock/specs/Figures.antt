@@ -3,6 +3,7 @@ use Rattle.std.specs.Prelude.{◌≡◌, ◌<◌, ◌≤◌, length}
 use Rattle.ticket_steps.specs.declared.seats.CoreSeat.{CoreSeat}
 use Rattle.ticket_lock.specs.declared.figures.Figures.{Figures}
 
+-- the figures are those of the seat, and in range
 pub record AreFiguresOf (f : Figures) (s : CoreSeat) : Type 0 where
   pub own : s.own ≡ f.number
   pub count : length s.numbers ≡ f.count

@@ -25,5 +25,6 @@ module _ {K S C R : Type 0} (start : Start K) where
     -- a holder has seen the whole history, and knows how many calls were refused when it took the book out
     pub out : (ticket : ℕ) → v.seat.phase ≡ Holding ticket → (v.seen ≡ b.entries) × (v.refused ≡ b.refused)
 
+  -- so it is with every seat, however many there are
   pub record IsKnownToAll (c : CoreState S C R) (s : State (Option K) (View K C R)) : Type 0 where
     pub each : (i : ℕ) (v : View K C R) → get_elem? s.views i ≡ some v → IsKnown c.book v

@@ -17,6 +17,7 @@ module _ {K C R : Type 0} (k : Ghosts K C R) (start : Start K) where
     pub entries : k.history book ≡ b.entries
     pub refused : k.refusals book ≡ b.refused
 
+  -- the one slot and its book
   pub record IsSlotOf (c : CoreState k.State C R) (s : State (Option K) (View K C R)) : Type 0 where
     pub one_slot : length s.homes ≡ 1
     pub home : IsHome c → (book : K) × (get_elem? s.homes 0 ≡ some (some (Some book))) × IsBook c.book book

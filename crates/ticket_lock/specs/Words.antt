@@ -17,6 +17,7 @@ abbrev pub served_word : ℕ
 served_word = 1
 
 module _ {K C R : Type 0} (k : Ghosts K C R) (start : Start K) where
+  -- what happened since the opening led to the core state that is read off words and views
   pub record IsCoreOf (happened : List (Happening C R)) (c : CoreState k.State C R) (s : State (Option K) (View K C R)) : Type 0 where
     pub words : s.words ≡ c.next ∷ c.served ∷ []
     pub seats : c.seats ≡ map seat_in s.views

@@ -14,12 +14,19 @@ use Rattle.ticket_steps.specs.Seats.{Stands, keeping, given, waiting, holding, e
 
 -- one event with its outcome; seats are named by their own numbers. A leave that was refused for memory keeps nothing of its call
 pub data Happening (C R : Type 0) : Type 0 where
+  -- a seat gave so many numbers to a new one
   split : ℕ → ℕ → Happening C R
+  -- a seat drew this ticket
   drew : ℕ → ℕ → Happening C R
+  -- a seat looked, and its ticket isn't served yet
   waited : ℕ → Happening C R
+  -- a seat looked, and holds
   held : ℕ → Happening C R
+  -- the holder left, and this call of it was recorded with this reply
   recorded : ℕ → C → R → Happening C R
+  -- the holder left, and its call was refused for want of memory
   refused : ℕ → Happening C R
+  -- a seat took over the second one
   gathered : ℕ → ℕ → Happening C R
 
 module _ {C R : Type 0} where
