@@ -268,9 +268,9 @@ objects_in_range ds e =
     let hosts_placed = placed_values text_order (λ h. h.name) body_of (λ v. is_object_in_range v.0) [] ds.hosts refl hosts in
     let services_placed = placed_values pair_order key_of (λ s. object_of s.check) is_object_in_range [] ds.services refl services in
     let hosts_numbered : list_all (λ o. is_object_in_range o.object) (map named_host (map (numbered_host ns) (hosts_in_order ds.hosts))) ≡ true =
-      list_all-map (λ o. is_object_in_range o.object) named_host (map (numbered_host ns) (hosts_in_order ds.hosts)) ∙ list_all-map (λ h. is_object_in_range h.object) (numbered_host ns) (hosts_in_order ds.hosts) ∙ hosts_placed in
+    list_all-map (λ o. is_object_in_range o.object) named_host (map (numbered_host ns) (hosts_in_order ds.hosts)) ∙ list_all-map (λ h. is_object_in_range h.object) (numbered_host ns) (hosts_in_order ds.hosts) ∙ hosts_placed in
     let services_numbered : list_all (λ o. is_object_in_range o.object) (map named_service (map (numbered_service ns) (services_in_order ds.services))) ≡ true =
-      list_all-map (λ o. is_object_in_range o.object) named_service (map (numbered_service ns) (services_in_order ds.services)) ∙ list_all-map (λ s. is_object_in_range s.object) (numbered_service ns) (services_in_order ds.services) ∙ services_placed in
+    list_all-map (λ o. is_object_in_range o.object) named_service (map (numbered_service ns) (services_in_order ds.services)) ∙ list_all-map (λ s. is_object_in_range s.object) (numbered_service ns) (services_in_order ds.services) ∙ services_placed in
     list_all-append (λ o. is_object_in_range o.object) (map named_host (map (numbered_host ns) (hosts_in_order ds.hosts))) (map named_service (map (numbered_service ns) (services_in_order ds.services))) ∙ rw (hosts_numbered, services_numbered) refl
 
 -- what a document without a fault gives is a setup

@@ -1,5 +1,5 @@
 -- The state of a host by the return code of its check and by its parents.
-use Rattle.std.specs.Prelude.{ℕ, Bool, true, false, not, ◌&&◌, ◌==◌, List, [], ◌∷◌, length, Option, Some, None, slice_get, if◌then◌else◌}
+use Rattle.std.specs.Prelude.{ℕ, Bool, true, false, not, ◌&&◌, ◌==◌, List, length, slice_get, if◌then◌else◌}
 use Rattle.std.specs.List.{list_all}
 use Rattle.std.specs.Option.{option_map_or}
 use Rattle.check_objects.specs.Configuration.{Configuration, parents_of}
@@ -31,6 +31,6 @@ is_cut_off standings parents = not (length parents == 0) && list_all (is_down_at
 -- it isn't. ("Determining Status and Reachability of Network Hosts".)
 abbrev pub host_state_of : Configuration → List Standing → ℕ → Code → State
 host_state_of setup standings number code =
-  if is_problem_of_host setup.options.use_aggressive_host_checking code
-  then (if is_cut_off standings (parents_of setup number) then state.Unreachable else state.Down)
-  else state.Up
+    if is_problem_of_host setup.options.use_aggressive_host_checking code
+    then (if is_cut_off standings (parents_of setup number) then state.Unreachable else state.Down)
+    else state.Up

@@ -216,7 +216,8 @@ fn lawful_standings(rt: HostRuntime) {
 }
 
 /// Host `a` (0) without parents, `b` (1) behind `a`, `c` (2) behind `a` and `b`.
-const THREE_HOSTS: &[u8] = br#"{"options":{"host_inter_check_delay_method":"n"},"hosts":[{"name":"a","max_check_attempts":3},{"name":"b","parents":["a"],"max_check_attempts":3},{"name":"c","parents":["a","b"],"max_check_attempts":3}]}"#;
+const THREE_HOSTS: &[u8] =
+    br#"{"options":{"host_inter_check_delay_method":"n"},"hosts":[{"name":"a","max_check_attempts":3},{"name":"b","parents":["a"],"max_check_attempts":3},{"name":"c","parents":["a","b"],"max_check_attempts":3}]}"#;
 
 /// The states of hosts by their parents', and the cases of Nagios's suite with code 1 and with two
 /// parents that are down.
@@ -243,14 +244,19 @@ fn hosts_and_parents(rt: HostRuntime) -> Result<(), Fail> {
         ([down, down, up], 2, Code::Ok, Up),
     ] {
         assert!(rt; number < 3);
-        assert_eq!(rt; host_state(&setup, &standings, number, code), want, "host {number}");
+        assert_eq!(rt;
+            host_state(&setup, &standings, number, code),
+            want,
+            "host {number}"
+        );
     }
     Ok(())
 }
 
 #[test]
 fn aggressive_checking(rt: HostRuntime) -> Result<(), Fail> {
-    let document = br#"{"options":{"host_inter_check_delay_method":"n","use_aggressive_host_checking":true},"hosts":[{"name":"h","max_check_attempts":3}]}"#;
+    let document =
+        br#"{"options":{"host_inter_check_delay_method":"n","use_aggressive_host_checking":true},"hosts":[{"name":"h","max_check_attempts":3}]}"#;
     let setup = Setup::read(rt.alloc(), document)?;
     assert!(rt; setup.len() == 1 && setup.hosts() == 1);
     let state = host_state(&setup, &[pending(true)], 0, Code::Warning);

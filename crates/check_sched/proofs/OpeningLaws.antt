@@ -1,18 +1,18 @@
 -- Laws of the opening.
-use Rattle.std.proofs.Common.{◌≡◌, ℕ, zero, suc, ◌+◌, ◌<◌, ◌≤◌, ◌^◌, Bool, true, false, not, ◌&&◌, cond, List, [], ◌∷◌, ◌++◌, length, map, take, get_or, Option, Some, None, option_map, refl, sym, ap, subst, ◌∙◌, arith}
-use Rattle.std.specs.Prelude.{nat_lt, nat_le, option_and_then, slice_get}
+use Rattle.std.proofs.Common.{◌≡◌, ℕ, zero, suc, ◌+◌, ◌<◌, ◌≤◌, ◌^◌, Bool, true, false, cond, List, [], ◌∷◌, ◌++◌, length, map, take, get_or, Option, Some, None, option_map, refl, sym, ap, subst, ◌∙◌, arith}
+use Rattle.std.specs.Prelude.{option_and_then, slice_get}
 use Rattle.std.specs.List.{list_all, enumerate_from}
 use Rattle.std.proofs.lemmas.Bool.Decides.{nat_tests}
 use Rattle.std.proofs.lemmas.List.{length-map, take_more}
 use Rattle.std.proofs.lemmas.List.FromFn.{length-enumerate_from}
 use Rattle.check_objects.specs.declared.object.Object.{Object}
-use Rattle.check_objects.specs.Configuration.{Configuration, Named, objects_of, object_count, host_count, IsSetup}
+use Rattle.check_objects.specs.Configuration.{Configuration, Named, objects_of, object_count, IsSetup}
 use Rattle.check_rules.specs.declared.standing.Standing.{Standing}
 use Rattle.check_rules.specs.Standing.{pending_standing}
 use Rattle.check_rules.proofs.VerdictLaws.{pending_is_lawful, pending_sort}
 use Rattle.check_sched.specs.declared.object_state.ObjectState.{ObjectState}
 use Rattle.check_sched.specs.ObjectState.{opening_object}
-use Rattle.check_sched.specs.State.{State, IsState, IsStandingOf, is_host, is_in_time, is_scheduled, is_time, opening, opening_objects, opening_standings, opening_time}
+use Rattle.check_sched.specs.State.{IsState, IsStandingOf, is_host, is_in_time, is_scheduled, is_time, opening, opening_objects, opening_standings, opening_time}
 use Rattle.check_sched.proofs.CandidateLaws.{both_and}
 use Rattle.check_sched.proofs.ReportLaws.{some_attempts}
 

@@ -1,8 +1,7 @@
 -- Laws of reports: the standing and the next time that a result gives are within their limits.
-use Rattle.std.proofs.Common.{◌≡◌, ℕ, zero, suc, ◌+◌, ◌-◌, ◌*◌, ◌<◌, ◌≤◌, ◌^◌, Bool, true, false, not, ◌&&◌, ◌==◌, cond, List, [], ◌∷◌, ◌++◌, length, map, get_or, Option, Some, None, option_map, refl, sym, ap, subst, ◌∙◌, arith, IfSome}
-use Rattle.std.specs.Prelude.{nat_lt, nat_le, option_and_then, slice_get, unwrap_or}
-use Rattle.std.specs.List.{list_all}
-use Rattle.std.specs.Option.{option_or, option_map_or}
+use Rattle.std.proofs.Common.{◌≡◌, ℕ, zero, suc, ◌+◌, ◌-◌, ◌*◌, ◌<◌, ◌≤◌, ◌^◌, Bool, true, false, ◌==◌, cond, List, [], ◌∷◌, length, get_or, Option, Some, None, option_map, refl, sym, ap, subst, ◌∙◌, arith, IfSome}
+use Rattle.std.specs.Prelude.{nat_lt, option_and_then, slice_get, unwrap_or}
+use Rattle.std.specs.Option.{option_map_or}
 use Rattle.std.proofs.Math.Nat.{mul-le-mul_left}
 use Rattle.std.proofs.lemmas.Bool.Decides.{nat_tests}
 use Rattle.std.proofs.lemmas.List.{length-map, length-append}
@@ -15,7 +14,7 @@ use Rattle.check_rules.specs.declared.state.State as rules
 use Rattle.check_rules.specs.declared.state.State.TheVariants as state
 use Rattle.check_rules.specs.declared.standing.Standing.{Standing}
 use Rattle.check_rules.specs.State.{is_host_state, service_state_of}
-use Rattle.check_rules.specs.Standing.{is_lawful, is_up, is_soft_problem}
+use Rattle.check_rules.specs.Standing.{is_up, is_soft_problem}
 use Rattle.check_rules.specs.Reachability.{host_state_of, is_problem_of_host, is_cut_off}
 use Rattle.check_rules.specs.Verdict.{verdict_on}
 use Rattle.check_rules.proofs.VerdictLaws.{verdict_is_lawful}

@@ -1,7 +1,6 @@
 -- Laws of Take: its answers, and the state that it leaves.
-use Rattle.std.proofs.Common.{◌≡◌, ℕ, ◌+◌, ◌<◌, ◌≤◌, ◌^◌, Bool, true, false, ◌&&◌, cond, List, length, Option, Some, None, option_map, refl, sym, ap, ◌∙◌, arith, IfSome}
+use Rattle.std.proofs.Common.{◌≡◌, ℕ, ◌+◌, ◌<◌, ◌≤◌, ◌^◌, Bool, true, false, cond, List, length, Option, Some, None, option_map, refl, sym, ap, ◌∙◌, arith, IfSome}
 use Rattle.std.specs.Prelude.{nat_lt, nat_le}
-use Rattle.std.specs.List.{list_all}
 use Rattle.std.proofs.lemmas.Bool.Decides.{nat_tests}
 use Rattle.check_objects.specs.Configuration.{object_count}
 use Rattle.check_sched.specs.declared.object_state.ObjectState.{ObjectState}

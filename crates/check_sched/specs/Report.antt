@@ -1,5 +1,5 @@
 -- What the result of a check makes of an object.
-use Rattle.std.specs.Prelude.{ℕ, ◌+◌, ◌*◌, ◌==◌, Bool, true, false, List, Option, Some, None, option_and_then, slice_get, if◌then◌else◌}
+use Rattle.std.specs.Prelude.{ℕ, ◌+◌, ◌*◌, ◌==◌, true, List, Option, Some, None, option_and_then, slice_get, if◌then◌else◌}
 use Rattle.std.specs.Option.{option_or}
 use Rattle.check_objects.specs.declared.object.Object.{Object}
 use Rattle.check_objects.specs.Configuration.{Configuration, objects_of, host_of}

@@ -1,5 +1,5 @@
 -- The state of a scheduler as contracts see it, and the state that it opens with.
-use Rattle.std.specs.Prelude.{ℕ, zero, suc, ◌+◌, ◌^◌, ◌≤◌, ◌≡◌, ◌&&◌, ◌==◌, Bool, true, false, not, List, [], ◌∷◌, length, map, Option, Some, None, option_map, option_and_then, slice_get, nat_le, nat_lt, unwrap_or, if◌then◌else◌}
+use Rattle.std.specs.Prelude.{ℕ, ◌^◌, ◌≤◌, ◌≡◌, ◌&&◌, ◌==◌, Bool, true, not, List, length, map, Option, Some, None, option_map, option_and_then, slice_get, nat_le, nat_lt, unwrap_or, if◌then◌else◌}
 use Rattle.std.specs.List.{list_all, enumerate_from}
 use Rattle.std.specs.Option.{option_map_or}
 use Rattle.check_objects.specs.declared.object.Object.{Object}

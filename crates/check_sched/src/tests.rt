@@ -11,32 +11,41 @@ use std::alloc::Global;
 use std::process::Abort;
 use std::test::Fail;
 
-const ONE_HOST: &[u8] = br#"{"options":{"host_inter_check_delay_method":"n"},"hosts":[{"name":"h","max_check_attempts":3}]}"#;
+const ONE_HOST: &[u8] =
+    br#"{"options":{"host_inter_check_delay_method":"n"},"hosts":[{"name":"h","max_check_attempts":3}]}"#;
 
 /// The same, where a code 1 of a host is a problem.
-const ONE_AGGRESSIVE_HOST: &[u8] = br#"{"options":{"host_inter_check_delay_method":"n","use_aggressive_host_checking":true},"hosts":[{"name":"h","max_check_attempts":3}]}"#;
+const ONE_AGGRESSIVE_HOST: &[u8] =
+    br#"{"options":{"host_inter_check_delay_method":"n","use_aggressive_host_checking":true},"hosts":[{"name":"h","max_check_attempts":3}]}"#;
 
 /// Four hosts, in the order of their numbers: `a` and `d` are scheduled, `b` has the check interval
 /// 0, `c` is disabled.
-const FOUR_HOSTS: &[u8] = br#"{"options":{"host_inter_check_delay_method":"n"},"hosts":[{"name":"d","max_check_attempts":3},{"name":"b","check_interval":0,"max_check_attempts":3},{"name":"c","max_check_attempts":3,"enabled":false},{"name":"a","max_check_attempts":3}]}"#;
+const FOUR_HOSTS: &[u8] =
+    br#"{"options":{"host_inter_check_delay_method":"n"},"hosts":[{"name":"d","max_check_attempts":3},{"name":"b","check_interval":0,"max_check_attempts":3},{"name":"c","max_check_attempts":3,"enabled":false},{"name":"a","max_check_attempts":3}]}"#;
 
 /// Host 0, which is never due, and its service 1, with 3 attempts, 5 minutes and 1 minute.
-const ONE_SERVICE: &[u8] = br#"{"options":{"service_inter_check_delay_method":"n","host_inter_check_delay_method":"n"},"hosts":[{"name":"h","check_interval":0,"max_check_attempts":3}],"services":[{"host":"h","description":"s","max_check_attempts":3}]}"#;
+const ONE_SERVICE: &[u8] =
+    br#"{"options":{"service_inter_check_delay_method":"n","host_inter_check_delay_method":"n"},"hosts":[{"name":"h","check_interval":0,"max_check_attempts":3}],"services":[{"host":"h","description":"s","max_check_attempts":3}]}"#;
 
 /// The same, with a second as the unit of intervals.
-const ONE_SERVICE_IN_SECONDS: &[u8] = br#"{"options":{"interval_length":1,"service_inter_check_delay_method":"n","host_inter_check_delay_method":"n"},"hosts":[{"name":"h","check_interval":0,"max_check_attempts":3}],"services":[{"host":"h","description":"s","max_check_attempts":3}]}"#;
+const ONE_SERVICE_IN_SECONDS: &[u8] =
+    br#"{"options":{"interval_length":1,"service_inter_check_delay_method":"n","host_inter_check_delay_method":"n"},"hosts":[{"name":"h","check_interval":0,"max_check_attempts":3}],"services":[{"host":"h","description":"s","max_check_attempts":3}]}"#;
 
 /// The same, with a check interval of 1 minute.
-const ONE_SERVICE_EACH_MINUTE: &[u8] = br#"{"options":{"service_inter_check_delay_method":"n","host_inter_check_delay_method":"n"},"hosts":[{"name":"h","check_interval":0,"max_check_attempts":3}],"services":[{"host":"h","description":"s","max_check_attempts":3,"check_interval":1}]}"#;
+const ONE_SERVICE_EACH_MINUTE: &[u8] =
+    br#"{"options":{"service_inter_check_delay_method":"n","host_inter_check_delay_method":"n"},"hosts":[{"name":"h","check_interval":0,"max_check_attempts":3}],"services":[{"host":"h","description":"s","max_check_attempts":3,"check_interval":1}]}"#;
 
 /// The same, with a single attempt of the service.
-const ONE_ATTEMPT: &[u8] = br#"{"options":{"service_inter_check_delay_method":"n","host_inter_check_delay_method":"n"},"hosts":[{"name":"h","check_interval":0,"max_check_attempts":3}],"services":[{"host":"h","description":"s","max_check_attempts":1}]}"#;
+const ONE_ATTEMPT: &[u8] =
+    br#"{"options":{"service_inter_check_delay_method":"n","host_inter_check_delay_method":"n"},"hosts":[{"name":"h","check_interval":0,"max_check_attempts":3}],"services":[{"host":"h","description":"s","max_check_attempts":1}]}"#;
 
 /// A host that is checked and its service, with 4 attempts each.
-const HOST_AND_SERVICE: &[u8] = br#"{"options":{"service_inter_check_delay_method":"n","host_inter_check_delay_method":"n"},"hosts":[{"name":"h","check_interval":5,"max_check_attempts":4}],"services":[{"host":"h","description":"s","max_check_attempts":4}]}"#;
+const HOST_AND_SERVICE: &[u8] =
+    br#"{"options":{"service_inter_check_delay_method":"n","host_inter_check_delay_method":"n"},"hosts":[{"name":"h","check_interval":5,"max_check_attempts":4}],"services":[{"host":"h","description":"s","max_check_attempts":4}]}"#;
 
 /// Host 0 behind its parent, host 1.
-const BEHIND_A_PARENT: &[u8] = br#"{"options":{"host_inter_check_delay_method":"n"},"hosts":[{"name":"h","parents":["p"],"max_check_attempts":3},{"name":"p","max_check_attempts":3}]}"#;
+const BEHIND_A_PARENT: &[u8] =
+    br#"{"options":{"host_inter_check_delay_method":"n"},"hosts":[{"name":"h","parents":["p"],"max_check_attempts":3},{"name":"p","max_check_attempts":3}]}"#;
 
 const LAST_MOMENT: u64 = 1_152_921_504_606_846_976;
 
@@ -53,14 +62,21 @@ fn opened(alloc: Global, document: &[u8], start: u64) -> Result<Sched, Fail>
     let setup = setup_of(alloc, document)?;
     match Sched::new(alloc, setup, start) {
         Ok(scheduler) => Ok(scheduler),
-        Err(setup) => Ok(Sched::new(alloc, setup, start)
-            .ok()
-            .ok_or("no memory twice")?),
+        Err(setup) => Ok(
+            Sched::new(alloc, setup, start)
+                .ok()
+                .ok_or("no memory twice")?,
+        ),
     }
 }
 
 /// Makes each call on a scheduler that starts at 0, and compares the replies.
-fn answers_as(rt: &impl Abort, alloc: Global, document: &[u8], calls: &[(Call, Reply)]) -> Result<(), Fail> {
+fn answers_as(
+    rt: &impl Abort,
+    alloc: Global,
+    document: &[u8],
+    calls: &[(Call, Reply)],
+) -> Result<(), Fail> {
     let mut scheduler = opened(alloc, document, 0)?;
     for (call, want) in calls {
         assert_eq!(rt; scheduler.apply(*call), *want, "{call:?}");
@@ -145,7 +161,11 @@ fn tells_what_it_holds(rt: HostRuntime) -> Result<(), Fail> {
         (2, None, None),
         (3, Some(1000), None),
     ] {
-        assert_eq!(rt; scheduler.next_of(number), next, "the next time of {number}");
+        assert_eq!(rt;
+            scheduler.next_of(number),
+            next,
+            "the next time of {number}"
+        );
         assert_eq!(rt; scheduler.running(number), run, "the run of {number}");
         assert_eq!(rt; scheduler.standing(number), pending(true), "{number}");
     }
@@ -228,7 +248,10 @@ fn a_host_behind_a_parent_that_is_down(rt: HostRuntime) -> Result<(), Fail> {
             report(0, 1, Code::Critical),
             standing(Unreachable, Soft, 1, Up, true, Some(60_000)),
         ),
-        (Call::Take { now: 60_000 }, Reply::Taken { object: 0, run: 3 }),
+        (
+            Call::Take { now: 60_000 },
+            Reply::Taken { object: 0, run: 3 },
+        ),
         (
             report(0, 3, Code::Warning),
             standing(Up, Soft, 2, Up, true, Some(360_000)),
@@ -279,8 +302,14 @@ fn refuses_results_that_nobody_awaits(rt: HostRuntime) -> Result<(), Fail> {
             Call::Take { now: 300_000 },
             Reply::Taken { object: 1, run: 2 },
         ),
-        (report(1, 1, Code::Critical), Reply::Refused(Refusal::WrongRun)),
-        (report(1, 3, Code::Critical), Reply::Refused(Refusal::WrongRun)),
+        (
+            report(1, 1, Code::Critical),
+            Reply::Refused(Refusal::WrongRun),
+        ),
+        (
+            report(1, 3, Code::Critical),
+            Reply::Refused(Refusal::WrongRun),
+        ),
         (Call::Take { now: 300_000 }, Reply::Idle { next: None }),
     ];
     answers_as(&rt, rt.alloc(), ONE_SERVICE, &calls)

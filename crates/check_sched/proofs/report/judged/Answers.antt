@@ -1,4 +1,4 @@
-use Rattle.std.proofs.Common.{◌≡◌, ◌<◌, ◌∙◌, ap, arith, length, refl, subst, sym}
+use Rattle.std.proofs.Common.{◌∙◌, ap, sym}
 use Rattle.check_rules.specs.Standing.{is_up}
 use Rattle.check_sched.proofs.ReportLaws.{is_host-none, is_host-some, judged_when_host, judged_when_service}
 use Rattle.check_sched.proofs.report.judged.Goals as goal

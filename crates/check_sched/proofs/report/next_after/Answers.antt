@@ -1,4 +1,3 @@
-use Rattle.std.proofs.Common.{◌≡◌}
 use Rattle.check_sched.proofs.ReportLaws.{interval_bound, object_read_in_range}
 use Rattle.check_sched.proofs.report.next_after.Goals as goal
 

@@ -1,13 +1,11 @@
-use Rattle.std.proofs.Common.{◌≡◌, ◌<◌, ◌∙◌, Some, ap, arith, set, refl, sym, length, List}
+use Rattle.std.proofs.Common.{◌≡◌, ◌<◌, ◌∙◌, ap, arith, set, refl, length, List}
 use Rattle.check_objects.specs.Configuration.{object_count}
 use Rattle.check_rules.specs.declared.standing.Standing.{Standing}
-use Rattle.check_rules.specs.State.{is_another_state}
-use Rattle.check_sched.specs.declared.call.Reply.{Reply}
 use Rattle.check_sched.specs.declared.object_state.ObjectState.{ObjectState}
 use Rattle.check_sched.specs.ObjectState.{ended}
 use Rattle.check_sched.specs.State.{IsStandingOf, State}
 use Rattle.check_sched.specs.Sched.{state_of}
-use Rattle.check_sched.specs.Report.{judged, next_after}
+use Rattle.check_sched.specs.Report.{judged}
 use Rattle.check_sched.specs.Step.{report_step, reported, standing_reply, update_at}
 use Rattle.check_sched.proofs.ReportLaws.{is_time_holds, read_at, report_answers, report_standing, reported_is_state, standing_read, start_of_state, standing_of_state}
 use Rattle.check_sched.proofs.UpdateLaws.{set_is_update}

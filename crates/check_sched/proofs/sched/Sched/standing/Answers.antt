@@ -1,4 +1,4 @@
-use Rattle.std.proofs.Common.{◌≡◌, ◌<◌, arith, ap, length, subst}
+use Rattle.std.proofs.Common.{◌<◌, arith, ap, length, subst}
 use Rattle.check_objects.specs.Configuration.{object_count}
 use Rattle.check_sched.specs.State.{IsStandingOf, State}
 use Rattle.check_sched.specs.Sched.{state_of}
