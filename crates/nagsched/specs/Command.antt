@@ -37,19 +37,19 @@ take_call members = Err fault.Shape
 
 -- a plugin's return code, 0 to 3
 abbrev pub code_of : ℕ → Option Code
-code_of number = if number == 0 then Some code.Ok else (if number == 1 then Some code.Warning
-    else (if number == 2 then Some code.Critical else (if number == 3 then Some code.Unknown else None)))
+code_of returned = if returned == 0 then Some code.Ok else (if returned == 1 then Some code.Warning
+    else (if returned == 2 then Some code.Critical else (if returned == 3 then Some code.Unknown else None)))
 
 -- a report of these members, each None where it is of the wrong kind: first the kinds, then the return code, then the
 -- name
 abbrev pub report_of : Configuration → Option (List ℕ) → Option ℕ → Option ℕ → Result Call LineFault
-report_of c (Some name) (Some run) (Some number) = ok_or (code_of number) fault.Code >>= λ code.
+report_of c (Some name) (Some run) (Some returned) = ok_or (code_of returned) fault.Code >>= λ code.
     (ok_or (number_of c name) fault.UnknownName >>= λ object. Ok (call.Report object run code))
-report_of c name run number = Err fault.Shape
+report_of c name run returned = Err fault.Shape
 
 -- `["report",name,run,code]`: the check of the object `name` that runs under the number `run` returned `code`
 abbrev pub report_call : Configuration → Items → Result Call LineFault
-report_call c (item name (item run (item number no_items))) = report_of c (as_str name) (whole_number run) (whole_number number)
+report_call c (item name (item run (item returned no_items))) = report_of c (as_str name) (whole_number run) (whole_number returned)
 report_call c members = Err fault.Shape
 
 -- ---- the call of a tree
