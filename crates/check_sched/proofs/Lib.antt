@@ -1,3 +1,4 @@
+pub mod BookLemmas
 pub mod AnswerLaws
 pub mod CandidateLaws
 pub mod OpeningLaws

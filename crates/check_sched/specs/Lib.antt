@@ -5,3 +5,5 @@ pub mod Reply
 pub mod Report
 pub mod Step
 pub mod Sched
+pub mod BookState
+pub mod Books

@@ -11,6 +11,7 @@
 //! is checked next, `report` what the result of a check makes of an object, `sched` the scheduler.
 #![tactic(auto)]
 
+mod book;
 mod call;
 mod candidate;
 mod object_state;
@@ -19,5 +20,6 @@ mod sched;
 #[cfg(test)]
 mod tests;
 
+pub use book::Book;
 pub use call::{Call, Refusal, Reply};
 pub use sched::Sched;

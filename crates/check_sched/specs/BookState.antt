@@ -1,0 +1,20 @@
+-- The states of a book: the sequential object that a scheduler and its room are.
+use Rattle.std.specs.Prelude.{ℕ}
+use Rattle.check_objects.specs.Configuration.{Configuration}
+use Rattle.check_sched.specs.declared.call.Call.{Call}
+use Rattle.check_sched.specs.declared.call.Reply.{Reply}
+use Rattle.check_sched.specs.State.{State, opening}
+use Rattle.check_sched.specs.Step.{step}
+
+-- a scheduler's state, and for how many entries there was room from the start
+pub record BookState : Type 0 where
+  pub sched : State
+  pub room : ℕ
+
+-- the sequential step is the scheduler's; no call changes the room
+abbrev pub book_step : BookState → Call → BookState × Reply
+book_step s call = (record { sched = (step s.sched call).0; room = s.room }, (step s.sched call).1)
+
+-- the state that a book opens with
+abbrev pub book_opening : Configuration → ℕ → ℕ → BookState
+book_opening setup start room = record { sched = opening setup start; room = room }

@@ -1,0 +1,32 @@
+-- What clauses see of a book.
+use Rattle.std.specs.Prelude.{ℕ, List}
+use Rattle.ticket_steps.specs.declared.kept.Entry.{Entry}
+use Rattle.check_sched.specs.declared.call.Call.{Call}
+use Rattle.check_sched.specs.declared.call.Reply.{Reply}
+use Rattle.check_sched.specs.declared.book.Book.{Book}
+use Rattle.check_sched.specs.State.{State}
+use Rattle.check_sched.specs.BookState.{BookState, book_opening}
+
+-- its history, oldest entry first
+abbrev pub entries_of : Book → List (Entry Call Reply)
+entries_of book = book.entries.items
+
+-- how many calls were refused for want of memory
+abbrev pub refused_of : Book → ℕ
+refused_of book = book.refused
+
+-- its scheduler
+abbrev pub sched_of : Book → State
+sched_of book = book.sched
+
+-- for how many entries there was room from the start
+abbrev pub room_of : Book → ℕ
+room_of book = book.room
+
+-- the state that it was opened with
+abbrev pub opening_of : Book → BookState
+opening_of book = book_opening book.sched.setup book.sched.start book.room
+
+-- its present state
+abbrev pub state_of : Book → BookState
+state_of book = record { sched = book.sched; room = book.room }

@@ -1,0 +1,145 @@
+//! The book: the scheduler with the history of its calls.
+
+ghost use Rattle.std.specs.Prelude.{◌≡◌, ℕ, ◌+◌, ◌^◌, ◌<◌, ◌≤◌, List, [], ◌∷◌, ◌++◌, length, IfOk, IfErr, OnOk, OnErr, vec_capacity, vec_len};
+ghost use Rattle.check_sched.specs.BookState.{BookState, book_opening, book_step};
+ghost use Rattle.check_sched.specs.State.{opening};
+ghost use Rattle.check_sched.specs.Step.{step};
+ghost use Rattle.std.proofs.Props.{props};
+ghost use Rattle.ticket_steps.specs.History.{entry, replay, IsLegal, IsLegal-prop};
+
+use crate::call::{Call, Reply};
+use crate::sched::Sched;
+use check_objects::Setup;
+use std::alloc::{AllocError, Global};
+use ticket_steps::{Entry, Kept, NoMemory};
+
+/// A scheduler that keeps the history of its calls, each with its reply and under the number of the
+/// pass that made it. (Our own profile.)
+///
+/// The history is always legal: each reply is the scheduler's at its place, from the opening on, and
+/// the scheduler is in the state that those calls leave. Refused calls are entries too; a call for
+/// whose entry memory is wanting isn't made, but counted.
+#[derive(Drop)]
+pub struct Book {
+    sched: Sched,
+    entries: Vec<Entry<Call, Reply>>,
+    refused: u64,
+    room: usize,
+    ghost reserved: { room ≤ vec_capacity entries },
+    ghost legal: { IsLegal book_step (book_opening sched.setup sched.start room) entries.items } by { IsLegal-prop book_step (λ a b. Prim.hlevel props) (book_opening sched.setup sched.start room) entries.items },
+    ghost replayed: { record { sched = sched; room = room } ≡ replay book_step (book_opening sched.setup sched.start room) entries.items },
+}
+
+impl Book {
+    ghost use Rattle.check_sched.specs.Books.{entries_of, refused_of, room_of, sched_of};
+
+    /// A book without entries over a new scheduler for the objects of `setup`, which starts at the
+    /// moment `start`, in milliseconds. There is room for so many entries: their calls take no
+    /// memory.
+    ///
+    /// An Err means want of memory, and hands the setup back as it was.
+    pub fn open(alloc: Global, setup: Setup, start: u64, room: usize) -> Result<Book, Setup>
+        requires { start ≤ 2 ^ 60 }
+        ensures empty { IfOk result (λ book. (entries_of book ≡ []) × (refused_of book ≡ 0)) }
+        ensures sched { IfOk result (λ book. sched_of book ≡ opening setup start) }
+        ensures room { IfOk result (λ book. room_of book ≡ room) }
+        ensures err { IfErr result (λ handed_back. handed_back ≡ setup) }
+    {
+        let Ok(entries) = Vec::with_capacity(alloc, room) else {
+            return Err(setup);
+        };
+        let sched = Sched::new(alloc, setup, start)?;
+        Ok(Book {
+            sched,
+            entries,
+            refused: 0,
+            room,
+        })
+    }
+
+    /// The scheduler, in the state that the entries' calls leave.
+    pub fn sched(&self) -> &Sched
+        ensures { result.now ≡ sched_of self.now }
+    {
+        &self.sched
+    }
+
+    /// For how many entries there was room from the start.
+    pub fn room(&self) -> usize
+        ensures { result ≡ room_of self.now }
+    {
+        self.room
+    }
+}
+
+impl Kept for Book {
+    ghost use Rattle.check_sched.specs.Books.{entries_of, opening_of, refused_of, room_of, sched_of, state_of};
+
+    type Call = Call;
+
+    type Reply = Reply;
+
+    ghost State = { BookState };
+
+    ghost step = { book_step };
+
+    ghost opening = { opening_of };
+
+    ghost state = { state_of };
+
+    ghost history = { entries_of };
+
+    ghost refusals = { refused_of };
+
+    ghost legal = { λ book. book.legal };
+
+    ghost replayed = { λ book. book.replayed };
+
+    /// Makes one call on the scheduler, and keeps it with its reply. Room for the entry is made
+    /// first; where there is no memory for it, the call isn't made, but counted. `NoMemory` comes
+    /// only where the entries have reached the room.
+    fn record(&mut self, pass: u32, call: Call) -> Result<Reply, NoMemory>
+        requires { refused_of self.old < 2 ^ 60 }
+        ensures same { opening_of self.new ≡ opening_of self.old }
+        ensures replied { IfOk result (λ reply.
+            (entries_of self.new ≡ entries_of self.old ++ entry pass call reply ∷ [])
+            × (refused_of self.new ≡ refused_of self.old)) }
+        ensures refused { OnErr result (
+            (entries_of self.new ≡ entries_of self.old)
+            × (state_of self.new ≡ state_of self.old)
+            × (refused_of self.new ≡ refused_of self.old + 1)) }
+        ensures step { IfOk result (λ reply. (reply ≡ (step (sched_of self.old) call).1)
+            × (sched_of self.new ≡ (step (sched_of self.old) call).0)) }
+        ensures full { OnErr result (room_of self.old ≤ length (entries_of self.old)) }
+    {
+        if grow(&mut self.entries, self.room).is_err() {
+            self.refused += 1;
+            return Err(NoMemory);
+        }
+        let reply = self.sched.apply(call);
+        self.entries.push_reserved(Entry { pass, call, reply });
+        Ok(reply)
+    }
+
+    fn entries(&self) -> &[Entry<Call, Reply>] {
+        self.entries.as_slice()
+    }
+
+    fn refused(&self) -> u64 {
+        self.refused
+    }
+}
+
+/// Makes room for one more entry. Below the room that was there from the start it takes no memory.
+fn grow(entries: &mut Vec<Entry<Call, Reply>>, room: usize) -> Result<(), AllocError>
+    requires { room ≤ vec_capacity entries.old }
+    ensures same { entries.new.items ≡ entries.old.items }
+    ensures capacity { vec_capacity entries.old ≤ vec_capacity entries.new }
+    ensures ok { OnOk result (vec_len entries.new < vec_capacity entries.new) }
+    ensures err { OnErr result (room ≤ length entries.old.items) }
+{
+    if entries.len() < room {
+        return Ok(());
+    }
+    entries.reserve(1)
+}
