@@ -2,7 +2,7 @@
 //!
 //! A token has no bytes that threads share. It carries what its caller knows, in proofs alone: the
 //! history that it has seen, which is always a beginning of the one history of the book.
-ghost use Rattle.std.specs.Prelude.{◌≡◌, ◌+◌, ◌≤◌, true, false, [], ◌∷◌, length, None};
+ghost use Rattle.std.specs.Prelude.{◌≡◌, ◌+◌, ◌^◌, ◌<◌, ◌≤◌, true, false, [], ◌∷◌, length, None};
 ghost use Rattle.std.specs.Coded.{Coded-set};
 ghost use Rattle.ticket_steps.specs.declared.seats.Phase.TheVariants.{Idle, Waiting, Holding};
 ghost use Rattle.ticket_lock.specs.Figures.{AreFiguresOf};
@@ -97,7 +97,8 @@ impl<K: Kept> Seat<K> {
 
     /// The calls that it and the seats gathered into it have ended.
     pub fn calls(&self) -> u64
-        ensures { result ≡ (seat_of self.now).calls }
+        ensures calls { result ≡ (seat_of self.now).calls }
+        ensures few { result < 2 ^ 42 }
     {
         self.figures.calls
     }

@@ -1,0 +1,55 @@
+-- The passes of a desk, handed out one after another.
+use Rattle.std.proofs.Common.{◌≡◌, ℕ, zero, suc, ◌+◌, ◌-◌, ◌*◌, ◌<◌, ◌≤◌, ◌^◌, List, [], ◌∷◌, ◌++◌, length, take, drop, true, refl, sym, ap, subst, ◌∙◌, arith}
+use Rattle.ticket_steps.specs.Sums.{counted}
+use Rattle.ticket_lock.specs.Callers.{Caller, caller, keeping, given, first_caller}
+use Rattle.ticket_lock.specs.Tokens.{start_of}
+use Rattle.check_sched.specs.declared.call.Call.{Call}
+use Rattle.check_sched.specs.declared.call.Reply.{Reply}
+use Rattle.check_desk.specs.declared.desk.Desk.{Desk}
+use Rattle.check_desk.specs.declared.passes.Pass.{Pass}
+use Rattle.check_desk.specs.Desks.{AreNewPasses, IsPassOf, passes_of}
+use Rattle.check_desk.specs.Passes.{pass_of, new_pass}
+
+-- a caller for the numbers from this one on
+abbrev pub rest_from : ℕ → ℕ → Caller Call Reply
+rest_from n count = caller n (counted n count) (count * (2 ^ 32 - 1)) 0 true []
+
+length-counted : (n k : ℕ) → length (counted n k) ≡ k
+length-counted n zero = refl
+length-counted n (suc k) = ap suc (length-counted (n + 1) k)
+
+pub new_push : (desk : Desk) (n : ℕ) (ps : List Pass) (p : Pass) → AreNewPasses desk n ps → IsPassOf desk p → pass_of p ≡ new_pass (n + length ps) → AreNewPasses desk n (ps ++ p ∷ [])
+new_push desk n [] p h is e = (is, e ∙ ap new_pass (let s : n + 0 ≡ n = omega arith in s), tt)
+new_push desk n (q ∷ ps) p h is e = (h.0, h.1, new_push desk (n + 1) ps p h.2 is (e ∙ ap new_pass (let s : n + suc (length ps) ≡ n + 1 + length ps = omega arith in s)))
+
+-- so many passes are handed out, and the rest is in one seat
+pub record IsHandingOut (desk : Desk) (n : ℕ) (rest : Caller Call Reply) (ps : List Pass) : Type 0 where
+  pub count : length ps ≡ n
+  pub new : AreNewPasses desk 0 ps
+  pub rest_is : rest ≡ rest_from n (passes_of desk - n)
+
+-- the seat of the rest stands for all numbers that are left
+pub rest_size : (n count : ℕ) (rest : Caller Call Reply) → rest ≡ rest_from n count → length rest.numbers ≡ count
+rest_size n count rest e = ap (λ r. length r.numbers) e ∙ length-counted n count
+
+-- the seat of one pass, split off the front of the rest
+pub own_is : (n count : ℕ) (rest : Caller Call Reply) → 1 < count → rest ≡ rest_from n count → keeping 4294967295 (length rest.numbers - 1) rest ≡ new_pass n
+own_is n zero rest h e = absurd (omega arith)
+own_is n (suc k) rest h e =
+    let size : length (counted (n + 1) k) ≡ k = length-counted (n + 1) k in
+    let one : suc (length (counted (n + 1) k)) - (suc (length (counted (n + 1) k)) - 1) ≡ 1 = omega arith in
+    rw (e, one) refl
+
+-- and what is left
+pub more_is : (n count : ℕ) (rest : Caller Call Reply) → 1 < count → rest ≡ rest_from n count → given 4294967295 (length rest.numbers - 1) rest ≡ rest_from (n + 1) (count - 1)
+more_is n zero rest h e = absurd (omega arith)
+more_is n (suc k) rest h e =
+    let size : length (counted (n + 1) k) ≡ k = length-counted (n + 1) k in
+    let one : suc (length (counted (n + 1) k)) - (suc (length (counted (n + 1) k)) - 1) ≡ 1 = omega arith in
+    let most : suc (length (counted (n + 1) k)) - 1 ≡ k = omega (arith, size) in
+    let less : suc k - 1 ≡ k = omega arith in
+    rw (e, one, most, less) refl
+
+-- the last of them stands for one number
+pub last_is : (n : ℕ) (rest : Caller Call Reply) → rest ≡ rest_from n 1 → rest ≡ new_pass n
+last_is n rest e = e

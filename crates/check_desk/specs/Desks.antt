@@ -1,0 +1,79 @@
+-- What clauses see of a desk: how it was opened, which passes, turns and holds are its own, and what a call adds.
+use Rattle.std.specs.Prelude.{◌≡◌, ℕ, ◌+◌, ◌<◌, ◌≤◌, ⊤, List, [], ◌∷◌, ◌++◌, length}
+use Rattle.ticket_steps.specs.declared.kept.Entry.{Entry}
+use Rattle.ticket_steps.specs.History.{entry, IsLegal}
+use Rattle.ticket_lock.specs.Callers.{Caller, drawn, ended, having_seen}
+use Rattle.ticket_lock.specs.Views.{Follows}
+use Rattle.ticket_lock.specs.Tokens.{start_of, IsSeatOf, IsTurnOf, IsHoldOf}
+use Rattle.check_sched.specs.declared.call.Call.{Call}
+use Rattle.check_sched.specs.declared.call.Reply.{Reply}
+use Rattle.check_sched.specs.BookState.{BookState, book_step}
+use Rattle.check_sched.specs.Books.{opening_of}
+use Rattle.check_desk.specs.declared.desk.Answer.{Answer}
+use Rattle.check_desk.specs.declared.desk.Answer.TheVariants as answer
+use Rattle.check_desk.specs.declared.desk.Desk.{Desk}
+use Rattle.check_desk.specs.declared.desk.Poll.{Poll}
+use Rattle.check_desk.specs.declared.desk.Poll.TheVariants as found
+use Rattle.check_desk.specs.declared.passes.Pass.{Pass}
+use Rattle.check_desk.specs.declared.passes.Turn.{Turn}
+use Rattle.check_desk.specs.declared.passes.Hold.{Hold}
+use Rattle.check_desk.specs.Passes.{pass_of, new_pass}
+
+-- the state of the book that the desk was opened with: the setup and the start of its scheduler, and its room
+abbrev pub opened_with : Desk → BookState
+opened_with desk = opening_of (start_of desk.lock).book
+
+-- how many passes were made
+abbrev pub passes_of : Desk → ℕ
+passes_of desk = (start_of desk.lock).numbers
+
+-- it is of this desk
+abbrev pub IsPassOf : Desk → Pass → Type 0
+IsPassOf desk pass = IsSeatOf desk.lock pass.seat
+
+abbrev pub IsWaitingAt : Desk → Turn → Type 0
+IsWaitingAt desk turn = IsTurnOf desk.lock turn.turn
+
+abbrev pub IsHolderAt : Desk → Hold → Type 0
+IsHolderAt desk hold = IsHoldOf desk.lock hold.hold × (opening_of hold.book ≡ opened_with desk)
+
+-- a history of the desk: each reply is the scheduler's at its place
+abbrev pub IsHistoryOf : Desk → List (Entry Call Reply) → Type 0
+IsHistoryOf desk history = IsLegal book_step (opened_with desk) history
+
+-- the passes of a desk as it hands them out, from this number on
+abbrev pub AreNewPasses : Desk → ℕ → List Pass → Type 0
+AreNewPasses desk number [] = ⊤
+AreNewPasses desk number (pass ∷ passes) = IsPassOf desk pass × (pass_of pass ≡ new_pass number) × AreNewPasses desk (number + 1) passes
+
+-- ---- answers
+
+-- the two answers of a poll
+abbrev pub MatchPoll : Poll → (Hold → Type 0) → (Turn → Type 0) → Type 0
+MatchPoll (found.Mine hold) P Q = P hold
+MatchPoll (found.NotYet turn) P Q = Q turn
+
+-- the three answers of a call
+abbrev pub MatchAnswer : Answer → (Reply → Type 0) → Type 0 → Type 0 → Type 0
+MatchAnswer (answer.Reply reply) P Q R = P reply
+MatchAnswer answer.NoMemory P Q R = Q
+MatchAnswer answer.Spent P Q R = R
+
+-- the caller after a call that was answered by this reply, where this was the history before it: one entry more, under its own number
+abbrev pub recorded : Call → Reply → List (Entry Call Reply) → Caller Call Reply → Caller Call Reply
+recorded call reply history c = ended (history ++ entry c.own call reply ∷ []) c
+
+-- A whole call that was answered by this reply: the history before it begins with what the caller had seen and has nothing
+-- new of its numbers; to that came its entry.
+pub record HasRecorded (call : Call) (reply : Reply) (before after : Caller Call Reply) : Type 0 where
+  pub history : List (Entry Call Reply)
+  pub follows : Follows before.numbers before.seen history
+  pub after_is : after ≡ recorded call reply history (drawn before)
+  pub some_left : 0 < before.left
+
+-- A whole call without memory for its entry: nothing of the caller's numbers is new, and the history has reached the room.
+pub record HasNoMemory (room : ℕ) (before after : Caller Call Reply) : Type 0 where
+  pub follows : Follows before.numbers before.seen after.seen
+  pub after_is : after ≡ ended after.seen (drawn before)
+  pub full : room ≤ length after.seen
+  pub some_left : 0 < before.left

@@ -1,0 +1,24 @@
+-- What clauses see of passes, turns and holds: the caller behind them, with its own number, the numbers it answers for,
+-- the calls it has left and has made, and the history it has seen.
+use Rattle.std.specs.Prelude.{ℕ, ◌-◌, ◌^◌, List, [], ◌∷◌, true}
+use Rattle.ticket_steps.specs.declared.kept.Entry.{Entry}
+use Rattle.ticket_lock.specs.Callers.{Caller, caller}
+use Rattle.ticket_lock.specs.Tokens.{seat_of, turn_of, hold_of, ticket_of, held_ticket_of}
+use Rattle.check_sched.specs.declared.call.Call.{Call}
+use Rattle.check_sched.specs.declared.call.Reply.{Reply}
+use Rattle.check_desk.specs.declared.passes.Pass.{Pass}
+use Rattle.check_desk.specs.declared.passes.Turn.{Turn}
+use Rattle.check_desk.specs.declared.passes.Hold.{Hold}
+
+abbrev pub pass_of : Pass → Caller Call Reply
+pass_of pass = seat_of pass.seat
+
+abbrev pub waiting_of : Turn → Caller Call Reply
+waiting_of turn = turn_of turn.turn
+
+abbrev pub holder_of : Hold → Caller Call Reply
+holder_of hold = hold_of hold.hold
+
+-- the pass of this number as a desk hands it out: it answers for itself, has 2^32 - 1 calls left and has seen nothing
+abbrev pub new_pass : ℕ → Caller Call Reply
+new_pass number = caller number (number ∷ []) (2 ^ 32 - 1) 0 true []

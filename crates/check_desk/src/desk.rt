@@ -1,0 +1,253 @@
+//! The desk and its calls.
+
+ghost use Rattle.std.specs.Prelude.{⊤, ◌≡◌, ◌↔◌, ℕ, ◌+◌, ◌<◌, ◌≤◌, [], length, IsErr, IfOk, IfErr, vec_capacity};
+ghost use Rattle.ticket_steps.specs.History.{of};
+ghost use Rattle.ticket_steps.specs.Books.{book_state, IsLawfulBook};
+ghost use Rattle.ticket_lock.specs.Callers.{Caller, drawn, ended, first_caller, having_seen, joined};
+ghost use Rattle.ticket_lock.specs.Tokens.{seat_of, start_of, ticket_of, IsSeatOf};
+ghost use Rattle.ticket_lock.specs.Views.{Follows};
+ghost use Rattle.check_sched.specs.BookState.{book_step};
+ghost use Rattle.check_sched.specs.Books.{entries_of, opening_of, refused_of, room_of, state_of};
+
+use crate::passes::{Hold, Pass, Turn};
+use check_sched::{Book, Call, Reply};
+use crossbeam_utils::Backoff;
+use std::alloc::Global;
+use std::sync::Wait;
+use ticket_lock::{Look, Seat, TicketLock};
+use ticket_steps::{DRAWS, Kept};
+
+/// A book behind a lock, for up to 1,024 callers in any threads.
+///
+/// Each call asks that its pass, turn or hold is of this desk.
+#[derive(Drop)]
+pub struct Desk {
+    pub(crate) lock: TicketLock<Book>,
+    pub(crate) passes: u32,
+    ghost passes_are: { (start_of lock).numbers ≡ passes },
+    ghost draws_are: { (start_of lock).draws ≡ 4294967295 },
+}
+
+/// What a poll finds.
+pub enum Poll {
+    /// The turn has come: the caller holds the book.
+    Mine(Hold),
+    /// It hasn't yet.
+    NotYet(Turn),
+}
+
+/// What came of a call.
+#[derive(Clone, Copy, Debug, PartialEq, Eq)]
+pub enum Answer {
+    /// The call was made, and is recorded with this reply.
+    Reply(Reply),
+    /// There was no memory for the entry: the call wasn't made, but it is counted.
+    NoMemory,
+    /// The pass has no call left. Nothing was done.
+    Spent,
+}
+
+impl Desk {
+    ghost use Rattle.check_desk.specs.Desks.{AreNewPasses, HasNoMemory, HasRecorded, IsHistoryOf, IsHolderAt, IsPassOf, IsWaitingAt, MatchAnswer, MatchPoll, opened_with, passes_of, recorded};
+    ghost use Rattle.check_desk.specs.Passes.{holder_of, pass_of, waiting_of};
+
+    /// A desk over the book, and its passes in the order of their numbers, from 0. Each has 2^32 - 1
+    /// calls, stands for itself alone, and has made no call and seen nothing.
+    ///
+    /// An Err means want of memory, and hands the book back as it was. No other call but
+    /// [`Desk::finish`] and [`Desk::ask`] needs memory, and they only where the book's room is used
+    /// up.
+    pub fn open(alloc: Global, book: Book, passes: u32) -> Result<(Desk, Vec<Pass>), Book>
+        requires passes { (0 < passes) × (passes ≤ 1024) }
+        requires empty { (entries_of book ≡ []) × (refused_of book ≡ 0) }
+        ensures opening { IfOk result (λ made. opened_with made.0 ≡ opening_of book) }
+        ensures passes { IfOk result (λ made. passes_of made.0 ≡ passes) }
+        ensures list { IfOk result (λ made. length made.1.items ≡ passes) }
+        ensures new { IfOk result (λ made. AreNewPasses made.0 0 made.1.items) }
+        ensures err { IfErr result (λ back. back ≡ book) }
+    {
+        let Ok(mut list) = Vec::with_capacity(alloc, passes as usize) else {
+            return Err(book);
+        };
+        match TicketLock::open(alloc, book, passes) {
+            Ok((lock, seat)) => {
+                let desk = Desk { lock, passes };
+                desk.hand_out(seat, &mut list);
+                Ok((desk, list))
+            }
+            Err(book) => Err(book),
+        }
+    }
+
+    /// Divides the seat that stands for all numbers into one pass for each.
+    fn hand_out(&self, seat: Seat<Book>, list: &mut Vec<Pass>)
+        requires desk { IsSeatOf self.now.lock seat }
+        requires all { seat_of seat ≡ first_caller (passes_of self.now) DRAWS }
+        requires some { 0 < passes_of self.now }
+        requires empty { list.old.items ≡ [] }
+        requires room { passes_of self.now ≤ vec_capacity list.old }
+        ensures list { length list.new.items ≡ passes_of self.now }
+        ensures new { AreNewPasses self.now 0 list.new.items }
+    {
+        let mut rest = seat;
+        for _number in 0..self.passes - 1 {
+            let others = rest.count() - 1;
+            let (own, more) = self.lock.split(rest, others);
+            list.push_reserved(Pass { seat: own });
+            rest = more;
+        }
+        list.push_reserved(Pass { seat: rest });
+    }
+
+    /// Takes a ticket, by one of the pass's calls. The pass comes back as it was exactly where it
+    /// has no call left.
+    pub fn begin(&self, pass: Pass) -> Result<Turn, Pass>
+        requires { IsPassOf self.now pass }
+        ensures spent { IsErr result ↔ ((pass_of pass).left ≡ 0) }
+        ensures back { IfErr result (λ back. back ≡ pass) }
+        ensures desk { IfOk result (λ turn. IsWaitingAt self.now turn) }
+        ensures drawn { IfOk result (λ turn. waiting_of turn ≡ drawn (pass_of pass)) }
+    {
+        match self.lock.draw(pass.seat) {
+            Ok(turn) => Ok(Turn { turn }),
+            Err(seat) => Err(Pass { seat }),
+        }
+    }
+
+    /// Looks whether the turn has come. It always has where the pass answers for all passes.
+    ///
+    /// With the book in hand the caller has seen its history: it begins with all that the caller had
+    /// seen, and has nothing new of the numbers that the pass answers for. Entries and refusals
+    /// together are the ticket, so that calls end in the order of their tickets.
+    pub fn poll(&self, turn: Turn) -> Poll
+        requires { IsWaitingAt self.now turn }
+        ensures desk { MatchPoll result (λ hold. IsHolderAt self.now hold)
+            (λ back. IsWaitingAt self.now back) }
+        ensures follows { MatchPoll result
+            (λ hold. Follows (waiting_of turn).numbers (waiting_of turn).seen (holder_of hold).seen)
+            (λ back. waiting_of back ≡ waiting_of turn) }
+        ensures legal { MatchPoll result
+            (λ hold. IsHistoryOf self.now (holder_of hold).seen) (λ back. ⊤) }
+        ensures caller { MatchPoll result
+            (λ hold. holder_of hold ≡ having_seen (holder_of hold).seen (waiting_of turn))
+            (λ back. length (waiting_of turn).numbers < passes_of self.now) }
+        ensures ticket { MatchPoll result
+            (λ hold. length (entries_of hold.book) + refused_of hold.book ≡ ticket_of turn.turn)
+            (λ back. ticket_of back.turn ≡ ticket_of turn.turn) }
+    {
+        let Turn { turn } = turn;
+        match self.lock.look(turn) {
+            Look::Held(hold, book) => Poll::Mine(Hold { hold, book }),
+            Look::Waiting(turn) => Poll::NotYet(Turn { turn }),
+        }
+    }
+
+    /// Makes the call, records it under the pass's own number, and ends the turn. Where there is no
+    /// memory for the entry the call isn't made, but counted; that comes only where the history has
+    /// reached the book's room.
+    pub fn finish(&self, hold: Hold, call: Call) -> (Pass, Answer)
+        requires { IsHolderAt self.now hold }
+        ensures desk { IsPassOf self.now result.0 }
+        ensures caller { MatchAnswer result.1
+            (λ reply. pass_of result.0 ≡ recorded call reply (holder_of hold).seen (holder_of hold))
+            (pass_of result.0 ≡ ended (holder_of hold).seen (holder_of hold)) ⊥ }
+        ensures legal { IsHistoryOf self.now (pass_of result.0).seen }
+        ensures full { MatchAnswer result.1 (λ reply. ⊤)
+            ((opened_with self.now).room ≤ length (holder_of hold).seen) ⊤ }
+    {
+        let Hold { hold, mut book } = hold;
+        let recorded = book.record(hold.number(), call);
+        let seat = self.lock.leave(hold, book);
+        let answer = match recorded {
+            Ok(reply) => Answer::Reply(reply),
+            Err(_refused) => Answer::NoMemory,
+        };
+        (Pass { seat }, answer)
+    }
+
+    /// A whole call: takes a ticket, waits until its turn comes, and makes the call. It answers
+    /// `Spent`, and does nothing, exactly where the pass has no call left.
+    ///
+    /// What this says holds where it returns: nothing is promised of how long it waits.
+    pub fn ask(&self, rt: &impl Wait, pass: Pass, call: Call) -> (Pass, Answer)
+        requires { IsPassOf self.now pass }
+        ensures desk { IsPassOf self.now result.0 }
+        ensures answer { MatchAnswer result.1
+            (λ reply. HasRecorded call reply (pass_of pass) (pass_of result.0))
+            (HasNoMemory (opened_with self.now).room (pass_of pass) (pass_of result.0))
+            (((pass_of pass).left ≡ 0) × (result.0 ≡ pass)) }
+        ensures legal { MatchAnswer result.1
+            (λ reply. IsHistoryOf self.now (pass_of result.0).seen)
+            (IsHistoryOf self.now (pass_of result.0).seen) ⊤ }
+    {
+        match self.begin(pass) {
+            Ok(turn) => {
+                let hold = self.wait(rt, turn);
+                self.finish(hold, call)
+            }
+            Err(pass) => (pass, Answer::Spent),
+        }
+    }
+
+    /// Polls again and again until the turn has come, less and less often.
+    fn wait(&self, rt: &impl Wait, turn: Turn) -> Hold
+        requires { IsWaitingAt self.now turn }
+        ensures desk { IsHolderAt self.now result }
+        ensures follows { Follows (waiting_of turn).numbers (waiting_of turn).seen
+            (holder_of result).seen }
+        ensures caller { holder_of result
+            ≡ having_seen (holder_of result).seen (waiting_of turn) }
+    {
+        let backoff = Backoff::new();
+        let mut turn = turn;
+        for _ in rt.forever() {
+            turn = match self.poll(turn) {
+                Poll::Mine(hold) => return hold,
+                Poll::NotYet(turn) => turn,
+            };
+            backoff.snooze();
+        }
+        unreachable!()
+    }
+
+    /// Puts two passes together: the first goes on, answers for the numbers of both and has made the
+    /// calls of both. It has seen the longer history, to which neither's numbers added anything. The
+    /// second's calls that are left are given up.
+    pub fn gather(&self, pass: Pass, other: Pass) -> Pass
+        requires { IsPassOf self.now pass × IsPassOf self.now other }
+        ensures desk { IsPassOf self.now result }
+        ensures joined { pass_of result ≡ joined (pass_of pass) (pass_of other) }
+        ensures seen { Follows (pass_of pass).numbers (pass_of pass).seen (pass_of result).seen }
+        ensures seen_by_other { Follows (pass_of other).numbers (pass_of other).seen
+            (pass_of result).seen }
+    {
+        Pass {
+            seat: self.lock.gather(pass.seat, other.seat),
+        }
+    }
+
+    /// Gives the book back, where all passes were gathered into this one. Desk and pass come back as
+    /// they were exactly where passes are missing.
+    ///
+    /// The book's history is what the pass has seen: each caller's calls stand there once, in its
+    /// order, and nothing else does.
+    pub fn close(self, pass: Pass) -> Result<Book, (Desk, Pass)>
+        requires { IsPassOf self pass }
+        ensures missing { IsErr result ↔ (length (pass_of pass).numbers < passes_of self) }
+        ensures back { IfErr result (λ back. (back.0 ≡ self) × (back.1 ≡ pass)) }
+        ensures opening { IfOk result (λ book. opening_of book ≡ opened_with self) }
+        ensures history { IfOk result (λ book. entries_of book ≡ (pass_of pass).seen) }
+        ensures calls { IfOk result (λ book.
+            length (entries_of book) + refused_of book ≡ (pass_of pass).calls) }
+        ensures numbers { IfOk result (λ book. (number : ℕ)
+            → passes_of self ≤ number → of number (entries_of book) ≡ []) }
+        ensures lawful { IfOk result (λ book. IsLawfulBook book_step (opening_of book)
+            (book_state (state_of book) (entries_of book) (refused_of book))) }
+    {
+        let Desk { lock, passes } = self;
+        match lock.close(pass.seat) {
+            Ok(book) => Ok(book),
+            Err((lock, seat)) => Err((Desk { lock, passes }, Pass { seat })),
+        }
+    }
+}

@@ -1,0 +1,19 @@
+//! The desk: one scheduler for any number of callers, in any threads.
+//!
+//! A [`Desk`] keeps a book behind a ticket lock, and hands out its [`Pass`]es, one for each caller. A
+//! caller asks by its pass: [`Desk::begin`] takes a ticket, [`Desk::poll`] looks whether its turn has
+//! come, and [`Desk::finish`] makes the call; [`Desk::ask`] does the three and waits in between. When
+//! all passes are gathered again, [`Desk::close`] gives the book back.
+//!
+//! Whatever the threads do, the history of the book is that of one thread: each reply is the
+//! scheduler's at its place, and each caller's calls stand there once, in its order. All of it is our
+//! own profile.
+//!
+//! The modules: `passes` has the passes, turns and holds, `desk` the desk and its calls.
+#![tactic(auto)]
+
+mod desk;
+mod passes;
+
+pub use desk::{Answer, Desk, Poll};
+pub use passes::{Hold, Pass, Turn};

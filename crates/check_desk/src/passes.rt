@@ -1,0 +1,73 @@
+//! Passes, turns and holds: what callers have in hand.
+//!
+//! They have no bytes of their own beyond their counts. What a caller has seen, which is always a
+//! beginning of the one history, exists in contracts alone.
+
+ghost use Rattle.std.specs.Prelude.{◌≡◌, ◌+◌, ◌<◌, ◌^◌, length};
+ghost use Rattle.check_sched.specs.Books.{entries_of, refused_of};
+ghost use Rattle.ticket_lock.specs.Tokens.{held_ticket_of, hold_of, refused_before};
+
+use check_sched::Book;
+use ticket_lock::Seat;
+
+/// The right to call: one caller's, for up to 2^32 - 1 calls, which are recorded under its number.
+///
+/// Gathering puts passes together, when their callers have returned.
+#[derive(Drop)]
+pub struct Pass {
+    pub(crate) seat: Seat<Book>,
+}
+
+/// A pass that has a ticket and waits for its turn.
+///
+/// One that isn't spent by `Desk::poll` doesn't compile: a ticket that nobody uses would stop all
+/// that come after it.
+pub struct Turn {
+    pub(crate) turn: ticket_lock::Turn<Book>,
+}
+
+/// A pass whose turn it is: it holds the book.
+///
+/// One that isn't spent by `Desk::finish` doesn't compile: the book has to come back.
+pub struct Hold {
+    pub(crate) hold: ticket_lock::Hold<Book>,
+    pub(crate) book: Book,
+    ghost seen: { (hold_of hold).seen ≡ entries_of book },
+    ghost refused: { refused_before hold ≡ refused_of book },
+    ghost counted: { length (entries_of book) + refused_of book ≡ held_ticket_of hold },
+    ghost few: { held_ticket_of hold < 2 ^ 42 },
+}
+
+impl Pass {
+    ghost use Rattle.check_desk.specs.Passes.{pass_of};
+
+    /// Its own number: the name under which its calls are recorded.
+    pub fn number(&self) -> u32
+        ensures { result ≡ (pass_of self.now).own }
+    {
+        self.seat.number()
+    }
+
+    /// How many passes it stands for, itself included.
+    pub fn gathered(&self) -> u32
+        ensures { result ≡ length (pass_of self.now).numbers }
+    {
+        self.seat.count()
+    }
+
+    /// The calls that it has left.
+    pub fn left(&self) -> u64
+        ensures { result ≡ (pass_of self.now).left }
+    {
+        self.seat.left()
+    }
+
+    /// The calls that it and the passes gathered into it have made, those without memory for their
+    /// entry among them.
+    pub fn calls(&self) -> u64
+        ensures calls { result ≡ (pass_of self.now).calls }
+        ensures few { result < 2 ^ 42 }
+    {
+        self.seat.calls()
+    }
+}
