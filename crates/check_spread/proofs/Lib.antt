@@ -1,2 +1,3 @@
+pub mod TimesLemmas
 pub mod TotalLemmas
 pub mod VisitLemmas

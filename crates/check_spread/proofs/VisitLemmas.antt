@@ -184,6 +184,10 @@ counts_first factor xs counts e = record {
   at = λ r h. rw e (get_or-replicate factor r 0 0 h) ∙ sym (visits_none (has_remainder_before factor 0 r) 0 xs (λ j. rw (nothing_below j) (false_second (j % factor == r))));
 }
 
+or_false : (b : Bool) → (b || false) ≡ b
+or_false true = refl
+or_false false = refl
+
 true_second : (b : Bool) → (b && true) ≡ b
 true_second true = refl
 true_second false = refl
@@ -244,6 +248,58 @@ pub ranks_first : (factor : ℕ) (xs : List Object) (counts ranks : List ℕ) �
 ranks_first factor xs counts ranks has e = record {
   size = rw e (length-sums_before 0 counts ∙ has.size);
   at = λ r h. rw e (sums_at 0 counts r (omega (arith, has.size)) ∙ (let s = sums_less factor xs counts has r (omega arith) in omega (arith, s)));
+}
+
+-- ---- the rank of one of them
+
+count-cons : (x : Object) (xs : List Object) → count_by is_scheduled (x ∷ xs) ≡ one (is_scheduled x) + count_by is_scheduled xs
+count-cons x xs = sum_by-cons (λ y. cond (is_scheduled y) 1 0) x xs
+
+one_less : (s t : Bool) → one (s && t) ≤ one s
+one_less true true = omega arith
+one_less true false = omega arith
+one_less false t = omega arith
+
+visits_most : (t : ℕ → Bool) (i : ℕ) (xs : List Object) → visits t i xs ≤ count_by is_scheduled xs
+visits_most t i [] = omega arith
+visits_most t i (x ∷ xs) =
+    let rest = visits_most t (i + 1) xs in
+    let a = visits-cons t i x xs in
+    let b = count-cons x xs in
+    let c = one_less (is_scheduled x) (t i) in
+    omega (arith, a, b, c, rest)
+
+-- where a scheduled one isn't counted, fewer are counted than are scheduled
+visits_less : (t : ℕ → Bool) (i k : ℕ) (xs : List Object) (d : Object) → k < length xs → is_scheduled (get_or xs k d) ≡ true → t (i + k) ≡ false → visits t i xs < count_by is_scheduled xs
+visits_less t i k [] d h s e = absurd (omega arith)
+visits_less t i zero (x ∷ xs) d h s e =
+    let rest = visits_most t (i + 1) xs in
+    let a = visits-cons t i x xs in
+    let b = count-cons x xs in
+    let at : i + 0 ≡ i = omega arith in
+    let none : one (is_scheduled x && t i) ≡ 0 = rw (← at, e) (none_by (is_scheduled x)) in
+    let some : one (is_scheduled x) ≡ 1 = ap one s in
+    omega (arith, a, b, none, some, rest)
+visits_less t i (suc k) (x ∷ xs) d h s e =
+    let at : i + 1 + k ≡ i + suc k = omega arith in
+    let rest = visits_less t (i + 1) k xs d (omega arith) s (rw at e) in
+    let a = visits-cons t i x xs in
+    let b = count-cons x xs in
+    let c = one_less (is_scheduled x) (t i) in
+    omega (arith, a, b, c, rest)
+
+-- the rank of a scheduled object is less than how many are scheduled
+pub rank_less : (factor p : ℕ) (xs : List Object) (d : Object) → p < length xs → is_scheduled (get_or xs p d) ≡ true → visits (is_visited_earlier factor p (p % factor)) 0 xs < count_by is_scheduled xs
+rank_less factor p xs d h s =
+    let not_less : nat_lt (p % factor) (p % factor) ≡ false = not_less_itself (p % factor) in
+    let not_itself : is_visited_earlier factor p (p % factor) p ≡ false = rw (not_less, not_less_itself p) (false_second (p % factor == p % factor)) in
+    let at : 0 + p ≡ p = omega arith in
+    visits_less (is_visited_earlier factor p (p % factor)) 0 p xs d h s (rw at not_itself)
+
+pub earlier_first : (factor : ℕ) (xs : List Object) (ranks : List ℕ) → HasCounts (has_less_remainder factor) factor xs ranks → HasCounts (is_visited_earlier factor 0) factor xs ranks
+earlier_first factor xs ranks has = record {
+  size = has.size;
+  at = λ r h. has.at r h ∙ visits_same (has_less_remainder factor r) (is_visited_earlier factor 0 r) 0 xs (λ j l m. sym (rw (nothing_below j, false_second (j % factor == r)) (or_false (nat_lt (j % factor) r))));
 }
 
 pub ok_weaker : {A E : Type 0} {P Q : A → Type 0} (r : Result A E) → ((x : A) → P x → Q x) → IfOk r P → IfOk r Q

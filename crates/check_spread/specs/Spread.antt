@@ -1,5 +1,6 @@
 -- The times of the first checks ("Service and Host Check Scheduling": inter-check delay, service interleaving).
-use Rattle.std.specs.Prelude.{ℕ, ◌+◌, ◌-◌, ◌*◌, ◌/◌, ◌%◌, ◌==◌, ◌&&◌, ◌||◌, Bool, not, List, ◌++◌, length, map, filter, count_by, sum_by, nat_lt, nat_le, Option, Some, None, if◌then◌else◌}
+use Rattle.std.specs.Prelude.{ℕ, ◌+◌, ◌*◌, ◌/◌, ◌%◌, ◌==◌, ◌&&◌, ◌||◌, Bool, not, List, ◌++◌, length, map, filter, count_by, sum_by, nat_lt, nat_le, Option, Some, None, if◌then◌else◌}
+use Rattle.std.specs.Int.{div_ceil}
 use Rattle.std.specs.List.{enumerate_from}
 use Rattle.check_objects.specs.declared.object.Object.{Object}
 use Rattle.check_objects.specs.declared.options.DelayMethod.{DelayMethod}
@@ -73,7 +74,7 @@ first_times spread objects = map (λ p. first_time spread objects p.0 p.1) (enum
 
 -- the number of services for each host, rounded up; 1 where there is no service
 abbrev pub smart_factor : ℕ → ℕ → ℕ
-smart_factor services hosts = if services == 0 then 1 else (services + hosts - 1) / hosts
+smart_factor services hosts = if services == 0 then 1 else div_ceil services hosts
 
 abbrev pub factor_by : InterleaveFactor → ℕ → ℕ → ℕ
 factor_by interleave.Smart services hosts = smart_factor services hosts
@@ -84,6 +85,10 @@ host_objects c = map (λ h. h.object) c.hosts
 
 abbrev pub service_objects : Configuration → List Object
 service_objects c = map (λ s. s.object) c.services
+
+-- the hosts, and behind them the services
+abbrev pub all_objects : Configuration → List Object
+all_objects c = host_objects c ++ service_objects c
 
 -- minutes in milliseconds
 abbrev pub minutes : ℕ → ℕ

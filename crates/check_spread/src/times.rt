@@ -1,8 +1,8 @@
 //! The times of the first checks of all objects of a setup.
 
 ghost use Rattle.std.specs.Prelude.{◌≡◌, ◌<◌, ◌≤◌, ◌^◌, ◌++◌, IfOk, IfSome, OnOk, All, length};
-ghost use Rattle.check_objects.specs.Configuration.{object_count, host_count};
-ghost use Rattle.check_spread.specs.Spread.{first_times, host_objects, host_spread, initial_times, service_objects, service_spread, factor_by};
+ghost use Rattle.check_objects.specs.Configuration.{object_count, IsSetup};
+ghost use Rattle.check_spread.specs.Spread.{all_objects, factor_by, first_times, host_spread, initial_times, service_spread};
 ghost use Rattle.check_spread.specs.Limits.{IsInLimits};
 
 use crate::spread::{Load, Spread, is_scheduled};
@@ -34,10 +34,10 @@ pub fn initial_times(
         All (λ first. IfSome first (λ time. time < 2 ^ 61)) times.items) }
 {
     let mut times = Vec::with_capacity(alloc, setup.len())?;
-    let hosts = host_objects(alloc, setup)?;
-    push_first_times(alloc, &hosts, host_spread(setup, start), &mut times)?;
-    let services = service_objects(alloc, setup)?;
-    push_first_times(alloc, &services, service_spread(setup, start), &mut times)?;
+    let objects = objects(alloc, setup)?;
+    let (hosts, services) = objects.split_at(setup.hosts());
+    push_first_times(alloc, hosts, host_spread(setup, start), &mut times)?;
+    push_first_times(alloc, services, service_spread(setup, start), &mut times)?;
     Ok(times)
 }
 
@@ -73,7 +73,8 @@ fn push_first_times(
 
 /// How the first checks of hosts are spread: without interleaving.
 fn host_spread(setup: &Setup, start: u64) -> Spread
-    requires { start ≤ 2 ^ 60 }
+    requires start { start ≤ 2 ^ 60 }
+    requires valid_setup { IsSetup setup.now }
     ensures spread { result ≡ host_spread setup.now start }
     ensures limits { IsInLimits result }
 {
@@ -89,7 +90,8 @@ fn host_spread(setup: &Setup, start: u64) -> Spread
 
 /// How the first checks of services are spread.
 fn service_spread(setup: &Setup, start: u64) -> Spread
-    requires { start ≤ 2 ^ 60 }
+    requires start { start ≤ 2 ^ 60 }
+    requires valid_setup { IsSetup setup.now }
     ensures spread { result ≡ service_spread setup.now start }
     ensures limits { IsInLimits result }
 {
@@ -107,6 +109,7 @@ fn service_spread(setup: &Setup, start: u64) -> Spread
 /// rounded up, and 1 where there is no service. It is over all services and hosts, also those that
 /// aren't scheduled.
 fn interleave_factor(setup: &Setup) -> usize
+    requires { IsSetup setup.now }
     ensures factor { result ≡ factor_by setup.now.options.service_interleave_factor
         (length setup.now.services) (length setup.now.hosts) }
     ensures steps { 0 < result }
@@ -119,29 +122,15 @@ fn interleave_factor(setup: &Setup) -> usize
     }
 }
 
-/// The hosts in the order of their numbers.
-fn host_objects(alloc: Global, setup: &Setup) -> Result<Vec<Object>, AllocError>
-    ensures objects { IfOk result (λ objects. objects.items ≡ host_objects setup.now) }
-    ensures few { IfOk result (λ objects. length objects.items ≤ 4096) }
+/// All objects in the order of their numbers.
+fn objects(alloc: Global, setup: &Setup) -> Result<Vec<Object>, AllocError>
+    ensures objects { IfOk result (λ objects. objects.items ≡ all_objects setup.now) }
     ensures intervals { IfOk result (λ objects.
         All (λ o. o.check_interval ≤ 525600) objects.items) }
+    ensures valid_setup { OnOk result (IsSetup setup.now) }
 {
-    let mut objects = Vec::with_capacity(alloc, setup.hosts())?;
-    for number in 0..setup.hosts() {
-        objects.push(*setup.object(number as u32))?;
-    }
-    Ok(objects)
-}
-
-/// The services in the order of their numbers.
-fn service_objects(alloc: Global, setup: &Setup) -> Result<Vec<Object>, AllocError>
-    ensures objects { IfOk result (λ objects. objects.items ≡ service_objects setup.now) }
-    ensures few { IfOk result (λ objects. length objects.items ≤ 4096) }
-    ensures intervals { IfOk result (λ objects.
-        All (λ o. o.check_interval ≤ 525600) objects.items) }
-{
-    let mut objects = Vec::with_capacity(alloc, setup.len() - setup.hosts())?;
-    for number in setup.hosts()..setup.len() {
+    let mut objects = Vec::with_capacity(alloc, setup.len())?;
+    for number in 0..setup.len() {
         objects.push(*setup.object(number as u32))?;
     }
     Ok(objects)
