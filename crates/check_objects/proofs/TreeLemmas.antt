@@ -11,7 +11,7 @@ use Rattle.serde_json.specs.Read.{read}
 use Rattle.serde_json.specs.View.{view, members_view, items_view}
 use Rattle.serde_json.specs.declared.value.Value.{Value}
 use Rattle.check_objects.specs.declared.error.LoadError.TheVariants as errors
-use Rattle.check_objects.specs.Tree.{tree_of, is_among, only_members, has_only, is_filled, texts_of, ◌>=>◌}
+use Rattle.check_objects.specs.Tree.{tree_of, is_among, only_members, is_filled, texts_of, ◌>=>◌}
 use Rattle.check_objects.specs.Text.{text}
 
 -- ---- the tree of the bytes

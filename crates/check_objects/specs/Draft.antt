@@ -8,6 +8,7 @@ use Rattle.check_objects.specs.declared.error.LoadError.TheVariants as errors
 use Rattle.check_objects.specs.declared.options.Options.{Options}
 use Rattle.check_objects.specs.declared.options.DelayMethod.{DelayMethod}
 use Rattle.check_objects.specs.declared.options.DelayMethod.TheVariants as method
+use Rattle.check_objects.specs.declared.options.InterleaveFactor.TheVariants as factor
 use Rattle.check_objects.specs.declared.place.Place.{Place}
 use Rattle.check_objects.specs.LoadError.{◌>>=◌}
 use Rattle.check_objects.specs.Place.{the_document, the_options, the_hosts, host_at, the_services, service_at}
@@ -111,7 +112,17 @@ options_of value has_host has_service = if has_option_members value then
     (method_in has_service (member_of (codes "service_inter_check_delay_method") value) >=> λ service_method.
     (method_in has_host (member_of (codes "host_inter_check_delay_method") value) >=> λ host_method.
     (member_or as_bool false (member_of (codes "use_aggressive_host_checking") value) >=> λ aggressive.
-    Some (record { interval_length = interval_length; service_inter_check_delay_method = service_method; host_inter_check_delay_method = host_method; use_aggressive_host_checking = aggressive })))))
+    Some (record {
+      interval_length = interval_length;
+      service_inter_check_delay_method = service_method;
+      max_service_check_spread = 30;
+      service_interleave_factor = factor.Smart;
+      host_inter_check_delay_method = host_method;
+      max_host_check_spread = 30;
+      max_concurrent_checks = 0;
+      soft_state_dependencies = false;
+      use_aggressive_host_checking = aggressive;
+    })))))
     else None
 
 -- ---- the document

@@ -10,7 +10,7 @@ ghost use Rattle.check_objects.specs.Draft.{host_draft, service_draft, check_dra
 ghost use Rattle.check_objects.specs.Drafted.{host, service, drafts};
 
 use crate::error::LoadError;
-use crate::options::{DelayMethod, Options};
+use crate::options::{DelayMethod, InterleaveFactor, Options};
 use crate::place::Place;
 use crate::tree::{bool_or, has_items, has_only, member, number_or, texts_in};
 use serde_json::Value;
@@ -89,7 +89,12 @@ fn read_options(value: Option<&Value>, has_host: bool, has_service: bool) -> Opt
     Some(Options {
         interval_length: number_or(member(value, "interval_length"), 60)?,
         service_inter_check_delay_method: method_in(has_service, service_method)?,
+        max_service_check_spread: 30,
+        service_interleave_factor: InterleaveFactor::Smart,
         host_inter_check_delay_method: method_in(has_host, host_method)?,
+        max_host_check_spread: 30,
+        max_concurrent_checks: 0,
+        soft_state_dependencies: false,
         use_aggressive_host_checking: bool_or(
             member(value, "use_aggressive_host_checking"),
             false,

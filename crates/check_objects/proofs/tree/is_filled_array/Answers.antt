@@ -1,4 +1,4 @@
-use Rattle.std.proofs.Common.{sym, ◌∙◌, ap, not, arith}
+use Rattle.std.proofs.Common.{◌∙◌, ap, not, arith}
 use Rattle.check_objects.specs.Tree.{is_filled}
 use Rattle.check_objects.proofs.TreeLemmas.{filled_by_length}
 use Rattle.check_objects.proofs.tree.is_filled_array.Goals as goal
