@@ -2,7 +2,8 @@
 use Rattle.std.proofs.Common.{◌≡◌, ℕ, zero, suc, ◌+◌, ◌<◌, ◌≤◌, ◌==◌, ◌&&◌, ◌||◌, Bool, true, false, List, [], ◌∷◌, length, map, get_or, refl, sym, ap, ◌∙◌, arith, inl, inr}
 use Rattle.std.specs.List.{list_any}
 use Rattle.std.proofs.lemmas.Bool.{cases_lt}
-use Rattle.std.proofs.lemmas.List.{length-map, get_or-map}
+use Rattle.std.proofs.lemmas.List.{length-map}
+use Rattle.std.proofs.Math.ListN.{get_or-map}
 use Rattle.check_objects.specs.declared.dependency.Dependency.{Dependency}
 use Rattle.check_objects.specs.Configuration.{Configuration, dependencies_of, masters_in, masters_of, object_count, IsSetup}
 use Rattle.check_objects.specs.Depth.{links_of, deep, any_below, has_cycle}
@@ -54,3 +55,11 @@ blocked_by_masters c standings n is h =
     let size : length (masters_of c) ≡ object_count c = length-map c.dependencies masters_in ∙ is.listed in
     let none : deep (masters_of c) n (object_count c) ≡ false = rw (← size) (no_chain (masters_of c) n is.acyclic (omega (arith, size, h))) in
     sym (deep_enough c standings (object_count c) n none)
+
+unblocked_within : (k : ℕ) (c : Configuration) (standings : List Standing) (n : ℕ) → dependencies_of c n ≡ [] → is_blocked_within k c standings n ≡ false
+unblocked_within zero c standings n e = refl
+unblocked_within (suc k) c standings n e = rw e refl
+
+-- an object without dependencies isn't blocked
+pub unblocked : (c : Configuration) (standings : List Standing) (n : ℕ) → dependencies_of c n ≡ [] → false ≡ is_blocked c standings n
+unblocked c standings n e = sym (unblocked_within (object_count c) c standings n e)

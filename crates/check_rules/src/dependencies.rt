@@ -1,6 +1,6 @@
 //! Whether an execution dependency holds the check of an object back.
 
-ghost use Rattle.std.specs.Prelude.{◌≡◌, ◌<◌, ◌||◌, [], length, All};
+ghost use Rattle.std.specs.Prelude.{◌≡◌, ℕ, ◌<◌, ◌||◌, [], length, All};
 ghost use Rattle.std.specs.List.{list_any};
 ghost use Rattle.check_objects.specs.Configuration.{dependencies_of, object_count};
 ghost use Rattle.check_rules.specs.Dependencies.{is_blocked, is_criterion, is_met, meets, state_read};
@@ -34,7 +34,7 @@ pub fn blocked(setup: &Setup, standings: &[Standing], marks: &mut [bool], n: u32
     marks.fill(false);
     marks[n as usize] = true;
     let order = setup.order();
-    let mut place = order.len();
+    let mut place = setup.len();
     while place > 0 {
         place -= 1;
         let object = order[place];
