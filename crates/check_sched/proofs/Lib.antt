@@ -1,6 +1,8 @@
 pub mod BookLemmas
 pub mod AnswerLaws
 pub mod CandidateLaws
+pub mod EligibleLaws
+pub mod LimitLaws
 pub mod OpeningLaws
 pub mod OperatorLaws
 pub mod ReportLaws

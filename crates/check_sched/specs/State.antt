@@ -1,8 +1,7 @@
 -- The state of a scheduler as contracts see it, and the state that it opens with.
-use Rattle.std.specs.Prelude.{ℕ, ◌^◌, ◌≤◌, ◌≡◌, ◌&&◌, ◌==◌, Bool, true, not, List, length, map, Option, Some, None, option_map, option_and_then, slice_get, nat_le, nat_lt, unwrap_or, if◌then◌else◌}
+use Rattle.std.specs.Prelude.{ℕ, ◌^◌, ◌<◌, ◌≤◌, ◌≡◌, ◌&&◌, ◌||◌, ◌==◌, Bool, true, not, List, length, map, zip, drop, count_by, Option, Some, None, is_some, option_map, option_and_then, slice_get, nat_le, nat_lt, unwrap_or, if◌then◌else◌}
 use Rattle.std.specs.List.{list_all, enumerate_from}
 use Rattle.std.specs.Option.{option_map_or}
-use Rattle.check_objects.specs.declared.object.Object.{Object}
 use Rattle.check_objects.specs.Configuration.{Configuration, objects_of, object_count, host_count, IsSetup}
 use Rattle.check_rules.specs.declared.standing.Standing.{Standing}
 use Rattle.check_rules.specs.State.{is_host_state}
@@ -10,6 +9,7 @@ use Rattle.check_rules.specs.Standing.{pending_standing, is_lawful}
 use Rattle.check_sched.specs.declared.object_state.Run.{Run}
 use Rattle.check_sched.specs.declared.object_state.ObjectState.{ObjectState}
 use Rattle.check_sched.specs.ObjectState.{opening_object}
+use Rattle.check_spread.specs.Spread.{initial_times}
 
 pub record State : Type 0 where
   pub setup : Configuration
@@ -42,21 +42,38 @@ is_host setup number = nat_lt number (host_count setup)
 abbrev pub max_attempts_of : Configuration → ℕ → ℕ
 max_attempts_of setup number = option_map_or (λ o. o.object.max_check_attempts) (slice_get (objects_of setup) number) 1
 
+-- ---- the limit of checks that run
+
+-- how many checks of services may run at a time; 0 is no limit ("Main Configuration File Options",
+-- max_concurrent_checks)
+abbrev pub limit_of : Configuration → ℕ
+limit_of setup = setup.options.max_concurrent_checks
+
+-- the services, in the order of their numbers: hosts have the first numbers
+abbrev pub services_of : State → List ObjectState
+services_of s = drop (host_count s.setup) s.objects
+
+-- how many services are being checked, forced checks among them
+abbrev pub running_services : State → ℕ
+running_services s = count_by (λ o. is_some o.run) (services_of s)
+
+-- whether one service more may be checked
+abbrev pub has_room : State → Bool
+has_room s = limit_of s.setup == 0 || nat_lt (running_services s) (limit_of s.setup)
+
+-- no more services are being checked than the limit, where it isn't 0, allows
+abbrev pub IsWithinLimit : State → Type 0
+IsWithinLimit s = 0 < limit_of s.setup → running_services s ≤ limit_of s.setup
+
 -- ---- the opening
 
--- An object is scheduled at first where it is enabled and its check interval isn't 0. (Our own
--- profile.)
-abbrev pub is_scheduled : Object → Bool
-is_scheduled o = o.enabled && not (o.check_interval == 0)
+-- objects with the times of their first checks, each enabled as the setup says
+abbrev pub objects_at : Configuration → List (Option ℕ) → List ObjectState
+objects_at setup times = map (λ p. opening_object p.0 p.1.object.enabled) (zip times (objects_of setup))
 
--- The time of the first check of the object with this number, if it is scheduled at first: without
--- an inter-check delay the start. ("Service and Host Check Scheduling", initial scheduling.)
-abbrev pub opening_time : Configuration → ℕ → ℕ → Option ℕ
-opening_time setup start number = option_and_then (λ o. if is_scheduled o.object then Some start else None) (slice_get (objects_of setup) number)
-
--- each object with the time of its first check, enabled as the setup says
+-- The first checks are spread over time ("Service and Host Check Scheduling", initial scheduling).
 abbrev pub opening_objects : Configuration → ℕ → List ObjectState
-opening_objects setup start = map (λ p. opening_object (opening_time setup start p.0) p.1.object.enabled) (enumerate_from 0 (objects_of setup))
+opening_objects setup start = objects_at setup (initial_times setup start)
 
 -- no object was ever checked
 abbrev pub opening_standings : Configuration → List Standing
@@ -95,4 +112,5 @@ pub record IsState (s : State) : Type 0 where
   pub one_standing_each : length s.standings ≡ object_count s.setup
   pub runs : s.runs ≤ 2 ^ 60
   pub times : list_all is_in_time s.objects ≡ true
+  pub limit : IsWithinLimit s
   pub standings : (number : ℕ) (standing : Standing) → slice_get s.standings number ≡ Some standing → IsStandingOf s.setup number standing
