@@ -5,7 +5,8 @@ use Rattle.ticket_steps.specs.History.{entry, replay, IsLegal}
 use Rattle.ticket_steps.proofs.Histories.{replay-last, legal-last}
 use Rattle.check_sched.specs.declared.call.Call.{Call}
 use Rattle.check_sched.specs.declared.call.Reply.{Reply}
-use Rattle.check_sched.specs.State.{State}
+use Rattle.check_objects.specs.Configuration.{Configuration}
+use Rattle.check_sched.specs.State.{State, opening}
 use Rattle.check_sched.specs.Step.{step}
 use Rattle.check_sched.specs.BookState.{BookState, book_step, book_opening}
 
@@ -32,3 +33,7 @@ module _ (s s' : State) (room pass : ℕ) (call : Call) (reply : Reply) (es es' 
       ∙ (ap (λ z. (book_step z call).0) was ∙ sym (replay-last book_step (opening_at s room) es (entry pass call reply)))
       ∙ ap (replay book_step (opening_at s room)) (sym more)
       ∙ ap (λ o. replay book_step o es') (sym (same_opening s s' room setup start))
+
+-- a book that opens
+pub book_opened : (s : State) (setup : Configuration) (start room : ℕ) → s ≡ opening setup start → at s room ≡ replay book_step (opening_at s room) []
+book_opened s setup start room e = rw e refl

@@ -6,6 +6,7 @@ pub mod LimitLaws
 pub mod OpeningLaws
 pub mod OperatorLaws
 pub mod ReportLaws
+pub mod RunLaws
 pub mod ScanLemmas
 pub mod StepLaws
 pub mod TakeLaws

@@ -7,3 +7,4 @@ pub mod Step
 pub mod Sched
 pub mod BookState
 pub mod Books
+pub mod Runs

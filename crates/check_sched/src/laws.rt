@@ -1,14 +1,38 @@
 //! Laws of the definitions, each the contract of a function without parameters and code.
 
-ghost use Rattle.std.specs.Prelude.{ℕ, List};
+ghost use Rattle.std.specs.Prelude.{ℕ, ◌≡◌, ◌+◌, true, false, List, ◌∷◌, ◌++◌};
+ghost use Rattle.ticket_steps.specs.declared.kept.Entry.{Entry};
+ghost use Rattle.ticket_steps.specs.History.{IsLegal};
 ghost use Rattle.check_objects.specs.Configuration.{Configuration};
 ghost use Rattle.check_sched.specs.declared.call.Call.{Call};
 ghost use Rattle.check_sched.specs.State.{IsWithinLimit, opening};
-ghost use Rattle.check_sched.specs.Step.{after};
+ghost use Rattle.check_sched.specs.Step.{after, step};
+ghost use Rattle.check_sched.specs.BookState.{book_opening, book_step};
+ghost use Rattle.check_sched.specs.Runs.{begins, runs_begun, runs_under};
+ghost use Rattle.check_sched.specs.declared.call.Reply.{Reply};
 
 /// Whatever calls are made, one after another, of a scheduler that was opened: no more services are
 /// being checked than the option `max_concurrent_checks` allows, where it isn't 0.
 pub fn limit()
     ensures { (setup : Configuration) → (start : ℕ) → (calls : List Call)
         → IsWithinLimit (after (opening setup start) calls) }
+{}
+
+/// In every legal history of a scheduler that was opened: no object is taken while it runs, by the
+/// history alone (`once`): where it is taken, each run of it that was begun before has ended, by its
+/// result or by being given up. The numbers of runs are 1, 2, 3 and so on (`numbers`). The history
+/// of a book is such a history (`books`).
+pub fn runs_once()
+    ensures once { (setup : Configuration) → (start : ℕ) → (front back : List (Entry Call Reply))
+        → (e : Entry Call Reply) → (object run other : ℕ)
+        → IsLegal step (opening setup start) (front ++ e ∷ back) → begins object run e ≡ true
+        → runs_under object other front ≡ false }
+    ensures numbers { (setup : Configuration) → (start : ℕ)
+        → (front back : List (Entry Call Reply)) → (e : Entry Call Reply) → (object run : ℕ)
+        → IsLegal step (opening setup start) (front ++ e ∷ back) → begins object run e ≡ true
+        → run ≡ runs_begun front + 1 }
+    ensures books { (setup : Configuration) → (start room : ℕ)
+        → (history : List (Entry Call Reply))
+        → IsLegal book_step (book_opening setup start room) history
+        → IsLegal step (opening setup start) history }
 {}

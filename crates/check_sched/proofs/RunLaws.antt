@@ -1,0 +1,286 @@
+-- No object is taken while it runs: what a history alone says of runs is what the state says that its calls leave.
+use Rattle.std.proofs.Common.{◌≡◌, ◌≢◌, ℕ, zero, suc, ◌+◌, ◌<◌, ◌==◌, ◌&&◌, ◌||◌, Bool, true, false, not, cond, List, [], ◌∷◌, ◌++◌, length, Option, Some, None, Ok, Err, option_map, refl, sym, ap, ◌∙◌, arith, inl, inr}
+use Rattle.std.specs.Prelude.{count_by, is_none, nat_le, nat_lt, option_and_then, slice_get}
+use Rattle.std.specs.List.{cons_option, enumerate_from, filter_map, list_all, list_any}
+use Rattle.std.proofs.lemmas.Bool.Decides.{nat_tests}
+use Rattle.std.proofs.lemmas.Bool.{eqb-true, eq-eqb, ne_eqb, cases_eq}
+use Rattle.std.proofs.lemmas.List.Sums.{sum_by-cons}
+use Rattle.ticket_steps.specs.declared.kept.Entry.{Entry}
+use Rattle.ticket_steps.specs.History.{replay, IsLegal}
+use Rattle.check_rules.specs.declared.state.Code.{Code}
+use Rattle.check_sched.specs.declared.call.Call.{Call}
+use Rattle.check_sched.specs.declared.call.Call.TheVariants as call
+use Rattle.check_sched.specs.declared.call.Reply.{Reply}
+use Rattle.check_sched.specs.declared.call.Reply.TheVariants as reply
+use Rattle.check_sched.specs.declared.call.Refusal.TheVariants as refusal
+use Rattle.check_sched.specs.declared.candidate.Candidate.{Candidate}
+use Rattle.check_sched.specs.declared.object_state.ObjectState.{ObjectState}
+use Rattle.check_sched.specs.declared.object_state.Run.{Run}
+use Rattle.check_sched.specs.ObjectState.{candidate_time, ended, enabled_as, freed_time, put_off_to, rescheduled, run_under, running_from}
+use Rattle.check_sched.specs.Candidate.{candidate, candidates_among, least}
+use Rattle.check_sched.specs.State.{State, is_host}
+use Rattle.check_sched.specs.Step.{candidates, due, eligible, is_open, known, report_taken, settled, step, taken, update_at, waiting_reply, with_object, within_range}
+use Rattle.check_sched.specs.BookState.{book_step}
+use Rattle.check_sched.specs.Runs.{begins, begins_by, ends, ends_by, runs_begun, runs_under, takes_by}
+use Rattle.check_sched.proofs.AnswerLaws.{by_test, known_is, under_is}
+use Rattle.check_sched.proofs.CandidateLaws.{all_at_least, all_filtered, both_and, candidates_within}
+use Rattle.check_sched.proofs.OperatorLaws.{abandon_cases, enable_cases, reschedule_cases, status_cases}
+use Rattle.check_sched.proofs.ReportLaws.{report_cases}
+use Rattle.check_sched.proofs.TakeLaws.{take_cases}
+
+-- ---- the run of one object
+
+abbrev run_in : ℕ → List ObjectState → Option ℕ
+run_in o xs = option_map (λ r. r.number) (option_and_then (λ x. x.run) (slice_get xs o))
+
+-- another object that changes leaves it
+run_apart : (n o : ℕ) (f : ObjectState → ObjectState) (xs : List ObjectState) → n ≢ o → run_in o (update_at n f xs) ≡ run_in o xs
+run_apart n o f [] h = refl
+run_apart zero zero f (x ∷ xs) h = absurd (h refl)
+run_apart zero (suc o) f (x ∷ xs) h = refl
+run_apart (suc n) zero f (x ∷ xs) h = refl
+run_apart (suc n) (suc o) f (x ∷ xs) h = run_apart n o f xs (λ e. h (ap suc e))
+
+-- so does a change that leaves the run
+run_kept : (n o : ℕ) (f : ObjectState → ObjectState) (xs : List ObjectState) → ((x : ObjectState) → (f x).run ≡ x.run) → run_in o (update_at n f xs) ≡ run_in o xs
+run_kept n o f [] h = refl
+run_kept zero zero f (x ∷ xs) h = ap (option_map (λ r. r.number)) (h x)
+run_kept zero (suc o) f (x ∷ xs) h = refl
+run_kept (suc n) zero f (x ∷ xs) h = refl
+run_kept (suc n) (suc o) f (x ∷ xs) h = run_kept n o f xs h
+
+-- an object whose check begins runs
+run_begun : (n : ℕ) (r : Run) (xs : List ObjectState) → n < length xs → run_in n (update_at n (running_from r) xs) ≡ Some r.number
+run_begun n r [] h = absurd (omega arith)
+run_begun zero r (x ∷ xs) h = refl
+run_begun (suc n) r (x ∷ xs) h = run_begun n r xs (omega arith)
+
+-- ---- what waits doesn't run
+
+none_number : (r : Option Run) → is_none r ≡ true → is_none (option_map (λ x. x.number) r) ≡ true
+none_number None h = refl
+none_number (Some x) h = h
+
+waits_by : (free may : Bool) (next : Option ℕ) (t : ℕ) → cond (free && may) next None ≡ Some t → free ≡ true
+waits_by true may next t e = refl
+waits_by false may next t e = cc
+
+waits_free : (x : ObjectState) (t : ℕ) → candidate_time x ≡ Some t → is_none x.run ≡ true
+waits_free x t e = waits_by (is_none x.run) (x.enabled || x.forced) x.next t e
+
+free_by : (test : ℕ → Bool) (k : ℕ) (t : Option ℕ) (cs : List Candidate) → ((time : ℕ) → t ≡ Some time → test k ≡ true) → list_all (λ c. test c.number) cs ≡ true → list_all (λ c. test c.number) (cons_option (option_map (λ time. record { time = time; number = k }) t) cs) ≡ true
+free_by test k None cs f h = h
+free_by test k (Some t) cs f h = both_and (test k) _ (f t refl) h
+
+free_from : (test : ℕ → Bool) (k : ℕ) (xs : List ObjectState) → ((i : ℕ) → i < length xs → is_none (run_in i xs) ≡ true → test (k + i) ≡ true) → list_all (λ c. test c.number) (filter_map (λ p. candidate p.0 p.1) (enumerate_from k xs)) ≡ true
+free_from test k [] f = refl
+free_from test k (x ∷ xs) f =
+    free_by test k (candidate_time x) _
+    (λ t e. let here = f 0 (omega arith) (none_number x.run (waits_free x t e)) in let at : k + 0 ≡ k = omega arith in rw at at here)
+    (free_from test (k + 1) xs (λ i l h. let there = f (suc i) (omega arith) h in let at : k + suc i ≡ k + 1 + i = omega arith in rw at at there))
+
+-- whatever waits for its check isn't being checked
+pub waiting_free : (xs : List ObjectState) → list_all (λ c. is_none (run_in c.number xs)) (candidates_among xs) ≡ true
+waiting_free xs = free_from (λ n. is_none (run_in n xs)) 0 xs (λ i l h. let at : 0 + i ≡ i = omega arith in rw at h)
+
+-- neither is what may be checked now
+pub eligible_free : (now : ℕ) (s : State) (c : Candidate) → least (eligible now s) ≡ Some c → is_none (run_in c.number s.objects) ≡ true
+eligible_free now s c e =
+    all_at_least (λ x. is_none (run_in x.number s.objects)) c (eligible now s) e
+    (all_filtered (λ x. is_none (run_in x.number s.objects)) (λ x. is_open s x.number) (due now s)
+    (all_filtered (λ x. is_none (run_in x.number s.objects)) (λ x. nat_le x.time now) (candidates s) (waiting_free s.objects)))
+
+eligible_there : (now : ℕ) (s : State) (c : Candidate) → least (eligible now s) ≡ Some c → c.number < length s.objects
+eligible_there now s c e =
+    let within = all_at_least (λ x. nat_lt x.number (length s.objects)) c (eligible now s) e
+        (all_filtered (λ x. nat_lt x.number (length s.objects)) (λ x. is_open s x.number) (due now s)
+        (all_filtered (λ x. nat_lt x.number (length s.objects)) (λ x. nat_le x.time now) (candidates s) (candidates_within s.objects))) in
+    grind (arith, nat_tests, within)
+
+-- ---- one call
+
+none_some : (x : Option ℕ) (r : ℕ) → is_none x ≡ true → x ≡ Some r → ⊥
+none_some None r f e = cc
+none_some (Some x) r f e = cc
+
+under_number_by : (number : ℕ) (x q : Run) (b : Bool) → (x.number == number) ≡ b → cond b (Ok x) (Err refusal.WrongRun) ≡ Ok q → q.number ≡ number
+under_number_by number x q true h e = let same : x ≡ q = cc in ap (λ r. r.number) (sym same) ∙ eqb-true x.number number h
+under_number_by number x q false h e = cc
+
+under_number : (number : ℕ) (running : Option Run) (q : Run) → run_under number running ≡ Ok q → q.number ≡ number
+under_number number None q e = cc
+under_number number (Some x) q e = under_number_by number x q (x.number == number) refl e
+
+-- the run that a passed test names is the object's
+run_named : (s : State) (n run : ℕ) (x : ObjectState) (q : Run) → slice_get s.objects n ≡ Some x → run_under run x.run ≡ Ok q → run_in n s.objects ≡ Some run
+run_named s n run x q there under = rw (there, under_is run x.run q under) (ap Some (under_number run x.run q under))
+
+some_same : (x : Option ℕ) (a b : ℕ) → x ≡ Some a → x ≡ Some b → a ≡ b
+some_same x a b e f = let same : Some a ≡ Some b = sym e ∙ f in cc
+
+-- a run that isn't the one that ends goes on
+run_goes_on : (s : State) (n run o r : ℕ) (f : ObjectState → ObjectState) (x : ObjectState) (q : Run) → slice_get s.objects n ≡ Some x → run_under run x.run ≡ Ok q → run_in o s.objects ≡ Some r → (n == o && (run == r)) ≡ false → run_in o (update_at n f s.objects) ≡ Some r
+run_goes_on s n run o r f x q there under h e = elim (cases_eq n o) [
+  | inl same ↦
+    let named : run_in o s.objects ≡ Some run = rw (← same) (run_named s n run x q there under) in
+    let is : run ≡ r = some_same (run_in o s.objects) run r named h in
+    let ends : (n == o && (run == r)) ≡ true = rw (eq-eqb n o same, eq-eqb run r is) refl in
+    absurd (let clash : true ≡ false = sym ends ∙ e in cc)
+  | inr other ↦ run_apart n o f s.objects other ∙ h
+]
+
+-- a run goes on until a call ends it
+step_keeps_run : (s : State) (c : Call) (o r : ℕ) → run_in o s.objects ≡ Some r → ends_by o r c (step s c).1 ≡ false → run_in o (step s c).0.objects ≡ Some r
+step_keeps_run s (call.Take now) o r h =
+    take_cases (λ a. ends_by o r (call.Take now) a.1 ≡ false → run_in o a.0.objects ≡ Some r) now s
+    (λ why e. h)
+    (λ c m f e. run_kept c.number o _ s.objects (λ x. refl) ∙ h)
+    (λ c m q f e. run_apart c.number o _ s.objects (λ same. none_some (run_in c.number s.objects) r (eligible_free now s c f) (ap (λ k. run_in k s.objects) same ∙ h)) ∙ h)
+    (λ f e. h)
+step_keeps_run s (call.Report n run c) o r h =
+    by_test (λ a. ends_by o r (call.Report n run c) a.1 ≡ false → run_in o a.0.objects ≡ Some r) s (known n s) _ (λ why e. h)
+    (λ x k. by_test (λ a. ends_by o r (call.Report n run c) a.1 ≡ false → run_in o a.0.objects ≡ Some r) s (run_under run x.run) _ (λ why e. h)
+    (λ q f e. run_goes_on s n run o r _ x q (known_is n s x k) f h e))
+step_keeps_run s (call.Abandon n run now) o r h =
+    by_test (λ a. ends_by o r (call.Abandon n run now) a.1 ≡ false → run_in o a.0.objects ≡ Some r) s (known n s) _ (λ why e. h)
+    (λ x k. by_test (λ a. ends_by o r (call.Abandon n run now) a.1 ≡ false → run_in o a.0.objects ≡ Some r) s (within_range now) _ (λ why e. h)
+    (λ u m. by_test (λ a. ends_by o r (call.Abandon n run now) a.1 ≡ false → run_in o a.0.objects ≡ Some r) s (run_under run x.run) _ (λ why e. h)
+    (λ q f e. run_goes_on s n run o r _ x q (known_is n s x k) f h e)))
+step_keeps_run s (call.Reschedule n time forced) o r h = reschedule_cases (λ a. ends_by o r (call.Reschedule n time forced) a.1 ≡ false → run_in o a.0.objects ≡ Some r) n time forced s (λ why e. h) (λ m e. run_kept n o _ s.objects (λ x. refl) ∙ h)
+step_keeps_run s (call.Enable n on) o r h = enable_cases (λ a. ends_by o r (call.Enable n on) a.1 ≡ false → run_in o a.0.objects ≡ Some r) n on s (λ why e. h) (λ e. run_kept n o _ s.objects (λ x. refl) ∙ h)
+step_keeps_run s (call.Status n) o r h = status_cases (λ a. ends_by o r (call.Status n) a.1 ≡ false → run_in o a.0.objects ≡ Some r) n s (λ why e. h) (λ x k e. h)
+
+-- The call before which the object was free and after which it runs under this number, the next one.
+record IsBegun (o r : ℕ) (before after : State) : Type 0 where
+  free : is_none (run_in o before.objects) ≡ true
+  running : run_in o after.objects ≡ Some r
+  next : r ≡ before.runs + 1
+
+and_left : (a b : Bool) → (a && b) ≡ true → a ≡ true
+and_left true b h = refl
+and_left false b h = h
+
+and_right : (a b : Bool) → (a && b) ≡ true → b ≡ true
+and_right true b h = h
+and_right false b h = cc
+
+taken_begins : (now : ℕ) (s : State) (c : Candidate) (o r : ℕ) → least (eligible now s) ≡ Some c → (c.number == o && ((s.runs + 1) == r)) ≡ true → IsBegun o r s (taken now c.number s)
+taken_begins now s c o r f e =
+    let here : c.number ≡ o = eqb-true c.number o (and_left (c.number == o) _ e) in
+    let number : s.runs + 1 ≡ r = eqb-true (s.runs + 1) r (and_right (c.number == o) _ e) in
+    record {
+      free = rw (← here) (eligible_free now s c f);
+      running = rw (← here, ← number) (run_begun c.number (record { number = s.runs + 1; start = now }) s.objects (eligible_there now s c f));
+      next = sym number;
+    }
+
+-- the reply where none may be checked begins nothing
+waiting_by : (limited : Bool) (s : State) (next : Option ℕ) (o r : ℕ) → begins_by o r (cond limited reply.AtLimit (reply.Idle next)) ≡ true → IsBegun o r s s
+waiting_by true s next o r e = cc
+waiting_by false s next o r e = cc
+
+waiting_begins : (now : ℕ) (s : State) (o r : ℕ) → begins_by o r (waiting_reply now s) ≡ true → IsBegun o r s s
+waiting_begins now s o r e = waiting_by (list_any (λ c. not (is_host s.setup c.number)) (due now s)) s (option_map (λ c. c.time) (least (candidates s))) o r e
+
+step_begins : (s : State) (c : Call) (o r : ℕ) → begins_by o r (step s c).1 ≡ true → IsBegun o r s (step s c).0
+step_begins s (call.Take now) o r =
+    take_cases (λ a. begins_by o r a.1 ≡ true → IsBegun o r s a.0) now s
+    (λ why e. cc) (λ c m f e. cc) (λ c m q f e. taken_begins now s c o r f e)
+    (λ f e. waiting_begins now s o r e)
+step_begins s (call.Report n run c) o r = report_cases (λ a. begins_by o r a.1 ≡ true → IsBegun o r s a.0) n run c s (λ why e. cc) (λ x q k f e. cc)
+step_begins s (call.Abandon n run now) o r = abandon_cases (λ a. begins_by o r a.1 ≡ true → IsBegun o r s a.0) n run now s (λ why e. cc) (λ x k m e. cc)
+step_begins s (call.Reschedule n time forced) o r = reschedule_cases (λ a. begins_by o r a.1 ≡ true → IsBegun o r s a.0) n time forced s (λ why e. cc) (λ m e. cc)
+step_begins s (call.Enable n on) o r = enable_cases (λ a. begins_by o r a.1 ≡ true → IsBegun o r s a.0) n on s (λ why e. cc) (λ e. cc)
+step_begins s (call.Status n) o r = status_cases (λ a. begins_by o r a.1 ≡ true → IsBegun o r s a.0) n s (λ why e. cc) (λ x k e. cc)
+
+-- ---- histories
+
+none_first : (a b : Bool) → (a || b) ≡ false → a ≡ false
+none_first true b h = cc
+none_first false b h = refl
+
+none_second : (a b : Bool) → (a || b) ≡ false → b ≡ false
+none_second true b h = cc
+none_second false b h = h
+
+not_false : (a : Bool) → not a ≡ true → a ≡ false
+not_false true h = cc
+not_false false h = refl
+
+none_more : (s : State) → s.runs ≡ s.runs + 0
+none_more s = omega arith
+
+waiting_runs_by : (limited : Bool) (s : State) (next : Option ℕ) → s.runs ≡ s.runs + cond (takes_by (cond limited reply.AtLimit (reply.Idle next))) 1 0
+waiting_runs_by true s next = none_more s
+waiting_runs_by false s next = none_more s
+
+waiting_runs : (now : ℕ) (s : State) → s.runs ≡ s.runs + cond (takes_by (waiting_reply now s)) 1 0
+waiting_runs now s = waiting_runs_by (list_any (λ c. not (is_host s.setup c.number)) (due now s)) s (option_map (λ c. c.time) (least (candidates s)))
+
+-- a run goes on through a history that doesn't end it
+keeps_running : (s : State) (h : List (Entry Call Reply)) (o r : ℕ) → IsLegal step s h → run_in o s.objects ≡ Some r → list_any (ends o r) h ≡ false → run_in o (replay step s h).objects ≡ Some r
+keeps_running s [] o r legal runs none = runs
+keeps_running s (e ∷ h) o r legal runs none =
+    let goes_on : ends_by o r e.call (step s e.call).1 ≡ false = rw (← legal.0) (none_first (ends o r e) _ none) in
+    keeps_running (step s e.call).0 h o r legal.1 (step_keeps_run s e.call o r runs goes_on) (none_second (ends o r e) _ none)
+
+begun_by : (s : State) (e : Entry Call Reply) (o r : ℕ) → e.reply ≡ (step s e.call).1 → begins o r e ≡ true → IsBegun o r s (step s e.call).0
+begun_by s e o r legal is = step_begins s e.call o r (rw (← legal) is)
+
+runs_by : (s : State) (e : Entry Call Reply) (h : List (Entry Call Reply)) (o r : ℕ) (first : Bool) → (begins o r e && not (list_any (ends o r) h)) ≡ first → (first || runs_under o r h) ≡ true → IsLegal step s (e ∷ h) → (runs_under o r h ≡ true → run_in o (replay step (step s e.call).0 h).objects ≡ Some r) → run_in o (replay step (step s e.call).0 h).objects ≡ Some r
+runs_by s e h o r true is any legal more = keeps_running (step s e.call).0 h o r legal.1 (begun_by s e o r legal.0 (and_left (begins o r e) _ is)).running (not_false (list_any (ends o r) h) (and_right (begins o r e) _ is))
+runs_by s e h o r false is any legal more = more any
+
+-- what runs by the history alone runs in the state that it leaves
+runs_in_state : (s : State) (h : List (Entry Call Reply)) (o r : ℕ) → IsLegal step s h → runs_under o r h ≡ true → run_in o (replay step s h).objects ≡ Some r
+runs_in_state s [] o r legal runs = cc
+runs_in_state s (e ∷ h) o r legal runs = runs_by s e h o r (begins o r e && not (list_any (ends o r) h)) refl runs legal (runs_in_state (step s e.call).0 h o r legal.1)
+
+-- the runs handed out are those begun
+step_runs : (s : State) (c : Call) → (step s c).0.runs ≡ s.runs + cond (takes_by (step s c).1) 1 0
+step_runs s (call.Take now) = take_cases (λ a. a.0.runs ≡ s.runs + cond (takes_by a.1) 1 0) now s (λ why. none_more s) (λ c m f. none_more s) (λ c m q f. refl) (λ f. waiting_runs now s)
+step_runs s (call.Report n run c) = report_cases (λ a. a.0.runs ≡ s.runs + cond (takes_by a.1) 1 0) n run c s (λ why. none_more s) (λ x q k f. none_more s)
+step_runs s (call.Abandon n run now) = abandon_cases (λ a. a.0.runs ≡ s.runs + cond (takes_by a.1) 1 0) n run now s (λ why. none_more s) (λ x k m. none_more s)
+step_runs s (call.Reschedule n time forced) = reschedule_cases (λ a. a.0.runs ≡ s.runs + cond (takes_by a.1) 1 0) n time forced s (λ why. none_more s) (λ m. none_more s)
+step_runs s (call.Enable n on) = enable_cases (λ a. a.0.runs ≡ s.runs + cond (takes_by a.1) 1 0) n on s (λ why. none_more s) (none_more s)
+step_runs s (call.Status n) = status_cases (λ a. a.0.runs ≡ s.runs + cond (takes_by a.1) 1 0) n s (λ why. none_more s) (λ x k. none_more s)
+
+runs_count : (s : State) (h : List (Entry Call Reply)) → IsLegal step s h → (replay step s h).runs ≡ s.runs + runs_begun h
+runs_count s [] legal = none_more s
+runs_count s (e ∷ h) legal =
+    let first : (step s e.call).0.runs ≡ s.runs + cond (takes_by e.reply) 1 0 = rw legal.0 (step_runs s e.call) in
+    let rest = runs_count (step s e.call).0 h legal.1 in
+    let sum = sum_by-cons (λ x. cond (takes_by x.reply) 1 0) e h in
+    omega (arith, first, rest, sum)
+
+-- ---- a history and what comes after it
+
+legal_front : (s : State) (front back : List (Entry Call Reply)) → IsLegal step s (front ++ back) → IsLegal step s front
+legal_front s [] back legal = tt
+legal_front s (e ∷ front) back legal = (legal.0, legal_front (step s e.call).0 front back legal.1)
+
+legal_back : (s : State) (front back : List (Entry Call Reply)) → IsLegal step s (front ++ back) → IsLegal step (replay step s front) back
+legal_back s [] back legal = legal
+legal_back s (e ∷ front) back legal = legal_back (step s e.call).0 front back legal.1
+
+not_running : (other : ℕ) (x : Option ℕ) (b : Bool) → is_none x ≡ true → (b ≡ true → x ≡ Some other) → b ≡ false
+not_running other x true free f = absurd (none_some x other free (f refl))
+not_running other x false free f = refl
+
+-- an object that is taken wasn't running before
+pub taken_once : (s : State) (front back : List (Entry Call Reply)) (e : Entry Call Reply) (o r other : ℕ) → IsLegal step s (front ++ e ∷ back) → begins o r e ≡ true → runs_under o other front ≡ false
+taken_once s front back e o r other legal is =
+    let begun = begun_by (replay step s front) e o r (legal_back s front (e ∷ back) legal).0 is in
+    not_running other (run_in o (replay step s front).objects) (runs_under o other front) begun.free (runs_in_state s front o other (legal_front s front (e ∷ back) legal))
+
+-- its run has the next number
+pub taken_next : (s : State) (front back : List (Entry Call Reply)) (e : Entry Call Reply) (o r : ℕ) → s.runs ≡ 0 → IsLegal step s (front ++ e ∷ back) → begins o r e ≡ true → r ≡ runs_begun front + 1
+taken_next s front back e o r none legal is =
+    let begun = begun_by (replay step s front) e o r (legal_back s front (e ∷ back) legal).0 is in
+    let count = runs_count s front (legal_front s front (e ∷ back) legal) in
+    omega (arith, begun.next, count, none)
+
+-- the history of a book is one of its scheduler
+pub book_is_legal : (s : State) (room : ℕ) (h : List (Entry Call Reply)) → IsLegal book_step (record { sched = s; room = room }) h → IsLegal step s h
+book_is_legal s room [] legal = tt
+book_is_legal s room (e ∷ h) legal = (legal.0, book_is_legal (step s e.call).0 room h legal.1)
