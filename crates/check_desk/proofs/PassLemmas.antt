@@ -1,5 +1,5 @@
 -- The passes of a desk, handed out one after another.
-use Rattle.std.proofs.Common.{◌≡◌, ℕ, zero, suc, ◌+◌, ◌-◌, ◌*◌, ◌<◌, ◌≤◌, ◌^◌, List, [], ◌∷◌, ◌++◌, length, take, drop, true, refl, sym, ap, subst, ◌∙◌, arith}
+use Rattle.std.proofs.Common.{◌≡◌, ℕ, zero, suc, ◌+◌, ◌-◌, ◌*◌, ◌<◌, ◌≤◌, ◌^◌, List, [], ◌∷◌, ◌++◌, length, take, drop, true, refl, sym, ap, subst, ◌∙◌, arith, get_or}
 use Rattle.ticket_steps.specs.Sums.{counted}
 use Rattle.ticket_lock.specs.Callers.{Caller, caller, keeping, given, first_caller}
 use Rattle.ticket_lock.specs.Tokens.{start_of}
@@ -53,3 +53,9 @@ more_is n (suc k) rest h e =
 -- the last of them stands for one number
 pub last_is : (n : ℕ) (rest : Caller Call Reply) → rest ≡ rest_from n 1 → rest ≡ new_pass n
 last_is n rest e = e
+
+-- each of them is of the desk
+pub new_at : (desk : Desk) (n : ℕ) (ps : List Pass) (i : ℕ) (d : Pass) → AreNewPasses desk n ps → i < length ps → IsPassOf desk (get_or ps i d)
+new_at desk n [] i d h l = absurd (omega arith)
+new_at desk n (p ∷ ps) zero d h l = h.0
+new_at desk n (p ∷ ps) (suc i) d h l = new_at desk (n + 1) ps i d h.2 (omega arith)

@@ -14,6 +14,8 @@
 
 mod desk;
 mod passes;
+#[cfg(test)]
+mod tests;
 
 pub use desk::{Answer, Desk, Poll};
 pub use passes::{Hold, Pass, Turn};

@@ -13,6 +13,9 @@ use check_objects::Setup;
 use std::alloc::{AllocError, Global};
 use ticket_steps::{Entry, Kept, NoMemory};
 
+#[cfg(test)]
+mod tests;
+
 /// A scheduler that keeps the history of its calls, each with its reply and under the number of the
 /// pass that made it. (Our own profile.)
 ///

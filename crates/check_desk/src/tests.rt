@@ -1,0 +1,245 @@
+//! What no clause says: that turns come while other passes are out, that calls succeed, threads, and
+//! worked replies.
+//!
+//! Desks are opened at the second try where the first meets want of memory.
+
+ghost use Rattle.std.specs.Prelude.{◌≡◌, ◌<◌, ◌≤◌, [], IfOk, length};
+ghost use Rattle.check_sched.specs.Books.{entries_of, refused_of};
+ghost use Rattle.check_desk.specs.Desks.{AreNewPasses, IsHolderAt, IsPassOf, IsWaitingAt, passes_of};
+
+use crate::{Answer, Desk, Hold, Pass, Poll, Turn};
+use check_objects::{LoadError, Setup};
+use check_rules::{Code, Kind, State};
+use check_sched::{Book, Call, Reply};
+use std::alloc::Global;
+use std::process::Abort;
+use std::sync::Wait;
+use std::test::Fail;
+use std::thread::join;
+use ticket_steps::Kept;
+
+/// A host that is never due, and its service 1, due at 0.
+const ONE_SERVICE: &[u8] =
+    br#"{"options":{"service_inter_check_delay_method":"n","host_inter_check_delay_method":"n"},"hosts":[{"name":"h","check_interval":0,"max_check_attempts":3}],"services":[{"host":"h","description":"s","max_check_attempts":3}]}"#;
+
+const STATUS: Call = Call::Status { object: 1 };
+
+fn setup_of(alloc: Global) -> Result<Setup, LoadError> {
+    match Setup::read(alloc, ONE_SERVICE) {
+        Err(LoadError::Memory) => Setup::read(alloc, ONE_SERVICE),
+        answer => answer,
+    }
+}
+
+fn empty_book(alloc: Global) -> Result<Book, Fail>
+    ensures { IfOk result (λ book. (entries_of book ≡ []) × (refused_of book ≡ 0)) }
+{
+    match Book::open(alloc, setup_of(alloc)?, 0, 400) {
+        Ok(book) => Ok(book),
+        Err(setup) => Ok(
+            Book::open(alloc, setup, 0, 400)
+                .ok()
+                .ok_or("no memory twice")?,
+        ),
+    }
+}
+
+/// A desk on that setup, and its passes.
+fn opened(alloc: Global, passes: u32) -> Result<(Desk, Vec<Pass>), Fail>
+    requires { (0 < passes) × (passes ≤ 1024) }
+    ensures passes { IfOk result (λ made. length made.1.items ≡ passes) }
+    ensures new { IfOk result (λ made. AreNewPasses made.0 0 made.1.items) }
+{
+    match Desk::open(alloc, empty_book(alloc)?, passes) {
+        Ok(made) => Ok(made),
+        Err(book) => Ok(
+            Desk::open(alloc, book, passes)
+                .ok()
+                .ok_or("no memory twice")?,
+        ),
+    }
+}
+
+/// A desk with two passes, by number.
+fn two_passes(alloc: Global) -> Result<(Desk, Pass, Pass), Fail>
+    ensures { IfOk result (λ made. IsPassOf made.0 made.1 × IsPassOf made.0 made.2) }
+{
+    let (desk, mut passes) = opened(alloc, 2)?;
+    let second = passes.pop();
+    let first = passes.pop();
+    let (Some(first), Some(second)) = (first, second) else {
+        return Err(Fail::from("not two passes"));
+    };
+    Ok((desk, first, second))
+}
+
+/// Takes a ticket.
+fn begun(rt: &impl Abort, desk: &Desk, pass: Pass) -> Turn
+    requires { IsPassOf desk.now pass }
+    ensures { IsWaitingAt desk.now result }
+{
+    match desk.begin(pass) {
+        Ok(turn) => turn,
+        Err(_pass) => panic!(rt; "no call left"),
+    }
+}
+
+/// The hold of a turn that has come.
+fn mine(rt: &impl Abort, desk: &Desk, turn: Turn) -> Hold
+    requires { IsWaitingAt desk.now turn }
+    ensures { IsHolderAt desk.now result }
+{
+    match desk.poll(turn) {
+        Poll::Mine(hold) => hold,
+        Poll::NotYet(_turn) => panic!(rt; "not yet"),
+    }
+}
+
+/// A turn that has not come.
+fn not_yet(rt: &impl Abort, desk: &Desk, turn: Turn) -> Turn
+    requires { IsWaitingAt desk.now turn }
+    ensures { IsWaitingAt desk.now result }
+{
+    match desk.poll(turn) {
+        Poll::Mine(_hold) => panic!(rt; "too early"),
+        Poll::NotYet(turn) => turn,
+    }
+}
+
+/// A whole call of one thread that finds its turn at its first poll, with a reply.
+fn ask_at_once(rt: &impl Abort, desk: &Desk, pass: Pass, call: Call) -> Pass
+    requires { IsPassOf desk.now pass }
+    ensures { IsPassOf desk.now result }
+{
+    let turn = begun(rt, desk, pass);
+    let hold = mine(rt, desk, turn);
+    let (pass, answer) = desk.finish(hold, call);
+    assert!(rt; matches!(answer, Answer::Reply(_)));
+    pass
+}
+
+/// So many calls of one pass, each waiting for its turn.
+fn ask_often(rt: &(impl Wait + Abort), desk: &Desk, mut pass: Pass, calls: u32) -> Pass
+    requires { IsPassOf desk.now pass }
+    ensures { IsPassOf desk.now result }
+{
+    for _ in 0..calls {
+        let (back, answer) = desk.ask(rt, pass, STATUS);
+        assert!(rt; matches!(answer, Answer::Reply(_)));
+        pass = back;
+    }
+    pass
+}
+
+/// The book of a desk whose passes are gathered.
+fn closed(rt: &impl Abort, desk: Desk, pass: Pass) -> Book
+    requires { IsPassOf desk pass }
+{
+    match desk.close(pass) {
+        Ok(book) => book,
+        Err((_desk, _pass)) => panic!(rt; "passes are missing"),
+    }
+}
+
+#[test]
+fn turns_come_in_the_order_of_their_tickets(rt: HostRuntime) -> Result<(), Fail> {
+    let (desk, first, second) = two_passes(rt.alloc())?;
+    let first = begun(&rt, &desk, first);
+    let second = begun(&rt, &desk, second);
+    let second = not_yet(&rt, &desk, second);
+    let hold = mine(&rt, &desk, first);
+    let (first, taken) = desk.finish(hold, Call::Take { now: 0 });
+    let hold = mine(&rt, &desk, second);
+    let (second, told) = desk.finish(hold, STATUS);
+    assert_eq!(rt; taken, Answer::Reply(Reply::Taken { object: 1, run: 1 }));
+    let Answer::Reply(Reply::Standing {
+        standing,
+        changed,
+        next,
+    }) = told
+    else {
+        return Err(Fail::from("no standing"));
+    };
+    assert!(rt; !standing.checked && !changed && next.is_none());
+    let (desk, first) = match desk.close(first) {
+        Ok(_book) => return Err(Fail::from("closed with a pass missing")),
+        Err(back) => back,
+    };
+    let pass = desk.gather(first, second);
+    assert_eq!(rt; (pass.number(), pass.gathered(), pass.calls()), (0, 2, 2));
+    let book = closed(&rt, desk, pass);
+    assert_eq!(rt; book.entries()[0].pass, 0);
+    assert_eq!(rt; book.entries()[1].pass, 1);
+    Ok(())
+}
+
+#[test]
+fn rounds_of_one_thread_and_then_two_threads(rt: HostRuntime) -> Result<(), Fail> {
+    let (desk, first, second) = two_passes(rt.alloc())?;
+    let mut first = ask_at_once(&rt, &desk, first, Call::Take { now: 0 });
+    let mut second = ask_at_once(&rt, &desk, second, STATUS);
+    for _ in 0..50u32 {
+        first = ask_at_once(&rt, &desk, first, STATUS);
+        second = ask_at_once(&rt, &desk, second, STATUS);
+    }
+    let (first, second) = join(
+        &rt,
+        || -> Pass
+            requires { IsPassOf desk first }
+            ensures { IsPassOf desk result }
+        { ask_often(&rt, &desk, first, 100) },
+        || -> Pass
+            requires { IsPassOf desk second }
+            ensures { IsPassOf desk result }
+        { ask_often(&rt, &desk, second, 100) },
+    );
+    assert_eq!(rt; first.left(), 4_294_967_295 - 151);
+    let pass = desk.gather(first, second);
+    assert_eq!(rt; pass.calls(), 302);
+    let book = closed(&rt, desk, pass);
+    assert_eq!(rt; book.entries().len(), 302);
+    assert_eq!(rt; book.refused(), 0);
+    Ok(())
+}
+
+/// Three passes of a desk, asked out of the order of their numbers.
+#[test]
+fn three_passes_out_of_order(rt: HostRuntime) -> Result<(), Fail> {
+    let (desk, mut passes) = opened(rt.alloc(), 3)?;
+    let third = passes.pop();
+    let second = passes.pop();
+    let first = passes.pop();
+    let (Some(first), Some(second), Some(third)) = (first, second, third) else {
+        return Err(Fail::from("not three passes"));
+    };
+    let (third, taken) = desk.ask(&rt, third, Call::Take { now: 0 });
+    assert_eq!(rt; taken, Answer::Reply(Reply::Taken { object: 1, run: 1 }));
+    let report = Call::Report {
+        object: 1,
+        run: 1,
+        code: Code::Critical,
+    };
+    let (first, reported) = desk.ask(&rt, first, report);
+    let (second, told) = desk.ask(&rt, second, STATUS);
+    for (answer, is_new) in [(reported, true), (told, false)] {
+        let Answer::Reply(Reply::Standing {
+            standing,
+            changed,
+            next,
+        }) = answer
+        else {
+            return Err(Fail::from("no standing"));
+        };
+        assert_eq!(rt; (standing.state, standing.kind), (State::Critical, Kind::Soft));
+        assert_eq!(rt; (standing.attempt, changed, next), (1, is_new, Some(60_000)));
+    }
+    let pass = desk.gather(desk.gather(first, second), third);
+    assert_eq!(rt; (pass.gathered(), pass.calls()), (3, 3));
+    let book = closed(&rt, desk, pass);
+    let numbers = [2, 0, 1];
+    assert_eq!(rt; book.entries().len(), 3);
+    for (entry, number) in book.entries().iter().zip(numbers) {
+        assert_eq!(rt; entry.pass, number);
+    }
+    Ok(())
+}

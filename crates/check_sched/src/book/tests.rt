@@ -1,0 +1,85 @@
+//! What no clause says of the book: that calls below the room succeed, and what comes of a growth
+//! that is refused past it.
+//!
+//! The test also passes where any one request for memory is refused (`rt try --test --fail-alloc N`):
+//! then one call may be counted in place of being made.
+
+ghost use Rattle.std.specs.Prelude.{◌≡◌, [], IfOk};
+ghost use Rattle.check_sched.specs.Books.{entries_of, refused_of};
+
+use crate::laws::{limit, runs_once};
+use crate::{Book, Call, Reply};
+use check_objects::{LoadError, Setup};
+use std::alloc::Global;
+use std::test::Fail;
+use ticket_steps::Kept;
+
+/// A host that is never due, and its service 1.
+const ONE_SERVICE: &[u8] =
+    br#"{"options":{"service_inter_check_delay_method":"n","host_inter_check_delay_method":"n"},"hosts":[{"name":"h","check_interval":0,"max_check_attempts":3}],"services":[{"host":"h","description":"s","max_check_attempts":3}]}"#;
+
+/// The setup, at the second try where the first meets want of memory.
+fn setup_of(alloc: Global) -> Result<Setup, LoadError> {
+    match Setup::read(alloc, ONE_SERVICE) {
+        Err(LoadError::Memory) => Setup::read(alloc, ONE_SERVICE),
+        answer => answer,
+    }
+}
+
+/// A book with room for 4 entries. Want of memory hands the setup back, and a second try succeeds.
+fn small_book(alloc: Global) -> Result<Book, Fail>
+    ensures { IfOk result (λ book. (entries_of book ≡ []) × (refused_of book ≡ 0)) }
+{
+    match Book::open(alloc, setup_of(alloc)?, 0, 4) {
+        Ok(book) => Ok(book),
+        Err(setup) => Ok(
+            Book::open(alloc, setup, 0, 4)
+                .ok()
+                .ok_or("no memory twice")?,
+        ),
+    }
+}
+
+#[test]
+fn two_hundred_calls_past_a_room_of_four(rt: HostRuntime) -> Result<(), Fail> {
+    let mut book = small_book(rt.alloc())?;
+    let mut refused_at = None;
+    for made in 0..200u64 {
+        if book.refused() > 1 {
+            return Err(Fail::from("refused twice"));
+        }
+        match book.record(7, Call::Status { object: 1 }) {
+            Ok(Reply::Standing { next, .. }) => assert_eq!(rt; next, Some(0)),
+            Ok(_) => return Err(Fail::from("another reply")),
+            Err(_refused) => refused_at = Some(made),
+        }
+    }
+    let refused = if refused_at.is_some() { 1 } else { 0 };
+    assert_eq!(rt; book.refused(), refused);
+    assert_eq!(rt; book.entries().len() as u64 + refused, 200);
+    assert!(rt; refused_at.is_none_or(|made| made >= 4));
+    assert_eq!(rt; book.room(), 4);
+    assert_eq!(rt; book.sched().next_of(1), Some(0));
+    Ok(())
+}
+
+#[test]
+fn a_history_keeps_what_was_answered(rt: HostRuntime) -> Result<(), Fail> {
+    let mut book = small_book(rt.alloc())?;
+    let taken = book.record(2, Call::Take { now: 0 }).ok();
+    assert_eq!(rt; taken, Some(Reply::Taken { object: 1, run: 1 }));
+    let [entry] = book.entries() else {
+        return Err(Fail::from("not one entry"));
+    };
+    assert_eq!(rt; entry.pass, 2);
+    assert_eq!(rt; entry.call, Call::Take { now: 0 });
+    assert_eq!(rt; entry.reply, Reply::Taken { object: 1, run: 1 });
+    Ok(())
+}
+
+/// The laws have no parameters; each is called once.
+#[test]
+fn the_laws_can_be_called(_rt: HostRuntime) {
+    limit();
+    runs_once();
+}
