@@ -1,16 +1,118 @@
-//! Tests of what no clause says: worked times that were written down beforehand. Setups are made of
-//! hosts and services that are alike but for their names.
+//! Tests of what no clause says: worked times that were written down beforehand.
+
+ghost use Rattle.std.specs.Prelude.{◌≤◌, ◌^◌};
 
 use crate::initial_times;
-use check_objects::Setup;
-use std::alloc::Global;
-use std::process::Abort;
+use check_objects::{LoadError, Setup};
+use std::alloc::{AllocError, Global};
 use std::test::Fail;
 
-/// The times of the first checks of a document's objects.
+/// Two hosts with five services, all at 5 minutes, all smart.
+const FIVE_ON_TWO: &[u8] =
+    br#"{"hosts":[{"name":"a","max_check_attempts":3},{"name":"b","max_check_attempts":3}],"services":[{"host":"a","description":"cpu","max_check_attempts":3},{"host":"a","description":"disk","max_check_attempts":3},{"host":"a","description":"load","max_check_attempts":3},{"host":"b","description":"cpu","max_check_attempts":3},{"host":"b","description":"disk","max_check_attempts":3}]}"#;
+
+/// A host that is never due, and seven services of an hour each, all smart.
+const SEVEN_HOURLY: &[u8] =
+    br#"{"hosts":[{"name":"h","check_interval":0,"max_check_attempts":3}],"services":[{"host":"h","description":"a","check_interval":60,"max_check_attempts":3},{"host":"h","description":"b","check_interval":60,"max_check_attempts":3},{"host":"h","description":"c","check_interval":60,"max_check_attempts":3},{"host":"h","description":"d","check_interval":60,"max_check_attempts":3},{"host":"h","description":"e","check_interval":60,"max_check_attempts":3},{"host":"h","description":"f","check_interval":60,"max_check_attempts":3},{"host":"h","description":"g","check_interval":60,"max_check_attempts":3}]}"#;
+
+/// A host that is never due, and five services with the dumb delay and the factor 2, the one in the
+/// middle disabled.
+const FIVE_DUMB: &[u8] =
+    br#"{"options":{"service_inter_check_delay_method":"d","service_interleave_factor":2},"hosts":[{"name":"h","check_interval":0,"max_check_attempts":3}],"services":[{"host":"h","description":"a","max_check_attempts":3},{"host":"h","description":"b","max_check_attempts":3},{"host":"h","description":"c","enabled":false,"max_check_attempts":3},{"host":"h","description":"d","max_check_attempts":3},{"host":"h","description":"e","max_check_attempts":3}]}"#;
+
+/// The same with a delay of 250 milliseconds.
+const FIVE_FIXED: &[u8] =
+    br#"{"options":{"service_inter_check_delay_method":250,"service_interleave_factor":2},"hosts":[{"name":"h","check_interval":0,"max_check_attempts":3}],"services":[{"host":"h","description":"a","max_check_attempts":3},{"host":"h","description":"b","max_check_attempts":3},{"host":"h","description":"c","enabled":false,"max_check_attempts":3},{"host":"h","description":"d","max_check_attempts":3},{"host":"h","description":"e","max_check_attempts":3}]}"#;
+
+/// The times of the first checks of a document's objects. Where the first try meets want of memory,
+/// the second one counts.
 fn times_of(alloc: Global, document: &[u8], start: u64) -> Result<Vec<Option<u64>>, Fail>
     requires { start ≤ 2 ^ 60 }
 {
-    let setup = Setup::read(alloc, document)?;
-    Ok(initial_times(alloc, &setup, start)?)
+    let setup = match Setup::read(alloc, document) {
+        Err(LoadError::Memory) => Setup::read(alloc, document)?,
+        answer => answer?,
+    };
+    match initial_times(alloc, &setup, start) {
+        Ok(times) => Ok(times),
+        Err(AllocError) => Ok(initial_times(alloc, &setup, start)?),
+    }
+}
+
+#[test]
+fn services_are_interleaved_among_hosts(rt: HostRuntime) -> Result<(), Fail> {
+    let times = times_of(rt.alloc(), FIVE_ON_TWO, 0)?;
+    let want = [0, 150_000, 0, 120_000, 240_000, 60_000, 180_000];
+    assert_eq!(rt; times.len(), want.len());
+    for (time, want) in times.iter().zip(want) {
+        assert_eq!(rt; *time, Some(want));
+    }
+    Ok(())
+}
+
+#[test]
+fn the_maximum_spread_shortens_the_smart_delay(rt: HostRuntime) -> Result<(), Fail> {
+    let times = times_of(rt.alloc(), SEVEN_HOURLY, 0)?;
+    let want = [
+        0, 257_142, 514_285, 771_428, 1_028_571, 1_285_714, 1_542_857,
+    ];
+    assert_eq!(rt; times.len(), 8);
+    assert_eq!(rt; times[0], None);
+    for (time, want) in times[1..].iter().zip(want) {
+        assert_eq!(rt; *time, Some(want));
+    }
+    Ok(())
+}
+
+#[test]
+fn a_disabled_service_leaves_no_gap(rt: HostRuntime) -> Result<(), Fail> {
+    let dumb = [None, Some(1000), Some(3000), None, Some(4000), Some(2000)];
+    let fixed = [None, Some(0), Some(500), None, Some(750), Some(250)];
+    let dumb_times = times_of(rt.alloc(), FIVE_DUMB, 1000)?;
+    let fixed_times = times_of(rt.alloc(), FIVE_FIXED, 0)?;
+    assert_eq!(rt; dumb_times.len(), dumb.len());
+    assert_eq!(rt; fixed_times.len(), fixed.len());
+    for (time, want) in dumb_times.iter().zip(dumb) {
+        assert_eq!(rt; *time, want);
+    }
+    for (time, want) in fixed_times.iter().zip(fixed) {
+        assert_eq!(rt; *time, want);
+    }
+    Ok(())
+}
+
+/// A document of 1,000 services at 5 minutes on 150 hosts, all smart.
+fn thousand_on_hosts(alloc: Global) -> Result<String, Fail> {
+    let mut document = String::new(alloc);
+    document.push_str("{\"hosts\":[")?;
+    for host in 0..150u32 {
+        let comma = if host == 0 { "" } else { "," };
+        write!(document, "{comma}{{\"name\":\"h{host}\",\"max_check_attempts\":3}}")?;
+    }
+    document.push_str("],\"services\":[")?;
+    for service in 0..1000u32 {
+        let comma = if service == 0 { "" } else { "," };
+        let host = service % 150;
+        write!(document, "{comma}{{\"host\":\"h{host}\",\"description\":\"s{service}\",\"max_check_attempts\":3}}")?;
+    }
+    document.push_str("]}")?;
+    Ok(document)
+}
+
+#[test]
+fn a_thousand_services_follow_one_another(rt: HostRuntime) -> Result<(), Fail> {
+    let document = match thousand_on_hosts(rt.alloc()) {
+        Ok(document) => document,
+        Err(_refused) => thousand_on_hosts(rt.alloc())?,
+    };
+    let times = times_of(rt.alloc(), document.as_bytes(), 0)?;
+    assert_eq!(rt; times.len(), 1150);
+    let mut rank = 0u64;
+    for first in 0..7usize {
+        for position in (first..1000usize).step_by(7) {
+            assert_eq!(rt; times[150 + position], Some(300 * rank));
+            rank += 1;
+        }
+    }
+    Ok(())
 }
