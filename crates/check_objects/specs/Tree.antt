@@ -24,16 +24,6 @@ abbrev pub has_only : List (List ℕ) → Data → Bool
 has_only names (object ms) = only_members names ms
 has_only names d = false
 
--- whether there is an item
-abbrev pub is_filled : Option Items → Bool
-is_filled None = false
-is_filled (Some no_items) = false
-is_filled (Some (item d ds)) = true
-
--- whether the member is there, and is an array with an item, whatever the item is
-abbrev pub has_items : Option Data → Bool
-has_items value = is_filled (option_and_then as_array value)
-
 -- a whole number from 0 to 2^64 - 1
 abbrev pub whole_number : Data → Option ℕ
 whole_number d = option_and_then as_u64 (as_number d)

@@ -5,14 +5,16 @@
 ghost use Rattle.std.specs.Prelude.{◌≡◌, map, option_map};
 ghost use Rattle.serde_json.specs.View.{view, items_view};
 ghost use Rattle.check_objects.specs.LoadError.{Gives};
-ghost use Rattle.check_objects.specs.Place.{the_hosts, host_at, the_services, service_at};
-ghost use Rattle.check_objects.specs.Draft.{host_draft, service_draft, check_draft, drafts_of, items_from, list_of, delay_method, method_in, options_of, has_option_members};
-ghost use Rattle.check_objects.specs.Drafted.{host, service, drafts};
+ghost use Rattle.check_objects.specs.Place.{the_hosts, host_at, the_services, service_at, list_of_part, item_of_part};
+ghost use Rattle.check_objects.specs.Draft.{host_draft, service_draft, check_draft, dependency_draft, drafts_of, items_from, list_of, delay_method, interleave_factor, options_of, has_option_members};
+ghost use Rattle.check_objects.specs.Tree.{member_or};
+ghost use Rattle.check_objects.specs.Drafted.{host, service, dependency, drafts};
 
+use crate::dependency::{Criteria, HOST_LETTERS, SERVICE_LETTERS, read_criteria};
 use crate::error::LoadError;
 use crate::options::{DelayMethod, InterleaveFactor, Options};
-use crate::place::Place;
-use crate::tree::{bool_or, has_items, has_only, member, number_or, texts_in};
+use crate::place::{Part, Place};
+use crate::tree::{bool_or, has_only, member, number_or, texts_in};
 use serde_json::Value;
 use std::alloc::Global;
 
@@ -41,12 +43,23 @@ pub(crate) struct ServiceDraft<'v> {
     pub(crate) check: CheckDraft,
 }
 
+/// What a document says of a dependency, between services or between hosts.
+#[derive(Clone, Copy)]
+pub(crate) struct DependencyDraft<'v> {
+    pub(crate) dependent: &'v str,
+    pub(crate) master: &'v str,
+    pub(crate) criteria: Criteria,
+    pub(crate) inherits: bool,
+}
+
 /// A document in the right shape.
 #[derive(Drop)]
 pub(crate) struct Drafts<'v> {
     pub(crate) options: Options,
     pub(crate) hosts: Vec<HostDraft<'v>>,
     pub(crate) services: Vec<ServiceDraft<'v>>,
+    pub(crate) service_dependencies: Vec<DependencyDraft<'v>>,
+    pub(crate) host_dependencies: Vec<DependencyDraft<'v>>,
 }
 
 impl<'v> Drafts<'v> {
@@ -55,50 +68,64 @@ impl<'v> Drafts<'v> {
     pub(crate) fn read(alloc: Global, tree: &'v Value) -> Result<Self, LoadError>
         ensures { Gives drafts result (drafts_of (view tree.now)) }
     {
-        if !has_only(tree, &["options", "hosts", "services"]) {
+        if !has_only(
+            tree,
+            &[
+                "options",
+                "hosts",
+                "services",
+                "service_dependencies",
+                "host_dependencies",
+            ],
+        ) {
             return Err(LoadError::Shape(Place::DOCUMENT));
         }
-        let hosts = tree.get("hosts");
-        let services = tree.get("services");
-        let options = read_options(
-            tree.get("options"),
-            has_items(hosts),
-            has_items(services),
-        ).ok_or(LoadError::Shape(Place::OPTIONS))?;
-        let hosts = read_hosts(alloc, hosts)?;
-        let services = read_services(alloc, services)?;
+        let options = read_options(tree.get("options")).ok_or(LoadError::Shape(Place::OPTIONS))?;
+        let hosts = read_hosts(alloc, tree.get("hosts"))?;
+        let services = read_services(alloc, tree.get("services"))?;
+        let service_dependencies = read_dependencies(
+            alloc,
+            tree.get("service_dependencies"),
+            Part::ServiceDependencies,
+            &SERVICE_LETTERS,
+        )?;
+        let host_dependencies = read_dependencies(
+            alloc,
+            tree.get("host_dependencies"),
+            Part::HostDependencies,
+            &HOST_LETTERS,
+        )?;
         Ok(Drafts {
             options,
             hosts,
             services,
+            service_dependencies,
+            host_dependencies,
         })
     }
 }
 
-/// The options. Until there is more than one delay method, it has to be named for each sort of
-/// object that the document has.
+/// The options; what the document doesn't name has its default.
 #[tactic(auto, unfolding(crate::specs::Draft::options_of))]
-fn read_options(value: Option<&Value>, has_host: bool, has_service: bool) -> Option<Options>
-    ensures { result ≡ options_of (option_map (λ v. view v.now) value.entry) has_host has_service }
+fn read_options(value: Option<&Value>) -> Option<Options>
+    ensures { result ≡ options_of (option_map (λ v. view v.now) value.entry) }
 {
     if !has_option_members(value) {
         return None;
     }
     let service_method = member(value, "service_inter_check_delay_method");
     let host_method = member(value, "host_inter_check_delay_method");
+    let aggressive = member(value, "use_aggressive_host_checking");
     Some(Options {
         interval_length: number_or(member(value, "interval_length"), 60)?,
-        service_inter_check_delay_method: method_in(has_service, service_method)?,
-        max_service_check_spread: 30,
-        service_interleave_factor: InterleaveFactor::Smart,
-        host_inter_check_delay_method: method_in(has_host, host_method)?,
-        max_host_check_spread: 30,
-        max_concurrent_checks: 0,
-        soft_state_dependencies: false,
-        use_aggressive_host_checking: bool_or(
-            member(value, "use_aggressive_host_checking"),
-            false,
-        )?,
+        service_inter_check_delay_method: delay_method_or_smart(service_method)?,
+        max_service_check_spread: number_or(member(value, "max_service_check_spread"), 30)?,
+        service_interleave_factor: factor_or_smart(member(value, "service_interleave_factor"))?,
+        host_inter_check_delay_method: delay_method_or_smart(host_method)?,
+        max_host_check_spread: number_or(member(value, "max_host_check_spread"), 30)?,
+        max_concurrent_checks: number_or(member(value, "max_concurrent_checks"), 0)?,
+        soft_state_dependencies: bool_or(member(value, "soft_state_dependencies"), false)?,
+        use_aggressive_host_checking: bool_or(aggressive, false)?,
     })
 }
 
@@ -111,7 +138,12 @@ fn has_option_members(value: Option<&Value>) -> bool
             &[
                 "interval_length",
                 "service_inter_check_delay_method",
+                "max_service_check_spread",
+                "service_interleave_factor",
                 "host_inter_check_delay_method",
+                "max_host_check_spread",
+                "max_concurrent_checks",
+                "soft_state_dependencies",
                 "use_aggressive_host_checking",
             ],
         ),
@@ -119,22 +151,45 @@ fn has_option_members(value: Option<&Value>) -> bool
     }
 }
 
-fn method_in(needed: bool, value: Option<&Value>) -> Option<DelayMethod>
-    ensures { result ≡ method_in needed (option_map (λ v. view v.now) value.entry) }
+fn delay_method_or_smart(value: Option<&Value>) -> Option<DelayMethod>
+    ensures { result ≡ member_or delay_method DelayMethod.Smart (option_map (λ v. view v.now) value.entry) }
 {
     match value {
         Some(value) => delay_method(value),
-        None if needed => None,
         None => Some(DelayMethod::Smart),
     }
 }
 
+/// A method by its letter, or a number of milliseconds.
 fn delay_method(value: &Value) -> Option<DelayMethod>
     ensures { result ≡ delay_method (view value.now) }
 {
-    match value.as_str()? {
-        "n" => Some(DelayMethod::NoDelay),
-        _ => None,
+    match value.as_str() {
+        Some("n") => Some(DelayMethod::NoDelay),
+        Some("d") => Some(DelayMethod::Dumb),
+        Some("s") => Some(DelayMethod::Smart),
+        Some(_) => None,
+        None => Some(DelayMethod::Fixed(value.as_u64()?)),
+    }
+}
+
+fn factor_or_smart(value: Option<&Value>) -> Option<InterleaveFactor>
+    ensures { result ≡ member_or interleave_factor InterleaveFactor.Smart (option_map (λ v. view v.now) value.entry) }
+{
+    match value {
+        Some(value) => interleave_factor(value),
+        None => Some(InterleaveFactor::Smart),
+    }
+}
+
+/// The smart factor by its letter, or a number.
+fn interleave_factor(value: &Value) -> Option<InterleaveFactor>
+    ensures { result ≡ interleave_factor (view value.now) }
+{
+    match value.as_str() {
+        Some("s") => Some(InterleaveFactor::Smart),
+        Some(_) => None,
+        None => Some(InterleaveFactor::Fixed(value.as_u64()?)),
     }
 }
 
@@ -194,6 +249,46 @@ fn read_service_list<'v>(
     Ok(services)
 }
 
+/// The dependencies of one sort, with the letters that their criteria may have.
+fn read_dependencies<'v>(
+    alloc: Global,
+    value: Option<&'v Value>,
+    part: Part,
+    letters: &[&str],
+) -> Result<Vec<DependencyDraft<'v>>, LoadError>
+    ensures { Gives (λ v. map dependency v.items) result
+        (list_of (dependency_draft (map (λ letter. letter.now) letters.now)) (list_of_part part)
+        (item_of_part part) (option_map (λ v. view v.now) value.entry)) }
+{
+    match value {
+        Some(value) => {
+            let items = value.as_array().ok_or(LoadError::Shape(Place::list(part)))?;
+            read_dependency_list(alloc, items, part, letters)
+        }
+        None => Ok(Vec::new(alloc)),
+    }
+}
+
+fn read_dependency_list<'v>(
+    alloc: Global,
+    items: &'v [Value],
+    part: Part,
+    letters: &[&str],
+) -> Result<Vec<DependencyDraft<'v>>, LoadError>
+    ensures { Gives (λ v. map dependency v.items) result
+        (items_from (dependency_draft (map (λ letter. letter.now) letters.now)) (item_of_part part) 0
+        (items_view items.now)) }
+{
+    let mut dependencies = Vec::new(alloc);
+    for (index, item) in items.iter().enumerate() {
+        let draft = read_dependency(item, letters).ok_or(LoadError::Shape(Place::item(
+            part, index,
+        )))?;
+        dependencies.push(draft)?;
+    }
+    Ok(dependencies)
+}
+
 #[tactic(auto, unfolding(crate::specs::Draft::host_draft))]
 fn read_host(value: &Value) -> Option<HostDraft<'_>>
     ensures { option_map host result ≡ host_draft (view value.now) }
@@ -239,6 +334,26 @@ fn read_service(value: &Value) -> Option<ServiceDraft<'_>>
         host: value.get("host").and_then(Value::as_str)?,
         description: value.get("description").and_then(Value::as_str)?,
         check: read_check(value)?,
+    })
+}
+
+#[tactic(auto, unfolding(crate::specs::Draft::dependency_draft))]
+fn read_dependency<'v>(value: &'v Value, letters: &[&str]) -> Option<DependencyDraft<'v>>
+    ensures { option_map dependency result
+        ≡ dependency_draft (map (λ letter. letter.now) letters.now) (view value.now) }
+{
+    if !has_only(
+        value,
+        &["dependent", "master", "criteria", "inherits_parent"],
+    ) {
+        return None;
+    }
+    let criteria = value.get("criteria").and_then(Value::as_str);
+    Some(DependencyDraft {
+        dependent: value.get("dependent").and_then(Value::as_str)?,
+        master: value.get("master").and_then(Value::as_str)?,
+        criteria: read_criteria(criteria?, letters)?,
+        inherits: bool_or(value.get("inherits_parent"), false)?,
     })
 }
 
