@@ -179,9 +179,9 @@ walk_on c standings n place i order marks marks' d valid ordered e h l m met sam
     let behind : list_all (is_among (take i order)) (masters_in ds) ≡ true = rw (← masters_at c object) (follows_at (masters_of c) [] order i d ordered.behind_links h) in
     let before = list_any (λ x. is_marked marks x && is_blocked c standings x) (take i order) in
     let handed : list_any (λ x. is_marked marks' x && is_blocked c standings x) (take i order) ≡ (list_any (λ x. is_marked marks x && is_blocked c standings x) (take i order) || list_any (λ x. x.inherits && is_blocked c standings x.master) ds) =
-        any_agree (λ x. is_marked marks' x && is_blocked c standings x) (λ x. (is_marked marks x && is_blocked c standings x) || (is_inherited x ds && is_blocked c standings x)) (λ x. ap (λ t. t && is_blocked c standings x) (now x) ∙ and_or (is_marked marks x) (is_inherited x ds) (is_blocked c standings x)) (take i order)
-        ∙ any_either (λ x. is_marked marks x && is_blocked c standings x) (λ x. is_inherited x ds && is_blocked c standings x) (take i order)
-        ∙ ap (λ t. before || t) (inherited_pass (is_blocked c standings) (take i order) ds behind) in
+    any_agree (λ x. is_marked marks' x && is_blocked c standings x) (λ x. (is_marked marks x && is_blocked c standings x) || (is_inherited x ds && is_blocked c standings x)) (λ x. ap (λ t. t && is_blocked c standings x) (now x) ∙ and_or (is_marked marks x) (is_inherited x ds) (is_blocked c standings x)) (take i order)
+    ∙ any_either (λ x. is_marked marks x && is_blocked c standings x) (λ x. is_inherited x ds && is_blocked c standings x) (take i order)
+    ∙ ap (λ t. before || t) (inherited_pass (is_blocked c standings) (take i order) ds behind) in
     record {
       size = same ∙ is.size;
       place_within = omega arith;

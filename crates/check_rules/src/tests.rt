@@ -1,8 +1,11 @@
 //! The rules on outside values: the cases of Nagios Core 4.4.6's own test suite (`test_checks.c`)
 //! in which our table says what Nagios does, and worked examples of our own profile.
 
-use crate::{Code, Kind, Standing, State, host_state, lawful, pending, service_state, verdict};
+use crate::{
+    Code, Kind, Standing, State, blocked, host_state, lawful, pending, service_state, verdict,
+};
 use check_objects::Setup;
+use std::alloc::Global;
 use std::process::Abort;
 use std::test::Fail;
 
@@ -261,5 +264,49 @@ fn aggressive_checking(rt: HostRuntime) -> Result<(), Fail> {
     assert!(rt; setup.len() == 1 && setup.hosts() == 1);
     let state = host_state(&setup, &[pending(true)], 0, Code::Warning);
     assert_eq!(rt; state, State::Down);
+    Ok(())
+}
+
+/// A host and its services `a`, `b` and `c`: `b` depends on `a`, and `c` on `b`, inheriting, both
+/// where the master is CRITICAL.
+const CHAIN: &[u8] =
+    br#"{"hosts":[{"name":"h","max_check_attempts":3}],"services":[{"host":"h","description":"a","max_check_attempts":1},{"host":"h","description":"b","max_check_attempts":3},{"host":"h","description":"c","max_check_attempts":3}],"service_dependencies":[{"dependent":"h;b","master":"h;a","criteria":"c"},{"dependent":"h;c","master":"h;b","criteria":"c","inherits_parent":true}]}"#;
+
+/// The same without inheriting, and with `b` held back until `a` is checked too.
+const LOOSE_CHAIN: &[u8] =
+    br#"{"hosts":[{"name":"h","max_check_attempts":3}],"services":[{"host":"h","description":"a","max_check_attempts":1},{"host":"h","description":"b","max_check_attempts":3},{"host":"h","description":"c","max_check_attempts":3}],"service_dependencies":[{"dependent":"h;b","master":"h;a","criteria":"c"},{"dependent":"h;c","master":"h;b","criteria":"c"},{"dependent":"h;b","master":"h;a","criteria":"p"}]}"#;
+
+/// Which of the objects are blocked, where service 1 has this standing and the others were never
+/// checked. The scratch is full of marks at first.
+fn blocked_with(
+    rt: &impl Abort,
+    document: &[u8],
+    first: Standing,
+    alloc: Global,
+) -> Result<[bool; 4], Fail> {
+    let setup = Setup::read(alloc, document)?;
+    let standings = [pending(true), first, pending(false), pending(false)];
+    let mut marks = [true; 4];
+    assert_eq!(rt; setup.len(), 4);
+    let mut answers = [false; 4];
+    for number in 0..4u32 {
+        answers[number as usize] = blocked(&setup, &standings, &mut marks, number);
+    }
+    Ok(answers)
+}
+
+#[test]
+fn a_failing_dependency_is_inherited(rt: HostRuntime) -> Result<(), Fail> {
+    let alloc = rt.alloc();
+    let hard = standing(State::Critical, Kind::Hard, 1, State::Critical);
+    let soft = standing(State::Critical, Kind::Soft, 1, State::Ok);
+    let answers = blocked_with(&rt, CHAIN, hard, alloc)?;
+    assert_eq!(rt; answers, [false, false, true, true]);
+    let answers = blocked_with(&rt, CHAIN, soft, alloc)?;
+    assert_eq!(rt; answers, [false, false, false, false]);
+    let answers = blocked_with(&rt, LOOSE_CHAIN, hard, alloc)?;
+    assert_eq!(rt; answers, [false, false, true, false]);
+    let answers = blocked_with(&rt, LOOSE_CHAIN, pending(false), alloc)?;
+    assert_eq!(rt; answers, [false, false, true, false]);
     Ok(())
 }
