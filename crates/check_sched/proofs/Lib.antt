@@ -1,5 +1,7 @@
+pub mod AnswerLaws
 pub mod CandidateLaws
 pub mod OpeningLaws
+pub mod OperatorLaws
 pub mod ReportLaws
 pub mod ScanLemmas
 pub mod StepLaws

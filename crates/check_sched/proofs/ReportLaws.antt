@@ -1,5 +1,5 @@
 -- Laws of reports: the standing and the next time that a result gives are within their limits.
-use Rattle.std.proofs.Common.{◌≡◌, ℕ, zero, suc, ◌+◌, ◌-◌, ◌*◌, ◌<◌, ◌≤◌, ◌^◌, Bool, true, false, ◌==◌, cond, List, [], ◌∷◌, length, get_or, Option, Some, None, option_map, refl, sym, ap, subst, ◌∙◌, arith, IfSome}
+use Rattle.std.proofs.Common.{◌≡◌, ℕ, zero, suc, ◌+◌, ◌-◌, ◌*◌, ◌<◌, ◌≤◌, ◌^◌, Bool, true, false, ◌==◌, cond, List, [], ◌∷◌, length, get_or, Option, Some, None, Ok, option_map, refl, sym, ap, subst, ◌∙◌, arith, IfSome}
 use Rattle.std.specs.Prelude.{nat_lt, option_and_then, slice_get, unwrap_or}
 use Rattle.std.specs.Option.{option_map_or}
 use Rattle.std.proofs.Math.Nat.{mul-le-mul_left}
@@ -24,10 +24,12 @@ use Rattle.check_sched.specs.declared.object_state.ObjectState.{ObjectState}
 use Rattle.check_sched.specs.declared.object_state.Run.{Run}
 use Rattle.check_sched.specs.declared.call.Reply.{Reply}
 use Rattle.check_sched.specs.declared.call.Reply.TheVariants as reply
-use Rattle.check_sched.specs.declared.call.Refusal.TheVariants as refusal
-use Rattle.check_sched.specs.ObjectState.{ended}
+use Rattle.check_sched.specs.declared.call.Refusal.{Refusal}
+use Rattle.check_sched.specs.declared.call.Call.TheVariants as call
+use Rattle.check_sched.specs.ObjectState.{ended, run_under}
 use Rattle.check_sched.specs.State.{State, IsState, IsStandingOf, is_host, is_time, is_moment, is_in_time, max_attempts_of, standing_at}
-use Rattle.check_sched.specs.Step.{report_object, report_run, report_step, report_taken, reported, standing_reply}
+use Rattle.check_sched.specs.Step.{known, report_taken, reported, standing_reply, step}
+use Rattle.check_sched.proofs.AnswerLaws.{by_test, known_is, under_is}
 use Rattle.check_sched.proofs.CandidateLaws.{and_both, both_and}
 use Rattle.check_sched.proofs.UpdateLaws.{length-update_at, all-update_at, each-update_at, all_at_place, none_there}
 use Rattle.check_sched.specs.Report.{interval_after, judged, judged_by, milliseconds, next_after, time_after}
@@ -207,54 +209,32 @@ pub is_time_reads : (next : Option ℕ) → is_time next ≡ true → IfSome nex
 is_time_reads None e = tt
 is_time_reads (Some time) e = grind (arith, nat_tests, e)
 
--- ---- Report, by its four answers
+-- ---- Report, by its answers
 
-report_run_by : (P : State × Reply → Type 0) (n run : ℕ) (c : Code) (o : ObjectState) (r : Run) (s : State) (same : Bool)
-    → (same ≡ false → P (s, reply.Refused refusal.WrongRun))
-    → (same ≡ true → P (report_taken n r.start c o s))
-    → P (cond same (report_taken n r.start c o s) (s, reply.Refused refusal.WrongRun))
-report_run_by P n run c o r s true wrong take = take refl
-report_run_by P n run c o r s false wrong take = wrong refl
-
-report_by : (P : State × Reply → Type 0) (n run : ℕ) (c : Code) (s : State) (found : Option ObjectState)
-    → (found ≡ None → P (s, reply.Refused refusal.UnknownObject))
-    → ((o : ObjectState) → found ≡ Some o → o.run ≡ None → P (s, reply.Refused refusal.NotRunning))
-    → ((o : ObjectState) (r : Run) → found ≡ Some o → o.run ≡ Some r → (r.number == run) ≡ false → P (s, reply.Refused refusal.WrongRun))
-    → ((o : ObjectState) (r : Run) → found ≡ Some o → o.run ≡ Some r → (r.number == run) ≡ true → P (report_taken n r.start c o s))
-    → P (report_object n run c found s)
-report_by P n run c s None unknown idle wrong take = unknown refl
-report_by P n run c s (Some o) unknown idle wrong take = by_run o.run refl
-  where
-    by_run : (running : Option Run) → o.run ≡ running → P (report_run n run c o running s)
-    by_run None e = idle o refl e
-    by_run (Some r) e = report_run_by P n run c o r s (r.number == run) (λ f. wrong o r refl e f) (λ f. take o r refl e f)
-
--- what is true of a Report is what is true of each of its four answers
+-- what is true of a Report is what is true of each of its answers
 pub report_cases : (P : State × Reply → Type 0) (n run : ℕ) (c : Code) (s : State)
-    → (slice_get s.objects n ≡ None → P (s, reply.Refused refusal.UnknownObject))
-    → ((o : ObjectState) → slice_get s.objects n ≡ Some o → o.run ≡ None → P (s, reply.Refused refusal.NotRunning))
-    → ((o : ObjectState) (r : Run) → slice_get s.objects n ≡ Some o → o.run ≡ Some r → (r.number == run) ≡ false → P (s, reply.Refused refusal.WrongRun))
-    → ((o : ObjectState) (r : Run) → slice_get s.objects n ≡ Some o → o.run ≡ Some r → (r.number == run) ≡ true → P (report_taken n r.start c o s))
-    → P (report_step n run c s)
-report_cases P n run c s unknown idle wrong take = report_by P n run c s (slice_get s.objects n) unknown idle wrong take
-
--- what a Report answers where its run is the object's
-pub report_when_running : (n run : ℕ) (c : Code) (s : State) (o : ObjectState) (r : Run) → slice_get s.objects n ≡ Some o → o.run ≡ Some r → r.number ≡ run → report_step n run c s ≡ report_taken n r.start c o s
-report_when_running n run c s o r e f g =
-    let same : (r.number == run) ≡ true = grind (arith, nat_tests, g) in
-    rw (e, f, same) refl
+    → ((why : Refusal) → P (s, reply.Refused why))
+    → ((o : ObjectState) (r : Run) → slice_get s.objects n ≡ Some o → o.run ≡ Some r → P (report_taken n r.start c o s))
+    → P (step s (call.Report n run c))
+report_cases P n run c s refused take =
+    by_test P s (known n s) _ refused
+    (λ o e. by_test P s (run_under run o.run) _ refused
+    (λ r f. take o r (known_is n s o e) (under_is run o.run r f)))
 
 -- what a Report answers, by the standing and the next time that it makes
-pub report_answers : (n run : ℕ) (c : Code) (s : State) (o : ObjectState) (r : Run) (standing : Standing) (next : Option ℕ) → slice_get s.objects n ≡ Some o → o.run ≡ Some r → r.number ≡ run
+pub report_answers : (n run : ℕ) (c : Code) (s : State) (o : ObjectState) (r : Run) (standing : Standing) (next : Option ℕ) → known n s ≡ Ok o → run_under run o.run ≡ Ok r
     → standing ≡ judged s.setup s.standings n c → next ≡ next_after s.setup n standing r.start o.next
-    → report_step n run c s ≡ (reported n standing next s, standing_reply n standing next s)
-report_answers n run c s o r standing next e f g j k =
-    report_when_running n run c s o r e f g
+    → step s (call.Report n run c) ≡ (reported n standing next s, standing_reply n standing next s)
+report_answers n run c s o r standing next e f j k =
+    taken_then
     ∙ ap (λ t. answered t (next_after s.setup n t r.start o.next)) (sym j)
     ∙ ap (λ x. answered standing x) (sym k)
   where
     answered : Standing → Option ℕ → State × Reply
     answered t x = (reported n t x s, standing_reply n t x s)
+
+    taken_then : step s (call.Report n run c) ≡ report_taken n r.start c o s
+    taken_then = rw (e, f) refl
 
 -- ---- what is read at a place
 

@@ -1,62 +1,92 @@
 -- Laws of the step: what stays, and what is true of every state and reply.
-use Rattle.std.proofs.Common.{◌≡◌, suc, ◌<◌, ◌≤◌, ◌^◌, List, [], ◌∷◌, length, refl, ap, ◌∙◌, arith}
-use Rattle.std.proofs.lemmas.Bool.Decides.{nat_tests}
+use Rattle.std.proofs.Common.{◌≡◌, suc, ◌≤◌, ◌^◌, List, [], ◌∷◌, length, refl, ap, ◌∙◌, Some}
 use Rattle.check_sched.specs.declared.call.Call.{Call}
 use Rattle.check_sched.specs.declared.call.Call.TheVariants as call
+use Rattle.check_sched.specs.declared.call.Refusal.{Refusal}
+use Rattle.check_sched.specs.declared.call.Reply.{Reply}
+use Rattle.check_sched.specs.declared.call.Reply.TheVariants as reply
+use Rattle.check_sched.specs.ObjectState.{freed_time}
 use Rattle.check_sched.specs.State.{State, IsState}
 use Rattle.check_sched.specs.Reply.{OnRefused, NamesObjectOf, TellsTimesUpTo}
 use Rattle.check_sched.specs.Step.{step, replies, after}
+use Rattle.check_sched.proofs.OperatorLaws.{abandon_cases, ended_in_time, enable_cases, freed_in_time, reschedule_cases, rescheduled_in_time, status_cases, with_object_is_state}
 use Rattle.check_sched.proofs.TakeLaws.{take_cases, eligible_within, least_time, taken_is_state}
-use Rattle.check_sched.proofs.ReportLaws.{report_cases, report_next, report_standing, reported_is_state, is_time_reads}
+use Rattle.check_sched.proofs.ReportLaws.{next_of_state, report_cases, report_next, report_standing, reported_is_state, is_time_reads}
 
--- ---- every call
+-- ---- what stays
 
--- no call changes the setup
-pub step_setup : (s : State) (c : Call) → (step s c).0.setup ≡ s.setup
-step_setup s (call.Take now) = take_cases (λ r. r.0.setup ≡ s.setup) now s (λ e. refl) (λ e f. refl) (λ c e f g. refl) (λ e f g. refl)
-step_setup s (call.Report n run c) = report_cases (λ r. r.0.setup ≡ s.setup) n run c s (λ e. refl) (λ o e f. refl) (λ o r e f g. refl) (λ o r e f g. refl)
+-- what stays, whatever a call leaves and answers: the setup and the start, and after a refusal the
+-- whole state
+pub record Keeps (s : State) (a : State × Reply) : Type 0 where
+  pub setup : a.0.setup ≡ s.setup
+  pub start : a.0.start ≡ s.start
+  pub refused : OnRefused a.1 (a.0 ≡ s)
 
--- no call changes the start
-pub step_start : (s : State) (c : Call) → (step s c).0.start ≡ s.start
-step_start s (call.Take now) = take_cases (λ r. r.0.start ≡ s.start) now s (λ e. refl) (λ e f. refl) (λ c e f g. refl) (λ e f g. refl)
-step_start s (call.Report n run c) = report_cases (λ r. r.0.start ≡ s.start) n run c s (λ e. refl) (λ o e f. refl) (λ o r e f g. refl) (λ o r e f g. refl)
+refusal_keeps : (s : State) (why : Refusal) → Keeps s (s, reply.Refused why)
+refusal_keeps s why = record { setup = refl; start = refl; refused = refl }
 
--- a refusal leaves the state as it was
-pub step_refused : (s : State) (c : Call) → OnRefused (step s c).1 ((step s c).0 ≡ s)
-step_refused s (call.Take now) = take_cases (λ r. OnRefused r.1 (r.0 ≡ s)) now s (λ e. refl) (λ e f. refl) (λ c e f g. tt) (λ e f g. tt)
-step_refused s (call.Report n run c) = report_cases (λ r. OnRefused r.1 (r.0 ≡ s)) n run c s (λ e. refl) (λ o e f. refl) (λ o r e f g. refl) (λ o r e f g. tt)
+pub step_keeps : (s : State) (c : Call) → Keeps s (step s c)
+step_keeps s (call.Take now) = take_cases (Keeps s) now s (refusal_keeps s) (λ c m r e. record { setup = refl; start = refl; refused = tt }) (λ e. record { setup = refl; start = refl; refused = tt })
+step_keeps s (call.Report n run c) = report_cases (Keeps s) n run c s (refusal_keeps s) (λ o r e f. record { setup = refl; start = refl; refused = tt })
+step_keeps s (call.Abandon n run now) = abandon_cases (Keeps s) n run now s (refusal_keeps s) (λ o e m. record { setup = refl; start = refl; refused = tt })
+step_keeps s (call.Reschedule n time forced) = reschedule_cases (Keeps s) n time forced s (refusal_keeps s) (λ m. record { setup = refl; start = refl; refused = tt })
+step_keeps s (call.Enable n on) = enable_cases (Keeps s) n on s (refusal_keeps s) (record { setup = refl; start = refl; refused = tt })
+step_keeps s (call.Status n) = status_cases (Keeps s) n s (refusal_keeps s) (λ o e. record { setup = refl; start = refl; refused = tt })
 
--- the objects that a reply names are those of the setup
-pub step_named : (s : State) (c : Call) → IsState s → NamesObjectOf s.setup (step s c).1
-step_named s (call.Take now) is_state = take_cases (λ r. NamesObjectOf s.setup r.1) now s (λ e. tt) (λ e f. tt) (λ c e f g. eligible_within now s c is_state g) (λ e f g. tt)
-step_named s (call.Report n run c) is_state = report_cases (λ r. NamesObjectOf s.setup r.1) n run c s (λ e. tt) (λ o e f. tt) (λ o r e f g. tt) (λ o r e f g. tt)
+-- ---- what is true of what a call leaves and answers
 
--- each time that a reply tells is at most 2^61
-pub step_times : (s : State) (c : Call) → IsState s → TellsTimesUpTo (2 ^ 61) (step s c).1
-step_times s (call.Take now) is_state = take_cases (λ r. TellsTimesUpTo (2 ^ 61) r.1) now s (λ e. tt) (λ e f. tt) (λ c e f g. tt) (λ e f g. least_time s is_state)
-step_times s (call.Report n run c) is_state = report_cases (λ r. TellsTimesUpTo (2 ^ 61) r.1) n run c s (λ e. tt) (λ o e f. tt) (λ o r e f g. tt) (λ o r e f g. is_time_reads _ (report_next n c o r s is_state e f))
+-- the objects that the reply names are those of the setup, each time that it tells is at most 2^61,
+-- and a scheduler can be in the state that is left
+pub record IsAnswer (s : State) (a : State × Reply) : Type 0 where
+  pub named : NamesObjectOf s.setup a.1
+  pub times : TellsTimesUpTo (2 ^ 61) a.1
+  pub is_state : IsState a.0
 
--- every call leaves a state that a scheduler can be in
-pub step_is_state : (s : State) (c : Call) → IsState s → IsState (step s c).0
-step_is_state s (call.Take now) is_state = take_cases (λ r. IsState r.0) now s (λ e. is_state) (λ e f. is_state)
-    (λ c e f g. let moment : now ≤ 2 ^ 60 = grind (arith, nat_tests, e) in let spare : s.runs < 2 ^ 60 = grind (arith, nat_tests, f) in taken_is_state now c.number s is_state moment spare)
-    (λ e f g. is_state)
-step_is_state s (call.Report n run c) is_state = report_cases (λ r. IsState r.0) n run c s (λ e. is_state) (λ o e f. is_state) (λ o r e f g. is_state)
-    (λ o r e f g. reported_is_state n _ _ s is_state (report_next n c o r s is_state e f) (report_standing n c o s is_state e))
+refusal_is_answer : (s : State) → IsState s → (why : Refusal) → IsAnswer s (s, reply.Refused why)
+refusal_is_answer s is_state why = record { named = tt; times = tt; is_state = is_state }
+
+pub step_is_answer : (s : State) (c : Call) → IsState s → IsAnswer s (step s c)
+step_is_answer s (call.Take now) is_state =
+    take_cases (IsAnswer s) now s (refusal_is_answer s is_state)
+    (λ c m r e. record { named = eligible_within now s c is_state e; times = tt; is_state = taken_is_state now c.number s is_state m r })
+    (λ e. record { named = tt; times = least_time s is_state; is_state = is_state })
+step_is_answer s (call.Report n run c) is_state =
+    report_cases (IsAnswer s) n run c s (refusal_is_answer s is_state)
+    (λ o r e f. let next = report_next n c o r s is_state e f in record {
+      named = tt;
+      times = is_time_reads _ next;
+      is_state = reported_is_state n _ _ s is_state next (report_standing n c o s is_state e);
+    })
+step_is_answer s (call.Abandon n run now) is_state =
+    abandon_cases (IsAnswer s) n run now s (refusal_is_answer s is_state)
+    (λ o e m. let next = freed_in_time now n o s is_state e m in record {
+      named = tt;
+      times = is_time_reads (Some (freed_time now o)) next;
+      is_state = with_object_is_state n _ s is_state (λ x t. ended_in_time (Some (freed_time now o)) x next);
+    })
+step_is_answer s (call.Reschedule n time forced) is_state =
+    reschedule_cases (IsAnswer s) n time forced s (refusal_is_answer s is_state)
+    (λ m. record { named = tt; times = tt; is_state = with_object_is_state n _ s is_state (λ x t. rescheduled_in_time time forced x m t) })
+step_is_answer s (call.Enable n on) is_state =
+    enable_cases (IsAnswer s) n on s (refusal_is_answer s is_state)
+    (record { named = tt; times = tt; is_state = with_object_is_state n _ s is_state (λ x t. t) })
+step_is_answer s (call.Status n) is_state =
+    status_cases (IsAnswer s) n s (refusal_is_answer s is_state)
+    (λ o e. record { named = tt; times = is_time_reads o.next (next_of_state s n o is_state e); is_state = is_state })
 
 -- ---- calls one after another
 
 pub after_setup : (s : State) (calls : List Call) → (after s calls).setup ≡ s.setup
 after_setup s [] = refl
-after_setup s (c ∷ calls) = after_setup (step s c).0 calls ∙ step_setup s c
+after_setup s (c ∷ calls) = after_setup (step s c).0 calls ∙ (step_keeps s c).setup
 
 pub after_start : (s : State) (calls : List Call) → (after s calls).start ≡ s.start
 after_start s [] = refl
-after_start s (c ∷ calls) = after_start (step s c).0 calls ∙ step_start s c
+after_start s (c ∷ calls) = after_start (step s c).0 calls ∙ (step_keeps s c).start
 
 pub after_is_state : (s : State) (calls : List Call) → IsState s → IsState (after s calls)
 after_is_state s [] h = h
-after_is_state s (c ∷ calls) h = after_is_state (step s c).0 calls (step_is_state s c h)
+after_is_state s (c ∷ calls) h = after_is_state (step s c).0 calls (step_is_answer s c h).is_state
 
 pub length-replies : (s : State) (calls : List Call) → length (replies s calls) ≡ length calls
 length-replies s [] = refl

@@ -7,56 +7,56 @@ use Rattle.check_sched.specs.declared.object_state.ObjectState.{ObjectState}
 use Rattle.check_sched.specs.declared.candidate.Candidate.{Candidate}
 use Rattle.check_sched.specs.declared.call.Reply.{Reply}
 use Rattle.check_sched.specs.declared.call.Reply.TheVariants as reply
-use Rattle.check_sched.specs.declared.call.Refusal.TheVariants as refusal
+use Rattle.check_sched.specs.declared.call.Refusal.{Refusal}
+use Rattle.check_sched.specs.declared.call.Call.TheVariants as call
 use Rattle.check_sched.specs.ObjectState.{running_from}
 use Rattle.check_sched.specs.Candidate.{candidates_among, least}
 use Rattle.check_sched.specs.State.{State, IsState, is_in_time}
-use Rattle.check_sched.specs.Step.{candidates, eligible, taken, take_least, take_step}
+use Rattle.check_sched.specs.Step.{candidates, eligible, run_left, step, taken, take_least, within_range}
+use Rattle.check_sched.proofs.AnswerLaws.{by_test, left_is, range_is}
 use Rattle.check_sched.proofs.CandidateLaws.{all_at_least, all_filtered, candidates_within, candidates_times, if_due, least_due}
 use Rattle.check_sched.proofs.UpdateLaws.{length-update_at, all-update_at}
 
--- ---- Take, by its four answers
+-- ---- Take, by its answers
 
-take_by : (P : State × Reply → Type 0) (now : ℕ) (s : State) (late spare : Bool) (found : Option Candidate)
-    → (late ≡ true → P (s, reply.Refused refusal.TimeRange))
-    → (late ≡ false → spare ≡ false → P (s, reply.Refused refusal.RunsSpent))
-    → ((c : Candidate) → late ≡ false → spare ≡ true → found ≡ Some c → P (taken now c.number s, reply.Taken c.number (s.runs + 1)))
-    → (late ≡ false → spare ≡ true → found ≡ None → P (s, reply.Idle (option_map (λ c. c.time) (least (candidates s)))))
-    → P (cond late (s, reply.Refused refusal.TimeRange) (cond spare (take_least now s found) (s, reply.Refused refusal.RunsSpent)))
-take_by P now s true spare found range spent take idle = range refl
-take_by P now s false false found range spent take idle = spent refl refl
-take_by P now s false true (Some c) range spent take idle = take c refl refl refl
-take_by P now s false true None range spent take idle = idle refl refl refl
+take_by : (P : State × Reply → Type 0) (now : ℕ) (s : State) (found : Option Candidate)
+    → ((c : Candidate) → found ≡ Some c → P (taken now c.number s, reply.Taken c.number (s.runs + 1)))
+    → (found ≡ None → P (s, reply.Idle (option_map (λ c. c.time) (least (candidates s)))))
+    → P (take_least now s found)
+take_by P now s (Some c) take idle = take c refl
+take_by P now s None take idle = idle refl
 
--- what is true of a Take is what is true of each of its four answers
+-- what is true of a Take is what is true of each of its answers
 pub take_cases : (P : State × Reply → Type 0) (now : ℕ) (s : State)
-    → (nat_lt (2 ^ 60) now ≡ true → P (s, reply.Refused refusal.TimeRange))
-    → (nat_lt (2 ^ 60) now ≡ false → nat_lt s.runs (2 ^ 60) ≡ false → P (s, reply.Refused refusal.RunsSpent))
-    → ((c : Candidate) → nat_lt (2 ^ 60) now ≡ false → nat_lt s.runs (2 ^ 60) ≡ true → least (eligible now s) ≡ Some c → P (taken now c.number s, reply.Taken c.number (s.runs + 1)))
-    → (nat_lt (2 ^ 60) now ≡ false → nat_lt s.runs (2 ^ 60) ≡ true → least (eligible now s) ≡ None → P (s, reply.Idle (option_map (λ c. c.time) (least (candidates s)))))
-    → P (take_step now s)
-take_cases P now s range spent take idle = take_by P now s (nat_lt (2 ^ 60) now) (nat_lt s.runs (2 ^ 60)) (least (eligible now s)) range spent take idle
+    → ((why : Refusal) → P (s, reply.Refused why))
+    → ((c : Candidate) → now ≤ 2 ^ 60 → s.runs < 2 ^ 60 → least (eligible now s) ≡ Some c → P (taken now c.number s, reply.Taken c.number (s.runs + 1)))
+    → (least (eligible now s) ≡ None → P (s, reply.Idle (option_map (λ c. c.time) (least (candidates s)))))
+    → P (step s (call.Take now))
+take_cases P now s refused take idle =
+    by_test P s (within_range now) _ refused
+    (λ u m. by_test P s (run_left s) _ refused
+    (λ v r. take_by P now s (least (eligible now s)) (λ c e. take c (range_is now u m) (left_is s v r) e) idle))
 
 -- ---- what a Take answers, by the least of all that wait
 
-take_answers : (now : ℕ) (s : State) (found : Option Candidate) → now ≤ 2 ^ 60 → s.runs < 2 ^ 60 → least (candidates s) ≡ found → take_step now s ≡ take_least now s (if_due now found)
+take_answers : (now : ℕ) (s : State) (found : Option Candidate) → now ≤ 2 ^ 60 → s.runs < 2 ^ 60 → least (candidates s) ≡ found → step s (call.Take now) ≡ take_least now s (if_due now found)
 take_answers now s found m r e =
     let in_range : nat_lt (2 ^ 60) now ≡ false = grind (arith, nat_tests, m) in
     let spare : nat_lt s.runs (2 ^ 60) ≡ true = grind (arith, nat_tests, r) in
     let here : least (eligible now s) ≡ if_due now found = sym (least_due now (candidates s)) ∙ ap (if_due now) e in
     rw (in_range, spare, here) refl
 
-pub take_when_due : (now : ℕ) (s : State) (c : Candidate) → now ≤ 2 ^ 60 → s.runs < 2 ^ 60 → least (candidates s) ≡ Some c → c.time ≤ now → take_step now s ≡ (taken now c.number s, reply.Taken c.number (s.runs + 1))
+pub take_when_due : (now : ℕ) (s : State) (c : Candidate) → now ≤ 2 ^ 60 → s.runs < 2 ^ 60 → least (candidates s) ≡ Some c → c.time ≤ now → step s (call.Take now) ≡ (taken now c.number s, reply.Taken c.number (s.runs + 1))
 take_when_due now s c m r e l =
     let is_due : nat_le c.time now ≡ true = grind (arith, nat_tests, l) in
     take_answers now s (Some c) m r e ∙ ap (λ b. take_least now s (cond b (Some c) None)) is_due
 
-pub take_when_early : (now : ℕ) (s : State) (c : Candidate) → now ≤ 2 ^ 60 → s.runs < 2 ^ 60 → least (candidates s) ≡ Some c → now < c.time → take_step now s ≡ (s, reply.Idle (Some c.time))
+pub take_when_early : (now : ℕ) (s : State) (c : Candidate) → now ≤ 2 ^ 60 → s.runs < 2 ^ 60 → least (candidates s) ≡ Some c → now < c.time → step s (call.Take now) ≡ (s, reply.Idle (Some c.time))
 take_when_early now s c m r e l =
     let is_late : nat_le c.time now ≡ false = grind (arith, nat_tests, l) in
     take_answers now s (Some c) m r e ∙ ap (λ b. take_least now s (cond b (Some c) None)) is_late ∙ ap (λ f. (s, reply.Idle (option_map (λ x. x.time) f))) e
 
-pub take_when_none : (now : ℕ) (s : State) → now ≤ 2 ^ 60 → s.runs < 2 ^ 60 → least (candidates s) ≡ None → take_step now s ≡ (s, reply.Idle None)
+pub take_when_none : (now : ℕ) (s : State) → now ≤ 2 ^ 60 → s.runs < 2 ^ 60 → least (candidates s) ≡ None → step s (call.Take now) ≡ (s, reply.Idle None)
 take_when_none now s m r e = take_answers now s None m r e ∙ ap (λ f. (s, reply.Idle (option_map (λ x. x.time) f))) e
 
 -- the least of all that wait is one of the objects

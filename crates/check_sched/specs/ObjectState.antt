@@ -1,5 +1,7 @@
 -- The scheduling of one object.
-use Rattle.std.specs.Prelude.{ℕ, Bool, false, ◌&&◌, ◌||◌, Option, Some, None, is_none, if◌then◌else◌}
+use Rattle.std.specs.Prelude.{ℕ, Bool, false, ◌&&◌, ◌||◌, ◌==◌, Option, Some, None, Result, Ok, Err, is_none, unwrap_or, if◌then◌else◌}
+use Rattle.check_sched.specs.declared.call.Refusal.{Refusal}
+use Rattle.check_sched.specs.declared.call.Refusal.TheVariants as refusal
 use Rattle.check_sched.specs.declared.object_state.ObjectState.{ObjectState}
 use Rattle.check_sched.specs.declared.object_state.Run.{Run}
 
@@ -21,3 +23,22 @@ running_from run o = record { next = None; run = Some run; enabled = o.enabled; 
 -- The object isn't being checked any more, and has its next check at this time, if at all.
 abbrev pub ended : Option ℕ → ObjectState → ObjectState
 ended next o = record { next = next; run = None; enabled = o.enabled; forced = o.forced }
+
+-- The run of this number: an object that isn't being checked is refused, and then one that is under
+-- another number.
+abbrev pub run_under : ℕ → Option Run → Result Run Refusal
+run_under number None = Err refusal.NotRunning
+run_under number (Some r) = if r.number == number then Ok r else Err refusal.WrongRun
+
+-- The time of the next check of an object whose run is given up at this moment: one that was set
+-- while it ran stays, and without one the object is due at once. (Our own profile.)
+abbrev pub freed_time : ℕ → ObjectState → ℕ
+freed_time now o = unwrap_or o.next now
+
+-- The next check is at this time and forced or not, whatever it was before.
+abbrev pub rescheduled : ℕ → Bool → ObjectState → ObjectState
+rescheduled time forced o = record { next = Some time; run = o.run; enabled = o.enabled; forced = forced }
+
+-- The active checks are on or off; a next time is as it was.
+abbrev pub enabled_as : Bool → ObjectState → ObjectState
+enabled_as on o = record { next = o.next; run = o.run; enabled = on; forced = o.forced }

@@ -1,26 +1,44 @@
 -- What is said of a reply, whatever it answers.
-use Rattle.std.specs.Prelude.{ℕ, ◌<◌, ◌≤◌, ⊤, IfSome}
+use Rattle.std.specs.Prelude.{ℕ, ◌<◌, ◌≤◌, ⊤, IfSome, Result, Ok, Err}
 use Rattle.check_objects.specs.Configuration.{Configuration, object_count}
+use Rattle.check_sched.specs.declared.call.Refusal.{Refusal}
 use Rattle.check_sched.specs.declared.call.Reply.{Reply}
 use Rattle.check_sched.specs.declared.call.Reply.TheVariants as reply
+
+-- the reply to a call that was answered or refused
+abbrev pub reply_of : Result Reply Refusal → Reply
+reply_of (Ok answer) = answer
+reply_of (Err why) = reply.Refused why
 
 -- a fact, where the reply is a refusal
 abbrev pub OnRefused : Reply → Type 0 → Type 0
 OnRefused (reply.Taken object run) P = ⊤
+OnRefused (reply.PutOff object until) P = ⊤
 OnRefused (reply.Idle next) P = ⊤
+OnRefused reply.AtLimit P = ⊤
 OnRefused (reply.Standing standing changed next) P = ⊤
+OnRefused (reply.Freed next) P = ⊤
+OnRefused reply.Done P = ⊤
 OnRefused (reply.Refused why) P = P
 
 -- the object that the reply names, if any, is one of the setup's
 abbrev pub NamesObjectOf : Configuration → Reply → Type 0
 NamesObjectOf setup (reply.Taken object run) = object < object_count setup
+NamesObjectOf setup (reply.PutOff object until) = object < object_count setup
 NamesObjectOf setup (reply.Idle next) = ⊤
+NamesObjectOf setup reply.AtLimit = ⊤
 NamesObjectOf setup (reply.Standing standing changed next) = ⊤
+NamesObjectOf setup (reply.Freed next) = ⊤
+NamesObjectOf setup reply.Done = ⊤
 NamesObjectOf setup (reply.Refused why) = ⊤
 
 -- the time that the reply tells, if any, is at most this one
 abbrev pub TellsTimesUpTo : ℕ → Reply → Type 0
 TellsTimesUpTo last (reply.Taken object run) = ⊤
+TellsTimesUpTo last (reply.PutOff object until) = IfSome until (λ time. time ≤ last)
 TellsTimesUpTo last (reply.Idle next) = IfSome next (λ time. time ≤ last)
+TellsTimesUpTo last reply.AtLimit = ⊤
 TellsTimesUpTo last (reply.Standing standing changed next) = IfSome next (λ time. time ≤ last)
+TellsTimesUpTo last (reply.Freed next) = next ≤ last
+TellsTimesUpTo last reply.Done = ⊤
 TellsTimesUpTo last (reply.Refused why) = ⊤

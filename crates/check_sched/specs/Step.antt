@@ -1,17 +1,17 @@
 -- The sequential step: what a call answers in a state, and the state that it leaves.
-use Rattle.std.specs.Prelude.{ℕ, zero, suc, ◌+◌, ◌^◌, List, [], ◌∷◌, Option, Some, None, option_map, slice_get, ◌==◌, nat_lt, if◌then◌else◌}
+use Rattle.std.specs.Prelude.{ℕ, zero, suc, ◌+◌, ◌^◌, Bool, false, List, [], ◌∷◌, Option, Some, None, Result, Ok, Err, ok_or, option_map, slice_get, nat_lt, if◌then◌else◌}
 use Rattle.check_sched.specs.declared.call.Call.{Call}
 use Rattle.check_sched.specs.declared.call.Call.TheVariants as call
 use Rattle.check_sched.specs.declared.call.Reply.{Reply}
 use Rattle.check_sched.specs.declared.call.Reply.TheVariants as reply
+use Rattle.check_sched.specs.declared.call.Refusal.{Refusal}
 use Rattle.check_sched.specs.declared.call.Refusal.TheVariants as refusal
 use Rattle.check_sched.specs.declared.object_state.ObjectState.{ObjectState}
 use Rattle.check_sched.specs.declared.candidate.Candidate.{Candidate}
-use Rattle.check_sched.specs.declared.object_state.Run.{Run}
 use Rattle.check_rules.specs.declared.state.Code.{Code}
 use Rattle.check_rules.specs.declared.standing.Standing.{Standing}
 use Rattle.check_rules.specs.State.{is_another_state}
-use Rattle.check_sched.specs.ObjectState.{running_from, ended}
+use Rattle.check_sched.specs.ObjectState.{running_from, ended, run_under, freed_time, rescheduled, enabled_as}
 use Rattle.check_sched.specs.Candidate.{candidates_among, due_among, least}
 use Rattle.check_sched.specs.State.{State, standing_at}
 use Rattle.check_sched.specs.Report.{judged, next_after}
@@ -21,6 +21,30 @@ abbrev pub update_at : {X : Type 0} → ℕ → (X → X) → List X → List X
 update_at number f [] = []
 update_at zero f (x ∷ xs) = f x ∷ xs
 update_at (suc number) f (x ∷ xs) = x ∷ update_at number f xs
+
+-- the state with the object of this number changed by f, and all else as it was
+abbrev pub with_object : ℕ → (ObjectState → ObjectState) → State → State
+with_object number f s = record { setup = s.setup; start = s.start; objects = update_at number f s.objects; standings = s.standings; runs = s.runs }
+
+-- ---- refusals, in the order in which they are tested
+
+infixl 10 ◌>>=◌
+-- what follows, unless there was a refusal before it
+abbrev pub ◌>>=◌ : {A B : Type 0} → Result A Refusal → (A → Result B Refusal) → Result B Refusal
+(Ok x) >>= f = f x
+(Err why) >>= f = Err why
+
+-- an object that isn't there is refused
+abbrev pub known : ℕ → State → Result ObjectState Refusal
+known number s = ok_or (slice_get s.objects number) refusal.UnknownObject
+
+-- a moment above 2^60 is refused
+abbrev pub within_range : ℕ → Result (Unit {0}) Refusal
+within_range moment = if nat_lt (2 ^ 60) moment then Err refusal.TimeRange else Ok tt
+
+-- a check after 2^60 runs is refused
+abbrev pub run_left : State → Result (Unit {0}) Refusal
+run_left s = if nat_lt s.runs (2 ^ 60) then Ok tt else Err refusal.RunsSpent
 
 -- ---- Take
 
@@ -53,12 +77,8 @@ abbrev pub take_least : ℕ → State → Option Candidate → State × Reply
 take_least now s (Some c) = (taken now c.number s, reply.Taken c.number (s.runs + 1))
 take_least now s None = (s, reply.Idle (option_map (λ c. c.time) (least (candidates s))))
 
--- a moment above 2^60 is refused, and then a check after 2^60 runs
-abbrev pub take_step : ℕ → State → State × Reply
-take_step now s =
-    if nat_lt (2 ^ 60) now then (s, reply.Refused refusal.TimeRange)
-    else (if nat_lt s.runs (2 ^ 60) then take_least now s (least (eligible now s))
-    else (s, reply.Refused refusal.RunsSpent))
+abbrev pub take_answer : ℕ → State → Result (State × Reply) Refusal
+take_answer now s = within_range now >>= λ _. (run_left s >>= λ _. Ok (take_least now s (least (eligible now s))))
 
 -- ---- Report
 
@@ -84,26 +104,46 @@ report_taken number start code o s =
     let next = next_after s.setup number standing start o.next in
     (reported number standing next s, standing_reply number standing next s)
 
--- an object that isn't being checked is refused, and then one that is under another number
-abbrev pub report_run : ℕ → ℕ → Code → ObjectState → Option Run → State → State × Reply
-report_run number run code o None s = (s, reply.Refused refusal.NotRunning)
-report_run number run code o (Some r) s =
-    if r.number == run then report_taken number r.start code o s
-    else (s, reply.Refused refusal.WrongRun)
+abbrev pub report_answer : ℕ → ℕ → Code → State → Result (State × Reply) Refusal
+report_answer number run code s = known number s >>= λ o. (run_under run o.run >>= λ r. Ok (report_taken number r.start code o s))
 
--- an object that isn't there is refused first
-abbrev pub report_object : ℕ → ℕ → Code → Option ObjectState → State → State × Reply
-report_object number run code None s = (s, reply.Refused refusal.UnknownObject)
-report_object number run code (Some o) s = report_run number run code o o.run s
+-- ---- the operators' calls
 
-abbrev pub report_step : ℕ → ℕ → Code → State → State × Reply
-report_step number run code s = report_object number run code (slice_get s.objects number) s
+-- Abandon: the run ends without a result, and the caller is told the time of the next check.
+abbrev pub abandon_answer : ℕ → ℕ → ℕ → State → Result (State × Reply) Refusal
+abandon_answer number run now s =
+    known number s >>= λ o. (within_range now >>= λ _. (run_under run o.run >>= λ _. Ok (with_object number (ended (Some (freed_time now o))) s, reply.Freed (freed_time now o))))
+
+-- Reschedule: the next check is at this time, forced or not, whether the object runs or not.
+abbrev pub reschedule_answer : ℕ → ℕ → Bool → State → Result (State × Reply) Refusal
+reschedule_answer number time forced s = known number s >>= λ _. (within_range time >>= λ _. Ok (with_object number (rescheduled time forced) s, reply.Done))
+
+-- Enable: the active checks are on or off, and nothing else changes.
+abbrev pub enable_answer : ℕ → Bool → State → Result (State × Reply) Refusal
+enable_answer number on s = known number s >>= λ _. Ok (with_object number (enabled_as on) s, reply.Done)
+
+-- Status: the standing and the next time as they are; nothing changes.
+abbrev pub status_answer : ℕ → State → Result (State × Reply) Refusal
+status_answer number s = known number s >>= λ o. Ok (s, reply.Standing (standing_at s.standings number) false o.next)
 
 -- ---- every call
 
+-- what a call leaves and answers, or why it is refused
+abbrev pub answer_to : State → Call → Result (State × Reply) Refusal
+answer_to s (call.Take now) = take_answer now s
+answer_to s (call.Report object run code) = report_answer object run code s
+answer_to s (call.Abandon object run now) = abandon_answer object run now s
+answer_to s (call.Reschedule object time forced) = reschedule_answer object time forced s
+answer_to s (call.Enable object on) = enable_answer object on s
+answer_to s (call.Status object) = status_answer object s
+
+-- a refused call leaves the state as it was
+abbrev pub settled : State → Result (State × Reply) Refusal → State × Reply
+settled s (Ok answer) = answer
+settled s (Err why) = (s, reply.Refused why)
+
 abbrev pub step : State → Call → State × Reply
-step s (call.Take now) = take_step now s
-step s (call.Report object run code) = report_step object run code s
+step s c = settled s (answer_to s c)
 
 -- the replies to calls that are made one after another
 abbrev pub replies : State → List Call → List Reply

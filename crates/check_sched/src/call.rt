@@ -9,10 +9,43 @@ use check_rules::{Code, Standing};
 #[derive(Clone, Copy, Debug, PartialEq, Eq)]
 pub enum Call {
     /// Asks which object is to be checked at the moment `now`, and begins its check.
-    Take { now: u64 },
+    Take {
+        now: u64,
+    },
     /// Tells what the check of an object returned that was handed out under the number `run`, and
     /// ends that run.
-    Report { object: u32, run: u64, code: Code },
+    Report {
+        object: u32,
+        run: u64,
+        code: Code,
+    },
+    /// Gives up, at the moment `now`, the check of an object that was handed out under the number
+    /// `run`, and ends that run without a result. The object's standing stays. A next check that
+    /// was set while it ran stays too; without one the object is due at `now`. (Our own profile.)
+    Abandon {
+        object: u32,
+        run: u64,
+        now: u64,
+    },
+    /// Sets the next check of an object to the moment `time`, whether it runs or not. Where
+    /// `forced` is true, that check ignores that the object is disabled, and its dependencies;
+    /// where it is false, a forced check that was set before is forced no more. (Manual: "Service
+    /// and Host Check Scheduling"; what a forced check ignores is our own profile.)
+    Reschedule {
+        object: u32,
+        time: u64,
+        forced: bool,
+    },
+    /// Turns the active checks of an object on or off. Its next time stays as it is: where it has
+    /// none, it gets none. (Our own profile.)
+    Enable {
+        object: u32,
+        on: bool,
+    },
+    /// Asks what is known of an object, and changes nothing.
+    Status {
+        object: u32,
+    },
 }
 
 /// What the scheduler answers.
@@ -24,35 +57,54 @@ pub enum Reply {
         object: u32,
         run: u64,
     },
+    /// The object with this number was due, but a dependency of it fails, so that it isn't checked
+    /// now. It was put off: `until` is the time of its next check in milliseconds, its check
+    /// interval after the moment of the call, or None where that interval is 0. (Manual: "Host and
+    /// Service Dependencies"; the time is our own profile.)
+    PutOff {
+        object: u32,
+        until: Option<u64>,
+    },
     /// No check is due. `next` is the earliest time at which one will be, in milliseconds, or None
     /// where no object waits for a check.
     Idle {
         next: Option<u64>,
     },
+    /// A service is due, but as many checks of services run as the option `max_concurrent_checks`
+    /// allows. (Manual: "Main Configuration File Options".)
+    AtLimit,
     /// The result was taken: the object's new standing, whether its state differs from the one
-    /// before, and the time of its next check in milliseconds, or None where there is none.
+    /// before, and the time of its next check in milliseconds, or None where there is none. To a
+    /// question for the status the object's standing as it is, with `changed` false.
     Standing {
         standing: Standing,
         changed: bool,
         next: Option<u64>,
     },
+    /// The run has ended without a result: `next` is the time of the object's next check in
+    /// milliseconds.
+    Freed {
+        next: u64,
+    },
+    /// The next check was set, or the active checks were turned on or off.
+    Done,
     /// The call was refused, and the scheduler is as it was.
     Refused(Refusal),
 }
 
 /// Why a call was refused. A refused call changes nothing. The reasons are tested in the order in
-/// which they stand here. (Our own profile.)
+/// which they stand here, each only where the call has what it is about. (Our own profile.)
 #[derive(Clone, Copy, Debug, PartialEq, Eq)]
 pub enum Refusal {
     /// The setup has no object of that number.
     UnknownObject,
-    /// The call's moment is above 2^60 milliseconds.
+    /// The call's moment or time is above 2^60 milliseconds.
     TimeRange,
     /// A check was asked for after 2^60 runs had been handed out.
     RunsSpent,
     /// The object isn't being checked, so that no result of it is awaited.
     NotRunning,
-    /// The object is being checked under another run number: the result is one of a check that
-    /// has ended.
+    /// The object is being checked under another run number: the call speaks of a check that has
+    /// ended.
     WrongRun,
 }

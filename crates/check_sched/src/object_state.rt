@@ -1,5 +1,7 @@
 //! What the scheduler keeps of one object between calls.
 
+use crate::call::Refusal;
+
 /// A check that was handed out and hasn't come back: its number, and the moment at which it was
 /// handed out, in milliseconds.
 #[derive(Clone, Copy, Debug, PartialEq, Eq)]
@@ -20,7 +22,16 @@ pub(crate) struct ObjectState {
 
 impl ObjectState {
     ghost use Rattle.std.specs.Prelude.{◌≡◌};
-    ghost use Rattle.check_sched.specs.ObjectState.{candidate_time, ended, opening_object, running_from};
+    ghost use Rattle.check_sched.specs.ObjectState.{
+      candidate_time,
+      enabled_as,
+      ended,
+      freed_time,
+      opening_object,
+      rescheduled,
+      run_under,
+      running_from,
+    };
 
     /// The state of an object when scheduling starts: its first check is at `first`, it doesn't
     /// run, it is enabled as the setup says, and nothing is forced.
@@ -62,5 +73,38 @@ impl ObjectState {
     {
         self.next = next;
         self.run = None;
+    }
+    /// The run of this number, or why there is none.
+    pub(crate) fn run_under(&self, number: u64) -> Result<Run, Refusal>
+        ensures { result ≡ run_under number self.now.run }
+    {
+        match self.run {
+            None => Err(Refusal::NotRunning),
+            Some(run) if run.number == number => Ok(run),
+            Some(_) => Err(Refusal::WrongRun),
+        }
+    }
+
+    /// The time of the next check of an object whose run is given up at `now`: the one that was
+    /// set while it ran, else `now`.
+    pub(crate) fn freed_time(&self, now: u64) -> u64
+        ensures { result ≡ freed_time now self.now }
+    {
+        self.next.unwrap_or(now)
+    }
+
+    /// Sets the next check, and whether it is forced.
+    pub(crate) fn reschedule(&mut self, time: u64, forced: bool)
+        ensures { self.new ≡ rescheduled time forced self.old }
+    {
+        self.next = Some(time);
+        self.forced = forced;
+    }
+
+    /// Turns the active checks on or off.
+    pub(crate) fn enable(&mut self, on: bool)
+        ensures { self.new ≡ enabled_as on self.old }
+    {
+        self.enabled = on;
     }
 }

@@ -12,8 +12,8 @@ ghost use Rattle.check_sched.specs.State.{
   run_number_of,
   standing_at,
 };
-ghost use Rattle.check_sched.specs.Step.{step};
-ghost use Rattle.check_sched.specs.Reply.{OnRefused, NamesObjectOf, TellsTimesUpTo};
+ghost use Rattle.check_sched.specs.Step.{known, step, within_range};
+ghost use Rattle.check_sched.specs.Reply.{OnRefused, NamesObjectOf, TellsTimesUpTo, reply_of};
 
 use crate::call::{Call, Refusal, Reply};
 use crate::candidate::least_candidate;
@@ -90,7 +90,8 @@ impl Sched {
         ensures state { self.new ≡ (step self.old call).0 }
         ensures reply { result ≡ (step self.old call).1 }
 
-        // What a caller needs beside the step; all of it follows from the two clauses above.
+        // What a caller needs beside the step; all of it follows from the two clauses above and
+        // from what is true of every scheduler.
         ensures refused { OnRefused result (self.new ≡ self.old) }
         ensures setup { self.new.setup ≡ self.old.setup }
         ensures start { self.new.start ≡ self.old.start }
@@ -98,25 +99,31 @@ impl Sched {
         ensures times { TellsTimesUpTo (2 ^ 61) result }
     {
         match call {
-            Call::Take { now } => self.take(now),
-            Call::Report { object, run, code } => self.report(object, run, code),
+            Call::Take { now } => reply_of(self.take(now)),
+            Call::Report { object, run, code } => reply_of(self.report(object, run, code)),
+            Call::Abandon { object, run, now } => reply_of(self.abandon(object, run, now)),
+            Call::Reschedule {
+                object,
+                time,
+                forced,
+            } => { reply_of(self.reschedule(object, time, forced)) }
+            Call::Enable { object, on } => reply_of(self.enable(object, on)),
+            Call::Status { object } => reply_of(self.status(object)),
         }
     }
 
     /// Begins the check of the least object that is due, or tells when one will be.
     ///
     /// What is due is found by the least of all that wait: where that one isn't due, none is.
-    fn take(&mut self, now: u64) -> Reply
+    fn take(&mut self, now: u64) -> Result<Reply, Refusal>
         ensures state { self.new ≡ (step self.old (Call.Take now)).0 }
-        ensures reply { result ≡ (step self.old (Call.Take now)).1 }
-        ensures named { NamesObjectOf self.new.setup result }
-        ensures times { TellsTimesUpTo (2 ^ 61) result }
+        ensures reply { reply_of result ≡ (step self.old (Call.Take now)).1 }
+        ensures named { NamesObjectOf self.new.setup (reply_of result) }
+        ensures times { TellsTimesUpTo (2 ^ 61) (reply_of result) }
     {
-        if now > LAST_MOMENT {
-            return Reply::Refused(Refusal::TimeRange);
-        }
+        test_moment(now)?;
         if self.runs >= MOST_RUNS {
-            return Reply::Refused(Refusal::RunsSpent);
+            return Err(Refusal::RunsSpent);
         }
         match least_candidate(&self.objects) {
             Some(least) if least.time <= now => {
@@ -126,45 +133,96 @@ impl Sched {
                     start: now,
                 };
                 self.objects[least.number as usize].begin_run(run);
-                Reply::Taken {
+                Ok(Reply::Taken {
                     object: least.number,
                     run: run.number,
-                }
+                })
             }
-            Some(least) => Reply::Idle {
+            Some(least) => Ok(Reply::Idle {
                 next: Some(least.time),
-            },
-            None => Reply::Idle { next: None },
+            }),
+            None => Ok(Reply::Idle { next: None }),
         }
     }
 
     /// Takes the result of a run, which ends: the object's standing and next time follow from it.
-    fn report(&mut self, object: u32, run: u64, code: Code) -> Reply
+    fn report(&mut self, object: u32, run: u64, code: Code) -> Result<Reply, Refusal>
         ensures state { self.new ≡ (step self.old (Call.Report object run code)).0 }
-        ensures reply { result ≡ (step self.old (Call.Report object run code)).1 }
-        ensures times { TellsTimesUpTo (2 ^ 61) result }
+        ensures reply { reply_of result ≡ (step self.old (Call.Report object run code)).1 }
+        ensures times { TellsTimesUpTo (2 ^ 61) (reply_of result) }
     {
+        let state = self.object(object)?;
+        let running = state.run_under(run)?;
         let index = object as usize;
-        if index >= self.objects.len() {
-            return Reply::Refused(Refusal::UnknownObject);
-        }
-        let state = self.objects[index];
-        let Some(running) = state.run else {
-            return Reply::Refused(Refusal::NotRunning);
-        };
-        if running.number != run {
-            return Reply::Refused(Refusal::WrongRun);
-        }
         let before = self.standings[index];
         let standing = judged(&self.setup, &self.standings, object, code);
         let changed = is_changed(before, standing);
         let next = next_after(&self.setup, object, standing, running.start, state.next);
         self.objects[index].end_run(next);
         self.standings[index] = standing;
-        Reply::Standing {
+        Ok(Reply::Standing {
             standing,
             changed,
             next,
+        })
+    }
+
+    /// Ends a run without a result.
+    fn abandon(&mut self, object: u32, run: u64, now: u64) -> Result<Reply, Refusal>
+        ensures state { self.new ≡ (step self.old (Call.Abandon object run now)).0 }
+        ensures reply { reply_of result ≡ (step self.old (Call.Abandon object run now)).1 }
+        ensures times { TellsTimesUpTo (2 ^ 61) (reply_of result) }
+    {
+        let state = self.object(object)?;
+        test_moment(now)?;
+        state.run_under(run)?;
+        let next = state.freed_time(now);
+        self.objects[object as usize].end_run(Some(next));
+        Ok(Reply::Freed { next })
+    }
+
+    /// Sets the next check of an object.
+    fn reschedule(&mut self, object: u32, time: u64, forced: bool) -> Result<Reply, Refusal>
+        ensures state { self.new ≡ (step self.old (Call.Reschedule object time forced)).0 }
+        ensures reply { reply_of result ≡ (step self.old (Call.Reschedule object time forced)).1 }
+    {
+        self.object(object)?;
+        test_moment(time)?;
+        self.objects[object as usize].reschedule(time, forced);
+        Ok(Reply::Done)
+    }
+
+    /// Turns the active checks of an object on or off.
+    fn enable(&mut self, object: u32, on: bool) -> Result<Reply, Refusal>
+        ensures state { self.new ≡ (step self.old (Call.Enable object on)).0 }
+        ensures reply { reply_of result ≡ (step self.old (Call.Enable object on)).1 }
+    {
+        self.object(object)?;
+        self.objects[object as usize].enable(on);
+        Ok(Reply::Done)
+    }
+
+    /// Tells what is known of an object.
+    fn status(&self, object: u32) -> Result<Reply, Refusal>
+        ensures state { self.now ≡ (step self.now (Call.Status object)).0 }
+        ensures reply { reply_of result ≡ (step self.now (Call.Status object)).1 }
+        ensures times { TellsTimesUpTo (2 ^ 61) (reply_of result) }
+    {
+        let state = self.object(object)?;
+        Ok(Reply::Standing {
+            standing: self.standings[object as usize],
+            changed: false,
+            next: state.next,
+        })
+    }
+
+    /// What is kept of the object with this number.
+    fn object(&self, number: u32) -> Result<ObjectState, Refusal>
+        ensures { result ≡ known number self.now }
+    {
+        match self.objects.get(number as usize) {
+            Some(object) => Ok(*object),
+            None => Err(Refusal::UnknownObject),
         }
     }
 
@@ -208,6 +266,27 @@ impl Sched {
         ensures { result ≡ run_number_of number self.now }
     {
         self.objects[number as usize].run.map(|run| run.number)
+    }
+}
+
+/// The reply to a call that was answered or refused.
+fn reply_of(answer: Result<Reply, Refusal>) -> Reply
+    ensures { result ≡ reply_of answer }
+{
+    match answer {
+        Ok(reply) => reply,
+        Err(why) => Reply::Refused(why),
+    }
+}
+
+/// Refuses a moment that is too late.
+fn test_moment(moment: u64) -> Result<(), Refusal>
+    ensures { result ≡ within_range moment }
+{
+    if moment > LAST_MOMENT {
+        Err(Refusal::TimeRange)
+    } else {
+        Ok(())
     }
 }
 

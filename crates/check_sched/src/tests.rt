@@ -88,6 +88,35 @@ fn report(object: u32, run: u64, code: Code) -> Call {
     Call::Report { object, run, code }
 }
 
+fn abandon(object: u32, run: u64, now: u64) -> Call {
+    Call::Abandon { object, run, now }
+}
+
+fn reschedule(object: u32, time: u64, forced: bool) -> Call {
+    Call::Reschedule {
+        object,
+        time,
+        forced,
+    }
+}
+
+fn enable(object: u32, on: bool) -> Call {
+    Call::Enable { object, on }
+}
+
+fn status(object: u32) -> Call {
+    Call::Status { object }
+}
+
+/// The reply to a question for the status of an object that was never checked.
+fn never_checked(is_host: bool, next: Option<u64>) -> Reply {
+    Reply::Standing {
+        standing: pending(is_host),
+        changed: false,
+        next,
+    }
+}
+
 /// The reply to a result; `last_hard` is that of the new standing.
 fn standing(
     state: State,
@@ -311,6 +340,123 @@ fn refuses_results_that_nobody_awaits(rt: HostRuntime) -> Result<(), Fail> {
             Reply::Refused(Refusal::WrongRun),
         ),
         (Call::Take { now: 300_000 }, Reply::Idle { next: None }),
+    ];
+    answers_as(&rt, rt.alloc(), ONE_SERVICE, &calls)
+}
+
+#[test]
+fn tells_the_status_and_a_soft_recovery(rt: HostRuntime) -> Result<(), Fail> {
+    use Kind::Soft;
+    use State::{Critical, Ok};
+    let calls = [
+        (status(1), never_checked(false, Some(0))),
+        (status(0), never_checked(true, None)),
+        (Call::Take { now: 0 }, Reply::Taken { object: 1, run: 1 }),
+        (status(1), never_checked(false, None)),
+        (
+            report(1, 1, Code::Critical),
+            standing(Critical, Soft, 1, Ok, true, Some(60_000)),
+        ),
+        (
+            status(1),
+            standing(Critical, Soft, 1, Ok, false, Some(60_000)),
+        ),
+        (
+            Call::Take { now: 60_000 },
+            Reply::Taken { object: 1, run: 2 },
+        ),
+        (
+            report(1, 2, Code::Ok),
+            standing(Ok, Soft, 2, Ok, true, Some(360_000)),
+        ),
+        (status(2), Reply::Refused(Refusal::UnknownObject)),
+    ];
+    answers_as(&rt, rt.alloc(), ONE_SERVICE, &calls)
+}
+
+#[test]
+fn an_abandoned_run_is_due_again(rt: HostRuntime) -> Result<(), Fail> {
+    use State::Ok;
+    let calls = [
+        (Call::Take { now: 0 }, Reply::Taken { object: 1, run: 1 }),
+        (
+            report(1, 1, Code::Ok),
+            standing(Ok, Kind::Hard, 1, Ok, false, Some(300_000)),
+        ),
+        (report(1, 1, Code::Ok), Reply::Refused(Refusal::NotRunning)),
+        (
+            Call::Take { now: 300_000 },
+            Reply::Taken { object: 1, run: 2 },
+        ),
+        (abandon(1, 2, 300_000), Reply::Freed { next: 300_000 }),
+        (
+            Call::Take { now: 300_000 },
+            Reply::Taken { object: 1, run: 3 },
+        ),
+        (report(1, 2, Code::Ok), Reply::Refused(Refusal::WrongRun)),
+    ];
+    answers_as(&rt, rt.alloc(), ONE_SERVICE, &calls)
+}
+
+#[test]
+fn refuses_to_abandon_in_the_order_of_the_reasons(rt: HostRuntime) -> Result<(), Fail> {
+    let late = LAST_MOMENT + 1;
+    let calls = [
+        (abandon(2, 1, late), Reply::Refused(Refusal::UnknownObject)),
+        (abandon(1, 1, late), Reply::Refused(Refusal::TimeRange)),
+        (
+            abandon(1, 1, LAST_MOMENT),
+            Reply::Refused(Refusal::NotRunning),
+        ),
+        (Call::Take { now: 0 }, Reply::Taken { object: 1, run: 1 }),
+        (abandon(1, 2, late), Reply::Refused(Refusal::TimeRange)),
+        (
+            abandon(1, 2, LAST_MOMENT),
+            Reply::Refused(Refusal::WrongRun),
+        ),
+        (reschedule(1, 700, false), Reply::Done),
+        (abandon(1, 1, LAST_MOMENT), Reply::Freed { next: 700 }),
+        (status(1), never_checked(false, Some(700))),
+    ];
+    answers_as(&rt, rt.alloc(), ONE_SERVICE, &calls)
+}
+
+#[test]
+fn a_rescheduled_check_and_a_forced_one(rt: HostRuntime) -> Result<(), Fail> {
+    use State::Ok;
+    let calls = [
+        (Call::Take { now: 0 }, Reply::Taken { object: 1, run: 1 }),
+        (reschedule(1, 500, false), Reply::Done),
+        (
+            report(1, 1, Code::Ok),
+            standing(Ok, Kind::Hard, 1, Ok, false, Some(500)),
+        ),
+        (enable(1, false), Reply::Done),
+        (Call::Take { now: 500 }, Reply::Idle { next: None }),
+        (reschedule(1, 500, true), Reply::Done),
+        (Call::Take { now: 499 }, Reply::Idle { next: Some(500) }),
+        (Call::Take { now: 500 }, Reply::Taken { object: 1, run: 2 }),
+        (reschedule(1, LAST_MOMENT, false), Reply::Done),
+        (
+            reschedule(1, LAST_MOMENT + 1, false),
+            Reply::Refused(Refusal::TimeRange),
+        ),
+        (
+            reschedule(2, LAST_MOMENT + 1, false),
+            Reply::Refused(Refusal::UnknownObject),
+        ),
+    ];
+    answers_as(&rt, rt.alloc(), ONE_SERVICE, &calls)
+}
+
+#[test]
+fn a_disabled_object_waits_until_it_is_enabled(rt: HostRuntime) -> Result<(), Fail> {
+    let calls = [
+        (enable(1, false), Reply::Done),
+        (Call::Take { now: 0 }, Reply::Idle { next: None }),
+        (enable(1, true), Reply::Done),
+        (Call::Take { now: 0 }, Reply::Taken { object: 1, run: 1 }),
+        (enable(2, true), Reply::Refused(Refusal::UnknownObject)),
     ];
     answers_as(&rt, rt.alloc(), ONE_SERVICE, &calls)
 }

@@ -1,0 +1,22 @@
+use Rattle.std.proofs.Common.{◌≡◌, Ok, ap, sym, ◌∙◌}
+use Rattle.check_sched.specs.ObjectState.{enabled_as}
+use Rattle.check_sched.specs.Sched.{state_of}
+use Rattle.check_sched.specs.Step.{known}
+use Rattle.check_sched.proofs.OperatorLaws.{enable_answers, known_within, with_object_is_state, written}
+use Rattle.check_sched.proofs.sched.Sched.enable.Goals as goal
+
+-- the object that was found
+found : (c : goal.After-self-1) → known c.args.object (state_of c.self.inside) ≡ Ok c.in_ok-object.field-0
+found c = ap (known c.args.object) c.self.view_is ∙ sym c.object.ensures ∙ c.in_ok-object.was
+
+pub invariant_of-self : goal.invariant_of-self
+invariant_of-self c =
+    let s = state_of c.self.inside in
+    let left = written c.args.object (enabled_as c.args.on) s c.index_mut.result.now c.enable.new.self (known_within c.args.object s c.in_ok-object.field-0 (found c)) c.index_mut.ensures.value c.enable.ensures in
+    rw left (with_object_is_state c.args.object (enabled_as c.args.on) s c.self.invariant (λ o e. e))
+
+pub returns-clause-state : goal.returns-clause-state
+returns-clause-state c =
+    let s = state_of c.self.inside in
+    let left = written c.args.object (enabled_as c.args.on) s c.index_mut.result.now c.enable.new.self (known_within c.args.object s c.in_ok-object.field-0 (found c)) c.index_mut.ensures.value c.enable.ensures in
+    rw (← c.self.view_is, enable_answers c.args.object c.args.on s c.in_ok-object.field-0 (found c)) left
