@@ -1,5 +1,5 @@
 -- The first fault of a list, the parents counted, and the first key that stood before.
-use Rattle.std.proofs.Common.{◌≡◌, ℕ, ◌+◌, ◌<◌, ◌≤◌, not, Bool, true, false, cond, List, [], ◌∷◌, ◌++◌, map, length, drop, get_or, Option, Some, None, Bor, bytes_eq, refl, sym, ap, ◌∙◌, Result, Ok, Err, append_assoc, append-nil, arith}
+use Rattle.std.proofs.Common.{◌≡◌, ℕ, ◌+◌, ◌<◌, ◌≤◌, not, Bool, true, false, cond, List, [], ◌∷◌, ◌++◌, map, length, drop, get_or, Option, Some, None, refl, sym, ap, ◌∙◌, Ok, Err, append_assoc, arith}
 use Rattle.std.specs.Prelude.{sum_by}
 use Rattle.std.specs.List.{list_any, position}
 use Rattle.std.proofs.lemmas.Grind.{common_steps}
@@ -9,9 +9,9 @@ use Rattle.check_objects.specs.declared.draft.CheckDraft.{CheckDraft}
 use Rattle.check_objects.specs.declared.draft.HostDraft.{HostDraft}
 use Rattle.check_objects.specs.declared.draft.ServiceDraft.{ServiceDraft}
 use Rattle.check_objects.specs.declared.error.LoadError.{LoadError}
-use Rattle.check_objects.specs.LoadError.{◌>>=◌, refused_at}
+use Rattle.check_objects.specs.LoadError.{refused_at}
 use Rattle.check_objects.specs.Fault.{repeat_after}
-use Rattle.check_objects.specs.Drafted.{host, service}
+use Rattle.check_objects.specs.Drafted.{host}
 use Rattle.check_objects.specs.Text.{text}
 use Rattle.check_objects.proofs.ListLemmas.{list_any-map, position-map}
 

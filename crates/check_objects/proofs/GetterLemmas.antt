@@ -1,18 +1,21 @@
 -- Objects found by number and by name, in the code's two maps.
-use Rattle.std.proofs.Common.{◌≡◌, ℕ, zero, suc, ◌+◌, ◌-◌, ◌<◌, ◌≤◌, ◌==◌, ◌&&◌, not, Bool, true, false, cond, List, [], ◌∷◌, ◌++◌, map, take, length, Option, Some, None, option_map, String, Global, string_bytes, bytes_eq, refl, sym, ap, ◌∙◌, arith}
+use Rattle.std.proofs.Common.{◌≡◌, ℕ, zero, suc, get_or, ◌+◌, ◌-◌, ◌<◌, ◌≤◌, ◌==◌, ◌&&◌, not, Bool, true, false, cond, List, [], ◌∷◌, ◌++◌, map, take, length, Option, Some, None, option_map, String, Global, string_bytes, bytes_eq, refl, sym, ap, ◌∙◌, arith}
 use Rattle.std.specs.Prelude.{nat_lt, slice_get, All, slice_index_or}
-use Rattle.std.specs.List.{list_all, position, position_or_len, prefix_len}
+use Rattle.std.specs.List.{list_all, position, position_or_len}
 use Rattle.std.specs.Map.{keys_of}
 use Rattle.std.proofs.lemmas.Bool.Decides.{nat_tests}
-use Rattle.std.proofs.lemmas.List.{length-map, length-append, map-append}
+use Rattle.std.proofs.lemmas.List.{length-map, length-append, map-append, get_or-map}
+use Rattle.std.proofs.lemmas.List.Elements.{All-weaker}
+use Rattle.std.proofs.lemmas.Bool.{ltb-true}
 use Rattle.std.proofs.lemmas.List.Folds.{prefix_len-append}
-use Rattle.std.proofs.lemmas.List.Sums.{prefix_len-le-length}
+use Rattle.std.proofs.lemmas.List.Sums.{prefix_len-le-length, AllPass-from_list_all}
 use Rattle.std.proofs.lemmas.Option.{slice_get-map}
+use Rattle.check_objects.specs.declared.dependency.Dependency.{Dependency}
 use Rattle.check_objects.specs.declared.numbering.Host.{Host}
 use Rattle.check_objects.specs.declared.numbering.Service.{Service}
-use Rattle.check_objects.specs.Configuration.{Named, named_host, named_service}
+use Rattle.check_objects.specs.Configuration.{Configuration, IsSetup, Named, named_host, named_service, masters_in, dependencies_of, object_count}
 use Rattle.check_objects.specs.Entries.{host_entry, service_entry}
-use Rattle.check_objects.proofs.ListLemmas.{position-map}
+use Rattle.check_objects.proofs.ListLemmas.{position-map, list_all-map}
 
 -- ---- two lists, one behind the other
 
@@ -114,6 +117,24 @@ module _ (hosts : List (String Global × Host)) (services : List (String Global 
       ap (option_map (λ j. length hosts + j)) (sym (service_place name))
       ∙ ap (λ l. option_map (λ j. l + j) (position (λ n. bytes_eq name n.name) (map named_service (map service_entry services)))) (sym hosts_length)
       ∙ sym (position-back (λ n. bytes_eq name n.name) (map named_host (map host_entry hosts)) (map named_service (map service_entry services)) (host_place name ∙ sym e))
+
+-- ---- dependencies
+
+masters_at : (n : ℕ) (lists : List (List Dependency)) (k : ℕ) → list_all (λ ls. list_all (λ l. nat_lt l n) ls) (map masters_in lists) ≡ true → list_all (λ d. nat_lt d.master n) (slice_index_or lists k []) ≡ true
+masters_at n [] k h = refl
+masters_at n (ds ∷ lists) zero h = sym (list_all-map (λ l. nat_lt l n) (λ d. d.master) ds) ∙ (both_true _ _ h).0
+masters_at n (ds ∷ lists) (suc k) h = masters_at n lists k (both_true _ _ h).1
+
+-- the masters of an object are objects
+pub masters_below : (c : Configuration) (k : ℕ) → IsSetup c → All (λ d. d.master < object_count c) (dependencies_of c k)
+masters_below c k is =
+    let n = object_count c in
+    All-weaker (λ d. nat_lt d.master n ≡ true) (λ d. d.master < n) (λ d e. ltb-true d.master n e) (dependencies_of c k) (AllPass-from_list_all (λ d. nat_lt d.master n) (dependencies_of c k) (masters_at n c.dependencies k is.mastered))
+
+pub dependencies_at : {L : Type 0} (items : L → List Dependency) (lists : List L) (c : Configuration) (k : ℕ) (list : L) → IsSetup c → map items lists ≡ c.dependencies → k < object_count c → list ≡ get_or lists k list → items list ≡ dependencies_of c k
+dependencies_at items lists c k list is are below at =
+    let within : k < length lists = omega (arith, below, is.listed, ap length are, length-map lists items) in
+    ap items at ∙ sym (get_or-map items lists k list [] within) ∙ ap (λ ls. slice_index_or ls k []) are
 
 -- ---- links, host by host
 

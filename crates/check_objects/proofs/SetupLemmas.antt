@@ -1,26 +1,34 @@
 -- What a document without a fault gives: few objects, links to hosts, and full names in two parts.
-use Rattle.std.proofs.Common.{◌≡◌, ℕ, suc, ◌+◌, ◌<◌, ◌≤◌, ◌==◌, ◌&&◌, ◌||◌, not, Bool, true, false, cond, List, [], ◌∷◌, ◌++◌, map, length, Bor, Option, Some, None, bytes_eq, refl, sym, ap, subst, ◌∙◌, Result, Ok, Err, Ordering, Less, Equal, Greater, arith}
-use Rattle.std.specs.Prelude.{nat_lt, nat_le, unwrap_or}
+use Rattle.std.proofs.Common.{◌≡◌, ℕ, zero, suc, replicate, ◌+◌, ◌<◌, ◌≤◌, ◌==◌, ◌&&◌, ◌||◌, not, Bool, true, false, cond, List, [], ◌∷◌, map, length, Bor, Option, Some, None, bytes_eq, refl, sym, ap, ◌∙◌, Result, Ok, Err, Ordering, Less, Equal, Greater, arith}
+use Rattle.std.specs.Prelude.{nat_lt, nat_le, unwrap_or, MatchOption}
+use Rattle.std.specs.Option.{IsSome}
 use Rattle.std.specs.BTreeMap.{insert_entry}
 use Rattle.std.specs.List.{list_any, list_all, position, position_or_len, prefix_len}
 use Rattle.std.specs.Ordering.{match_ordering}
 use Rattle.std.proofs.lemmas.Bool.Decides.{nat_tests}
-use Rattle.std.proofs.lemmas.List.{length-map}
+use Rattle.std.proofs.lemmas.List.{length-map, length-append, length-replicate}
 use Rattle.std.proofs.lemmas.List.Folds.{list_all-append}
 use Rattle.std.proofs.lemmas.Slice.Eq.{bytes_eq-Decides}
 use Rattle.check_objects.specs.declared.error.LoadError.{LoadError}
 use Rattle.check_objects.specs.declared.error.LoadError.TheVariants as errors
+use Rattle.check_objects.specs.declared.dependency.Dependency.{Dependency}
+use Rattle.check_objects.specs.declared.options.DelayMethod.{DelayMethod}
+use Rattle.check_objects.specs.declared.options.DelayMethod.TheVariants as method
+use Rattle.check_objects.specs.declared.options.InterleaveFactor.{InterleaveFactor}
+use Rattle.check_objects.specs.declared.options.InterleaveFactor.TheVariants as factor
 use Rattle.check_objects.specs.declared.options.Options.{Options}
 use Rattle.check_objects.specs.declared.object.Object.{Object}
-use Rattle.check_objects.specs.Configuration.{Configuration, Host, Service, IsSetup, is_object_in_range, named_host, named_service, objects_of}
+use Rattle.check_objects.specs.Configuration.{Configuration, Host, IsSetup, IsWithin, IsDelayInRange, IsFactorInRange, is_object_in_range, named_host, named_service, objects_of, object_count, masters_in}
+use Rattle.check_objects.specs.Depth.{deep, any_below, has_cycle, links_of}
 use Rattle.check_objects.specs.Closing.{are_within}
 use Rattle.check_objects.specs.Drafted.{texts}
 use Rattle.check_objects.specs.Draft.{Drafts, HostDraft, ServiceDraft}
-use Rattle.check_objects.specs.Fault.{is_faultless, is_name, is_name_byte, is_known, names_of, few_objects, has_few_parents, key_of, good_names, good_host_names, good_descriptions, host_names, first_repeat, no_repeated_services, known_parents, known_hosts, good_ranges, good_host_ranges, good_options, good_service_ranges, is_in_range}
+use Rattle.check_objects.specs.Fault.{is_faultless, is_name, is_name_byte, is_known, names_of, few_objects, has_few_parents, key_of, good_names, good_host_names, good_descriptions, host_names, first_repeat, no_repeated_services, known_parents, known_hosts, good_ranges, good_host_ranges, good_options, good_service_ranges, is_in_range, is_within, is_delay_in_range, is_factor_in_range, are_options_in_range}
 use Rattle.check_objects.specs.LoadError.{◌>>=◌, refused_at}
 use Rattle.check_objects.specs.Place.{host_at, service_at}
-use Rattle.check_objects.specs.Numbering.{placed, number_in, numbered_host, numbered_service, hosts_in_order, services_in_order, names_in_order, configuration, is_host_name, object_of, body_of, text_order, pair_order}
+use Rattle.check_objects.specs.Numbering.{placed, number_in, numbered_host, numbered_service, hosts_in_order, services_in_order, names_in_order, numbered, configuration, is_host_name, object_of, body_of, text_order, pair_order}
 use Rattle.check_objects.proofs.ListLemmas.{list_all-map}
+use Rattle.check_objects.proofs.DependentLemmas.{replicate_within}
 
 -- ---- nothing was refused
 
@@ -248,15 +256,88 @@ hosted_by hosts [] k ns n e some = refl
 hosted_by [] (s ∷ services) k ns n e some = cc
 hosted_by (h ∷ hosts) (s ∷ services) k ns n e some = services_hosted ns n e (some (omega arith)) (services_in_order (s ∷ services))
 
-unit_by : (a b : Bool) (n : ℕ) (y : Result (Unit {0}) LoadError) (e : LoadError) → y ≡ Ok tt → nat_lt 86400 n ≡ b → cond (a || b) (Err e) (Ok tt) ≡ y → n ≤ 86400
-unit_by true b n y e o t h = cc
-unit_by false true n y e o t h = cc
-unit_by false false n y e o t h = grind (arith, nat_tests, t)
+at_most : (n high : ℕ) → nat_le n high ≡ true → n ≤ high
+at_most n high e = grind (arith, nat_tests, e)
 
--- a unit of the intervals is within its limit
-pub unit_in_range : (options : Options) (hosts : List HostDraft) (services : List ServiceDraft) → good_ranges options hosts services ≡ Ok tt → options.interval_length ≤ 86400
-unit_in_range options hosts services e =
-    unit_by (nat_lt options.interval_length 1) (nat_lt 86400 options.interval_length) options.interval_length (Ok tt) _ refl refl (first_ok (good_options options) (λ _. good_host_ranges hosts >>= λ _. good_service_ranges services) tt e)
+within : (low high n : ℕ) → is_within low high n ≡ true → IsWithin low high n
+within low high n e = let b = both_true (nat_le low n) (nat_le n high) e in (at_most low n b.0, at_most n high b.1)
+
+delay_in_range : (m : DelayMethod) → is_delay_in_range m ≡ true → IsDelayInRange m
+delay_in_range method.NoDelay e = tt
+delay_in_range method.Dumb e = tt
+delay_in_range method.Smart e = tt
+delay_in_range (method.Fixed delay) e = at_most delay 86400000 e
+
+factor_in_range : (f : InterleaveFactor) → is_factor_in_range f ≡ true → IsFactorInRange f
+factor_in_range factor.Smart e = tt
+factor_in_range (factor.Fixed n) e = within 1 4096 n e
+
+options_by : (b : Bool) (fault : LoadError) (y : Result (Unit {0}) LoadError) → y ≡ Ok tt → cond b (Ok tt) (Err fault) ≡ y → b ≡ true
+options_by true fault y o e = refl
+options_by false fault y o e = cc
+
+-- the options are within their limits
+record HasOptionsInRange (o : Options) : Type 0 where
+  interval_length : IsWithin 1 86400 o.interval_length
+  service_delay : IsDelayInRange o.service_inter_check_delay_method
+  service_spread : IsWithin 1 525600 o.max_service_check_spread
+  service_factor : IsFactorInRange o.service_interleave_factor
+  host_delay : IsDelayInRange o.host_inter_check_delay_method
+  host_spread : IsWithin 1 525600 o.max_host_check_spread
+  concurrent_checks : o.max_concurrent_checks ≤ 1000000
+
+options_in_range : (o : Options) → are_options_in_range o ≡ true → HasOptionsInRange o
+options_in_range o e =
+    let a = both_true _ (nat_le o.max_concurrent_checks 1000000) e in
+    let b = both_true _ (is_within 1 525600 o.max_host_check_spread) a.0 in
+    let c = both_true _ (is_delay_in_range o.host_inter_check_delay_method) b.0 in
+    let d = both_true _ (is_factor_in_range o.service_interleave_factor) c.0 in
+    let f = both_true _ (is_within 1 525600 o.max_service_check_spread) d.0 in
+    let g = both_true (is_within 1 86400 o.interval_length) (is_delay_in_range o.service_inter_check_delay_method) f.0 in
+    record {
+      interval_length = within 1 86400 o.interval_length g.0;
+      service_delay = delay_in_range o.service_inter_check_delay_method g.1;
+      service_spread = within 1 525600 o.max_service_check_spread f.1;
+      service_factor = factor_in_range o.service_interleave_factor d.1;
+      host_delay = delay_in_range o.host_inter_check_delay_method c.1;
+      host_spread = within 1 525600 o.max_host_check_spread b.1;
+      concurrent_checks = at_most o.max_concurrent_checks 1000000 a.1;
+    }
+
+good_options_in_range : (options : Options) (hosts : List HostDraft) (services : List ServiceDraft) → good_ranges options hosts services ≡ Ok tt → HasOptionsInRange options
+good_options_in_range options hosts services e =
+    options_in_range options (options_by (are_options_in_range options) _ (Ok tt) refl (first_ok (good_options options) (λ _. good_host_ranges hosts >>= λ _. good_service_ranges services) tt e))
+
+-- ---- no dependencies
+
+no_masters : (k : ℕ) → map masters_in (replicate k []) ≡ replicate k []
+no_masters zero = refl
+no_masters (suc k) = ap (λ l. [] ∷ l) (no_masters k)
+
+no_links_at : (k object : ℕ) → links_of (replicate k []) object ≡ []
+no_links_at zero object = refl
+no_links_at (suc k) zero = refl
+no_links_at (suc k) (suc object) = no_links_at k object
+
+no_chain : (k n object : ℕ) → 0 < n → deep (replicate k []) object n ≡ false
+no_chain k zero object h = absurd (omega arith)
+no_chain k (suc n) object h = rw (no_links_at k object) refl
+
+no_cycle_by : (k n : ℕ) → 0 < k → any_below (λ object. deep (replicate k []) object k) n ≡ false
+no_cycle_by k zero h = refl
+no_cycle_by k (suc n) h = rw (no_cycle_by k n h, no_chain k k n h) refl
+
+no_cycle_from : (k : ℕ) → any_below (λ object. deep (replicate k []) object k) k ≡ false
+no_cycle_from zero = refl
+no_cycle_from (suc k) = no_cycle_by (suc k) (suc k) (omega arith)
+
+-- without links there is no cycle
+pub no_cycle : (k : ℕ) → has_cycle (replicate k []) ≡ false
+unfolding has_cycle
+no_cycle k = ap (λ n. any_below (λ object. deep (replicate k []) object n) n) (length-replicate k []) ∙ no_cycle_from k
+
+pub no_dependency_cycle : (k : ℕ) → has_cycle (map masters_in (replicate k [])) ≡ false
+no_dependency_cycle k = ap has_cycle (no_masters k) ∙ no_cycle k
 
 -- and so are the numbers of every object
 pub objects_in_range : (ds : Drafts) → good_ranges ds.options ds.hosts ds.services ≡ Ok tt → list_all (λ o. is_object_in_range o.object) (objects_of (configuration ds)) ≡ true
@@ -277,6 +358,7 @@ objects_in_range ds e =
 pub configuration_is_setup : (ds : Drafts) → is_faultless ds ≡ Ok tt → IsSetup (configuration ds)
 configuration_is_setup ds e =
     let f = faultless ds e in
+    let o = good_options_in_range ds.options ds.hosts ds.services f.ranged in
     let hs = hosts_in_order ds.hosts in
     let ns = names_in_order ds.hosts in
     let h = placed_few text_order (λ h. h.name) body_of [] ds.hosts in
@@ -286,7 +368,17 @@ configuration_is_setup ds e =
       few = omega (arith, f.few, h, s, length-map hs (numbered_host ns), length-map (services_in_order ds.services) (numbered_service ns));
       linked = linked_by hs;
       hosted = hosted_by ds.hosts ds.services f.known ns (length (map (numbered_host ns) hs)) (names_length hs) some;
-      interval_length = unit_in_range ds.options ds.hosts ds.services f.ranged;
+      listed = length-replicate (object_count (numbered ds)) [];
+      mastered = rw (no_masters (object_count (numbered ds))) (replicate_within (object_count (numbered ds)) (object_count (numbered ds)));
+      acyclic = no_dependency_cycle (object_count (numbered ds));
+      interval_length = o.interval_length.1;
+      some_interval_length = o.interval_length.0;
+      service_delay = o.service_delay;
+      service_spread = o.service_spread;
+      service_factor = o.service_factor;
+      host_delay = o.host_delay;
+      host_spread = o.host_spread;
+      concurrent_checks = o.concurrent_checks;
       ranges = objects_in_range ds f.ranged;
     }
 
@@ -300,3 +392,27 @@ pub links_within : {L : Type 0} (items : L → List ℕ) (hosts : List Host) (li
 links_within items hosts links e linked =
     let n : length links ≡ length hosts = omega (arith, length-map links items, ap length e, length-map hosts (λ h. h.parents)) in
     ap (λ l. are_within (length links) l) e ∙ list_all-map (λ ls. list_all (λ p. nat_lt p (length links)) ls) (λ h. h.parents) hosts ∙ ap (λ k. list_all (λ h. list_all (λ p. nat_lt p k) h.parents) hosts) n ∙ linked
+
+-- ---- the lists of dependencies
+
+-- as many objects as hosts and services
+pub count_of : (c : Configuration) (hosts services : ℕ) → hosts ≡ length c.hosts → services ≡ length c.services → hosts + services ≡ object_count c
+count_of c hosts services h s = omega (arith, h, s, length-append (map named_host c.hosts) (map named_service c.services), length-map c.hosts named_host, length-map c.services named_service)
+
+module _ {L : Type 0} (items : L → List Dependency) (lists : List L) (c : Configuration) (is : IsSetup c) (are : map items lists ≡ c.dependencies) where
+  one_each : length lists ≡ object_count c
+  one_each = sym (length-map lists items) ∙ ap length are ∙ is.listed
+
+  pub few_lists : length lists ≤ 4096
+  few_lists = omega (arith, one_each, count_of c (length c.hosts) (length c.services) refl refl, is.few)
+
+  pub masters_within : are_within (length lists) (map masters_in (map items lists)) ≡ true
+  masters_within = ap (λ n. are_within n (map masters_in (map items lists))) one_each ∙ ap (λ l. are_within (object_count c) (map masters_in l)) are ∙ is.mastered
+
+  pub no_cycle_in : has_cycle (map masters_in (map items lists)) ≡ false
+  no_cycle_in = ap (λ l. has_cycle (map masters_in l)) are ∙ is.acyclic
+
+-- where there is no cycle there is an order
+pub order_is_there : {A : Type 0} (answer : Option A) (P : A → Type 0) (links : List (List ℕ)) → MatchOption answer (has_cycle links ≡ true) P → has_cycle links ≡ false → IsSome answer
+order_is_there None P links m free = absurd (let e : true ≡ false = sym m ∙ free in cc)
+order_is_there (Some a) P links m free = refl

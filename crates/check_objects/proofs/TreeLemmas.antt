@@ -11,7 +11,7 @@ use Rattle.serde_json.specs.Read.{read}
 use Rattle.serde_json.specs.View.{view, members_view, items_view}
 use Rattle.serde_json.specs.declared.value.Value.{Value}
 use Rattle.check_objects.specs.declared.error.LoadError.TheVariants as errors
-use Rattle.check_objects.specs.Tree.{tree_of, is_among, only_members, has_only, is_filled, texts_of, ◌>=>◌}
+use Rattle.check_objects.specs.Tree.{tree_of, is_among, only_members, texts_of, ◌>=>◌}
 use Rattle.check_objects.specs.Text.{text}
 
 -- ---- the tree of the bytes
@@ -46,11 +46,6 @@ among_known (n ∷ ns) key = ap (λ b. bytes_eq n.now key || b) (among_known ns 
 pub only_known : (names : List (Bor (List ℕ))) (es : List (String Global × Value)) → list_all (λ key. list_any (λ name. bytes_eq name.now (string_bytes key)) names) (keys_of es) ≡ only_members (map (λ name. name.now) names) (members_view es)
 only_known names [] = refl
 only_known names (e ∷ es) = rw (among_known names (string_bytes e.0), only_known names es) refl
-
--- a list that isn't empty is filled
-pub filled_by_length : (n : ℕ) (vs : List Value) → n ≡ length vs → not (n == 0) ≡ is_filled (Some (items_view vs))
-filled_by_length n [] e = rw e refl
-filled_by_length n (v ∷ vs) e = let f : (n == 0) ≡ false = grind (arith, e) in ap not f
 
 -- ---- texts
 

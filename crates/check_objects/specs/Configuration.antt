@@ -1,8 +1,15 @@
 -- A setup as contracts see it: its options, its hosts and its services, in the order of their numbers.
-use Rattle.std.specs.Prelude.{◌≡◌, ℕ, ◌+◌, ◌-◌, ◌≤◌, ◌&&◌, Bool, true, nat_le, List, [], ◌++◌, length, map, position, bytes_eq, slice_get, option_map, option_and_then, unwrap_or, nat_lt, Option, None, if◌then◌else◌}
+use Rattle.std.specs.Prelude.{◌≡◌, ℕ, ◌+◌, ◌-◌, ◌≤◌, ◌&&◌, Bool, true, nat_le, List, [], ◌++◌, length, map, position, bytes_eq, slice_get, slice_index_or, option_map, unwrap_or, nat_lt, Option, None, false, if◌then◌else◌}
 use Rattle.std.specs.List.{list_all}
+use Rattle.check_objects.specs.declared.dependency.Dependency.{Dependency}
 use Rattle.check_objects.specs.declared.object.Object.{Object}
+use Rattle.check_objects.specs.declared.options.DelayMethod.{DelayMethod}
+use Rattle.check_objects.specs.declared.options.DelayMethod.TheVariants as method
+use Rattle.check_objects.specs.declared.options.InterleaveFactor.{InterleaveFactor}
+use Rattle.check_objects.specs.declared.options.InterleaveFactor.TheVariants as factor
 use Rattle.check_objects.specs.declared.options.Options.{Options}
+use Rattle.check_objects.specs.Closing.{are_within}
+use Rattle.check_objects.specs.Depth.{has_cycle}
 
 -- an object and its full name
 pub record Named : Type 0 where
@@ -28,6 +35,8 @@ pub record Configuration : Type 0 where
   pub hosts : List Host
   -- in the order of their hosts' names and then of their descriptions, each by its bytes
   pub services : List Service
+  -- of each object by number what it depends on, in the document's order
+  pub dependencies : List (List Dependency)
 
 abbrev pub named_host : Host → Named
 named_host h = record { name = h.name; object = h.object }
@@ -63,14 +72,53 @@ host_of c n = if nat_lt n (host_count c) then None else option_map (λ s. s.host
 abbrev pub parents_of : Configuration → ℕ → List ℕ
 parents_of c n = unwrap_or (option_map (λ h. h.parents) (slice_get c.hosts n)) []
 
+-- what the object with this number depends on, in the document's order
+abbrev pub dependencies_of : Configuration → ℕ → List Dependency
+dependencies_of c n = slice_index_or c.dependencies n []
+
+-- the numbers of those that these dependencies are on
+abbrev pub masters_in : List Dependency → List ℕ
+masters_in ds = map (λ d. d.master) ds
+
+-- of each object by number those that it depends on
+abbrev pub masters_of : Configuration → List (List ℕ)
+masters_of c = map masters_in c.dependencies
+
 -- both intervals of an object are at most 525,600 units, a year of minutes, and its attempts 1 to 255
 abbrev pub is_object_in_range : Object → Bool
 is_object_in_range o = nat_le o.check_interval 525600 && nat_le o.retry_interval 525600 && nat_le 1 o.max_check_attempts && nat_le o.max_check_attempts 255
 
--- What is true of every setup: it has at most 4,096 objects, its links are to hosts, and its numbers are within their limits.
+-- the number is within these limits
+abbrev pub IsWithin : ℕ → ℕ → ℕ → Type 0
+IsWithin low high n = (low ≤ n) × (n ≤ high)
+
+-- a fixed delay is at most a day of milliseconds
+abbrev pub IsDelayInRange : DelayMethod → Type 0
+IsDelayInRange (method.Fixed delay) = delay ≤ 86400000
+IsDelayInRange other = Unit {0}
+
+-- a fixed factor is 1 to 4,096
+abbrev pub IsFactorInRange : InterleaveFactor → Type 0
+IsFactorInRange factor.Smart = Unit {0}
+IsFactorInRange (factor.Fixed n) = IsWithin 1 4096 n
+
+-- What is true of every setup: it has at most 4,096 objects, its parents and its services' hosts are hosts, its
+-- dependencies are on its objects and none of them is on itself through one or more, and its numbers are within their
+-- limits.
 pub record IsSetup (c : Configuration) : Type 0 where
   pub few : length c.hosts + length c.services ≤ 4096
   pub linked : list_all (λ h. list_all (λ p. nat_lt p (length c.hosts)) h.parents) c.hosts ≡ true
   pub hosted : list_all (λ s. nat_lt s.host (length c.hosts)) c.services ≡ true
+  -- one list of dependencies for each object
+  pub listed : length c.dependencies ≡ object_count c
+  pub mastered : are_within (object_count c) (masters_of c) ≡ true
+  pub acyclic : has_cycle (masters_of c) ≡ false
   pub interval_length : c.options.interval_length ≤ 86400
+  pub some_interval_length : 1 ≤ c.options.interval_length
+  pub service_delay : IsDelayInRange c.options.service_inter_check_delay_method
+  pub service_spread : IsWithin 1 525600 c.options.max_service_check_spread
+  pub service_factor : IsFactorInRange c.options.service_interleave_factor
+  pub host_delay : IsDelayInRange c.options.host_inter_check_delay_method
+  pub host_spread : IsWithin 1 525600 c.options.max_host_check_spread
+  pub concurrent_checks : c.options.max_concurrent_checks ≤ 1000000
   pub ranges : list_all (λ o. is_object_in_range o.object) (objects_of c) ≡ true

@@ -8,10 +8,12 @@ use Rattle.check_objects.specs.declared.error.LoadError.TheVariants as errors
 use Rattle.check_objects.specs.declared.options.Options.{Options}
 use Rattle.check_objects.specs.declared.options.DelayMethod.{DelayMethod}
 use Rattle.check_objects.specs.declared.options.DelayMethod.TheVariants as method
+use Rattle.check_objects.specs.declared.options.InterleaveFactor.{InterleaveFactor}
+use Rattle.check_objects.specs.declared.options.InterleaveFactor.TheVariants as factor
 use Rattle.check_objects.specs.declared.place.Place.{Place}
 use Rattle.check_objects.specs.LoadError.{◌>>=◌}
 use Rattle.check_objects.specs.Place.{the_document, the_options, the_hosts, host_at, the_services, service_at}
-use Rattle.check_objects.specs.Tree.{has_only, has_items, whole_number, member_of, member_or, texts_in, ◌>=>◌}
+use Rattle.check_objects.specs.Tree.{has_only, whole_number, member_of, member_or, texts_in, ◌>=>◌}
 
 -- a host as the document has it
 pub record HostDraft : Type 0 where
@@ -87,31 +89,58 @@ service_draft d = if has_only service_members d then
 -- ---- options
 
 abbrev pub option_members : List (List ℕ)
-option_members = codes "interval_length" ∷ codes "service_inter_check_delay_method" ∷ codes "host_inter_check_delay_method" ∷ codes "use_aggressive_host_checking" ∷ []
+option_members =
+    codes "interval_length" ∷ codes "service_inter_check_delay_method" ∷ codes "max_service_check_spread" ∷ codes "service_interleave_factor" ∷ codes "host_inter_check_delay_method" ∷ codes "max_host_check_spread"
+    ∷ codes "max_concurrent_checks" ∷ codes "soft_state_dependencies" ∷ codes "use_aggressive_host_checking" ∷ []
 
 -- options that are absent have no unknown member
 abbrev pub has_option_members : Option Data → Bool
 has_option_members None = true
 has_option_members (Some d) = has_only option_members d
 
--- the one method so far
-abbrev pub delay_method : Data → Option DelayMethod
-delay_method d = option_and_then (λ text. if bytes_eq text (codes "n") then Some method.NoDelay else None) (as_str d)
+-- a value by the text that a member is, or the other where it is no text
+abbrev pub by_text : {A : Type 0} → (List ℕ → Option A) → Option A → Option (List ℕ) → Option A
+by_text lettered other None = other
+by_text lettered other (Some text) = lettered text
 
--- A method that is needed has to be named, and else the smart one stands for it.
-abbrev pub method_in : Bool → Option Data → Option DelayMethod
-method_in true None = None
-method_in false None = Some method.Smart
-method_in needed (Some d) = delay_method d
+-- the methods that have a letter
+abbrev pub lettered_method : List ℕ → Option DelayMethod
+lettered_method text =
+    if bytes_eq text (codes "n") then Some method.NoDelay
+    else if bytes_eq text (codes "d") then Some method.Dumb
+    else if bytes_eq text (codes "s") then Some method.Smart
+    else None
+
+-- a number is a delay in milliseconds
+abbrev pub delay_method : Data → Option DelayMethod
+delay_method d = by_text lettered_method (whole_number d >=> λ n. Some (method.Fixed n)) (as_str d)
+
+abbrev pub interleave_factor : Data → Option InterleaveFactor
+interleave_factor d = by_text (λ text. if bytes_eq text (codes "s") then Some factor.Smart else None) (whole_number d >=> λ n. Some (factor.Fixed n)) (as_str d)
 
 -- the member `options`; what it doesn't name has its default
-unfoldable pub options_of : Option Data → Bool → Bool → Option Options
-options_of value has_host has_service = if has_option_members value then
+unfoldable pub options_of : Option Data → Option Options
+options_of value = if has_option_members value then
     (member_or whole_number 60 (member_of (codes "interval_length") value) >=> λ interval_length.
-    (method_in has_service (member_of (codes "service_inter_check_delay_method") value) >=> λ service_method.
-    (method_in has_host (member_of (codes "host_inter_check_delay_method") value) >=> λ host_method.
+    (member_or delay_method method.Smart (member_of (codes "service_inter_check_delay_method") value) >=> λ service_method.
+    (member_or whole_number 30 (member_of (codes "max_service_check_spread") value) >=> λ service_spread.
+    (member_or interleave_factor factor.Smart (member_of (codes "service_interleave_factor") value) >=> λ interleave.
+    (member_or delay_method method.Smart (member_of (codes "host_inter_check_delay_method") value) >=> λ host_method.
+    (member_or whole_number 30 (member_of (codes "max_host_check_spread") value) >=> λ host_spread.
+    (member_or whole_number 0 (member_of (codes "max_concurrent_checks") value) >=> λ concurrent.
+    (member_or as_bool false (member_of (codes "soft_state_dependencies") value) >=> λ soft.
     (member_or as_bool false (member_of (codes "use_aggressive_host_checking") value) >=> λ aggressive.
-    Some (record { interval_length = interval_length; service_inter_check_delay_method = service_method; host_inter_check_delay_method = host_method; use_aggressive_host_checking = aggressive })))))
+    Some (record {
+      interval_length = interval_length;
+      service_inter_check_delay_method = service_method;
+      max_service_check_spread = service_spread;
+      service_interleave_factor = interleave;
+      host_inter_check_delay_method = host_method;
+      max_host_check_spread = host_spread;
+      max_concurrent_checks = concurrent;
+      soft_state_dependencies = soft;
+      use_aggressive_host_checking = aggressive;
+    }))))))))))
     else None
 
 -- ---- the document
@@ -122,7 +151,7 @@ document_members = codes "options" ∷ codes "hosts" ∷ codes "services" ∷ []
 -- The document itself is tested first, then its options, then its hosts, then its services.
 unfoldable pub drafts_of : Data → Result Drafts LoadError
 drafts_of d = if has_only document_members d then (do
-  options ← ok_or (options_of (get (codes "options") d) (has_items (get (codes "hosts") d)) (has_items (get (codes "services") d))) (errors.Shape the_options)
+  options ← ok_or (options_of (get (codes "options") d)) (errors.Shape the_options)
   hosts ← list_of host_draft the_hosts host_at (get (codes "hosts") d)
   services ← list_of service_draft the_services service_at (get (codes "services") d)
   Ok (record { options = options; hosts = hosts; services = services }))

@@ -1,9 +1,13 @@
 -- The tests after the shape, each over the whole document, in the order in which they are made.
-use Rattle.std.specs.Prelude.{ℕ, ◌+◌, ◌&&◌, ◌||◌, ◌==◌, Bool, not, List, [], ◌∷◌, ◌++◌, length, map, sum_by, position, Option, Some, None, Result, Ok, Err, bytes_eq, nat_lt, nat_le, if◌then◌else◌}
+use Rattle.std.specs.Prelude.{ℕ, ◌+◌, ◌&&◌, ◌||◌, ◌==◌, Bool, true, not, List, [], ◌∷◌, ◌++◌, length, map, sum_by, position, Option, Some, None, Result, Ok, Err, bytes_eq, nat_lt, nat_le, if◌then◌else◌}
 use Rattle.std.specs.List.{list_any, list_all}
 use Rattle.check_objects.specs.declared.draft.CheckDraft.{CheckDraft}
 use Rattle.check_objects.specs.declared.error.LoadError.{LoadError}
 use Rattle.check_objects.specs.declared.error.LoadError.TheVariants as errors
+use Rattle.check_objects.specs.declared.options.DelayMethod.{DelayMethod}
+use Rattle.check_objects.specs.declared.options.DelayMethod.TheVariants as method
+use Rattle.check_objects.specs.declared.options.InterleaveFactor.{InterleaveFactor}
+use Rattle.check_objects.specs.declared.options.InterleaveFactor.TheVariants as factor
 use Rattle.check_objects.specs.declared.options.Options.{Options}
 use Rattle.check_objects.specs.LoadError.{◌>>=◌, refused_at}
 use Rattle.check_objects.specs.Place.{the_options, host_at, service_at}
@@ -89,9 +93,33 @@ known_hosts names services = refused_at (λ i. errors.UnknownHost (service_at i)
 abbrev pub is_in_range : CheckDraft → Bool
 is_in_range c = nat_le c.check_interval 525600 && nat_le c.retry_interval 525600 && nat_le 1 c.max_check_attempts && nat_le c.max_check_attempts 255
 
--- a unit of the intervals lasts a second to a day
+abbrev pub is_within : ℕ → ℕ → ℕ → Bool
+is_within low high n = nat_le low n && nat_le n high
+
+-- a fixed delay is at most a day of milliseconds
+abbrev pub is_delay_in_range : DelayMethod → Bool
+is_delay_in_range (method.Fixed delay) = nat_le delay 86400000
+is_delay_in_range other = true
+
+-- a fixed factor is 1 to 4,096
+abbrev pub is_factor_in_range : InterleaveFactor → Bool
+is_factor_in_range factor.Smart = true
+is_factor_in_range (factor.Fixed n) = is_within 1 4096 n
+
+-- A unit of the intervals lasts a second to a day, the first checks are spread over a minute to a year, and at most
+-- 1,000,000 service checks run at a time.
+abbrev pub are_options_in_range : Options → Bool
+are_options_in_range o =
+    is_within 1 86400 o.interval_length
+    && is_delay_in_range o.service_inter_check_delay_method
+    && is_within 1 525600 o.max_service_check_spread
+    && is_factor_in_range o.service_interleave_factor
+    && is_delay_in_range o.host_inter_check_delay_method
+    && is_within 1 525600 o.max_host_check_spread
+    && nat_le o.max_concurrent_checks 1000000
+
 abbrev pub good_options : Options → Result (Unit {0}) LoadError
-good_options options = if nat_lt options.interval_length 1 || nat_lt 86400 options.interval_length then Err (errors.Range the_options) else Ok tt
+good_options options = if are_options_in_range options then Ok tt else Err (errors.Range the_options)
 
 -- the first host with a number beyond its limits
 abbrev pub good_host_ranges : List HostDraft → Result (Unit {0}) LoadError

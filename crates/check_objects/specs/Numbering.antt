@@ -1,5 +1,5 @@
 -- The numbers of objects: hosts in the order of their names' bytes, then services in the order of their hosts' names and then of their descriptions.
-use Rattle.std.specs.Prelude.{ℕ, ◌==◌, Bool, not, List, [], ◌∷◌, ◌++◌, map, position, bytes_eq, unwrap_or}
+use Rattle.std.specs.Prelude.{ℕ, ◌==◌, Bool, not, List, [], ◌∷◌, ◌++◌, map, position, bytes_eq, unwrap_or, replicate}
 use Rattle.std.specs.List.{list_all}
 use Rattle.std.specs.declared.cmp.Ordering.{Ordering}
 use Rattle.std.specs.BTreeMap.{insert_entry}
@@ -7,7 +7,7 @@ use Rattle.std.specs.Ordering.{nat_cmp, ordering_then}
 use Rattle.std.specs.Cmp.Lexicographic.{slice_cmp}
 use Rattle.check_objects.specs.declared.draft.CheckDraft.{CheckDraft}
 use Rattle.check_objects.specs.declared.object.Object.{Object}
-use Rattle.check_objects.specs.Configuration.{Host, Service, Configuration}
+use Rattle.check_objects.specs.Configuration.{Host, Service, Configuration, object_count}
 use Rattle.check_objects.specs.Draft.{HostDraft, ServiceDraft, Drafts}
 use Rattle.check_objects.specs.Fault.{key_of}
 
@@ -71,10 +71,15 @@ numbered_service names s = record { name = full_name s.0; object = s.1; host = n
 abbrev pub names_in_order : List HostDraft → List (List ℕ)
 names_in_order hosts = map (λ h. h.0) (hosts_in_order hosts)
 
--- the setup of drafts without a fault
-abbrev pub configuration : Drafts → Configuration
-configuration drafts = record {
+-- the hosts and services of drafts without a fault, by number
+abbrev pub numbered : Drafts → Configuration
+numbered drafts = record {
   options = drafts.options;
   hosts = map (numbered_host (names_in_order drafts.hosts)) (hosts_in_order drafts.hosts);
   services = map (numbered_service (names_in_order drafts.hosts)) (services_in_order drafts.services);
+  dependencies = [];
 }
+
+-- The setup of drafts without a fault. Dependencies aren't read so far: each object has the empty list of them.
+abbrev pub configuration : Drafts → Configuration
+configuration drafts = let c = numbered drafts in record { options = c.options; hosts = c.hosts; services = c.services; dependencies = replicate (object_count c) [] }

@@ -2,7 +2,7 @@
 use Rattle.std.specs.Prelude.{ℕ, ◌&&◌, Bool, true, false, List, [], ◌∷◌, Option, Some, None, option_and_then, bytes_eq, if◌then◌else◌}
 use Rattle.std.specs.List.{list_any}
 use Rattle.std.specs.Str.{is_utf8}
-use Rattle.serde_json.specs.Data.{Data, null, boolean, number, string, array, object, Items, no_items, item, Members, no_members, member}
+use Rattle.serde_json.specs.Data.{Data, object, Items, no_items, item, Members, no_members, member}
 use Rattle.serde_json.specs.Find.{get, as_number, as_str, as_u64, as_array}
 use Rattle.serde_json.specs.Read.{read}
 
@@ -23,16 +23,6 @@ only_members names (member k d ms) = is_among names k && only_members names ms
 abbrev pub has_only : List (List ℕ) → Data → Bool
 has_only names (object ms) = only_members names ms
 has_only names d = false
-
--- whether there is an item
-abbrev pub is_filled : Option Items → Bool
-is_filled None = false
-is_filled (Some no_items) = false
-is_filled (Some (item d ds)) = true
-
--- whether the member is there, and is an array with an item, whatever the item is
-abbrev pub has_items : Option Data → Bool
-has_items value = is_filled (option_and_then as_array value)
 
 -- a whole number from 0 to 2^64 - 1
 abbrev pub whole_number : Data → Option ℕ

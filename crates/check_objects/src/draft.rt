@@ -6,13 +6,14 @@ ghost use Rattle.std.specs.Prelude.{◌≡◌, map, option_map};
 ghost use Rattle.serde_json.specs.View.{view, items_view};
 ghost use Rattle.check_objects.specs.LoadError.{Gives};
 ghost use Rattle.check_objects.specs.Place.{the_hosts, host_at, the_services, service_at};
-ghost use Rattle.check_objects.specs.Draft.{host_draft, service_draft, check_draft, drafts_of, items_from, list_of, delay_method, method_in, options_of, has_option_members};
+ghost use Rattle.check_objects.specs.Draft.{host_draft, service_draft, check_draft, drafts_of, items_from, list_of, delay_method, interleave_factor, options_of, has_option_members};
+ghost use Rattle.check_objects.specs.Tree.{member_or};
 ghost use Rattle.check_objects.specs.Drafted.{host, service, drafts};
 
 use crate::error::LoadError;
-use crate::options::{DelayMethod, Options};
+use crate::options::{DelayMethod, InterleaveFactor, Options};
 use crate::place::Place;
-use crate::tree::{bool_or, has_items, has_only, member, number_or, texts_in};
+use crate::tree::{bool_or, has_only, member, number_or, texts_in};
 use serde_json::Value;
 use std::alloc::Global;
 
@@ -58,15 +59,9 @@ impl<'v> Drafts<'v> {
         if !has_only(tree, &["options", "hosts", "services"]) {
             return Err(LoadError::Shape(Place::DOCUMENT));
         }
-        let hosts = tree.get("hosts");
-        let services = tree.get("services");
-        let options = read_options(
-            tree.get("options"),
-            has_items(hosts),
-            has_items(services),
-        ).ok_or(LoadError::Shape(Place::OPTIONS))?;
-        let hosts = read_hosts(alloc, hosts)?;
-        let services = read_services(alloc, services)?;
+        let options = read_options(tree.get("options")).ok_or(LoadError::Shape(Place::OPTIONS))?;
+        let hosts = read_hosts(alloc, tree.get("hosts"))?;
+        let services = read_services(alloc, tree.get("services"))?;
         Ok(Drafts {
             options,
             hosts,
@@ -75,25 +70,27 @@ impl<'v> Drafts<'v> {
     }
 }
 
-/// The options. Until there is more than one delay method, it has to be named for each sort of
-/// object that the document has.
+/// The options; what the document doesn't name has its default.
 #[tactic(auto, unfolding(crate::specs::Draft::options_of))]
-fn read_options(value: Option<&Value>, has_host: bool, has_service: bool) -> Option<Options>
-    ensures { result ≡ options_of (option_map (λ v. view v.now) value.entry) has_host has_service }
+fn read_options(value: Option<&Value>) -> Option<Options>
+    ensures { result ≡ options_of (option_map (λ v. view v.now) value.entry) }
 {
     if !has_option_members(value) {
         return None;
     }
     let service_method = member(value, "service_inter_check_delay_method");
     let host_method = member(value, "host_inter_check_delay_method");
+    let aggressive = member(value, "use_aggressive_host_checking");
     Some(Options {
         interval_length: number_or(member(value, "interval_length"), 60)?,
-        service_inter_check_delay_method: method_in(has_service, service_method)?,
-        host_inter_check_delay_method: method_in(has_host, host_method)?,
-        use_aggressive_host_checking: bool_or(
-            member(value, "use_aggressive_host_checking"),
-            false,
-        )?,
+        service_inter_check_delay_method: delay_method_or_smart(service_method)?,
+        max_service_check_spread: number_or(member(value, "max_service_check_spread"), 30)?,
+        service_interleave_factor: factor_or_smart(member(value, "service_interleave_factor"))?,
+        host_inter_check_delay_method: delay_method_or_smart(host_method)?,
+        max_host_check_spread: number_or(member(value, "max_host_check_spread"), 30)?,
+        max_concurrent_checks: number_or(member(value, "max_concurrent_checks"), 0)?,
+        soft_state_dependencies: bool_or(member(value, "soft_state_dependencies"), false)?,
+        use_aggressive_host_checking: bool_or(aggressive, false)?,
     })
 }
 
@@ -106,7 +103,12 @@ fn has_option_members(value: Option<&Value>) -> bool
             &[
                 "interval_length",
                 "service_inter_check_delay_method",
+                "max_service_check_spread",
+                "service_interleave_factor",
                 "host_inter_check_delay_method",
+                "max_host_check_spread",
+                "max_concurrent_checks",
+                "soft_state_dependencies",
                 "use_aggressive_host_checking",
             ],
         ),
@@ -114,22 +116,45 @@ fn has_option_members(value: Option<&Value>) -> bool
     }
 }
 
-fn method_in(needed: bool, value: Option<&Value>) -> Option<DelayMethod>
-    ensures { result ≡ method_in needed (option_map (λ v. view v.now) value.entry) }
+fn delay_method_or_smart(value: Option<&Value>) -> Option<DelayMethod>
+    ensures { result ≡ member_or delay_method DelayMethod.Smart (option_map (λ v. view v.now) value.entry) }
 {
     match value {
         Some(value) => delay_method(value),
-        None if needed => None,
         None => Some(DelayMethod::Smart),
     }
 }
 
+/// A method by its letter, or a number of milliseconds.
 fn delay_method(value: &Value) -> Option<DelayMethod>
     ensures { result ≡ delay_method (view value.now) }
 {
-    match value.as_str()? {
-        "n" => Some(DelayMethod::NoDelay),
-        _ => None,
+    match value.as_str() {
+        Some("n") => Some(DelayMethod::NoDelay),
+        Some("d") => Some(DelayMethod::Dumb),
+        Some("s") => Some(DelayMethod::Smart),
+        Some(_) => None,
+        None => Some(DelayMethod::Fixed(value.as_u64()?)),
+    }
+}
+
+fn factor_or_smart(value: Option<&Value>) -> Option<InterleaveFactor>
+    ensures { result ≡ member_or interleave_factor InterleaveFactor.Smart (option_map (λ v. view v.now) value.entry) }
+{
+    match value {
+        Some(value) => interleave_factor(value),
+        None => Some(InterleaveFactor::Smart),
+    }
+}
+
+/// The smart factor by its letter, or a number.
+fn interleave_factor(value: &Value) -> Option<InterleaveFactor>
+    ensures { result ≡ interleave_factor (view value.now) }
+{
+    match value.as_str() {
+        Some("s") => Some(InterleaveFactor::Smart),
+        Some(_) => None,
+        None => Some(InterleaveFactor::Fixed(value.as_u64()?)),
     }
 }
 

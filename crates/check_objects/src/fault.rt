@@ -3,13 +3,13 @@
 ghost use Rattle.std.specs.Prelude.{◌≡◌, ◌≤◌, ◌+◌, map, length, not, position, IfNone, OnOk, IsTrue, All};
 ghost use Rattle.std.specs.List.{list_all};
 ghost use Rattle.check_objects.specs.LoadError.{Gives};
-ghost use Rattle.check_objects.specs.Fault.{few_objects, has_few_parents, good_names, good_host_names, good_descriptions, host_names, no_repeated_services, known_parents, known_hosts, good_ranges, good_options, good_host_ranges, good_service_ranges, is_faultless, is_name_byte, is_name, is_known, is_in_range};
+ghost use Rattle.check_objects.specs.Fault.{few_objects, has_few_parents, good_names, good_host_names, good_descriptions, host_names, no_repeated_services, known_parents, known_hosts, good_ranges, good_options, good_host_ranges, good_service_ranges, is_faultless, is_name_byte, is_name, is_known, is_in_range, is_within, is_delay_in_range, is_factor_in_range, are_options_in_range};
 ghost use Rattle.check_objects.specs.Drafted.{host, service, drafts, texts, HasFewAttempts};
 ghost use Rattle.check_objects.specs.Text.{text};
 
 use crate::draft::{CheckDraft, Drafts, HostDraft, ServiceDraft};
 use crate::error::LoadError;
-use crate::options::Options;
+use crate::options::{DelayMethod, InterleaveFactor, Options};
 use crate::place::Place;
 use crate::tree::text;
 use indexmap::IndexSet;
@@ -25,6 +25,14 @@ const MAX_NAME_BYTES: usize = 255;
 const MAX_INTERVAL: u64 = 525_600;
 
 const MAX_INTERVAL_LENGTH: u64 = 86_400;
+
+const MAX_DELAY: u64 = 86_400_000;
+
+const MAX_SPREAD: u64 = 525_600;
+
+const MAX_FACTOR: u64 = 4096;
+
+const MAX_CONCURRENT_CHECKS: u64 = 1_000_000;
 
 const MAX_ATTEMPTS: u64 = 255;
 
@@ -235,10 +243,47 @@ fn test_ranges(
 fn test_options(options: &Options) -> Result<(), LoadError>
     ensures { Gives (λ u. u) result (good_options options.now) }
 {
-    if options.interval_length < 1 || options.interval_length > MAX_INTERVAL_LENGTH {
-        return Err(LoadError::Range(Place::OPTIONS));
+    if are_options_in_range(options) {
+        Ok(())
+    } else {
+        Err(LoadError::Range(Place::OPTIONS))
     }
-    Ok(())
+}
+
+fn are_options_in_range(options: &Options) -> bool
+    ensures { result ≡ are_options_in_range options.now }
+{
+    is_within(options.interval_length, 1, MAX_INTERVAL_LENGTH)
+        && is_delay_in_range(options.service_inter_check_delay_method)
+        && is_within(options.max_service_check_spread, 1, MAX_SPREAD)
+        && is_factor_in_range(options.service_interleave_factor)
+        && is_delay_in_range(options.host_inter_check_delay_method)
+        && is_within(options.max_host_check_spread, 1, MAX_SPREAD)
+        && options.max_concurrent_checks <= MAX_CONCURRENT_CHECKS
+}
+
+fn is_within(number: u64, low: u64, high: u64) -> bool
+    ensures { result ≡ is_within low high number }
+{
+    low <= number && number <= high
+}
+
+fn is_delay_in_range(method: DelayMethod) -> bool
+    ensures { result ≡ is_delay_in_range method }
+{
+    match method {
+        DelayMethod::Fixed(delay) => delay <= MAX_DELAY,
+        _ => true,
+    }
+}
+
+fn is_factor_in_range(factor: InterleaveFactor) -> bool
+    ensures { result ≡ is_factor_in_range factor }
+{
+    match factor {
+        InterleaveFactor::Smart => true,
+        InterleaveFactor::Fixed(factor) => is_within(factor, 1, MAX_FACTOR),
+    }
 }
 
 fn test_host_ranges(hosts: &[HostDraft<'_>]) -> Result<(), LoadError>

@@ -7,6 +7,7 @@
 //! by its hash.
 #![tactic(auto)]
 
+mod dependency;
 mod draft;
 mod error;
 mod fault;
@@ -21,8 +22,9 @@ mod setup;
 mod tests;
 mod tree;
 
+pub use dependency::{Criteria, Dependency};
 pub use error::LoadError;
 pub use object::Object;
-pub use options::{DelayMethod, Options};
+pub use options::{DelayMethod, InterleaveFactor, Options};
 pub use place::{Part, Place};
 pub use setup::Setup;

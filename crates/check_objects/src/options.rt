@@ -6,8 +6,23 @@
 pub enum DelayMethod {
     /// `"n"`: no delay; all first checks are due at the start.
     NoDelay,
-    /// `"s"`: the smart delay, the default. Only a sort without an object has it so far.
+    /// `"d"`: the dumb delay, one second from one to the next.
+    Dumb,
+    /// `"s"`: the smart delay, the default: the average check interval divided by the number of
+    /// objects, and shorter where the maximum spread asks for it.
     Smart,
+    /// A number: so many milliseconds from one to the next, 0 to 86,400,000.
+    Fixed(u64),
+}
+
+/// How many places further on the next service stands whose first check is due (manual: Service
+/// and Host Check Scheduling, service interleaving).
+#[derive(Clone, Copy, Debug, PartialEq, Eq)]
+pub enum InterleaveFactor {
+    /// `"s"`: the smart factor, the default: the services of a host on average, rounded up.
+    Smart,
+    /// A number, 1 to 4,096. 1 is no interleaving.
+    Fixed(u64),
 }
 
 /// The options of a setup (manual: Main Configuration File Options).
@@ -15,10 +30,23 @@ pub enum DelayMethod {
 pub struct Options {
     /// How many seconds a unit of the intervals lasts, 1 to 86,400. 60 unless the document says so.
     pub interval_length: u64,
-    /// How the first checks of services are spread.
+    /// How the first checks of services are spread. Smart unless the document says so.
     pub service_inter_check_delay_method: DelayMethod,
-    /// How the first checks of hosts are spread.
+    /// Within how many minutes the smart method has the first checks of all services due, 1 to
+    /// 525,600. 30 unless the document says so.
+    pub max_service_check_spread: u64,
+    /// In what order the first checks of services are due. Smart unless the document says so.
+    pub service_interleave_factor: InterleaveFactor,
+    /// How the first checks of hosts are spread. Smart unless the document says so.
     pub host_inter_check_delay_method: DelayMethod,
+    /// Within how many minutes the smart method has the first checks of all hosts due, 1 to
+    /// 525,600. 30 unless the document says so.
+    pub max_host_check_spread: u64,
+    /// How many service checks may run at a time, up to 1,000,000. 0, the default, is no limit.
+    pub max_concurrent_checks: u64,
+    /// Whether dependencies look at the current state of the master in place of its last hard one
+    /// (manual: Host and Service Dependencies). False unless the document says so.
+    pub soft_state_dependencies: bool,
     /// Whether a WARNING of a host's plugin counts as a problem (manual: Host Checks). False unless
     /// the document says so.
     pub use_aggressive_host_checking: bool,

@@ -1,6 +1,7 @@
 //! The setup: the objects that are checked, with their names and numbers, and their links.
 ghost use Rattle.std.specs.Prelude.{◌≡◌, ◌<◌, ◌≤◌, length, map, Ok, option_map, slice_get, Some, IfSome, IfOk, IsOkUnless, Err, ◌==◌, All};
-ghost use Rattle.check_objects.specs.Configuration.{object_count, host_count, objects_of, number_of, name_of, host_of, parents_of, IsSetup};
+ghost use Rattle.check_objects.specs.Configuration.{object_count, host_count, objects_of, number_of, name_of, host_of, parents_of, dependencies_of, masters_of, IsSetup};
+ghost use Rattle.check_objects.specs.Depth.{IsOrder};
 ghost use Rattle.check_objects.specs.Numbering.{configuration};
 ghost use Rattle.check_objects.specs.Setup.{setup_of, without_cycle};
 ghost use Rattle.check_objects.specs.Fault.{is_faultless};
@@ -8,6 +9,7 @@ ghost use Rattle.check_objects.specs.Drafted.{HasFewAttempts};
 ghost use Rattle.check_objects.specs.Entries.{host_entry};
 ghost use Rattle.check_objects.specs.LoadError.{Gives};
 
+use crate::dependency::{Dependencies, Dependency, no_dependencies, order_by_masters};
 use crate::draft::Drafts;
 use crate::error::LoadError;
 use crate::numbering::{
@@ -34,6 +36,8 @@ pub struct Setup {
     options: Options,
     hosts: IndexMap<String, Host>,
     services: IndexMap<String, Service>,
+    dependencies: Vec<Dependencies>,
+    order: Vec<u32>,
 }
 
 impl Model for Setup {
@@ -83,10 +87,14 @@ impl Setup {
         let names = number_names(alloc, &hosts)?;
         let hosts = index_hosts(alloc, hosts, &names)?;
         let services = index_services(alloc, services, &names)?;
+        let dependencies = no_dependencies(alloc, hosts.len() + services.len())?;
+        let order = order_by_masters(alloc, &dependencies)?.unwrap();
         Ok(Setup {
             options: document.options,
             hosts,
             services,
+            dependencies,
+            order,
         })
     }
 
@@ -202,6 +210,24 @@ impl Setup {
             Some((_, host)) => host.parents.as_slice(),
             None => &[],
         }
+    }
+
+    /// What the object with this number depends on, in the document's order: services on services,
+    /// hosts on hosts.
+    pub fn dependencies(&self, number: u32) -> &[Dependency]
+        requires { number < object_count self.now }
+        ensures dependencies { result.now ≡ dependencies_of self.now number }
+        ensures within { All (λ d. d.master < object_count self.now) result.now }
+    {
+        self.dependencies[number as usize].as_slice()
+    }
+
+    /// The numbers of all objects, each once, in an order in which every object stands behind all
+    /// that it depends on.
+    pub fn order(&self) -> &[u32]
+        ensures { IsOrder (masters_of self.now) result.now }
+    {
+        &self.order
     }
 }
 

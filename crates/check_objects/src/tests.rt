@@ -1,5 +1,5 @@
 //! What no clause says: that good documents are read, and refusals at documents from outside.
-use crate::{DelayMethod, LoadError, Part, Place, Setup};
+use crate::{DelayMethod, InterleaveFactor, LoadError, Options, Part, Place, Setup};
 use std::alloc::{AllocError, Global};
 use std::test::Fail;
 
@@ -97,15 +97,11 @@ fn refuses_whole_documents(rt: HostRuntime) -> Result<(), Fail> {
         ),
         (
             r#"{"hosts":[5]}"#,
-            LoadError::Shape(place(Part::Options, None)),
+            LoadError::Shape(place(Part::Hosts, Some(0))),
         ),
         (
             r#"{"options":{"interval_length":0}}"#,
             LoadError::Range(place(Part::Options, None)),
-        ),
-        (
-            r#"{"options":{"host_inter_check_delay_method":"s"}}"#,
-            LoadError::Shape(place(Part::Options, None)),
         ),
     ] {
         let refused = Setup::read(rt.alloc(), document.as_bytes());
@@ -156,6 +152,86 @@ fn refuses_lists_of_hosts(rt: HostRuntime) -> Result<(), Fail> {
         let document = with_hosts(rt.alloc(), hosts)?;
         let refused = Setup::read(rt.alloc(), document.as_bytes());
         assert!(rt; matches!(&refused, Err(e) if *e == want), "{hosts}");
+    }
+    Ok(())
+}
+
+/// A document with this text as its options alone.
+fn with_options(alloc: Global, options: &str) -> Result<String, AllocError> {
+    format!(in alloc; "{{\"options\":{{{options}}}}}")
+}
+
+#[test]
+fn reads_each_option(rt: HostRuntime) -> Result<(), Fail> {
+    let document = with_options(
+        rt.alloc(),
+        r#""interval_length":86400,"service_inter_check_delay_method":86400000,"max_service_check_spread":525600,
+        "service_interleave_factor":4096,"host_inter_check_delay_method":"d","max_host_check_spread":1,
+        "max_concurrent_checks":1000000,"soft_state_dependencies":true,"use_aggressive_host_checking":true"#,
+    )?;
+    let Ok(setup) = Setup::read(rt.alloc(), document.as_bytes()) else {
+        panic!(rt; "the document was refused");
+    };
+    let want = Options {
+        interval_length: 86_400,
+        service_inter_check_delay_method: DelayMethod::Fixed(86_400_000),
+        max_service_check_spread: 525_600,
+        service_interleave_factor: InterleaveFactor::Fixed(4096),
+        host_inter_check_delay_method: DelayMethod::Dumb,
+        max_host_check_spread: 1,
+        max_concurrent_checks: 1_000_000,
+        soft_state_dependencies: true,
+        use_aggressive_host_checking: true,
+    };
+    assert_eq!(rt; *setup.options(), want);
+    Ok(())
+}
+
+#[test]
+fn options_have_defaults(rt: HostRuntime) -> Result<(), Fail> {
+    let Ok(setup) = Setup::read(rt.alloc(), b"{}") else {
+        panic!(rt; "the document was refused");
+    };
+    let want = Options {
+        interval_length: 60,
+        service_inter_check_delay_method: DelayMethod::Smart,
+        max_service_check_spread: 30,
+        service_interleave_factor: InterleaveFactor::Smart,
+        host_inter_check_delay_method: DelayMethod::Smart,
+        max_host_check_spread: 30,
+        max_concurrent_checks: 0,
+        soft_state_dependencies: false,
+        use_aggressive_host_checking: false,
+    };
+    assert_eq!(rt; *setup.options(), want);
+    Ok(())
+}
+
+#[test]
+fn refuses_options(rt: HostRuntime) -> Result<(), Fail> {
+    let shape = LoadError::Shape(place(Part::Options, None));
+    let range = LoadError::Range(place(Part::Options, None));
+    for (options, want) in [
+        (r#""service_inter_check_delay_method":"x""#, shape),
+        (r#""host_inter_check_delay_method":true"#, shape),
+        (r#""service_interleave_factor":"n""#, shape),
+        (r#""max_host_check_spread":"s""#, shape),
+        (r#""max_concurrent_checks":-1"#, shape),
+        (r#""soft_state_dependencies":0"#, shape),
+        (r#""interval_length":86401"#, range),
+        (r#""service_inter_check_delay_method":86400001"#, range),
+        (r#""host_inter_check_delay_method":86400001"#, range),
+        (r#""max_service_check_spread":0"#, range),
+        (r#""max_service_check_spread":525601"#, range),
+        (r#""max_host_check_spread":0"#, range),
+        (r#""max_host_check_spread":525601"#, range),
+        (r#""service_interleave_factor":0"#, range),
+        (r#""service_interleave_factor":4097"#, range),
+        (r#""max_concurrent_checks":1000001"#, range),
+    ] {
+        let document = with_options(rt.alloc(), options)?;
+        let refused = Setup::read(rt.alloc(), document.as_bytes());
+        assert!(rt; matches!(&refused, Err(e) if *e == want), "{options}");
     }
     Ok(())
 }
@@ -253,10 +329,7 @@ fn refuses_services_and_links(rt: HostRuntime) -> Result<(), Fail> {
             r#"{"services":5}"#,
             LoadError::Shape(place(Part::Services, None)),
         ),
-        (
-            r#"{"services":[5]}"#,
-            LoadError::Shape(place(Part::Options, None)),
-        ),
+        (r#"{"services":[5]}"#, LoadError::Shape(service(0))),
     ] {
         let refused = Setup::read(alloc, document.as_bytes());
         assert!(rt; matches!(&refused, Err(e) if *e == want), "{document}");

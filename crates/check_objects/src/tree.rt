@@ -4,7 +4,7 @@ ghost use Rattle.std.specs.List.{list_all, list_any};
 ghost use Rattle.std.specs.BTreeMap.{keys};
 ghost use Rattle.serde_json.specs.View.{view};
 ghost use Rattle.serde_json.specs.Find.{as_bool, as_str};
-ghost use Rattle.check_objects.specs.Tree.{tree_of, has_only, has_items, member_of, member_or, texts_in, whole_number};
+ghost use Rattle.check_objects.specs.Tree.{tree_of, has_only, member_of, member_or, texts_in, whole_number};
 ghost use Rattle.check_objects.specs.Text.{text};
 ghost use Rattle.check_objects.specs.LoadError.{Gives};
 
@@ -58,25 +58,6 @@ pub(crate) fn member<'v>(value: Option<&'v Value>, name: &str) -> Option<&'v Val
     match value {
         Some(value) => value.get(name),
         None => None,
-    }
-}
-
-/// Whether the member is an array with an item.
-pub(crate) fn has_items(value: Option<&Value>) -> bool
-    ensures { result ≡ has_items (option_map (λ v. view v.now) value.entry) }
-{
-    match value {
-        Some(value) => is_filled_array(value),
-        None => false,
-    }
-}
-
-fn is_filled_array(value: &Value) -> bool
-    ensures { result ≡ has_items (option_map (λ v. v) (Some (view value.now))) }
-{
-    match value.as_array() {
-        Some(items) => !items.is_empty(),
-        None => false,
     }
 }
 

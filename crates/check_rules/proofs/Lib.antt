@@ -1,1 +1,3 @@
+pub mod BlockedLaws
+pub mod MarkLemmas
 pub mod VerdictLaws

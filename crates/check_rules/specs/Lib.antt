@@ -2,3 +2,5 @@ pub mod State
 pub mod Standing
 pub mod Reachability
 pub mod Verdict
+pub mod Dependencies
+pub mod Marks

@@ -43,7 +43,7 @@ no_later_time c d e = (no_later_reads c d e).0
 pub is_same_itself : (c : Candidate) → is_same c c ≡ true
 is_same_itself c = grind (arith, nat_tests)
 
-same_is : (c d : Candidate) → is_same c d ≡ true → c ≡ d
+pub same_is : (c d : Candidate) → is_same c d ≡ true → c ≡ d
 same_is c d e =
     let a : c.time ≡ d.time = grind (arith, nat_tests, e) in
     let b : c.number ≡ d.number = grind (arith, nat_tests, e) in
@@ -93,11 +93,11 @@ any_filtered_by c d cs ds p true false s b h m more = let e = ap p (same_is c d 
 any_filtered_by c d cs ds p false true s b h m more = rw s (more m)
 any_filtered_by c d cs ds p false false s b h m more = more m
 
-any_filtered : (c : Candidate) (p : Candidate → Bool) (cs : List Candidate) → p c ≡ true → list_any (is_same c) cs ≡ true → list_any (is_same c) (filter p cs) ≡ true
+pub any_filtered : (c : Candidate) (p : Candidate → Bool) (cs : List Candidate) → p c ≡ true → list_any (is_same c) cs ≡ true → list_any (is_same c) (filter p cs) ≡ true
 any_filtered c p [] h m = m
 any_filtered c p (d ∷ cs) h m = any_filtered_by c d cs (filter p cs) p (is_same c d) (p d) refl refl h m (any_filtered c p cs h)
 
-none_filtered : (p : Candidate → Bool) (cs : List Candidate) → list_all (λ c. not (p c)) cs ≡ true → filter p cs ≡ []
+pub none_filtered : (p : Candidate → Bool) (cs : List Candidate) → list_all (λ c. not (p c)) cs ≡ true → filter p cs ≡ []
 none_filtered p [] e = refl
 none_filtered p (c ∷ cs) e =
     let both = and_both (not (p c)) (list_all (λ d. not (p d)) cs) e in

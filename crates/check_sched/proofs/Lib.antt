@@ -1,5 +1,7 @@
 pub mod AnswerLaws
 pub mod CandidateLaws
+pub mod EligibleLaws
+pub mod LimitLaws
 pub mod OpeningLaws
 pub mod OperatorLaws
 pub mod ReportLaws

@@ -6,7 +6,7 @@ use Rattle.std.proofs.lemmas.Bool.Decides.{nat_tests}
 use Rattle.std.proofs.lemmas.List.{length-map, take_more}
 use Rattle.std.proofs.lemmas.List.FromFn.{length-enumerate_from}
 use Rattle.check_objects.specs.declared.object.Object.{Object}
-use Rattle.check_objects.specs.Configuration.{Configuration, Named, objects_of, object_count, IsSetup}
+use Rattle.check_objects.specs.Configuration.{Configuration, Named, objects_of, object_count, host_count, IsSetup}
 use Rattle.check_rules.specs.declared.standing.Standing.{Standing}
 use Rattle.check_rules.specs.Standing.{pending_standing}
 use Rattle.check_rules.proofs.VerdictLaws.{pending_is_lawful, pending_sort}
@@ -14,6 +14,7 @@ use Rattle.check_sched.specs.declared.object_state.ObjectState.{ObjectState}
 use Rattle.check_sched.specs.ObjectState.{opening_object}
 use Rattle.check_sched.specs.State.{IsState, IsStandingOf, is_host, is_in_time, is_scheduled, is_time, opening, opening_objects, opening_standings, opening_time}
 use Rattle.check_sched.proofs.CandidateLaws.{both_and}
+use Rattle.check_sched.proofs.LimitLaws.{services_none}
 use Rattle.check_sched.proofs.ReportLaws.{some_attempts}
 
 -- ---- within the limits
@@ -58,6 +59,7 @@ opening_is_state setup start h valid = record {
   one_standing_each = length-opening_standings setup;
   runs = omega arith;
   times = times_opening setup start 0 (objects_of setup) h;
+  limit = λ some. let none = services_none (host_count setup) (λ (p : ℕ × Named). opening_object (opening_time setup start p.0) p.1.object.enabled) (enumerate_from 0 (objects_of setup)) (λ p. refl) in omega (arith, none);
   standings = λ n t e. let z : 0 + n ≡ n = omega arith in subst (λ j. IsStandingOf setup j t) z (standings_opening setup 0 (objects_of setup) valid n t e);
 }
 

@@ -13,6 +13,7 @@ use Rattle.check_sched.specs.State.{State, IsState, is_in_time, is_moment, is_ti
 use Rattle.check_sched.specs.Step.{known, step, with_object, within_range}
 use Rattle.check_sched.proofs.AnswerLaws.{by_test, known_is, range_is, under_is}
 use Rattle.check_sched.proofs.CandidateLaws.{and_both, both_and}
+use Rattle.check_sched.proofs.LimitLaws.{BeginsNone, limit_kept}
 use Rattle.check_sched.proofs.ReportLaws.{next_of_state}
 use Rattle.check_sched.proofs.UpdateLaws.{length-update_at, all-update_at, set_is_update}
 use Rattle.std.proofs.lemmas.Option.{slice_get_within}
@@ -53,13 +54,14 @@ status_cases P n s refused tell = by_test P s (known n s) _ refused (λ o e. tel
 -- ---- the limits
 
 -- one object changed, within its limits, leaves the state one that a scheduler can be in
-pub with_object_is_state : (n : ℕ) (f : ObjectState → ObjectState) (s : State) → IsState s → ((o : ObjectState) → is_in_time o ≡ true → is_in_time (f o) ≡ true) → IsState (with_object n f s)
-with_object_is_state n f s is_state h = record {
+pub with_object_is_state : (n : ℕ) (f : ObjectState → ObjectState) (s : State) → IsState s → ((o : ObjectState) → is_in_time o ≡ true → is_in_time (f o) ≡ true) → BeginsNone f → IsState (with_object n f s)
+with_object_is_state n f s is_state h none = record {
   valid_setup = is_state.valid_setup;
   one_each = length-update_at n f s.objects ∙ is_state.one_each;
   one_standing_each = is_state.one_standing_each;
   runs = is_state.runs;
   times = all-update_at is_in_time n f s.objects is_state.times h;
+  limit = limit_kept n f s none is_state.limit;
   standings = is_state.standings;
 }
 

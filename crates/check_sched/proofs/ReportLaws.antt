@@ -31,6 +31,7 @@ use Rattle.check_sched.specs.State.{State, IsState, IsStandingOf, is_host, is_ti
 use Rattle.check_sched.specs.Step.{known, report_taken, reported, standing_reply, step}
 use Rattle.check_sched.proofs.AnswerLaws.{by_test, known_is, under_is}
 use Rattle.check_sched.proofs.CandidateLaws.{and_both, both_and}
+use Rattle.check_sched.proofs.LimitLaws.{limit_kept}
 use Rattle.check_sched.proofs.UpdateLaws.{length-update_at, all-update_at, each-update_at, all_at_place, none_there}
 use Rattle.check_sched.specs.Report.{interval_after, judged, judged_by, milliseconds, next_after, time_after}
 
@@ -192,6 +193,7 @@ reported_is_state n standing next s is_state t new = record {
   one_standing_each = length-update_at n _ s.standings ∙ is_state.one_standing_each;
   runs = is_state.runs;
   times = all-update_at is_in_time n (ended next) s.objects is_state.times (λ o e. both_and (is_time next) true t refl);
+  limit = limit_kept n (ended next) s (λ o e. cc) is_state.limit;
   standings = each-update_at (IsStandingOf s.setup) n standing s.standings is_state.standings new;
 }
 

@@ -9,6 +9,7 @@ use Rattle.check_sched.specs.ObjectState.{freed_time}
 use Rattle.check_sched.specs.State.{State, IsState}
 use Rattle.check_sched.specs.Reply.{OnRefused, NamesObjectOf, TellsTimesUpTo}
 use Rattle.check_sched.specs.Step.{step, replies, after}
+use Rattle.check_sched.proofs.EligibleLaws.{eligible_open, waiting_cases}
 use Rattle.check_sched.proofs.OperatorLaws.{abandon_cases, ended_in_time, enable_cases, freed_in_time, reschedule_cases, rescheduled_in_time, status_cases, with_object_is_state}
 use Rattle.check_sched.proofs.TakeLaws.{take_cases, eligible_within, least_time, taken_is_state}
 use Rattle.check_sched.proofs.ReportLaws.{next_of_state, report_cases, report_next, report_standing, reported_is_state, is_time_reads}
@@ -26,7 +27,8 @@ refusal_keeps : (s : State) (why : Refusal) → Keeps s (s, reply.Refused why)
 refusal_keeps s why = record { setup = refl; start = refl; refused = refl }
 
 pub step_keeps : (s : State) (c : Call) → Keeps s (step s c)
-step_keeps s (call.Take now) = take_cases (Keeps s) now s (refusal_keeps s) (λ c m r e. record { setup = refl; start = refl; refused = tt }) (λ e. record { setup = refl; start = refl; refused = tt })
+step_keeps s (call.Take now) = take_cases (Keeps s) now s (refusal_keeps s) (λ c m r e. record { setup = refl; start = refl; refused = tt })
+    (λ e. record { setup = refl; start = refl; refused = waiting_cases (λ r. OnRefused r (s ≡ s)) now s tt tt })
 step_keeps s (call.Report n run c) = report_cases (Keeps s) n run c s (refusal_keeps s) (λ o r e f. record { setup = refl; start = refl; refused = tt })
 step_keeps s (call.Abandon n run now) = abandon_cases (Keeps s) n run now s (refusal_keeps s) (λ o e m. record { setup = refl; start = refl; refused = tt })
 step_keeps s (call.Reschedule n time forced) = reschedule_cases (Keeps s) n time forced s (refusal_keeps s) (λ m. record { setup = refl; start = refl; refused = tt })
@@ -48,8 +50,8 @@ refusal_is_answer s is_state why = record { named = tt; times = tt; is_state = i
 pub step_is_answer : (s : State) (c : Call) → IsState s → IsAnswer s (step s c)
 step_is_answer s (call.Take now) is_state =
     take_cases (IsAnswer s) now s (refusal_is_answer s is_state)
-    (λ c m r e. record { named = eligible_within now s c is_state e; times = tt; is_state = taken_is_state now c.number s is_state m r })
-    (λ e. record { named = tt; times = least_time s is_state; is_state = is_state })
+    (λ c m r e. record { named = eligible_within now s c is_state e; times = tt; is_state = taken_is_state now c.number s is_state m r (eligible_open now s c e) })
+    (λ e. record { named = waiting_cases (NamesObjectOf s.setup) now s tt tt; times = waiting_cases (TellsTimesUpTo (2 ^ 61)) now s tt (least_time s is_state); is_state = is_state })
 step_is_answer s (call.Report n run c) is_state =
     report_cases (IsAnswer s) n run c s (refusal_is_answer s is_state)
     (λ o r e f. let next = report_next n c o r s is_state e f in record {
@@ -62,14 +64,14 @@ step_is_answer s (call.Abandon n run now) is_state =
     (λ o e m. let next = freed_in_time now n o s is_state e m in record {
       named = tt;
       times = is_time_reads (Some (freed_time now o)) next;
-      is_state = with_object_is_state n _ s is_state (λ x t. ended_in_time (Some (freed_time now o)) x next);
+      is_state = with_object_is_state n _ s is_state (λ x t. ended_in_time (Some (freed_time now o)) x next) (λ x b. cc);
     })
 step_is_answer s (call.Reschedule n time forced) is_state =
     reschedule_cases (IsAnswer s) n time forced s (refusal_is_answer s is_state)
-    (λ m. record { named = tt; times = tt; is_state = with_object_is_state n _ s is_state (λ x t. rescheduled_in_time time forced x m t) })
+    (λ m. record { named = tt; times = tt; is_state = with_object_is_state n _ s is_state (λ x t. rescheduled_in_time time forced x m t) (λ x b. b) })
 step_is_answer s (call.Enable n on) is_state =
     enable_cases (IsAnswer s) n on s (refusal_is_answer s is_state)
-    (record { named = tt; times = tt; is_state = with_object_is_state n _ s is_state (λ x t. t) })
+    (record { named = tt; times = tt; is_state = with_object_is_state n _ s is_state (λ x t. t) (λ x b. b) })
 step_is_answer s (call.Status n) is_state =
     status_cases (IsAnswer s) n s (refusal_is_answer s is_state)
     (λ o e. record { named = tt; times = is_time_reads o.next (next_of_state s n o is_state e); is_state = is_state })

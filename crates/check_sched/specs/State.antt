@@ -1,5 +1,5 @@
 -- The state of a scheduler as contracts see it, and the state that it opens with.
-use Rattle.std.specs.Prelude.{ℕ, ◌^◌, ◌≤◌, ◌≡◌, ◌&&◌, ◌==◌, Bool, true, not, List, length, map, Option, Some, None, option_map, option_and_then, slice_get, nat_le, nat_lt, unwrap_or, if◌then◌else◌}
+use Rattle.std.specs.Prelude.{ℕ, ◌^◌, ◌<◌, ◌≤◌, ◌≡◌, ◌&&◌, ◌||◌, ◌==◌, Bool, true, not, List, length, map, drop, count_by, Option, Some, None, is_some, option_map, option_and_then, slice_get, nat_le, nat_lt, unwrap_or, if◌then◌else◌}
 use Rattle.std.specs.List.{list_all, enumerate_from}
 use Rattle.std.specs.Option.{option_map_or}
 use Rattle.check_objects.specs.declared.object.Object.{Object}
@@ -41,6 +41,29 @@ is_host setup number = nat_lt number (host_count setup)
 -- the maximum of check attempts of the object with this number
 abbrev pub max_attempts_of : Configuration → ℕ → ℕ
 max_attempts_of setup number = option_map_or (λ o. o.object.max_check_attempts) (slice_get (objects_of setup) number) 1
+
+-- ---- the limit of checks that run
+
+-- how many checks of services may run at a time; 0 is no limit ("Main Configuration File Options",
+-- max_concurrent_checks)
+abbrev pub limit_of : Configuration → ℕ
+limit_of setup = setup.options.max_concurrent_checks
+
+-- the services, in the order of their numbers: hosts have the first numbers
+abbrev pub services_of : State → List ObjectState
+services_of s = drop (host_count s.setup) s.objects
+
+-- how many services are being checked, forced checks among them
+abbrev pub running_services : State → ℕ
+running_services s = count_by (λ o. is_some o.run) (services_of s)
+
+-- whether one service more may be checked
+abbrev pub has_room : State → Bool
+has_room s = limit_of s.setup == 0 || nat_lt (running_services s) (limit_of s.setup)
+
+-- no more services are being checked than the limit, where it isn't 0, allows
+abbrev pub IsWithinLimit : State → Type 0
+IsWithinLimit s = 0 < limit_of s.setup → running_services s ≤ limit_of s.setup
 
 -- ---- the opening
 
@@ -95,4 +118,5 @@ pub record IsState (s : State) : Type 0 where
   pub one_standing_each : length s.standings ≡ object_count s.setup
   pub runs : s.runs ≤ 2 ^ 60
   pub times : list_all is_in_time s.objects ≡ true
+  pub limit : IsWithinLimit s
   pub standings : (number : ℕ) (standing : Standing) → slice_get s.standings number ≡ Some standing → IsStandingOf s.setup number standing

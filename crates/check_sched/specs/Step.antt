@@ -1,5 +1,6 @@
 -- The sequential step: what a call answers in a state, and the state that it leaves.
-use Rattle.std.specs.Prelude.{ℕ, zero, suc, ◌+◌, ◌^◌, Bool, false, List, [], ◌∷◌, Option, Some, None, Result, Ok, Err, ok_or, option_map, slice_get, nat_lt, if◌then◌else◌}
+use Rattle.std.specs.Prelude.{ℕ, zero, suc, ◌+◌, ◌^◌, Bool, false, not, ◌||◌, List, [], ◌∷◌, filter, Option, Some, None, Result, Ok, Err, ok_or, option_map, slice_get, nat_lt, if◌then◌else◌}
+use Rattle.std.specs.List.{list_any}
 use Rattle.check_sched.specs.declared.call.Call.{Call}
 use Rattle.check_sched.specs.declared.call.Call.TheVariants as call
 use Rattle.check_sched.specs.declared.call.Reply.{Reply}
@@ -13,7 +14,7 @@ use Rattle.check_rules.specs.declared.standing.Standing.{Standing}
 use Rattle.check_rules.specs.State.{is_another_state}
 use Rattle.check_sched.specs.ObjectState.{running_from, ended, run_under, freed_time, rescheduled, enabled_as}
 use Rattle.check_sched.specs.Candidate.{candidates_among, due_among, least}
-use Rattle.check_sched.specs.State.{State, standing_at}
+use Rattle.check_sched.specs.State.{State, has_room, is_host, standing_at}
 use Rattle.check_sched.specs.Report.{judged, next_after}
 
 -- what is kept of each object, with that of this number changed by f and every other as it was
@@ -57,9 +58,15 @@ candidates s = candidates_among s.objects
 abbrev pub due : ℕ → State → List Candidate
 due now s = due_among now (candidates s)
 
--- Those that may be checked now: all that are due, as long as nothing limits how many checks run.
+-- whether the check of the object with this number may begin beside those that run: a host's always,
+-- a service's where there is room for one more ("Main Configuration File Options",
+-- max_concurrent_checks; that a forced check keeps to the limit is our own profile)
+abbrev pub is_open : State → ℕ → Bool
+is_open s number = is_host s.setup number || has_room s
+
+-- those of the due whose check may begin
 abbrev pub eligible : ℕ → State → List Candidate
-eligible now s = due now s
+eligible now s = filter (λ c. is_open s c.number) (due now s)
 
 -- the object's check begins under the next run number
 abbrev pub taken : ℕ → ℕ → State → State
@@ -71,11 +78,16 @@ taken now number s = record {
   runs = s.runs + 1;
 }
 
--- The least of those that may be checked is checked; where there is none, the caller is told the
--- least time of all that wait. (The order of equal times is our own profile: the least number.)
+-- The reply where none may be checked: the limit, where some service is due, else the least time of
+-- all that wait.
+abbrev pub waiting_reply : ℕ → State → Reply
+waiting_reply now s = if list_any (λ c. not (is_host s.setup c.number)) (due now s) then reply.AtLimit else reply.Idle (option_map (λ c. c.time) (least (candidates s)))
+
+-- The least of those that may be checked is checked, if there is one. (The order of equal times is
+-- our own profile: the least number.)
 abbrev pub take_least : ℕ → State → Option Candidate → State × Reply
 take_least now s (Some c) = (taken now c.number s, reply.Taken c.number (s.runs + 1))
-take_least now s None = (s, reply.Idle (option_map (λ c. c.time) (least (candidates s))))
+take_least now s None = (s, waiting_reply now s)
 
 abbrev pub take_answer : ℕ → State → Result (State × Reply) Refusal
 take_answer now s = within_range now >>= λ _. (run_left s >>= λ _. Ok (take_least now s (least (eligible now s))))

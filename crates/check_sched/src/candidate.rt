@@ -1,7 +1,8 @@
-//! The search for the object that is checked next: a scan of all objects.
+//! The search for the object that is checked next, and the count of those that are being checked:
+//! scans of the objects.
 
-ghost use Rattle.std.specs.Prelude.{◌≡◌, ◌≤◌, length, Some};
-ghost use Rattle.check_sched.specs.Candidate.{candidates_among, earlier_of, least};
+ghost use Rattle.std.specs.Prelude.{◌≡◌, ◌≤◌, count_by, is_some, length, Some};
+ghost use Rattle.check_sched.specs.Candidate.{candidates_among, due_among, earlier_of, least};
 
 use crate::object_state::ObjectState;
 
@@ -10,6 +11,17 @@ use crate::object_state::ObjectState;
 pub(crate) struct Candidate {
     pub(crate) time: u64,
     pub(crate) number: u32,
+}
+
+/// The object whose check comes first of those whose time has come by now.
+pub(crate) fn least_due(objects: &[ObjectState], now: u64) -> Option<Candidate>
+    requires { length objects.now ≤ 4096 }
+    ensures { result ≡ least (due_among now (candidates_among objects.now)) }
+{
+    match least_candidate(objects) {
+        Some(least) if least.time <= now => Some(least),
+        _ => None,
+    }
 }
 
 /// The object whose check comes first: the one with the least time, and of those with equal times
@@ -36,4 +48,11 @@ fn earlier(least: Option<Candidate>, next: Candidate) -> Candidate
         Some(least) if least.time <= next.time => least,
         _ => next,
     }
+}
+
+/// How many of some objects are being checked.
+pub(crate) fn running_among(objects: &[ObjectState]) -> usize
+    ensures { result ≡ count_by (λ o. is_some o.run) objects.now }
+{
+    objects.iter().filter(|object| object.run.is_some()).count()
 }

@@ -1,9 +1,10 @@
 //! The scheduler: its calls, and what can be read of it between them.
 
-ghost use Rattle.std.specs.Prelude.{◌≡◌, ◌<◌, ◌≤◌, ◌^◌, IfSome, IfOk, IfErr, OnOk};
+ghost use Rattle.std.specs.Prelude.{◌≡◌, ◌+◌, ◌<◌, ◌≤◌, ◌^◌, IfSome, IfOk, IfErr, IsTrue, OnOk, None};
 ghost use Rattle.check_objects.specs.Configuration.{IsSetup, object_count};
 ghost use Rattle.check_sched.specs.State.{
   IsStandingOf,
+  has_room,
   next_of,
   opening,
   opening_objects,
@@ -12,11 +13,20 @@ ghost use Rattle.check_sched.specs.State.{
   run_number_of,
   standing_at,
 };
-ghost use Rattle.check_sched.specs.Step.{known, step, within_range};
+ghost use Rattle.check_sched.specs.Candidate.{least};
+ghost use Rattle.check_sched.specs.Step.{
+  eligible,
+  is_open,
+  known,
+  step,
+  taken,
+  waiting_reply,
+  within_range,
+};
 ghost use Rattle.check_sched.specs.Reply.{OnRefused, NamesObjectOf, TellsTimesUpTo, reply_of};
 
 use crate::call::{Call, Refusal, Reply};
-use crate::candidate::least_candidate;
+use crate::candidate::{Candidate, least_candidate, least_due, running_among};
 use crate::object_state::{ObjectState, Run};
 use crate::report::{is_changed, judged, next_after};
 use check_objects::Setup;
@@ -85,7 +95,8 @@ impl Sched {
     ///
     /// A refused call leaves the scheduler as it was. No call changes the setup or the start. The
     /// objects that a reply names are those of the setup, and each time that it tells is at most
-    /// 2^61 milliseconds.
+    /// 2^61 milliseconds. No more services are being checked than the option
+    /// `max_concurrent_checks` allows, where it isn't 0 ([`limit`](crate::laws::limit)).
     pub fn apply(&mut self, call: Call) -> Reply
         ensures state { self.new ≡ (step self.old call).0 }
         ensures reply { result ≡ (step self.old call).1 }
@@ -112,9 +123,8 @@ impl Sched {
         }
     }
 
-    /// Begins the check of the least object that is due, or tells when one will be.
-    ///
-    /// What is due is found by the least of all that wait: where that one isn't due, none is.
+    /// Begins the check of the least object that is due and may be checked, or tells why there is
+    /// none.
     fn take(&mut self, now: u64) -> Result<Reply, Refusal>
         ensures state { self.new ≡ (step self.old (Call.Take now)).0 }
         ensures reply { reply_of result ≡ (step self.old (Call.Take now)).1 }
@@ -125,23 +135,69 @@ impl Sched {
         if self.runs >= MOST_RUNS {
             return Err(Refusal::RunsSpent);
         }
+        match self.least_eligible(now) {
+            Some(least) => Ok(self.begin(least.number, now)),
+            None => Ok(self.waiting(now)),
+        }
+    }
+
+    /// The least object that is due and whose check may begin. Where there is no room for one
+    /// service more, that is a host.
+    fn least_eligible(&self, now: u64) -> Option<Candidate>
+        ensures value { result ≡ least (eligible now self.now) }
+        ensures there { IfSome result (λ c. c.number < object_count self.now.setup) }
+        ensures open { IfSome result (λ c. IsTrue (is_open self.now c.number)) }
+    {
+        let hosts = self.setup.hosts();
+        if self.has_room() {
+            least_due(&self.objects, now)
+        } else {
+            least_due(&self.objects[..hosts], now)
+        }
+    }
+
+    /// Whether the check of one service more may begin.
+    fn has_room(&self) -> bool
+        ensures { result ≡ has_room self.now }
+    {
+        let hosts = self.setup.hosts();
+        let limit = self.setup.options().max_concurrent_checks;
+        limit == 0 || (running_among(&self.objects[hosts..]) as u64) < limit
+    }
+
+    /// Begins the check of an object, under the next run number.
+    fn begin(&mut self, object: u32, now: u64) -> Reply
+        requires there { object < object_count self.old.setup }
+        requires moment { now ≤ 2 ^ 60 }
+        requires spare { self.old.runs < 2 ^ 60 }
+        requires open { IsTrue (is_open self.old object) }
+        ensures state { self.new ≡ taken now object self.old }
+        ensures reply { result ≡ Reply.Taken object (self.old.runs + 1) }
+    {
+        self.runs += 1;
+        let run = Run {
+            number: self.runs,
+            start: now,
+        };
+        self.objects[object as usize].begin_run(run);
+        Reply::Taken {
+            object,
+            run: run.number,
+        }
+    }
+
+    /// The reply where no check may begin: what is due then is a service, and the limit is reached.
+    fn waiting(&self, now: u64) -> Reply
+        requires { least (eligible now self.now) ≡ None }
+        ensures reply { result ≡ waiting_reply now self.now }
+        ensures times { TellsTimesUpTo (2 ^ 61) result }
+    {
         match least_candidate(&self.objects) {
-            Some(least) if least.time <= now => {
-                self.runs += 1;
-                let run = Run {
-                    number: self.runs,
-                    start: now,
-                };
-                self.objects[least.number as usize].begin_run(run);
-                Ok(Reply::Taken {
-                    object: least.number,
-                    run: run.number,
-                })
-            }
-            Some(least) => Ok(Reply::Idle {
+            Some(least) if least.time <= now => Reply::AtLimit,
+            Some(least) => Reply::Idle {
                 next: Some(least.time),
-            }),
-            None => Ok(Reply::Idle { next: None }),
+            },
+            None => Reply::Idle { next: None },
         }
     }
 

@@ -1,5 +1,5 @@
-use Rattle.std.proofs.Common.{◌≡◌, Bool, sym, ap, ◌∙◌, not, Err}
-use Rattle.std.specs.List.{list_all, position}
+use Rattle.std.proofs.Common.{sym, ap, ◌∙◌, not, Err}
+use Rattle.std.specs.List.{list_all}
 use Rattle.check_objects.specs.Fault.{is_known}
 use Rattle.check_objects.specs.declared.draft.HostDraft.{HostDraft}
 use Rattle.check_objects.specs.declared.error.LoadError.TheVariants as errors

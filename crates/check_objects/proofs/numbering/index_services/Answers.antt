@@ -1,4 +1,4 @@
-use Rattle.std.proofs.Common.{sym, ap, ◌∙◌, bytes_eq, string_bytes, map, refl, true}
+use Rattle.std.proofs.Common.{sym, ap, ◌∙◌, bytes_eq, string_bytes, refl}
 use Rattle.std.specs.List.{list_any}
 use Rattle.check_objects.specs.Drafted.{texts}
 use Rattle.check_objects.specs.Entries.{service_entry, sorted_service}

@@ -1,4 +1,4 @@
-use Rattle.std.proofs.Common.{sym, ap, subst, ◌∙◌, bytes_eq, refl, true}
+use Rattle.std.proofs.Common.{sym, subst, ◌∙◌, bytes_eq, refl, true}
 use Rattle.std.specs.BTreeMap.{keys}
 use Rattle.std.specs.List.{list_any}
 use Rattle.std.specs.List.Sorted.{IsStrictlySortedBy}

@@ -1,4 +1,4 @@
-use Rattle.std.proofs.Common.{◌≡◌, sym, ap, ◌∙◌, length, map, true, option_map, arith}
+use Rattle.std.proofs.Common.{sym, ap, ◌∙◌, length, map, option_map}
 use Rattle.std.specs.Prelude.{nat_lt}
 use Rattle.std.specs.Map.Iter.{deref_pair}
 use Rattle.std.proofs.lemmas.Bool.{ltb-true}
@@ -12,5 +12,5 @@ returns-clause-within c =
     let n = length (map host_entry c.self.inside.hosts.entries) in
     let services = c.self.inside.services.entries in
     let at = sym c.get_index.ensures.entry ∙ ap (option_map deref_pair) c.unwrap.ensures in
-    let below = all_at (λ s. nat_lt s.host n) (map service_entry services) _ _ c.self.invariant.hosted (slice_get-map service_entry services _ ∙ ap (option_map service_entry) at) in
+    let below = all_at (λ s. nat_lt s.host n) (map service_entry services) _ _ c.self.invariant.setup.hosted (slice_get-map service_entry services _ ∙ ap (option_map service_entry) at) in
     rw (← c.self.view_is) (ltb-true _ _ below)

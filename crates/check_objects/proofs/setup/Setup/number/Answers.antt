@@ -1,4 +1,4 @@
-use Rattle.std.proofs.Common.{sym, ap, ◌∙◌, ◌+◌, length, option_map, Some}
+use Rattle.std.proofs.Common.{ap, ◌∙◌, ◌+◌, length, option_map, Some}
 use Rattle.check_objects.proofs.GetterLemmas.{number_front, number_back}
 use Rattle.check_objects.proofs.setup.Setup.number.Goals as goal
 

@@ -7,7 +7,7 @@ use Rattle.check_objects.proofs.setup.Setup.without_cycle.Goals as goal
 
 pub order_by_links-requires-clause-within : goal.order_by_links-requires-clause-within
 order_by_links-requires-clause-within c =
-    links_within (λ l. l.items) (map host_entry c.self.inside.hosts.entries) c.deref.result.now (ap (map (λ l. l.items)) c.deref.ensures.value ∙ c.in_ok-links.ensures.links) c.self.invariant.linked
+    links_within (λ l. l.items) (map host_entry c.self.inside.hosts.entries) c.deref.result.now (ap (map (λ l. l.items)) c.deref.ensures.value ∙ c.in_ok-links.ensures.links) c.self.invariant.setup.linked
 
 pub returns-in-Some : goal.returns-in-Some
 returns-in-Some c =

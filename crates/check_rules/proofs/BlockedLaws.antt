@@ -1,0 +1,65 @@
+-- Dependencies followed from master to master: where no object depends on itself, the number of objects is deep enough.
+use Rattle.std.proofs.Common.{◌≡◌, ℕ, zero, suc, ◌+◌, ◌<◌, ◌≤◌, ◌==◌, ◌&&◌, ◌||◌, Bool, true, false, List, [], ◌∷◌, length, map, get_or, refl, sym, ap, ◌∙◌, arith, inl, inr}
+use Rattle.std.specs.List.{list_any}
+use Rattle.std.proofs.lemmas.Bool.{cases_lt}
+use Rattle.std.proofs.lemmas.List.{length-map}
+use Rattle.std.proofs.Math.ListN.{get_or-map}
+use Rattle.check_objects.specs.declared.dependency.Dependency.{Dependency}
+use Rattle.check_objects.specs.Configuration.{Configuration, dependencies_of, masters_in, masters_of, object_count, IsSetup}
+use Rattle.check_objects.specs.Depth.{links_of, deep, any_below, has_cycle}
+use Rattle.check_rules.specs.declared.standing.Standing.{Standing}
+use Rattle.check_rules.specs.Dependencies.{is_met, is_blocked_within, is_blocked}
+
+-- the masters of an object are those of its dependencies
+pub masters_at : (c : Configuration) (n : ℕ) → links_of (masters_of c) n ≡ masters_in (dependencies_of c n)
+masters_at c n = get_or-map masters_in c.dependencies n []
+
+none_first : (a b : Bool) → (a || b) ≡ false → a ≡ false
+none_first true b h = cc
+none_first false b h = refl
+
+none_second : (a b : Bool) → (a || b) ≡ false → b ≡ false
+none_second true b h = cc
+none_second false b h = h
+
+-- tests that agree where no chain of k masters begins
+any_same : (links : List (List ℕ)) (k : ℕ) (p q : Dependency → Bool) → ((d : Dependency) → deep links d.master k ≡ false → p d ≡ q d) → (ds : List Dependency) → list_any (λ m. deep links m k) (masters_in ds) ≡ false → list_any p ds ≡ list_any q ds
+any_same links k p q f [] h = refl
+any_same links k p q f (d ∷ ds) h =
+    ap (λ b. b || list_any p ds) (f d (none_first (deep links d.master k) _ h))
+    ∙ ap (λ b. q d || b) (any_same links k p q f ds (none_second (deep links d.master k) _ h))
+
+-- where no chain of k masters begins, one step further says the same
+deep_enough : (c : Configuration) (standings : List Standing) (k n : ℕ) → deep (masters_of c) n k ≡ false → is_blocked_within (suc k) c standings n ≡ is_blocked_within k c standings n
+deep_enough c standings zero n h = cc
+deep_enough c standings (suc k) n h =
+    any_same (masters_of c) k (λ d. is_met c standings d || (d.inherits && is_blocked_within (suc k) c standings d.master)) (λ d. is_met c standings d || (d.inherits && is_blocked_within k c standings d.master))
+    (λ d e. ap (λ b. is_met c standings d || (d.inherits && b)) (deep_enough c standings k d.master e))
+    (dependencies_of c n) (rw (← masters_at c n) h)
+
+below_by : (p : ℕ → Bool) (n : ℕ) → any_below p n ≡ false → (k : ℕ) → k < n → p k ≡ false
+below_by p zero h k l = absurd (omega arith)
+below_by p (suc n) h k l = elim (cases_lt k n) [
+  | inl m ↦ below_by p n (none_first (any_below p n) (p n) h) k m
+  | inr g ↦ let same : k ≡ n = omega arith in rw same (none_second (any_below p n) (p n) h)
+]
+
+no_chain : (links : List (List ℕ)) (n : ℕ) → has_cycle links ≡ false → n < length links → deep links n (length links) ≡ false
+unfolding has_cycle
+no_chain links n h l = below_by (λ o. deep links o (length links)) (length links) h n l
+
+-- An object is blocked where a master of it is in one of its criteria, or a dependency of it inherits and its master is
+-- blocked.
+pub blocked_by_masters : (c : Configuration) (standings : List Standing) (n : ℕ) → IsSetup c → n < object_count c → is_blocked c standings n ≡ list_any (λ d. is_met c standings d || (d.inherits && is_blocked c standings d.master)) (dependencies_of c n)
+blocked_by_masters c standings n is h =
+    let size : length (masters_of c) ≡ object_count c = length-map c.dependencies masters_in ∙ is.listed in
+    let none : deep (masters_of c) n (object_count c) ≡ false = rw (← size) (no_chain (masters_of c) n is.acyclic (omega (arith, size, h))) in
+    sym (deep_enough c standings (object_count c) n none)
+
+unblocked_within : (k : ℕ) (c : Configuration) (standings : List Standing) (n : ℕ) → dependencies_of c n ≡ [] → is_blocked_within k c standings n ≡ false
+unblocked_within zero c standings n e = refl
+unblocked_within (suc k) c standings n e = rw e refl
+
+-- an object without dependencies isn't blocked
+pub unblocked : (c : Configuration) (standings : List Standing) (n : ℕ) → dependencies_of c n ≡ [] → false ≡ is_blocked c standings n
+unblocked c standings n e = sym (unblocked_within (object_count c) c standings n e)

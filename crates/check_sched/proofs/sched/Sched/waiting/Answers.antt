@@ -1,0 +1,29 @@
+use Rattle.std.proofs.Common.{◌≡◌, Some, None, ap, sym, ◌∙◌}
+use Rattle.check_sched.specs.Candidate.{candidates_among, least}
+use Rattle.check_sched.specs.Sched.{state_of}
+use Rattle.check_sched.specs.Step.{candidates, eligible}
+use Rattle.check_sched.proofs.EligibleLaws.{waiting_at_limit, waiting_early, waiting_none}
+use Rattle.check_sched.proofs.TakeLaws.{least_time}
+use Rattle.check_sched.proofs.sched.Sched.waiting.Goals as goal
+
+pub returns-in-Some-clause-reply : goal.returns-in-Some-clause-reply
+returns-in-Some-clause-reply c =
+    let found = ap (λ objects. least (candidates_among objects)) (sym c.deref.ensures.value) ∙ sym c.in-Some.ensures in
+    let none = ap (λ s. least (eligible c.args.now s)) c.self.view_is ∙ c.requires in
+    rw (← c.self.view_is) (sym (waiting_at_limit c.args.now (state_of c.self.inside) c.in-Some.least none found c.if-least-now.true))
+
+pub returns-in-Some-2-clause-reply : goal.returns-in-Some-2-clause-reply
+returns-in-Some-2-clause-reply c =
+    let found = ap (λ objects. least (candidates_among objects)) (sym c.deref.ensures.value) ∙ sym c.in-Some.ensures in
+    rw (← c.self.view_is) (sym (waiting_early c.args.now (state_of c.self.inside) c.in-Some.least found c.if-least-now.false))
+
+pub returns-in-Some-2-clause-times : goal.returns-in-Some-2-clause-times
+returns-in-Some-2-clause-times c =
+    let found = ap (λ objects. least (candidates_among objects)) (sym c.deref.ensures.value) ∙ sym c.in-Some.ensures in
+    let told = least_time (state_of c.self.inside) c.self.invariant in
+    rw found at told
+
+pub returns-in-None-clause-reply : goal.returns-in-None-clause-reply
+returns-in-None-clause-reply c =
+    let found = ap (λ objects. least (candidates_among objects)) (sym c.deref.ensures.value) ∙ sym c.in-None.ensures in
+    rw (← c.self.view_is) (sym (waiting_none c.args.now (state_of c.self.inside) found))

@@ -1,0 +1,3 @@
+pub mod TimesLemmas
+pub mod TotalLemmas
+pub mod VisitLemmas

@@ -1,0 +1,19 @@
+-- The limits within which the times of first checks are computed.
+use Rattle.std.specs.Prelude.{ℕ, ◌<◌, ◌≤◌, ◌*◌, ◌^◌}
+use Rattle.check_objects.specs.declared.options.DelayMethod.{DelayMethod}
+use Rattle.check_objects.specs.declared.options.DelayMethod.TheVariants as method
+use Rattle.check_spread.specs.declared.spread.Spread.{Spread}
+
+-- a fixed delay is at most a day
+abbrev pub IsDelay : DelayMethod → Type 0
+IsDelay method.NoDelay = Unit {0}
+IsDelay method.Dumb = Unit {0}
+IsDelay (method.Fixed delay) = delay ≤ 86400000
+IsDelay method.Smart = Unit {0}
+
+pub record IsInLimits (spread : Spread) : Type 0 where
+  pub start : spread.start ≤ 2 ^ 60
+  pub delay : IsDelay spread.method
+  pub longest : spread.longest ≤ 525600 * 60000
+  pub unit : spread.interval_length ≤ 86400
+  pub steps : 0 < spread.factor

@@ -1,0 +1,118 @@
+-- The times of the first checks ("Service and Host Check Scheduling": inter-check delay, service interleaving).
+use Rattle.std.specs.Prelude.{ℕ, ◌+◌, ◌*◌, ◌/◌, ◌%◌, ◌==◌, ◌&&◌, ◌||◌, Bool, not, List, ◌++◌, length, map, filter, count_by, sum_by, nat_lt, nat_le, Option, Some, None, if◌then◌else◌}
+use Rattle.std.specs.Int.{div_ceil}
+use Rattle.std.specs.List.{enumerate_from}
+use Rattle.check_objects.specs.declared.object.Object.{Object}
+use Rattle.check_objects.specs.declared.options.DelayMethod.{DelayMethod}
+use Rattle.check_objects.specs.declared.options.DelayMethod.TheVariants as method
+use Rattle.check_objects.specs.declared.options.InterleaveFactor.{InterleaveFactor}
+use Rattle.check_objects.specs.declared.options.InterleaveFactor.TheVariants as interleave
+use Rattle.check_objects.specs.Configuration.{Configuration}
+use Rattle.check_spread.specs.declared.spread.Spread.{Spread}
+use Rattle.check_spread.specs.declared.spread.Load.{Load}
+
+-- ---- what is scheduled
+
+-- An object is scheduled at first where it is enabled and its check interval isn't 0. (Our own
+-- profile.)
+abbrev pub is_scheduled : Object → Bool
+is_scheduled o = o.enabled && not (o.check_interval == 0)
+
+-- the check interval in milliseconds: a unit lasts so many seconds
+abbrev pub interval_of : ℕ → Object → ℕ
+interval_of interval_length o = o.check_interval * interval_length * 1000
+
+-- how many of the objects are scheduled, and the sum of their check intervals
+abbrev pub load_of : ℕ → List Object → Load
+load_of interval_length objects = record { scheduled = count_by is_scheduled objects; total = sum_by (interval_of interval_length) (filter is_scheduled objects) }
+
+-- ---- the order
+
+-- Services are visited by steps of the interleave factor: at positions 0, factor, twice the factor
+-- and so on, then again from the first not yet visited. So one position is visited before another
+-- where its remainder by the factor is smaller, or the remainders are equal and it is smaller.
+abbrev pub is_visited_before : ℕ → ℕ → ℕ → ℕ → Bool
+is_visited_before factor remainder position other = nat_lt (other % factor) remainder || (other % factor == remainder && nat_lt other position)
+
+-- The rank of the object at this position: how many that are scheduled are visited before it. The
+-- others leave no gap.
+abbrev pub rank : ℕ → List Object → ℕ → ℕ
+rank factor objects position = count_by (λ p. is_scheduled p.1 && is_visited_before factor (position % factor) position p.0) (enumerate_from 0 objects)
+
+-- ---- the delay
+
+-- The smart delay is the average check interval divided by the number of objects; the maximum
+-- spread shortens it. It is multiplied by the rank first and rounded down then. (The rounding is
+-- our own profile.)
+abbrev pub smart_delay : ℕ → Load → ℕ → ℕ
+smart_delay longest load k =
+    if nat_le load.total (longest * load.scheduled) then k * load.total / (load.scheduled * load.scheduled)
+    else k * longest / load.scheduled
+
+-- How long after the start the check of rank k is due: with a delay the ranks follow one another by
+-- it. The maximum spread acts on the smart delay alone. (Our own profile.)
+abbrev pub delay_by : DelayMethod → ℕ → Load → ℕ → ℕ
+delay_by method.NoDelay longest load k = 0
+delay_by method.Dumb longest load k = 1000 * k
+delay_by (method.Fixed delay) longest load k = delay * k
+delay_by method.Smart longest load k = smart_delay longest load k
+
+-- the time of the check of rank k
+abbrev pub time_at : Spread → Load → ℕ → ℕ
+time_at spread load k = spread.start + delay_by spread.method spread.longest load k
+
+-- ---- the times of all objects
+
+-- the time of the first check of an object at its position among its sort, if it is scheduled
+abbrev pub first_time : Spread → List Object → ℕ → Object → Option ℕ
+first_time spread objects position object =
+    if is_scheduled object then Some (time_at spread (load_of spread.interval_length objects) (rank spread.factor objects position)) else None
+
+-- the times of the first checks of one sort of object, by position
+abbrev pub first_times : Spread → List Object → List (Option ℕ)
+first_times spread objects = map (λ p. first_time spread objects p.0 p.1) (enumerate_from 0 objects)
+
+-- the number of services for each host, rounded up; 1 where there is no service
+abbrev pub smart_factor : ℕ → ℕ → ℕ
+smart_factor services hosts = if services == 0 then 1 else div_ceil services hosts
+
+abbrev pub factor_by : InterleaveFactor → ℕ → ℕ → ℕ
+factor_by interleave.Smart services hosts = smart_factor services hosts
+factor_by (interleave.Fixed factor) services hosts = factor
+
+abbrev pub host_objects : Configuration → List Object
+host_objects c = map (λ h. h.object) c.hosts
+
+abbrev pub service_objects : Configuration → List Object
+service_objects c = map (λ s. s.object) c.services
+
+-- the hosts, and behind them the services
+abbrev pub all_objects : Configuration → List Object
+all_objects c = host_objects c ++ service_objects c
+
+-- minutes in milliseconds
+abbrev pub minutes : ℕ → ℕ
+minutes n = n * 60000
+
+-- Hosts are visited in the order of their numbers: with the factor 1. (Our own profile.)
+abbrev pub host_spread : Configuration → ℕ → Spread
+host_spread c start = record {
+  start = start;
+  method = c.options.host_inter_check_delay_method;
+  longest = minutes c.options.max_host_check_spread;
+  interval_length = c.options.interval_length;
+  factor = 1;
+}
+
+abbrev pub service_spread : Configuration → ℕ → Spread
+service_spread c start = record {
+  start = start;
+  method = c.options.service_inter_check_delay_method;
+  longest = minutes c.options.max_service_check_spread;
+  interval_length = c.options.interval_length;
+  factor = factor_by c.options.service_interleave_factor (length c.services) (length c.hosts);
+}
+
+-- The time of the first check of each object, by number; none for those that aren't scheduled.
+unfoldable pub initial_times : Configuration → ℕ → List (Option ℕ)
+initial_times c start = first_times (host_spread c start) (host_objects c) ++ first_times (service_spread c start) (service_objects c)

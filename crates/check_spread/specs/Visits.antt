@@ -1,0 +1,39 @@
+-- Counts of the objects that are visited, as the code keeps them.
+use Rattle.std.specs.Prelude.{◌≡◌, ℕ, ◌+◌, ◌%◌, ◌<◌, ◌==◌, ◌&&◌, Bool, List, [], ◌∷◌, length, count_by, nat_lt}
+use Rattle.std.specs.List.{enumerate_from, slice_index_or}
+use Rattle.check_objects.specs.declared.object.Object.{Object}
+use Rattle.check_spread.specs.Spread.{is_scheduled, is_visited_before}
+
+-- how many scheduled objects stand at positions that pass the test, where the first of the list is at this one
+abbrev pub visits : (ℕ → Bool) → ℕ → List Object → ℕ
+visits test first objects = count_by (λ p. is_scheduled p.1 && test p.0) (enumerate_from first objects)
+
+-- what a list has at a place
+abbrev pub count_at : List ℕ → ℕ → ℕ
+count_at counts place = slice_index_or counts place 0
+
+-- for each remainder by the factor how many scheduled objects stand at positions that pass its test
+pub record HasCounts (test : ℕ → ℕ → Bool) (factor : ℕ) (objects : List Object) (counts : List ℕ) : Type 0 where
+  pub size : length counts ≡ factor
+  pub at : (remainder : ℕ) → remainder < factor → count_at counts remainder ≡ visits (test remainder) 0 objects
+
+-- positions with this remainder
+abbrev pub has_remainder : ℕ → ℕ → ℕ → Bool
+has_remainder factor remainder position = position % factor == remainder
+
+-- positions with this remainder before this one
+abbrev pub has_remainder_before : ℕ → ℕ → ℕ → ℕ → Bool
+has_remainder_before factor end remainder position = position % factor == remainder && nat_lt position end
+
+-- positions with a smaller remainder, which are visited before all with this one
+abbrev pub has_less_remainder : ℕ → ℕ → ℕ → Bool
+has_less_remainder factor remainder position = nat_lt (position % factor) remainder
+
+-- positions that are visited before those with this remainder from this end on
+abbrev pub is_visited_earlier : ℕ → ℕ → ℕ → ℕ → Bool
+is_visited_earlier factor end remainder position = is_visited_before factor remainder end position
+
+-- for each count the sum of this start and of the counts before it
+abbrev pub sums_before : ℕ → List ℕ → List ℕ
+sums_before start [] = []
+sums_before start (count ∷ counts) = start ∷ sums_before (start + count) counts

@@ -1,0 +1,18 @@
+//! The times of the first checks: how the checks of hosts and of services are spread over time when
+//! scheduling starts.
+//!
+//! The rules are those of the Nagios Core 4 manual, chapter "Service and Host Check Scheduling"
+//! (inter-check delay, service interleaving, maximum check spread); where the manual leaves a
+//! choice, the profile of this project makes it, and the item says so.
+//!
+//! The modules: `times` has the times of all objects of a setup, `spread` the time of one rank, and
+//! `visits` the order in which objects are visited.
+#![tactic(auto)]
+
+mod spread;
+#[cfg(test)]
+mod tests;
+mod times;
+mod visits;
+
+pub use times::initial_times;

@@ -1,0 +1,137 @@
+//! The times of the first checks of all objects of a setup.
+
+ghost use Rattle.std.specs.Prelude.{◌≡◌, ◌<◌, ◌≤◌, ◌^◌, ◌++◌, IfOk, IfSome, OnOk, All, length};
+ghost use Rattle.check_objects.specs.Configuration.{object_count, IsSetup};
+ghost use Rattle.check_spread.specs.Spread.{all_objects, factor_by, first_times, host_spread, initial_times, service_spread};
+ghost use Rattle.check_spread.specs.Limits.{IsInLimits};
+
+use crate::spread::{Load, Spread, is_scheduled};
+use crate::visits::first_ranks;
+use check_objects::{InterleaveFactor, Object, Setup};
+use std::alloc::{AllocError, Global};
+
+/// How many milliseconds a minute has.
+const MINUTE: u64 = 60_000;
+
+/// The time of the first check of each object of the setup, by number, in milliseconds, where
+/// scheduling starts at the moment `start`, in milliseconds. None for an object that isn't
+/// scheduled at first: one that is disabled or whose check interval is 0.
+///
+/// Hosts and services are spread each by their own inter-check delay method and maximum spread, and
+/// services are interleaved. (Manual: "Service and Host Check Scheduling"; the rounding of the
+/// smart delay, and that the maximum spread acts on it alone, are our own profile.) It takes time
+/// linear in the objects. An Err means want of memory.
+#[tactic(auto, unfolding(crate::specs::Spread::initial_times))]
+pub fn initial_times(
+    alloc: Global,
+    setup: &Setup,
+    start: u64,
+) -> Result<Vec<Option<u64>>, AllocError>
+    requires { start ≤ 2 ^ 60 }
+    ensures times { IfOk result (λ times. times.items ≡ initial_times setup.now start) }
+    ensures one_each { IfOk result (λ times. length times.items ≡ object_count setup.now) }
+    ensures within { IfOk result (λ times.
+        All (λ first. IfSome first (λ time. time < 2 ^ 61)) times.items) }
+{
+    let mut times = Vec::with_capacity(alloc, setup.len())?;
+    let objects = objects(alloc, setup)?;
+    let (hosts, services) = objects.split_at(setup.hosts());
+    push_first_times(alloc, hosts, host_spread(setup, start), &mut times)?;
+    push_first_times(alloc, services, service_spread(setup, start), &mut times)?;
+    Ok(times)
+}
+
+/// Appends the times of the first checks of one sort of object, in the order of their numbers.
+fn push_first_times(
+    alloc: Global,
+    objects: &[Object],
+    spread: Spread,
+    times: &mut Vec<Option<u64>>,
+) -> Result<(), AllocError>
+    requires few { length objects.now ≤ 4096 }
+    requires intervals { All (λ o. o.check_interval ≤ 525600) objects.now }
+    requires limits { IsInLimits spread }
+    requires within { All (λ first. IfSome first (λ time. time < 2 ^ 61)) times.old.items }
+    ensures times { OnOk result
+        (times.new.items ≡ times.old.items ++ first_times spread objects.now) }
+    ensures within { OnOk result
+        (All (λ first. IfSome first (λ time. time < 2 ^ 61)) times.new.items) }
+{
+    let load = Load::of(objects, spread.interval_length);
+    let mut ranks = first_ranks(alloc, objects, spread.factor)?;
+    for (position, object) in objects.iter().enumerate() {
+        if is_scheduled(object) {
+            let remainder = position % spread.factor;
+            times.push(Some(spread.time(load, ranks[remainder])))?;
+            ranks[remainder] += 1;
+        } else {
+            times.push(None)?;
+        }
+    }
+    Ok(())
+}
+
+/// How the first checks of hosts are spread: without interleaving.
+fn host_spread(setup: &Setup, start: u64) -> Spread
+    requires start { start ≤ 2 ^ 60 }
+    requires valid_setup { IsSetup setup.now }
+    ensures spread { result ≡ host_spread setup.now start }
+    ensures limits { IsInLimits result }
+{
+    let options = setup.options();
+    Spread {
+        start,
+        method: options.host_inter_check_delay_method,
+        longest: options.max_host_check_spread * MINUTE,
+        interval_length: options.interval_length,
+        factor: 1,
+    }
+}
+
+/// How the first checks of services are spread.
+fn service_spread(setup: &Setup, start: u64) -> Spread
+    requires start { start ≤ 2 ^ 60 }
+    requires valid_setup { IsSetup setup.now }
+    ensures spread { result ≡ service_spread setup.now start }
+    ensures limits { IsInLimits result }
+{
+    let options = setup.options();
+    Spread {
+        start,
+        method: options.service_inter_check_delay_method,
+        longest: options.max_service_check_spread * MINUTE,
+        interval_length: options.interval_length,
+        factor: interleave_factor(setup),
+    }
+}
+
+/// The interleave factor: the one that the setup names, or the number of services for each host,
+/// rounded up, and 1 where there is no service. It is over all services and hosts, also those that
+/// aren't scheduled.
+fn interleave_factor(setup: &Setup) -> usize
+    requires { IsSetup setup.now }
+    ensures factor { result ≡ factor_by setup.now.options.service_interleave_factor
+        (length setup.now.services) (length setup.now.hosts) }
+    ensures steps { 0 < result }
+{
+    let services = setup.len() - setup.hosts();
+    match setup.options().service_interleave_factor {
+        InterleaveFactor::Smart if services == 0 => 1,
+        InterleaveFactor::Smart => services.div_ceil(setup.hosts()),
+        InterleaveFactor::Fixed(factor) => factor as usize,
+    }
+}
+
+/// All objects in the order of their numbers.
+fn objects(alloc: Global, setup: &Setup) -> Result<Vec<Object>, AllocError>
+    ensures objects { IfOk result (λ objects. objects.items ≡ all_objects setup.now) }
+    ensures intervals { IfOk result (λ objects.
+        All (λ o. o.check_interval ≤ 525600) objects.items) }
+    ensures valid_setup { OnOk result (IsSetup setup.now) }
+{
+    let mut objects = Vec::with_capacity(alloc, setup.len())?;
+    for number in 0..setup.len() {
+        objects.push(*setup.object(number as u32))?;
+    }
+    Ok(objects)
+}

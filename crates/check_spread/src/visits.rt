@@ -1,0 +1,61 @@
+//! The order in which objects are visited, by the ranks that their positions have.
+//!
+//! Positions with a smaller remainder by the interleave factor are visited first, and of equal
+//! remainders the smaller position: so a rank is known once it is known how many scheduled objects
+//! have smaller remainders, and how many of the same remainder came before.
+
+ghost use Rattle.std.specs.Prelude.{◌≡◌, ◌<◌, ◌≤◌, IfOk, length, sum};
+ghost use Rattle.check_spread.specs.Visits.{has_less_remainder, has_remainder, sums_before, HasCounts};
+
+use crate::spread::is_scheduled;
+use check_objects::Object;
+use std::alloc::{AllocError, Global};
+
+/// For each remainder by the factor the rank of the first scheduled object that has it.
+pub(crate) fn first_ranks(
+    alloc: Global,
+    objects: &[Object],
+    factor: usize,
+) -> Result<Vec<u64>, AllocError>
+    requires few { length objects.now ≤ 4096 }
+    requires steps { 0 < factor }
+    ensures { IfOk result (λ ranks.
+        HasCounts (has_less_remainder factor) factor objects.now ranks.items) }
+{
+    let counts = counts_by_remainder(alloc, objects, factor)?;
+    sums_before(alloc, &counts)
+}
+
+/// For each remainder by the factor how many scheduled objects have it.
+fn counts_by_remainder(
+    alloc: Global,
+    objects: &[Object],
+    factor: usize,
+) -> Result<Vec<u64>, AllocError>
+    requires few { length objects.now ≤ 4096 }
+    requires steps { 0 < factor }
+    ensures { IfOk result (λ counts.
+        HasCounts (has_remainder factor) factor objects.now counts.items) }
+{
+    let mut counts = vec![in alloc; 0; factor]?;
+    for (position, object) in objects.iter().enumerate() {
+        if is_scheduled(object) {
+            counts[position % factor] += 1;
+        }
+    }
+    Ok(counts)
+}
+
+/// For each place the sum of the counts before it.
+fn sums_before(alloc: Global, counts: &[u64]) -> Result<Vec<u64>, AllocError>
+    requires { sum counts.now ≤ 4096 }
+    ensures { IfOk result (λ sums. sums.items ≡ sums_before 0 counts.now) }
+{
+    let mut sums = Vec::with_capacity(alloc, counts.len())?;
+    let mut sum = 0;
+    for count in counts {
+        sums.push(sum)?;
+        sum += *count;
+    }
+    Ok(sums)
+}
