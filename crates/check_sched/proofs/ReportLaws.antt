@@ -33,7 +33,7 @@ use Rattle.check_sched.proofs.AnswerLaws.{by_test, known_is, under_is}
 use Rattle.check_sched.proofs.CandidateLaws.{and_both, both_and}
 use Rattle.check_sched.proofs.LimitLaws.{limit_kept}
 use Rattle.check_sched.proofs.UpdateLaws.{length-update_at, all-update_at, each-update_at, all_at_place, none_there}
-use Rattle.check_sched.specs.Report.{interval_after, judged, judged_by, milliseconds, next_after, time_after}
+use Rattle.check_sched.specs.Report.{interval_after, judged, judged_by, milliseconds, next_after, put_off_until, time_after}
 
 -- ---- hosts and services
 
@@ -129,6 +129,9 @@ milliseconds_bound interval unit a b =
     let first : interval * unit ≤ interval * 86400 = mul-le-mul_left interval b in
     omega (arith, first, a)
 
+pub check_in_range : (o : Object) → is_object_in_range o ≡ true → o.check_interval ≤ 525600
+check_in_range o e = grind (arith, nat_tests, e)
+
 interval_by : (o : Object) (soft : Bool) → is_object_in_range o ≡ true → cond soft o.retry_interval o.check_interval ≤ 525600
 interval_by o true e = grind (arith, nat_tests, e)
 interval_by o false e = grind (arith, nat_tests, e)
@@ -163,6 +166,17 @@ next_by setup n standing start (Some time) h l t = t
 -- the next time after a report is at most 2^61
 pub next_in_time : (setup : Configuration) (n : ℕ) (standing : Standing) (start : ℕ) (already : Option ℕ) → IsSetup setup → start ≤ 2 ^ 60 → is_time already ≡ true → is_time (next_after setup n standing start already) ≡ true
 next_in_time setup n standing start already h l t = next_by setup n standing start already h l t
+
+put_off_by : (setup : Configuration) (n now : ℕ) (found : Option Named) → IsSetup setup → now ≤ 2 ^ 60 → slice_get (objects_of setup) n ≡ found → is_time (option_and_then (λ o. time_after setup now o.object.check_interval) found) ≡ true
+put_off_by setup n now None h l e = refl
+put_off_by setup n now (Some o) h l e =
+    let in_range : o.object.check_interval ≤ 525600 = check_in_range o.object (object_in_range setup n o h e) in
+    let bound = milliseconds_bound o.object.check_interval setup.options.interval_length in_range h.interval_length in
+    time_by (o.object.check_interval == 0) (now + milliseconds setup o.object.check_interval) (omega (arith, bound, l))
+
+-- the time to which an object is put off is at most 2^61
+pub put_off_in_time : (setup : Configuration) (n now : ℕ) → IsSetup setup → now ≤ 2 ^ 60 → is_time (put_off_until setup n now) ≡ true
+put_off_in_time setup n now h l = put_off_by setup n now (slice_get (objects_of setup) n) h l refl
 
 -- ---- the state
 

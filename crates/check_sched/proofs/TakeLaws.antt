@@ -9,35 +9,47 @@ use Rattle.check_sched.specs.declared.call.Reply.{Reply}
 use Rattle.check_sched.specs.declared.call.Reply.TheVariants as reply
 use Rattle.check_sched.specs.declared.call.Refusal.{Refusal}
 use Rattle.check_sched.specs.declared.call.Call.TheVariants as call
-use Rattle.check_sched.specs.ObjectState.{running_from}
+use Rattle.check_sched.specs.ObjectState.{put_off_to, running_from}
 use Rattle.check_sched.specs.Candidate.{candidates_among, least}
-use Rattle.check_sched.specs.State.{State, IsState, is_in_time}
-use Rattle.check_sched.specs.Step.{candidates, due, eligible, is_open, run_left, step, taken, take_least, waiting_reply, within_range}
+use Rattle.check_sched.specs.State.{State, IsState, is_in_time, is_moment, is_time}
+use Rattle.check_sched.proofs.OperatorLaws.{with_object_is_state}
+use Rattle.check_sched.proofs.ReportLaws.{put_off_in_time}
+use Rattle.check_sched.specs.Report.{put_off_until}
+use Rattle.check_sched.specs.Step.{candidates, due, eligible, is_held_back, is_open, put_off, run_left, step, taken, take_least, waiting_reply, within_range}
 use Rattle.check_sched.proofs.EligibleLaws.{eligible_open}
 use Rattle.check_sched.proofs.LimitLaws.{limit_taken}
 use Rattle.check_sched.proofs.AnswerLaws.{by_test, left_is, range_is}
-use Rattle.check_sched.proofs.CandidateLaws.{all_at_least, all_filtered, candidates_within, candidates_times, if_due, least_due}
+use Rattle.check_sched.proofs.CandidateLaws.{all_at_least, and_both, both_and, all_filtered, candidates_within, candidates_times, if_due, least_due}
 use Rattle.check_sched.proofs.UpdateLaws.{length-update_at, all-update_at, set_is_update}
 
 -- ---- Take, by its answers
 
+turn_by : (P : State × Reply → Type 0) (now n : ℕ) (s : State) (held : Bool) → is_held_back s n ≡ held
+    → (is_held_back s n ≡ true → P (put_off now n s, reply.PutOff n (put_off_until s.setup n now)))
+    → (is_held_back s n ≡ false → P (taken now n s, reply.Taken n (s.runs + 1)))
+    → P (cond held (put_off now n s, reply.PutOff n (put_off_until s.setup n now)) (taken now n s, reply.Taken n (s.runs + 1)))
+turn_by P now n s true e off on = off e
+turn_by P now n s false e off on = on e
+
 take_by : (P : State × Reply → Type 0) (now : ℕ) (s : State) (found : Option Candidate)
+    → ((c : Candidate) → found ≡ Some c → P (put_off now c.number s, reply.PutOff c.number (put_off_until s.setup c.number now)))
     → ((c : Candidate) → found ≡ Some c → P (taken now c.number s, reply.Taken c.number (s.runs + 1)))
     → (found ≡ None → P (s, waiting_reply now s))
     → P (take_least now s found)
-take_by P now s (Some c) take wait = take c refl
-take_by P now s None take wait = wait refl
+take_by P now s (Some c) off take wait = turn_by P now c.number s (is_held_back s c.number) refl (λ e. off c refl) (λ e. take c refl)
+take_by P now s None off take wait = wait refl
 
 -- what is true of a Take is what is true of each of its answers
 pub take_cases : (P : State × Reply → Type 0) (now : ℕ) (s : State)
     → ((why : Refusal) → P (s, reply.Refused why))
+    → ((c : Candidate) → now ≤ 2 ^ 60 → least (eligible now s) ≡ Some c → P (put_off now c.number s, reply.PutOff c.number (put_off_until s.setup c.number now)))
     → ((c : Candidate) → now ≤ 2 ^ 60 → s.runs < 2 ^ 60 → least (eligible now s) ≡ Some c → P (taken now c.number s, reply.Taken c.number (s.runs + 1)))
     → (least (eligible now s) ≡ None → P (s, waiting_reply now s))
     → P (step s (call.Take now))
-take_cases P now s refused take wait =
+take_cases P now s refused off take wait =
     by_test P s (within_range now) _ refused
     (λ u m. by_test P s (run_left s) _ refused
-    (λ v r. take_by P now s (least (eligible now s)) (λ c e. take c (range_is now u m) (left_is s v r) e) wait))
+    (λ v r. take_by P now s (least (eligible now s)) (λ c e. off c (range_is now u m) e) (λ c e. take c (range_is now u m) (left_is s v r) e) wait))
 
 -- what a Take answers, by the one that is chosen
 pub take_answers : (now : ℕ) (s : State) (found : Option Candidate) → now ≤ 2 ^ 60 → s.runs < 2 ^ 60 → least (eligible now s) ≡ found → step s (call.Take now) ≡ take_least now s found
@@ -90,6 +102,13 @@ taken_is_state now n s is_state m r may =
       limit = limit_taken now n s may is_state.limit;
       standings = is_state.standings;
     }
+
+-- an object that is put off leaves the state one that a scheduler can be in
+pub put_off_is_state : (now n : ℕ) (s : State) → IsState s → now ≤ 2 ^ 60 → IsState (put_off now n s)
+put_off_is_state now n s is_state m =
+    with_object_is_state n (put_off_to (put_off_until s.setup n now)) s is_state
+    (λ o e. both_and (is_time (put_off_until s.setup n now)) (is_moment o.run) (put_off_in_time s.setup n now is_state.valid_setup m) (and_both (is_time o.next) (is_moment o.run) e).1)
+    (λ o e. e)
 
 -- ---- what the code leaves
 

@@ -39,6 +39,10 @@ freed_time now o = unwrap_or o.next now
 abbrev pub rescheduled : ℕ → Bool → ObjectState → ObjectState
 rescheduled time forced o = record { next = Some time; run = o.run; enabled = o.enabled; forced = forced }
 
+-- The next check is at this time, if at all; the rest is as it was.
+abbrev pub put_off_to : Option ℕ → ObjectState → ObjectState
+put_off_to until o = record { next = until; run = o.run; enabled = o.enabled; forced = o.forced }
+
 -- The active checks are on or off; a next time is as it was.
 abbrev pub enabled_as : Bool → ObjectState → ObjectState
 enabled_as on o = record { next = o.next; run = o.run; enabled = on; forced = o.forced }

@@ -1,4 +1,4 @@
--- What the result of a check makes of an object.
+-- What the result of a check makes of an object, and to when one is put off.
 use Rattle.std.specs.Prelude.{ℕ, ◌+◌, ◌*◌, ◌==◌, true, List, Option, Some, None, option_and_then, slice_get, if◌then◌else◌}
 use Rattle.std.specs.Option.{option_or}
 use Rattle.check_objects.specs.declared.object.Object.{Object}
@@ -39,3 +39,8 @@ time_after setup start interval = if interval == 0 then None else Some (start + 
 -- interval. (Our own profile.)
 abbrev pub next_after : Configuration → ℕ → Standing → ℕ → Option ℕ → Option ℕ
 next_after setup number standing start already = option_or already (option_and_then (λ o. time_after setup start (interval_after o.object standing)) (slice_get (objects_of setup) number))
+
+-- The time to which an object is put off whose dependency fails: the check interval after the moment
+-- of the call; an interval of 0 gives none. (Our own profile.)
+abbrev pub put_off_until : Configuration → ℕ → ℕ → Option ℕ
+put_off_until setup number now = option_and_then (λ o. time_after setup now o.object.check_interval) (slice_get (objects_of setup) number)

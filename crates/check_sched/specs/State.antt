@@ -1,8 +1,7 @@
 -- The state of a scheduler as contracts see it, and the state that it opens with.
-use Rattle.std.specs.Prelude.{ℕ, ◌^◌, ◌<◌, ◌≤◌, ◌≡◌, ◌&&◌, ◌||◌, ◌==◌, Bool, true, not, List, length, map, drop, count_by, Option, Some, None, is_some, option_map, option_and_then, slice_get, nat_le, nat_lt, unwrap_or, if◌then◌else◌}
+use Rattle.std.specs.Prelude.{ℕ, ◌^◌, ◌<◌, ◌≤◌, ◌≡◌, ◌&&◌, ◌||◌, ◌==◌, Bool, true, not, List, length, map, zip, drop, count_by, Option, Some, None, is_some, option_map, option_and_then, slice_get, nat_le, nat_lt, unwrap_or, if◌then◌else◌}
 use Rattle.std.specs.List.{list_all, enumerate_from}
 use Rattle.std.specs.Option.{option_map_or}
-use Rattle.check_objects.specs.declared.object.Object.{Object}
 use Rattle.check_objects.specs.Configuration.{Configuration, objects_of, object_count, host_count, IsSetup}
 use Rattle.check_rules.specs.declared.standing.Standing.{Standing}
 use Rattle.check_rules.specs.State.{is_host_state}
@@ -10,6 +9,7 @@ use Rattle.check_rules.specs.Standing.{pending_standing, is_lawful}
 use Rattle.check_sched.specs.declared.object_state.Run.{Run}
 use Rattle.check_sched.specs.declared.object_state.ObjectState.{ObjectState}
 use Rattle.check_sched.specs.ObjectState.{opening_object}
+use Rattle.check_spread.specs.Spread.{initial_times}
 
 pub record State : Type 0 where
   pub setup : Configuration
@@ -67,19 +67,13 @@ IsWithinLimit s = 0 < limit_of s.setup → running_services s ≤ limit_of s.set
 
 -- ---- the opening
 
--- An object is scheduled at first where it is enabled and its check interval isn't 0. (Our own
--- profile.)
-abbrev pub is_scheduled : Object → Bool
-is_scheduled o = o.enabled && not (o.check_interval == 0)
+-- objects with the times of their first checks, each enabled as the setup says
+abbrev pub objects_at : Configuration → List (Option ℕ) → List ObjectState
+objects_at setup times = map (λ p. opening_object p.0 p.1.object.enabled) (zip times (objects_of setup))
 
--- The time of the first check of the object with this number, if it is scheduled at first: without
--- an inter-check delay the start. ("Service and Host Check Scheduling", initial scheduling.)
-abbrev pub opening_time : Configuration → ℕ → ℕ → Option ℕ
-opening_time setup start number = option_and_then (λ o. if is_scheduled o.object then Some start else None) (slice_get (objects_of setup) number)
-
--- each object with the time of its first check, enabled as the setup says
+-- The first checks are spread over time ("Service and Host Check Scheduling", initial scheduling).
 abbrev pub opening_objects : Configuration → ℕ → List ObjectState
-opening_objects setup start = map (λ p. opening_object (opening_time setup start p.0) p.1.object.enabled) (enumerate_from 0 (objects_of setup))
+opening_objects setup start = objects_at setup (initial_times setup start)
 
 -- no object was ever checked
 abbrev pub opening_standings : Configuration → List Standing

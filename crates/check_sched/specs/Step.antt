@@ -1,6 +1,7 @@
 -- The sequential step: what a call answers in a state, and the state that it leaves.
-use Rattle.std.specs.Prelude.{ℕ, zero, suc, ◌+◌, ◌^◌, Bool, false, not, ◌||◌, List, [], ◌∷◌, filter, Option, Some, None, Result, Ok, Err, ok_or, option_map, slice_get, nat_lt, if◌then◌else◌}
+use Rattle.std.specs.Prelude.{ℕ, zero, suc, ◌+◌, ◌^◌, Bool, false, not, ◌&&◌, ◌||◌, List, [], ◌∷◌, filter, Option, Some, None, Result, Ok, Err, ok_or, option_map, slice_get, nat_lt, if◌then◌else◌}
 use Rattle.std.specs.List.{list_any}
+use Rattle.std.specs.Option.{option_map_or}
 use Rattle.check_sched.specs.declared.call.Call.{Call}
 use Rattle.check_sched.specs.declared.call.Call.TheVariants as call
 use Rattle.check_sched.specs.declared.call.Reply.{Reply}
@@ -12,10 +13,11 @@ use Rattle.check_sched.specs.declared.candidate.Candidate.{Candidate}
 use Rattle.check_rules.specs.declared.state.Code.{Code}
 use Rattle.check_rules.specs.declared.standing.Standing.{Standing}
 use Rattle.check_rules.specs.State.{is_another_state}
-use Rattle.check_sched.specs.ObjectState.{running_from, ended, run_under, freed_time, rescheduled, enabled_as}
+use Rattle.check_sched.specs.ObjectState.{running_from, ended, run_under, freed_time, put_off_to, rescheduled, enabled_as}
 use Rattle.check_sched.specs.Candidate.{candidates_among, due_among, least}
 use Rattle.check_sched.specs.State.{State, has_room, is_host, standing_at}
-use Rattle.check_sched.specs.Report.{judged, next_after}
+use Rattle.check_sched.specs.Report.{judged, next_after, put_off_until}
+use Rattle.check_rules.specs.Dependencies.{is_blocked}
 
 -- what is kept of each object, with that of this number changed by f and every other as it was
 abbrev pub update_at : {X : Type 0} → ℕ → (X → X) → List X → List X
@@ -83,10 +85,30 @@ taken now number s = record {
 abbrev pub waiting_reply : ℕ → State → Reply
 waiting_reply now s = if list_any (λ c. not (is_host s.setup c.number)) (due now s) then reply.AtLimit else reply.Idle (option_map (λ c. c.time) (least (candidates s)))
 
--- The least of those that may be checked is checked, if there is one. (The order of equal times is
--- our own profile: the least number.)
+-- whether the next check of the object with this number is forced
+abbrev pub is_forced : State → ℕ → Bool
+is_forced s number = option_map_or (λ o. o.forced) (slice_get s.objects number) false
+
+-- Whether the object with this number isn't to be checked now that its turn has come: some dependency
+-- of it fails, and its check isn't forced. ("Host and Service Dependencies"; that a forced check
+-- ignores dependencies is our own profile.)
+abbrev pub is_held_back : State → ℕ → Bool
+is_held_back s number = not (is_forced s number) && is_blocked s.setup s.standings number
+
+-- the object is put off, and all else is as it was
+abbrev pub put_off : ℕ → ℕ → State → State
+put_off now number s = with_object number (put_off_to (put_off_until s.setup number now)) s
+
+-- The object whose turn it is is put off or checked. (The order of equal times is our own profile:
+-- the least number.)
+abbrev pub take_turn : ℕ → ℕ → State → State × Reply
+take_turn now number s =
+    if is_held_back s number then (put_off now number s, reply.PutOff number (put_off_until s.setup number now))
+    else (taken now number s, reply.Taken number (s.runs + 1))
+
+-- It is the turn of the least of those whose check may begin, if there is one.
 abbrev pub take_least : ℕ → State → Option Candidate → State × Reply
-take_least now s (Some c) = (taken now c.number s, reply.Taken c.number (s.runs + 1))
+take_least now s (Some c) = take_turn now c.number s
 take_least now s None = (s, waiting_reply now s)
 
 abbrev pub take_answer : ℕ → State → Result (State × Reply) Refusal

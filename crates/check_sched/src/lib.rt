@@ -8,11 +8,13 @@
 //!
 //! The modules, from what a caller says to how it is answered: `call` has the calls and their
 //! replies, `object_state` what is kept of one object, `candidate` the search for the object that
-//! is checked next, `report` what the result of a check makes of an object, `sched` the scheduler.
+//! is checked next, `report` what the result of a check makes of an object, `sched` the scheduler,
+//! `laws` what follows for every row of calls.
 #![tactic(auto)]
 
 mod call;
 mod candidate;
+pub mod laws;
 mod object_state;
 mod report;
 mod sched;

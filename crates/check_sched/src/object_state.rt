@@ -28,6 +28,7 @@ impl ObjectState {
       ended,
       freed_time,
       opening_object,
+      put_off_to,
       rescheduled,
       run_under,
       running_from,
@@ -99,6 +100,13 @@ impl ObjectState {
     {
         self.next = Some(time);
         self.forced = forced;
+    }
+
+    /// Puts the next check off to `until`, if there is to be one.
+    pub(crate) fn put_off(&mut self, until: Option<u64>)
+        ensures { self.new ≡ put_off_to until self.old }
+    {
+        self.next = until;
     }
 
     /// Turns the active checks on or off.

@@ -1,10 +1,11 @@
-//! What the result of a check makes of an object: its standing and its next time.
+//! What the result of a check makes of an object, its standing and its next time, and to when an
+//! object is put off.
 
 ghost use Rattle.std.specs.Prelude.{◌≡◌, ◌<◌, ◌≤◌, ◌^◌, ◌*◌, IfSome, length, option_map, slice_get, Some};
 ghost use Rattle.check_objects.specs.Configuration.{IsSetup, object_count, objects_of};
 ghost use Rattle.check_rules.specs.State.{is_another_state};
 ghost use Rattle.check_sched.specs.State.{IsStandingOf, max_attempts_of, standing_at};
-ghost use Rattle.check_sched.specs.Report.{interval_after, judged, next_after, milliseconds};
+ghost use Rattle.check_sched.specs.Report.{interval_after, judged, next_after, milliseconds, put_off_until, time_after};
 
 use check_objects::{Object, Setup};
 use check_rules::{Code, Standing, host_state, service_state, verdict};
@@ -78,7 +79,30 @@ pub(crate) fn next_after(
     if already.is_some() {
         return already;
     }
-    let interval = interval_after(setup.object(number), standing);
+    time_after(setup, start, interval_after(setup.object(number), standing))
+}
+
+/// The time to which an object is put off at the moment `now`: its check interval later; None where
+/// that is 0.
+pub(crate) fn put_off_until(setup: &Setup, number: u32, now: u64) -> Option<u64>
+    requires there { number < object_count setup.now }
+    requires valid_setup { IsSetup setup.now }
+    requires moment { now ≤ 2 ^ 60 }
+    ensures value { result ≡ put_off_until setup.now number now }
+    ensures within { IfSome result (λ time. time ≤ 2 ^ 61) }
+{
+    time_after(setup, now, setup.object(number).check_interval)
+}
+
+/// The time that is an interval of units of `interval_length` after `start`; None where the interval
+/// is 0.
+fn time_after(setup: &Setup, start: u64, interval: u64) -> Option<u64>
+    requires valid_setup { IsSetup setup.now }
+    requires moment { start ≤ 2 ^ 60 }
+    requires interval { interval ≤ 525600 }
+    ensures value { result ≡ time_after setup.now start interval }
+    ensures within { IfSome result (λ time. time ≤ 2 ^ 61) }
+{
     if interval == 0 {
         return None;
     }

@@ -1,36 +1,39 @@
 //! The scheduler: its calls, and what can be read of it between them.
 
-ghost use Rattle.std.specs.Prelude.{◌≡◌, ◌+◌, ◌<◌, ◌≤◌, ◌^◌, IfSome, IfOk, IfErr, IsTrue, OnOk, None};
+ghost use Rattle.std.specs.Prelude.{◌≡◌, ◌+◌, ◌<◌, ◌≤◌, ◌^◌, IfSome, IfOk, IfErr, IsTrue, OnOk, None, length};
 ghost use Rattle.check_objects.specs.Configuration.{IsSetup, object_count};
 ghost use Rattle.check_sched.specs.State.{
   IsStandingOf,
   has_room,
   next_of,
+  objects_at,
   opening,
-  opening_objects,
   opening_standings,
-  opening_time,
   run_number_of,
   standing_at,
 };
 ghost use Rattle.check_sched.specs.Candidate.{least};
 ghost use Rattle.check_sched.specs.Step.{
   eligible,
+  is_held_back,
   is_open,
   known,
+  put_off,
   step,
   taken,
   waiting_reply,
   within_range,
 };
+ghost use Rattle.check_sched.specs.Report.{put_off_until};
 ghost use Rattle.check_sched.specs.Reply.{OnRefused, NamesObjectOf, TellsTimesUpTo, reply_of};
 
 use crate::call::{Call, Refusal, Reply};
 use crate::candidate::{Candidate, least_candidate, least_due, running_among};
 use crate::object_state::{ObjectState, Run};
-use crate::report::{is_changed, judged, next_after};
+use crate::report::{is_changed, judged, next_after, put_off_until};
 use check_objects::Setup;
-use check_rules::{Code, Standing, pending};
+use check_rules::{Code, Standing, blocked, pending};
+use check_spread::initial_times;
 use std::alloc::{AllocError, Global};
 use std::marker::Model;
 
@@ -49,6 +52,8 @@ pub struct Sched {
     objects: Vec<ObjectState>,
     standings: Vec<Standing>,
     runs: u64,
+    /// Scratch of the search through dependencies: a mark for each object.
+    marks: Vec<bool>,
 }
 
 impl Model for Sched {
@@ -65,9 +70,9 @@ impl Model for Sched {
 
 impl Sched {
     /// A scheduler for the objects of `setup`, with `start`, in milliseconds, as the moment at
-    /// which scheduling starts. An object has its first check at `start` where it is enabled and
-    /// its check interval isn't 0; all others begin without a next time. (Our own profile, after
-    /// the manual's "Service and Host Check Scheduling", "Initial Scheduling".)
+    /// which scheduling starts. The first checks are spread over time from `start` on, as the
+    /// setup's options say; an object that is disabled or whose check interval is 0 begins without
+    /// a next time. (Manual: "Service and Host Check Scheduling".)
     ///
     /// An Err means want of memory, and hands the setup back as it was. This is the one call that
     /// needs memory.
@@ -76,10 +81,16 @@ impl Sched {
         ensures ok { IfOk result (λ scheduler. scheduler ≡ opening setup start) }
         ensures err { IfErr result (λ handed_back. handed_back ≡ setup) }
     {
-        let Ok(objects) = opening_objects(alloc, &setup, start) else {
+        let Ok(times) = initial_times(alloc, &setup, start) else {
+            return Err(setup);
+        };
+        let Ok(objects) = opening_objects(alloc, &setup, &times) else {
             return Err(setup);
         };
         let Ok(standings) = opening_standings(alloc, &setup) else {
+            return Err(setup);
+        };
+        let Ok(marks) = vec![in alloc; false; setup.len()] else {
             return Err(setup);
         };
         Ok(Sched {
@@ -88,6 +99,7 @@ impl Sched {
             objects,
             standings,
             runs: 0,
+            marks,
         })
     }
 
@@ -123,8 +135,8 @@ impl Sched {
         }
     }
 
-    /// Begins the check of the least object that is due and may be checked, or tells why there is
-    /// none.
+    /// Begins the check of the least object that is due and may be checked, or puts it off; or tells
+    /// why there is none.
     fn take(&mut self, now: u64) -> Result<Reply, Refusal>
         ensures state { self.new ≡ (step self.old (Call.Take now)).0 }
         ensures reply { reply_of result ≡ (step self.old (Call.Take now)).1 }
@@ -135,9 +147,13 @@ impl Sched {
         if self.runs >= MOST_RUNS {
             return Err(Refusal::RunsSpent);
         }
-        match self.least_eligible(now) {
-            Some(least) => Ok(self.begin(least.number, now)),
-            None => Ok(self.waiting(now)),
+        let Some(least) = self.least_eligible(now) else {
+            return Ok(self.waiting(now));
+        };
+        if self.is_held_back(least.number) {
+            Ok(self.put_off(least.number, now))
+        } else {
+            Ok(self.begin(least.number, now))
         }
     }
 
@@ -163,6 +179,32 @@ impl Sched {
         let hosts = self.setup.hosts();
         let limit = self.setup.options().max_concurrent_checks;
         limit == 0 || (running_among(&self.objects[hosts..]) as u64) < limit
+    }
+
+    /// Whether the object whose turn has come isn't to be checked: its check isn't forced, and some
+    /// dependency of it fails. Only the scratch changes.
+    fn is_held_back(&mut self, object: u32) -> bool
+        requires { object < object_count self.old.setup }
+        ensures state { self.new ≡ self.old }
+        ensures value { result ≡ is_held_back self.old object }
+    {
+        if self.objects[object as usize].forced {
+            return false;
+        }
+        blocked(&self.setup, &self.standings, &mut self.marks, object)
+    }
+
+    /// Puts an object off by its check interval.
+    fn put_off(&mut self, object: u32, now: u64) -> Reply
+        requires there { object < object_count self.old.setup }
+        requires moment { now ≤ 2 ^ 60 }
+        ensures state { self.new ≡ put_off now object self.old }
+        ensures reply { result ≡ Reply.PutOff object (put_off_until self.old.setup object now) }
+        ensures times { TellsTimesUpTo (2 ^ 61) result }
+    {
+        let until = put_off_until(&self.setup, object, now);
+        self.objects[object as usize].put_off(until);
+        Reply::PutOff { object, until }
     }
 
     /// Begins the check of an object, under the next run number.
@@ -346,33 +388,23 @@ fn test_moment(moment: u64) -> Result<(), Refusal>
     }
 }
 
-/// The state of each object of the setup when scheduling starts, by number.
-fn opening_objects(alloc: Global, setup: &Setup, start: u64) -> Result<Vec<ObjectState>, AllocError>
-    ensures items { IfOk result (λ objects. objects.items ≡ opening_objects setup.now start) }
+/// The state of each object of the setup when scheduling starts, by number; `times` has the times of
+/// the first checks.
+fn opening_objects(
+    alloc: Global,
+    setup: &Setup,
+    times: &[Option<u64>],
+) -> Result<Vec<ObjectState>, AllocError>
+    requires { length times.now ≡ object_count setup.now }
+    ensures items { IfOk result (λ objects. objects.items ≡ objects_at setup.now times.now) }
     ensures valid_setup { OnOk result (IsSetup setup.now) }
 {
-    let count = setup.len();
-    let mut objects = Vec::with_capacity(alloc, count)?;
-    for index in 0..count {
-        let number = index as u32;
-        let first = opening_time(setup, start, number);
-        objects.push(ObjectState::opening(first, setup.object(number).enabled))?;
+    let mut objects = Vec::with_capacity(alloc, setup.len())?;
+    for (number, first) in times.iter().enumerate() {
+        let enabled = setup.object(number as u32).enabled;
+        objects.push(ObjectState::opening(*first, enabled))?;
     }
     Ok(objects)
-}
-
-/// The time of the first check of an object: the start, where the object is enabled and its check
-/// interval isn't 0.
-fn opening_time(setup: &Setup, start: u64, number: u32) -> Option<u64>
-    requires { number < object_count setup.now }
-    ensures { result ≡ opening_time setup.now start number }
-{
-    let object = setup.object(number);
-    if object.enabled && object.check_interval != 0 {
-        Some(start)
-    } else {
-        None
-    }
 }
 
 /// What is known of each object when scheduling starts, by number: none was ever checked.

@@ -43,6 +43,21 @@ const ONE_ATTEMPT: &[u8] =
 const HOST_AND_SERVICE: &[u8] =
     br#"{"options":{"service_inter_check_delay_method":"n","host_inter_check_delay_method":"n"},"hosts":[{"name":"h","check_interval":5,"max_check_attempts":4}],"services":[{"host":"h","description":"s","max_check_attempts":4}]}"#;
 
+/// A host that is checked, and its services 1 and 2, without a limit and with a limit of 1.
+const TWO_SERVICES: &[u8] =
+    br#"{"options":{"service_inter_check_delay_method":"n","host_inter_check_delay_method":"n"},"hosts":[{"name":"h","check_interval":5,"max_check_attempts":3}],"services":[{"host":"h","description":"a","max_check_attempts":3},{"host":"h","description":"b","max_check_attempts":3}]}"#;
+
+const TWO_SERVICES_LIMIT_ONE: &[u8] =
+    br#"{"options":{"max_concurrent_checks":1,"service_inter_check_delay_method":"n","host_inter_check_delay_method":"n"},"hosts":[{"name":"h","check_interval":5,"max_check_attempts":3}],"services":[{"host":"h","description":"a","max_check_attempts":3},{"host":"h","description":"b","max_check_attempts":3}]}"#;
+
+/// The same with a limit of 1 and a host that is never due.
+const ONLY_SERVICES_LIMIT_ONE: &[u8] =
+    br#"{"options":{"max_concurrent_checks":1,"service_inter_check_delay_method":"n","host_inter_check_delay_method":"n"},"hosts":[{"name":"h","check_interval":0,"max_check_attempts":3}],"services":[{"host":"h","description":"a","max_check_attempts":3},{"host":"h","description":"b","max_check_attempts":3}]}"#;
+
+/// Two services of a host that is never due, a second apart at first.
+const A_SECOND_APART: &[u8] =
+    br#"{"options":{"service_inter_check_delay_method":"d","host_inter_check_delay_method":"n"},"hosts":[{"name":"h","check_interval":0,"max_check_attempts":3}],"services":[{"host":"h","description":"a","max_check_attempts":3},{"host":"h","description":"b","max_check_attempts":3}]}"#;
+
 /// Host 0 behind its parent, host 1.
 const BEHIND_A_PARENT: &[u8] =
     br#"{"options":{"host_inter_check_delay_method":"n"},"hosts":[{"name":"h","parents":["p"],"max_check_attempts":3},{"name":"p","max_check_attempts":3}]}"#;
@@ -459,4 +474,59 @@ fn a_disabled_object_waits_until_it_is_enabled(rt: HostRuntime) -> Result<(), Fa
         (enable(2, true), Reply::Refused(Refusal::UnknownObject)),
     ];
     answers_as(&rt, rt.alloc(), ONE_SERVICE, &calls)
+}
+
+#[test]
+fn no_more_services_than_the_limit(rt: HostRuntime) -> Result<(), Fail> {
+    let taken = [
+        (Call::Take { now: 0 }, Reply::Taken { object: 0, run: 1 }),
+        (Call::Take { now: 0 }, Reply::Taken { object: 1, run: 2 }),
+    ];
+    answers_as(&rt, rt.alloc(), TWO_SERVICES, &taken)?;
+    let third = (Call::Take { now: 0 }, Reply::Taken { object: 2, run: 3 });
+    answers_as(&rt, rt.alloc(), TWO_SERVICES, &[taken[0], taken[1], third])?;
+    let third = (Call::Take { now: 0 }, Reply::AtLimit);
+    let calls = [taken[0], taken[1], third];
+    answers_as(&rt, rt.alloc(), TWO_SERVICES_LIMIT_ONE, &calls)
+}
+
+#[test]
+fn a_forced_check_keeps_to_the_limit(rt: HostRuntime) -> Result<(), Fail> {
+    let calls = [
+        (Call::Take { now: 0 }, Reply::Taken { object: 1, run: 1 }),
+        (reschedule(2, 0, true), Reply::Done),
+        (Call::Take { now: 0 }, Reply::AtLimit),
+    ];
+    answers_as(&rt, rt.alloc(), ONLY_SERVICES_LIMIT_ONE, &calls)
+}
+
+#[test]
+fn at_the_limit_hosts_are_taken(rt: HostRuntime) -> Result<(), Fail> {
+    let calls = [
+        (Call::Take { now: 0 }, Reply::Taken { object: 0, run: 1 }),
+        (Call::Take { now: 0 }, Reply::Taken { object: 1, run: 2 }),
+        (abandon(0, 1, 10), Reply::Freed { next: 10 }),
+        (Call::Take { now: 10 }, Reply::Taken { object: 0, run: 3 }),
+        (Call::Take { now: 10 }, Reply::AtLimit),
+        (reschedule(2, 100, false), Reply::Done),
+        (Call::Take { now: 99 }, Reply::Idle { next: Some(100) }),
+        (Call::Take { now: 100 }, Reply::AtLimit),
+        (abandon(1, 2, 200), Reply::Freed { next: 200 }),
+        (Call::Take { now: 100 }, Reply::Taken { object: 2, run: 4 }),
+    ];
+    answers_as(&rt, rt.alloc(), TWO_SERVICES_LIMIT_ONE, &calls)
+}
+
+#[test]
+fn first_checks_are_spread(rt: HostRuntime) -> Result<(), Fail> {
+    let scheduler = opened(rt.alloc(), A_SECOND_APART, 500)?;
+    assert_eq!(rt; scheduler.setup().len(), 3);
+    for (number, next) in [(0, None), (1, Some(500)), (2, Some(1500))] {
+        assert_eq!(rt;
+            scheduler.next_of(number),
+            next,
+            "the next time of {number}"
+        );
+    }
+    Ok(())
 }

@@ -1,6 +1,6 @@
 use Rattle.std.proofs.Common.{◌≡◌, take}
-use Rattle.check_sched.specs.State.{opening_objects}
+use Rattle.check_sched.specs.State.{objects_at}
 use Rattle.check_sched.proofs.sched.opening_objects.Given as goal
 
-abbrev pub invariant-loop-index : goal.invariant-loop-index
-invariant-loop-index l = l.objects.items ≡ take l.index (opening_objects l.setup l.start)
+abbrev pub invariant-loop-number : goal.invariant-loop-number
+invariant-loop-number l = l.objects.items ≡ take l.number (objects_at l.setup l.times)

@@ -13,7 +13,10 @@ pub invariant_of-self : goal.invariant_of-self
 invariant_of-self c =
     let s = state_of c.self.inside in
     let left = written c.args.object (enabled_as c.args.on) s c.index_mut.result.now c.enable.new.self (known_within c.args.object s c.in_ok-object.field-0 (found c)) c.index_mut.ensures.value c.enable.ensures in
-    rw left (with_object_is_state c.args.object (enabled_as c.args.on) s c.self.invariant (λ o e. e) (λ o e. e))
+    record {
+      state = rw left (with_object_is_state c.args.object (enabled_as c.args.on) s c.self.invariant.state (λ o e. e) (λ o e. e));
+      marks = c.self.invariant.marks;
+    }
 
 pub returns-clause-state : goal.returns-clause-state
 returns-clause-state c =

@@ -29,24 +29,24 @@ pub judged-standing-requires-clause-before : goal.judged-standing-requires-claus
 judged-standing-requires-clause-before c =
     let s = state_of c.self.inside in
     let found = ap (known c.args.object) c.self.view_is ∙ sym c.object.ensures ∙ c.in_ok-state.was in
-    rw c.deref.ensures.value (standing_of_state s c.args.object c.self.invariant (count_there c.self.inside c.args.object c.in_ok-state.state c.self.invariant found))
+    rw c.deref.ensures.value (standing_of_state s c.args.object c.self.invariant.state (count_there c.self.inside c.args.object c.in_ok-state.state c.self.invariant.state found))
 
 pub next_after-next-requires-clause-there : goal.next_after-next-requires-clause-there
 next_after-next-requires-clause-there c =
     let found = ap (known c.args.object) c.self.view_is ∙ sym c.object.ensures ∙ c.in_ok-state.was in
-    count_there c.self.inside c.args.object c.in_ok-state.state c.self.invariant found
+    count_there c.self.inside c.args.object c.in_ok-state.state c.self.invariant.state found
 
 pub next_after-next-requires-clause-moment : goal.next_after-next-requires-clause-moment
 next_after-next-requires-clause-moment c =
     let s = state_of c.self.inside in
     let found = ap (known c.args.object) c.self.view_is ∙ sym c.object.ensures ∙ c.in_ok-state.was in
-    start_of_state s c.args.object c.in_ok-state.state c.in_ok-running.running c.self.invariant (known_is c.args.object s c.in_ok-state.state found) (under_is c.args.run c.in_ok-state.state.run c.in_ok-running.running (sym c.run_under.ensures ∙ c.in_ok-running.was))
+    start_of_state s c.args.object c.in_ok-state.state c.in_ok-running.running c.self.invariant.state (known_is c.args.object s c.in_ok-state.state found) (under_is c.args.run c.in_ok-state.state.run c.in_ok-running.running (sym c.run_under.ensures ∙ c.in_ok-running.was))
 
 pub next_after-next-requires-clause-in_time : goal.next_after-next-requires-clause-in_time
 next_after-next-requires-clause-in_time c =
     let s = state_of c.self.inside in
     let found = ap (known c.args.object) c.self.view_is ∙ sym c.object.ensures ∙ c.in_ok-state.was in
-    is_time_reads c.in_ok-state.state.next (next_of_state s c.args.object c.in_ok-state.state c.self.invariant (known_is c.args.object s c.in_ok-state.state found))
+    is_time_reads c.in_ok-state.state.next (next_of_state s c.args.object c.in_ok-state.state c.self.invariant.state (known_is c.args.object s c.in_ok-state.state found))
 
 pub index_mut-requires : goal.index_mut-requires
 index_mut-requires c =
@@ -57,7 +57,7 @@ index_mut-requires c =
 pub index_mut-requires-2 : goal.index_mut-requires-2
 index_mut-requires-2 c =
     let found = ap (known c.args.object) c.self.view_is ∙ sym c.object.ensures ∙ c.in_ok-state.was in
-    let there = standing_there c.self.inside c.args.object c.in_ok-state.state c.self.invariant found in
+    let there = standing_there c.self.inside c.args.object c.in_ok-state.state c.self.invariant.state found in
     omega (arith, there)
 
 -- the object that was found
@@ -78,7 +78,7 @@ objects_left : (c : goal.After-self-2-1) → set c.self.inside.objects.items c.a
 objects_left c = set_is_update _ _ _ c.index_mut.result.now _ (object_there c.self.inside c.args.object c.in_ok-state.state (found c)) (c.end_run.ensures ∙ ap (ended c.next_after-next.result) c.index_mut.ensures.value)
 
 standings_left : (c : goal.After-self-2-1) → set c.self.inside.standings.items c.args.object c.judged-standing.result ≡ update_at c.args.object (λ (before : Standing). c.judged-standing.result) c.self.inside.standings.items
-standings_left c = set_is_update _ (λ (before : Standing). c.judged-standing.result) _ c.judged-standing.result _ (standing_there c.self.inside c.args.object c.in_ok-state.state c.self.invariant (found c)) refl
+standings_left c = set_is_update _ (λ (before : Standing). c.judged-standing.result) _ c.judged-standing.result _ (standing_there c.self.inside c.args.object c.in_ok-state.state c.self.invariant.state (found c)) refl
 
 state_left : (c : goal.After-self-2-1) (objects : List ObjectState) (standings : List Standing)
     → objects ≡ update_at c.args.object (ended c.next_after-next.result) c.self.inside.objects.items
@@ -89,14 +89,17 @@ state_left c objects standings e f i = record { setup = c.self.inside.setup; sta
 pub invariant_of-self : goal.invariant_of-self
 invariant_of-self c =
     let s = state_of c.self.inside in
-    let within : IsStandingOf c.self.inside.setup c.args.object c.judged-standing.result = rw (c.judged-standing.ensures, c.deref.ensures.value) (report_standing c.args.object c.args.code c.in_ok-state.state s c.self.invariant (known_is c.args.object s c.in_ok-state.state (found c))) in
-    rw (state_left c _ _ (objects_left c) (standings_left c)) (reported_is_state c.args.object c.judged-standing.result c.next_after-next.result s c.self.invariant (is_time_holds c.next_after-next.result c.next_after-next.ensures.within) within)
+    let within : IsStandingOf c.self.inside.setup c.args.object c.judged-standing.result = rw (c.judged-standing.ensures, c.deref.ensures.value) (report_standing c.args.object c.args.code c.in_ok-state.state s c.self.invariant.state (known_is c.args.object s c.in_ok-state.state (found c))) in
+    record {
+      state = rw (state_left c _ _ (objects_left c) (standings_left c)) (reported_is_state c.args.object c.judged-standing.result c.next_after-next.result s c.self.invariant.state (is_time_holds c.next_after-next.result c.next_after-next.ensures.within) within);
+      marks = c.self.invariant.marks;
+    }
 
 pub returns-clause-state : goal.returns-clause-state
 returns-clause-state c = rw (← c.self.view_is, answer c) (state_left c _ _ (objects_left c) (standings_left c))
 
 pub returns-clause-reply : goal.returns-clause-reply
 returns-clause-reply c =
-    let there = standing_there c.self.inside c.args.object c.in_ok-state.state c.self.invariant (found c) in
+    let there = standing_there c.self.inside c.args.object c.in_ok-state.state c.self.invariant.state (found c) in
     let before = standing_read c.self.inside.standings.items c.args.object c.index-before.result.now there c.index-before.ensures in
     rw (← c.self.view_is, answer c, before, c.is_changed-changed.ensures) refl

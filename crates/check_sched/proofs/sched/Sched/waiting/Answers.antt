@@ -20,7 +20,7 @@ returns-in-Some-2-clause-reply c =
 pub returns-in-Some-2-clause-times : goal.returns-in-Some-2-clause-times
 returns-in-Some-2-clause-times c =
     let found = ap (λ objects. least (candidates_among objects)) (sym c.deref.ensures.value) ∙ sym c.in-Some.ensures in
-    let told = least_time (state_of c.self.inside) c.self.invariant in
+    let told = least_time (state_of c.self.inside) c.self.invariant.state in
     rw found at told
 
 pub returns-in-None-clause-reply : goal.returns-in-None-clause-reply
