@@ -128,6 +128,8 @@ part_text part.Document = codes "document"
 part_text part.Options = codes "options"
 part_text part.Hosts = codes "hosts"
 part_text part.Services = codes "services"
+part_text part.ServiceDependencies = codes "service_dependencies"
+part_text part.HostDependencies = codes "host_dependencies"
 
 abbrev pub index_text : Option ℕ → List ℕ
 index_text None = []
@@ -145,7 +147,9 @@ load_text load.TooMany = codes "L3 TooMany"
 load_text (load.BadName p) = codes "L4 BadName " ++ place_text p
 load_text (load.Duplicate p) = codes "L5 Duplicate " ++ place_text p
 load_text (load.UnknownHost p) = codes "L6 UnknownHost " ++ place_text p
+load_text (load.UnknownMaster p) = codes "L7 UnknownMaster " ++ place_text p
 load_text (load.Range p) = codes "L8 Range " ++ place_text p
+load_text load.DependencyCycle = codes "L9 DependencyCycle"
 load_text load.ParentCycle = codes "L10 ParentCycle"
 load_text load.Memory = codes "L11 Memory"
 load_text load.TooLong = codes "L12 TooLong"

@@ -17,11 +17,12 @@ Schedules the active checks of hosts and services as Nagios Core 4 does: it deci
 check is due, and what a result does to state, attempt and next time.
 
 It reads a setup and a script of calls from standard input, makes the calls one after
-another on one scheduler, and writes a line for each reply to standard output.";
+another on one scheduler, and writes a line for each reply to standard output.
+
+Without a command it does `run --start 0`; `nagsched run --help` tells more of that.";
 
 /// What the help says of the subcommand `run`.
-const ABOUT_RUN: &str =
-    "Makes the calls of a script on one scheduler (what is done without a command)";
+const ABOUT_RUN: &str = "Makes the calls of a script on one scheduler";
 
 /// What the help says of the option `--start`.
 const ABOUT_START: &str = "\

@@ -1,6 +1,7 @@
 //! Tests of what no clause says: worked inputs whose outputs were written down beforehand, readers
 //! and writers that fail, the limits of an input and its lines, and the program's exit statuses.
 
+mod dependencies;
 mod devices;
 mod faults;
 mod limits;
@@ -9,6 +10,7 @@ mod operators;
 mod refusals;
 mod replies;
 mod reports;
+mod setups;
 mod statuses;
 
 use crate::drive::{Outcome, drive};

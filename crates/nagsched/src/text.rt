@@ -254,6 +254,7 @@ impl fmt::Display for LoadText {
         let (reason, place) = match self.0 {
             LoadError::NotJson => return f.write_str("L1 NotJson"),
             LoadError::TooMany => return f.write_str("L3 TooMany"),
+            LoadError::DependencyCycle => return f.write_str("L9 DependencyCycle"),
             LoadError::ParentCycle => return f.write_str("L10 ParentCycle"),
             LoadError::Memory => return f.write_str("L11 Memory"),
             LoadError::TooLong => return f.write_str("L12 TooLong"),
@@ -261,6 +262,7 @@ impl fmt::Display for LoadText {
             LoadError::BadName(place) => ("L4 BadName", PlaceText(place)),
             LoadError::Duplicate(place) => ("L5 Duplicate", PlaceText(place)),
             LoadError::UnknownHost(place) => ("L6 UnknownHost", PlaceText(place)),
+            LoadError::UnknownMaster(place) => ("L7 UnknownMaster", PlaceText(place)),
             LoadError::Range(place) => ("L8 Range", PlaceText(place)),
         };
         write!(f, "{reason} {place}")
@@ -295,5 +297,7 @@ fn part_text(part: Part) -> &'static str
         Part::Options => "options",
         Part::Hosts => "hosts",
         Part::Services => "services",
+        Part::ServiceDependencies => "service_dependencies",
+        Part::HostDependencies => "host_dependencies",
     }
 }
