@@ -1,15 +1,15 @@
 -- The tree of a line, and the members of a command.
 use Rattle.std.proofs.Common.{◌≡◌, ℕ, ◌<◌, ◌≤◌, Bool, true, false, cond, List, [], ◌∷◌, length, Some, None, Ok, Err, refl, arith}
-use Rattle.std.specs.Prelude.{ok_or, IsUtf8}
+use Rattle.std.specs.Prelude.{ok_or, bytes_eq, codes, IsUtf8}
 use Rattle.std.specs.Str.{is_utf8}
 use Rattle.std.proofs.lemmas.Str.{IsUtf8-from_is_utf8, is_utf8-from_IsUtf8}
-use Rattle.serde_json.specs.Data.{Data}
+use Rattle.serde_json.specs.Data.{Data, Items}
 use Rattle.serde_json.specs.Read.{read}
 use Rattle.serde_json.specs.View.{items_view}
 use Rattle.serde_json.specs.declared.value.Value.{Value}
 use Rattle.check_objects.specs.Tree.{tree_of}
 use Rattle.check_objects.specs.Configuration.{Configuration}
-use Rattle.nagsched.specs.Command.{take_call, report_call}
+use Rattle.nagsched.specs.Command.{call_by, name_in, take_call, three_of, two_of}
 use Rattle.nagsched.specs.declared.refusal.InputRefusal.{InputRefusal}
 use Rattle.nagsched.specs.declared.refusal.LineFault.TheVariants as fault
 
@@ -33,16 +33,42 @@ take_members [] h = absurd (omega arith)
 take_members (v ∷ []) h = absurd (omega arith)
 take_members (v ∷ w ∷ vs) h = refl
 
--- `report` has three members beside its word
-pub report_few : (c : Configuration) (vs : List Value) → length vs < 3 → report_call c (items_view vs) ≡ Err fault.Shape
-report_few c [] h = refl
-report_few c (v ∷ []) h = refl
-report_few c (v ∷ w ∷ []) h = refl
-report_few c (v ∷ w ∷ x ∷ vs) h = absurd (omega arith)
+-- the same of the members beside other words: one, two or three
 
-pub report_many : (c : Configuration) (vs : List Value) → 3 < length vs → report_call c (items_view vs) ≡ Err fault.Shape
-report_many c [] h = absurd (omega arith)
-report_many c (v ∷ []) h = absurd (omega arith)
-report_many c (v ∷ w ∷ []) h = absurd (omega arith)
-report_many c (v ∷ w ∷ x ∷ []) h = absurd (omega arith)
-report_many c (v ∷ w ∷ x ∷ y ∷ vs) h = refl
+pub name_few : (vs : List Value) → length vs < 1 → name_in (items_view vs) ≡ None
+name_few [] h = refl
+name_few (v ∷ vs) h = absurd (omega arith)
+
+pub name_many : (vs : List Value) → 1 < length vs → name_in (items_view vs) ≡ None
+name_many [] h = refl
+name_many (v ∷ []) h = absurd (omega arith)
+name_many (v ∷ w ∷ vs) h = refl
+
+pub two_few : (vs : List Value) → length vs < 2 → two_of (items_view vs) ≡ None
+two_few [] h = refl
+two_few (v ∷ []) h = refl
+two_few (v ∷ w ∷ vs) h = absurd (omega arith)
+
+pub two_many : (vs : List Value) → 2 < length vs → two_of (items_view vs) ≡ None
+two_many [] h = refl
+two_many (v ∷ []) h = refl
+two_many (v ∷ w ∷ []) h = absurd (omega arith)
+two_many (v ∷ w ∷ x ∷ vs) h = refl
+
+pub three_few : (vs : List Value) → length vs < 3 → three_of (items_view vs) ≡ None
+three_few [] h = refl
+three_few (v ∷ []) h = refl
+three_few (v ∷ w ∷ []) h = refl
+three_few (v ∷ w ∷ x ∷ vs) h = absurd (omega arith)
+
+pub three_many : (vs : List Value) → 3 < length vs → three_of (items_view vs) ≡ None
+three_many [] h = refl
+three_many (v ∷ []) h = refl
+three_many (v ∷ w ∷ []) h = refl
+three_many (v ∷ w ∷ x ∷ []) h = absurd (omega arith)
+three_many (v ∷ w ∷ x ∷ y ∷ vs) h = refl
+
+-- a word that is none of a script's
+pub call_by_other : (c : Configuration) (word : List ℕ) (ms : Items) → bytes_eq word (codes "take") ≡ false → bytes_eq word (codes "report") ≡ false → bytes_eq word (codes "abandon") ≡ false
+    → bytes_eq word (codes "reschedule") ≡ false → bytes_eq word (codes "enable") ≡ false → bytes_eq word (codes "status") ≡ false → call_by c word ms ≡ Err fault.Shape
+call_by_other c word ms a b d e f g = rw (a, b, d, e, f, g) refl

@@ -4,3 +4,4 @@ pub mod CommandLemmas
 pub mod ScriptLemmas
 pub mod TextLemmas
 pub mod DriveLemmas
+pub mod WordsLemmas

@@ -1,11 +1,17 @@
 -- The lines of a script.
-use Rattle.std.proofs.Common.{ℕ, ◌==◌, ◌+◌, ◌≤◌, Bool, true, false, cond, List, [], ◌∷◌, length, Option, Some, None, Result, Ok, ◌++◌, ap, arith, Bor}
+use Rattle.std.proofs.Common.{ℕ, ◌≡◌, ◌==◌, ◌+◌, ◌≤◌, Bool, true, false, cond, List, [], ◌∷◌, length, Option, Some, None, Result, Ok, ◌++◌, refl, ap, arith, Bor}
 use Rattle.std.specs.Iterator.{YieldsFirstRef}
+use Rattle.check_objects.specs.Configuration.{Configuration}
+use Rattle.check_objects.specs.Setup.{setup_of}
 use Rattle.check_sched.specs.declared.call.Call.{Call}
+use Rattle.nagsched.specs.Agreement.{Fails}
 use Rattle.nagsched.specs.Command.{◌>>=◌}
 use Rattle.nagsched.specs.Input.{lines_of, onto_first}
+use Rattle.nagsched.specs.Script.{calls_from, in_setup, script_over}
 use Rattle.nagsched.specs.declared.input.Lines.{Lines}
 use Rattle.nagsched.specs.declared.refusal.InputRefusal.{InputRefusal}
+use Rattle.nagsched.specs.declared.refusal.ScriptError.{ScriptError}
+use Rattle.nagsched.specs.declared.refusal.ScriptError.TheVariants as errors
 
 -- a list of calls that goes on with what follows it
 abbrev pub with_front : List Call → Result (List Call) InputRefusal → Result (List Call) InputRefusal
@@ -31,3 +37,20 @@ few_lines bs h = omega (arith, length-lines_of bs, h)
 pub few_left : (s t : Lines) (r : Option (Bor (List ℕ))) (n : ℕ) → YieldsFirstRef (λ l. lines_of l.rest.now) s r t → length (lines_of s.rest.now) ≤ n → length (lines_of t.rest.now) ≤ n
 few_left s t None n h b = omega (arith, ap length h.1)
 few_left s t (Some x) n h b = omega (arith, ap length h)
+
+-- ---- a document and the lines after it
+
+-- the document is refused
+pub over_setup_fails : (e : ScriptError) (document : List ℕ) (ls : List (List ℕ)) → Fails e (in_setup (setup_of document)) → Fails e (script_over document ls)
+over_setup_fails errors.Memory document ls f = tt
+over_setup_fails (errors.Refused r) document ls f = rw f refl
+
+-- a line is refused
+pub over_calls_fail : (e : ScriptError) (c : Configuration) (document : List ℕ) (ls : List (List ℕ)) → in_setup (setup_of document) ≡ Ok c → Fails e (calls_from c 2 ls) → Fails e (script_over document ls)
+over_calls_fail errors.Memory c document ls s f = tt
+over_calls_fail (errors.Refused r) c document ls s f = rw (s, f) refl
+
+-- nothing is refused
+pub over_reads : (c : Configuration) (cs : List Call) (document : List ℕ) (ls : List (List ℕ)) → in_setup (setup_of document) ≡ Ok c → calls_from c 2 ls ≡ Ok cs
+    → script_over document ls ≡ Ok (record { setup = c; calls = cs })
+over_reads c cs document ls s f = rw (s, f) refl

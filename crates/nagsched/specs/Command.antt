@@ -2,8 +2,8 @@
 use Rattle.std.specs.Prelude.{ℕ, ◌||◌, ◌==◌, Bool, List, length, Option, Some, None, Result, Ok, Err, ok_or, codes, bytes_eq, nat_lt, if◌then◌else◌}
 use Rattle.std.specs.List.{list_all}
 use Rattle.serde_json.specs.Data.{Data, Items, no_items, item}
-use Rattle.serde_json.specs.Find.{as_array, as_str}
-use Rattle.check_objects.specs.Tree.{tree_of, whole_number}
+use Rattle.serde_json.specs.Find.{as_array, as_bool, as_str}
+use Rattle.check_objects.specs.Tree.{◌>=>◌, tree_of, whole_number}
 use Rattle.check_objects.specs.Configuration.{Configuration, number_of}
 use Rattle.check_rules.specs.declared.state.Code.{Code}
 use Rattle.check_rules.specs.declared.state.Code.TheVariants as code
@@ -24,7 +24,44 @@ abbrev pub ◌>>=◌ : {A B E : Type 0} → Result A E → (A → Result B E) �
 abbrev pub is_blank : List ℕ → Bool
 is_blank line = list_all (λ b. b == 32 || b == 9 || b == 13) line
 
--- ---- one definition a word, over the members after the word
+-- ---- the members after a word
+
+abbrev pub two_of : Items → Option (Data × Data)
+two_of (item a (item b no_items)) = Some (a, b)
+two_of members = None
+
+abbrev pub three_of : Items → Option (Data × Data × Data)
+three_of (item a (item b (item c no_items))) = Some (a, b, c)
+three_of members = None
+
+-- a name alone
+abbrev pub name_in : Items → Option (List ℕ)
+name_in (item name no_items) = as_str name
+name_in members = None
+
+-- a name, and true or false
+abbrev pub name_and_switch : Items → Option (List ℕ × Bool)
+name_and_switch members = two_of members >=> λ p. (as_str p.0 >=> λ name. (as_bool p.1 >=> λ on. Some (name, on)))
+
+-- a name and two numbers
+abbrev pub name_and_numbers : Items → Option (List ℕ × ℕ × ℕ)
+name_and_numbers members = three_of members >=> λ p. (as_str p.0 >=> λ name. (whole_number p.1 >=> λ first. (whole_number p.2 >=> λ second. Some (name, first, second))))
+
+-- a name, a number, and true or false
+abbrev pub name_number_switch : Items → Option (List ℕ × ℕ × Bool)
+name_number_switch members = three_of members >=> λ p. (as_str p.0 >=> λ name. (whole_number p.1 >=> λ n. (as_bool p.2 >=> λ on. Some (name, n, on))))
+
+-- the number of the object with this full name
+abbrev pub object_named : Configuration → List ℕ → Result ℕ LineFault
+object_named c name = ok_or (number_of c name) fault.UnknownName
+
+-- a plugin's return code, 0 to 3
+abbrev pub code_of : ℕ → Option Code
+code_of returned = if returned == 0 then Some code.Ok else (if returned == 1 then Some code.Warning
+    else (if returned == 2 then Some code.Critical else (if returned == 3 then Some code.Unknown else None)))
+
+-- ---- one definition a word, over the members after the word: first their number and kinds, then
+-- the return code, then the name
 
 abbrev pub take_at : Option ℕ → Result Call LineFault
 take_at (Some now) = Ok (call.Take now)
@@ -35,35 +72,46 @@ abbrev pub take_call : Items → Result Call LineFault
 take_call (item now no_items) = take_at (whole_number now)
 take_call members = Err fault.Shape
 
--- a plugin's return code, 0 to 3
-abbrev pub code_of : ℕ → Option Code
-code_of returned = if returned == 0 then Some code.Ok else (if returned == 1 then Some code.Warning
-    else (if returned == 2 then Some code.Critical else (if returned == 3 then Some code.Unknown else None)))
-
--- a report of these members, each None where it is of the wrong kind: first the kinds, then the return code, then the
--- name
-abbrev pub report_of : Configuration → Option (List ℕ) → Option ℕ → Option ℕ → Result Call LineFault
-report_of c (Some name) (Some run) (Some returned) = ok_or (code_of returned) fault.Code >>= λ code.
-    (ok_or (number_of c name) fault.UnknownName >>= λ object. Ok (call.Report object run code))
-report_of c name run returned = Err fault.Shape
-
 -- `["report",name,run,code]`: the check of the object `name` that runs under the number `run` returned `code`
 abbrev pub report_call : Configuration → Items → Result Call LineFault
-report_call c (item name (item run (item returned no_items))) = report_of c (as_str name) (whole_number run) (whole_number returned)
-report_call c members = Err fault.Shape
+report_call c members = ok_or (name_and_numbers members) fault.Shape >>= λ p. (ok_or (code_of p.2) fault.Code >>= λ code.
+    (object_named c p.0 >>= λ object. Ok (call.Report object p.1 code)))
+
+-- `["abandon",name,run,now]`: the check of the object `name` that runs under the number `run` is given up at the moment `now`
+abbrev pub abandon_call : Configuration → Items → Result Call LineFault
+abandon_call c members = ok_or (name_and_numbers members) fault.Shape >>= λ p.
+    (object_named c p.0 >>= λ object. Ok (call.Abandon object p.1 p.2))
+
+-- `["reschedule",name,time,forced]`: the next check of the object `name` is at the moment `time`, forced or not
+abbrev pub reschedule_call : Configuration → Items → Result Call LineFault
+reschedule_call c members = ok_or (name_number_switch members) fault.Shape >>= λ p.
+    (object_named c p.0 >>= λ object. Ok (call.Reschedule object p.1 p.2))
+
+-- `["enable",name,on]`: the active checks of the object `name` are on or off
+abbrev pub enable_call : Configuration → Items → Result Call LineFault
+enable_call c members = ok_or (name_and_switch members) fault.Shape >>= λ p.
+    (object_named c p.0 >>= λ object. Ok (call.Enable object p.1))
+
+-- `["status",name]`: what is known of the object `name`
+abbrev pub status_call : Configuration → Items → Result Call LineFault
+status_call c members = ok_or (name_in members) fault.Shape >>= λ name.
+    (object_named c name >>= λ object. Ok (call.Status object))
 
 -- ---- the call of a tree
 
 -- the call of a word with these members after it
-abbrev pub call_by : Configuration → Option (List ℕ) → Items → Result Call LineFault
-call_by c (Some word) members = if bytes_eq word (codes "take") then take_call members
-    else (if bytes_eq word (codes "report") then report_call c members else Err fault.Shape)
-call_by c None members = Err fault.Shape
+abbrev pub call_by : Configuration → List ℕ → Items → Result Call LineFault
+call_by c word members = if bytes_eq word (codes "take") then take_call members
+    else (if bytes_eq word (codes "report") then report_call c members
+    else (if bytes_eq word (codes "abandon") then abandon_call c members
+    else (if bytes_eq word (codes "reschedule") then reschedule_call c members
+    else (if bytes_eq word (codes "enable") then enable_call c members
+    else (if bytes_eq word (codes "status") then status_call c members else Err fault.Shape)))))
 
 -- the call of an array's members, the word first
 abbrev pub call_in : Configuration → Items → Result Call LineFault
 call_in c no_items = Err fault.Shape
-call_in c (item word members) = call_by c (as_str word) members
+call_in c (item word members) = ok_or (as_str word) fault.Shape >>= λ w. call_by c w members
 
 abbrev pub call_of_array : Configuration → Option Items → Result Call LineFault
 call_of_array c (Some items) = call_in c items

@@ -6,4 +6,5 @@ pub mod Scripted
 pub mod Agreement
 pub mod Text
 pub mod Drive
+pub mod Words
 pub mod Session

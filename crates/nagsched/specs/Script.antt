@@ -26,10 +26,14 @@ abbrev pub in_setup : Result Configuration LoadError → Result Configuration In
 in_setup (Ok c) = Ok c
 in_setup (Err e) = Err (refusal.Setup e)
 
+-- the script of a setup document and the lines after it, which count from 2
+abbrev pub script_over : List ℕ → List (List ℕ) → Result Script InputRefusal
+script_over document lines = in_setup (setup_of document) >>= λ c. (calls_from c 2 lines >>= λ cs. Ok (record { setup = c; calls = cs }))
+
 -- Line 1 is the setup document, whole, and every later line a command.
 abbrev pub script_in : List (List ℕ) → Result Script InputRefusal
-script_in [] = in_setup (setup_of []) >>= λ c. Ok (record { setup = c; calls = [] })
-script_in (line ∷ lines) = in_setup (setup_of line) >>= λ c. (calls_from c 2 lines >>= λ cs. Ok (record { setup = c; calls = cs }))
+script_in [] = script_over [] []
+script_in (line ∷ lines) = script_over line lines
 
 -- the script of an input, whose length is tested before all else
 unfoldable pub script_of : List ℕ → Result Script InputRefusal

@@ -1,15 +1,42 @@
--- How the program ends.
-use Rattle.std.specs.Prelude.{ℕ, Result, Ok, Err}
+-- What a session does, and how it ends.
+use Rattle.std.specs.Prelude.{ℕ, ◌≡◌, ◌⊎◌, List, Option, Some, Result, Ok, Err, codes, IfSome}
+use Rattle.std.specs.Io.KnownBytes.{Appends}
+use Rattle.clap.specs.Words.{Text}
 use Rattle.nagsched.specs.declared.drive.DriveError.{DriveError}
 use Rattle.nagsched.specs.declared.drive.DriveError.TheVariants as errors
 use Rattle.nagsched.specs.declared.drive.Outcome.TheVariants as outcome
 use Rattle.nagsched.specs.declared.session.Ending.{Ending}
 use Rattle.nagsched.specs.declared.session.Ending.TheVariants as ending
+use Rattle.nagsched.specs.declared.words.Job.TheVariants as job
+use Rattle.nagsched.specs.Drive.{AfterFault, HasRead, outcome_of}
+use Rattle.nagsched.specs.Text.{text}
+use Rattle.nagsched.specs.Words.{AsksHelp, IsRefused, job_asked}
 
--- The exit status: 0 ran, 1 input refused, 2 words refused, 3 a fault of the reader or the writer,
--- 4 want of memory.
+-- What a session has done that ended so, by its words, by what the reader had and has left and by
+-- what the writer held and holds: it ran or refused the input from the start that the words ask
+-- for; or it read nothing, and the words ask for help, or are refused, which it wrote.
+abbrev pub Did : List Text → Ending → Option (List ℕ) → Option (List ℕ) → Option (List ℕ) → Option (List ℕ) → Type 0
+Did words (ending.Drove outcome) had left held holds = (start : ℕ) × (job_asked words ≡ Some (job.Run start))
+    × IfSome had (λ input. (outcome ≡ outcome_of input) × Appends held holds (text start input) × HasRead had left input)
+Did words ending.Helped had left held holds = AsksHelp words × (left ≡ had)
+Did words ending.RefusedWords had left held holds = IsRefused words × (left ≡ had) × Appends held holds (codes "refused words\n")
+
+-- What a session leaves that an error ended: what a run from the start that the words ask for
+-- leaves after it, or else a reader that wasn't read.
+abbrev pub Failed : List Text → DriveError → Option (List ℕ) → Option (List ℕ) → Option (List ℕ) → Option (List ℕ) → Type 0
+Failed words e had left held holds = ((start : ℕ) × (job_asked words ≡ Some (job.Run start)) × AfterFault e start had left held holds)
+    ⊎ (left ≡ had)
+
+-- what a session has done, by how it ended
+abbrev pub Ends : List Text → Result Ending DriveError → Option (List ℕ) → Option (List ℕ) → Option (List ℕ) → Option (List ℕ) → Type 0
+Ends words (Ok ending) had left held holds = Did words ending had left held holds
+Ends words (Err e) had left held holds = Failed words e had left held holds
+
+-- The exit status: 0 ran or told its help, 1 input refused, 2 words refused, 3 a fault of the
+-- reader or the writer, 4 want of memory.
 abbrev pub exit_status : Result Ending DriveError → ℕ
 exit_status (Ok (ending.Drove outcome.Ran)) = 0
+exit_status (Ok ending.Helped) = 0
 exit_status (Ok (ending.Drove outcome.Refused)) = 1
 exit_status (Ok ending.RefusedWords) = 2
 exit_status (Err errors.Read) = 3

@@ -42,6 +42,10 @@ time_text None = codes "none"
 abbrev pub taken_text : ℕ → List ℕ → List ℕ
 taken_text run name = codes "taken " ++ (decimal run ++ (codes " " ++ name))
 
+-- the object with this full name was due, but was put off to this time, if it is checked again
+abbrev pub putoff_text : Option ℕ → List ℕ → List ℕ
+putoff_text until name = codes "putoff " ++ (time_text until ++ (codes " " ++ name))
+
 -- nothing is due, and this is the time of the next check, if there is one
 abbrev pub idle_text : Option ℕ → List ℕ
 idle_text next = codes "idle " ++ time_text next
@@ -73,10 +77,22 @@ abbrev pub standing_text : Standing → Bool → Option ℕ → List ℕ → Lis
 standing_text s changed next name = codes "standing " ++ (state_text s ++ (codes " " ++ (kind_text s.kind ++ (codes " " ++
     (decimal s.attempt ++ (codes " " ++ (changed_text changed ++ (codes " " ++ (time_text next ++ (codes " " ++ name))))))))))
 
+-- the check of the object with this full name was given up, and this is the time of its next one
+abbrev pub freed_text : ℕ → List ℕ → List ℕ
+freed_text next name = codes "freed " ++ (decimal next ++ (codes " " ++ name))
+
+-- what was asked for the object with this full name was done
+abbrev pub done_text : List ℕ → List ℕ
+done_text name = codes "done " ++ name
+
 -- the full name of the object that a call asks for, or nothing where it asks for none
 abbrev pub asked_name : Configuration → Call → List ℕ
 asked_name c (call.Take now) = []
 asked_name c (call.Report object run code) = name_of c object
+asked_name c (call.Abandon object run now) = name_of c object
+asked_name c (call.Reschedule object time forced) = name_of c object
+asked_name c (call.Enable object on) = name_of c object
+asked_name c (call.Status object) = name_of c object
 
 -- a refusal for this reason
 abbrev pub refused_text : List ℕ → List ℕ
@@ -93,8 +109,12 @@ call_refusal_text refused.RunsSpent = codes "C5 RunsSpent"
 -- The text of the reply to a call. The object is told by its full name: the one of the reply, or else of the call.
 abbrev pub reply_text : Configuration → Call → Reply → List ℕ
 reply_text c asked (reply.Taken object run) = taken_text run (name_of c object)
+reply_text c asked (reply.PutOff object until) = putoff_text until (name_of c object)
 reply_text c asked (reply.Idle next) = idle_text next
+reply_text c asked reply.AtLimit = codes "atlimit"
 reply_text c asked (reply.Standing standing changed next) = standing_text standing changed next (asked_name c asked)
+reply_text c asked (reply.Freed next) = freed_text next (asked_name c asked)
+reply_text c asked reply.Done = done_text (asked_name c asked)
 reply_text c asked (reply.Refused why) = refused_text (call_refusal_text why)
 
 abbrev pub reply_line : Configuration → Call → Reply → List ℕ
@@ -108,6 +128,8 @@ part_text part.Document = codes "document"
 part_text part.Options = codes "options"
 part_text part.Hosts = codes "hosts"
 part_text part.Services = codes "services"
+part_text part.ServiceDependencies = codes "service_dependencies"
+part_text part.HostDependencies = codes "host_dependencies"
 
 abbrev pub index_text : Option ℕ → List ℕ
 index_text None = []
@@ -125,7 +147,9 @@ load_text load.TooMany = codes "L3 TooMany"
 load_text (load.BadName p) = codes "L4 BadName " ++ place_text p
 load_text (load.Duplicate p) = codes "L5 Duplicate " ++ place_text p
 load_text (load.UnknownHost p) = codes "L6 UnknownHost " ++ place_text p
+load_text (load.UnknownMaster p) = codes "L7 UnknownMaster " ++ place_text p
 load_text (load.Range p) = codes "L8 Range " ++ place_text p
+load_text load.DependencyCycle = codes "L9 DependencyCycle"
 load_text load.ParentCycle = codes "L10 ParentCycle"
 load_text load.Memory = codes "L11 Memory"
 load_text load.TooLong = codes "L12 TooLong"

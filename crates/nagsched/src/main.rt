@@ -1,15 +1,17 @@
 //! The program `nagsched`: reads a setup and a script of calls from standard input, makes the calls
 //! on one scheduler, and writes the line of each reply to standard output.
 //!
-//! What comes in and goes out flows through these modules: `input` (bytes and lines), `script` (the
-//! setup and the calls of an input), `command` (the call of one line), `drive` (the run), `text`
-//! (the line of a reply or a refusal) and `output` (bytes to the writer). `refusal` has the errors
-//! of an input, `session` the program's words and exit statuses.
+//! The words say what is to be done: `job` reads them, `words` has what they can ask for, and
+//! `session` does it and gives the exit status. What comes in and goes out flows through these
+//! modules: `input` (bytes and lines), `script` (the setup and the calls of an input), `command` (the
+//! call of one line), `drive` (the run), `text` (the line of a reply or a refusal) and `output`
+//! (bytes to the writer). `refusal` has the errors of an input.
 #![tactic(auto)]
 
 mod command;
 mod drive;
 mod input;
+mod job;
 mod output;
 mod refusal;
 mod script;
@@ -17,10 +19,47 @@ mod session;
 #[cfg(test)]
 mod tests;
 mod text;
+mod words;
 
-use session::{exit_status, session};
+use drive::DriveError;
+use session::{Ending, exit_status, refuse_words, session};
+use std::alloc::{AllocError, Global};
+use std::io::{BufWriter, ErrorKind};
 use std::process::ExitCode;
+use std::rt::Env;
+use std::{env, io};
 
 fn main(rt: HostRuntime) -> ExitCode {
-    ExitCode::from(exit_status(session(&rt)))
+    ExitCode::from(own_session(&rt))
+}
+
+/// The session of the program's own words, from standard input to standard output. Writes are
+/// gathered, and flushed once at the end. Words that are no text are refused.
+fn own_session<R: Env + Input + Print + AllocGlobal>(rt: &R) -> u8 {
+    let alloc = rt.alloc();
+    let Ok(mut writer) = BufWriter::new(alloc, io::writer(rt)) else {
+        return exit_status(Err(DriveError::Memory));
+    };
+    match env::args(rt) {
+        Ok(args) => {
+            let Ok(args) = args.collect::<Vec<String>>(alloc) else {
+                return exit_status(Err(DriveError::Memory));
+            };
+            let Ok(words) = texts_of(alloc, &args) else {
+                return exit_status(Err(DriveError::Memory));
+            };
+            session(rt, alloc, &words, &mut rt.reader(), &mut writer)
+        }
+        Err(e) if e.kind() == ErrorKind::OutOfMemory => exit_status(Err(DriveError::Memory)),
+        Err(_) => exit_status(refuse_words(&mut writer).map(|()| Ending::RefusedWords)),
+    }
+}
+
+/// The words as texts.
+fn texts_of(alloc: Global, words: &[String]) -> Result<Vec<&str>, AllocError> {
+    let mut texts = Vec::new(alloc);
+    for word in words {
+        texts.push(word.as_str())?;
+    }
+    Ok(texts)
 }

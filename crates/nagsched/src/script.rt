@@ -3,7 +3,8 @@
 ghost use Rattle.std.specs.Prelude.{◌≡◌, ◌≤◌, length};
 ghost use Rattle.check_objects.specs.Setup.{setup_of};
 ghost use Rattle.nagsched.specs.Input.{lines_of};
-ghost use Rattle.nagsched.specs.Script.{calls_from, script_of, in_setup};
+ghost use Rattle.nagsched.specs.Script.{calls_from, script_of, script_over, in_setup};
+ghost use Rattle.nagsched.specs.Scripted.{script};
 ghost use Rattle.nagsched.specs.Agreement.{Gives};
 
 use crate::command::{is_blank, read_command, refused};
@@ -24,8 +25,6 @@ pub struct Script {
 }
 
 impl Script {
-    ghost use Rattle.nagsched.specs.Scripted.{script};
-
     /// Reads an input, every line of it, or gives its first refusal: the input's length is tested
     /// first, then the setup document, then the lines in their order. Want of memory is an error of
     /// its own.
@@ -38,10 +37,18 @@ impl Script {
         }
         let mut lines = Lines::new(input);
         let document = lines.next().unwrap_or(&[]);
-        let setup = read_setup(alloc, document)?;
-        let calls = read_calls(alloc, &setup, lines)?;
-        Ok(Script { setup, calls })
+        read_over(alloc, document, lines)
     }
+}
+
+/// The script of a setup document and the lines after it.
+fn read_over(alloc: Global, document: &[u8], lines: Lines<'_>) -> Result<Script, ScriptError>
+    requires { length (lines_of lines.rest.now) ≤ 67108864 }
+    ensures { Gives script result (script_over document.now (lines_of lines.entry.rest.now)) }
+{
+    let setup = read_setup(alloc, document)?;
+    let calls = read_calls(alloc, &setup, lines)?;
+    Ok(Script { setup, calls })
 }
 
 /// The setup of the document on line 1.

@@ -1,49 +1,73 @@
-//! The program's words and exit statuses.
-ghost use Rattle.std.specs.Prelude.{◌≡◌, codes, OnOk, OnErr, IsOkUnless};
+//! What the program does, by its words, and its exit statuses. The words are read in `job`.
+ghost use Rattle.std.specs.Prelude.{◌≡◌, codes, Result, OnOk, OnErr, IsOkUnless};
 ghost use Rattle.std.specs.Io.KnownBytes.{Appends};
+ghost use Rattle.clap.specs.Walk.{texts};
+ghost use Rattle.nagsched.specs.declared.drive.DriveError.{DriveError};
+ghost use Rattle.nagsched.specs.declared.session.Ending.{Ending};
 ghost use Rattle.nagsched.specs.Output.{WroteFront};
-ghost use Rattle.nagsched.specs.Session.{exit_status};
+ghost use Rattle.nagsched.specs.Session.{exit_status, Ends};
 
 use crate::drive::{DriveError, Outcome, drive};
+use crate::job::job;
 use crate::output::write_text;
-use std::io::{BufWriter, ErrorKind, Write};
-use std::rt::Env;
-use std::{env, io};
-
-/// The moment, in milliseconds, at which the scheduler starts.
-const START: u64 = 0;
+use crate::words::{Job, WordsError};
+use std::alloc::Global;
+use std::io::{Read, Write};
 
 /// How a session ended that met no fault and no want of memory.
 #[derive(Clone, Copy, Debug, PartialEq, Eq)]
 pub enum Ending {
     /// The words were accepted, and the input was run or refused.
     Drove(Outcome),
-    /// The words were refused, and the input wasn't read.
+    /// The words asked for help, which was written. The input wasn't read.
+    Helped,
+    /// The words were refused, which was written. The input wasn't read.
     RefusedWords,
 }
 
-/// Runs standard input to standard output. The program takes no words: where there is one, the line
-/// `refused words` is written and the input isn't read. Writes are gathered, and flushed once at
-/// the end.
-pub fn session<R: Env + Input + Print + AllocGlobal>(rt: &R) -> Result<Ending, DriveError> {
-    let Ok(mut writer) = BufWriter::new(rt.alloc(), io::writer(rt)) else {
-        return Err(DriveError::Memory);
-    };
-    if has_words(rt)? {
-        refuse_words(&mut writer)?;
-        return Ok(Ending::RefusedWords);
-    }
-    let mut reader = rt.reader();
-    let outcome = drive(rt.alloc(), START, &mut reader, &mut writer)?;
-    Ok(Ending::Drove(outcome))
+/// Does what the program's words ask for, its own name first, and gives the exit status. Words are
+/// tested first: where they are refused, or ask for help, the input isn't read, and the line
+/// `refused words` or the help's text is written. The writer is flushed once, at the end.
+///
+/// `_rt` is the machine beside memory, reader and writer. No job uses it so far.
+pub fn session<H, R: Read, W: Write>(
+    _rt: &H,
+    alloc: Global,
+    words: &[&str],
+    reader: &mut R,
+    writer: &mut W,
+) -> u8
+    ensures { (ended : Result Ending DriveError) × (result ≡ exit_status ended)
+        × Ends (texts words.now) ended (R.remaining reader.old) (R.remaining reader.new)
+        (W.contents writer.old) (W.contents writer.new) }
+{
+    exit_status(serve(alloc, words, reader, writer))
 }
 
-/// Whether the program was given a word beside its own name. Its error is want of memory alone.
-fn has_words<R: Env + AllocGlobal>(rt: &R) -> Result<bool, DriveError> {
-    match env::args(rt) {
-        Ok(args) => Ok(args.len() > 1),
-        Err(e) if e.kind() == ErrorKind::OutOfMemory => Err(DriveError::Memory),
-        Err(_) => Ok(true),
+/// Does what the words ask for.
+fn serve<R: Read, W: Write>(
+    alloc: Global,
+    words: &[&str],
+    reader: &mut R,
+    writer: &mut W,
+) -> Result<Ending, DriveError>
+    ensures { Ends (texts words.now) result (R.remaining reader.old) (R.remaining reader.new)
+        (W.contents writer.old) (W.contents writer.new) }
+{
+    match job(alloc, words) {
+        Ok(Job::Run { start }) => match drive(alloc, start, reader, writer) {
+            Ok(outcome) => Ok(Ending::Drove(outcome)),
+            Err(e) => Err(e),
+        },
+        Err(WordsError::Help(text)) => {
+            tell(writer, text.as_bytes())?;
+            Ok(Ending::Helped)
+        }
+        Err(WordsError::Refused) => {
+            refuse_words(writer)?;
+            Ok(Ending::RefusedWords)
+        }
+        Err(WordsError::Memory) => Err(DriveError::Memory),
     }
 }
 
@@ -55,20 +79,31 @@ pub fn refuse_words<W: Write>(writer: &mut W) -> Result<(), DriveError>
         (WroteFront (W.contents writer.old) (W.contents writer.new) (codes "refused words\n")) }
     ensures only { IsOkUnless result DriveError.Write }
 {
-    write_text(writer, b"refused words\n")?;
+    tell(writer, b"refused words\n")
+}
+
+/// Writes a text and flushes it.
+fn tell<W: Write>(writer: &mut W, text: &[u8]) -> Result<(), DriveError>
+    ensures written { OnOk result
+        (Appends (W.contents writer.old) (W.contents writer.new) text.now) }
+    ensures fault { OnErr result
+        (WroteFront (W.contents writer.old) (W.contents writer.new) text.now) }
+    ensures only { IsOkUnless result DriveError.Write }
+{
+    write_text(writer, text)?;
     match writer.flush() {
         Ok(()) => Ok(()),
         Err(_) => Err(DriveError::Write),
     }
 }
 
-/// The exit status of a session: 0 ran, 1 input refused, 2 words refused, 3 a fault of the reader
-/// or the writer, 4 want of memory.
+/// The exit status of a session: 0 ran or told its help, 1 input refused, 2 words refused, 3 a fault
+/// of the reader or the writer, 4 want of memory.
 pub fn exit_status(ended: Result<Ending, DriveError>) -> u8
     ensures { result ≡ exit_status ended }
 {
     match ended {
-        Ok(Ending::Drove(Outcome::Ran)) => 0,
+        Ok(Ending::Drove(Outcome::Ran) | Ending::Helped) => 0,
         Ok(Ending::Drove(Outcome::Refused)) => 1,
         Ok(Ending::RefusedWords) => 2,
         Err(DriveError::Read | DriveError::Write) => 3,

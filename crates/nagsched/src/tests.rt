@@ -1,13 +1,16 @@
 //! Tests of what no clause says: worked inputs whose outputs were written down beforehand, readers
 //! and writers that fail, the limits of an input and its lines, and the program's exit statuses.
 
+mod dependencies;
 mod devices;
 mod faults;
 mod limits;
 mod office;
+mod operators;
 mod refusals;
 mod replies;
 mod reports;
+mod setups;
 mod statuses;
 
 use crate::drive::{Outcome, drive};
@@ -29,4 +32,16 @@ fn run_on(alloc: Global, input: &[u8]) -> Result<(Vec<u8>, Outcome), Fail> {
 /// The setup with one host, and these lines after it.
 fn with_host(alloc: Global, lines: &str) -> Result<String, Fail> {
     Ok(format!(in alloc; "{HOST}\n{lines}")?)
+}
+
+/// A host `h` that is never checked by itself, and its service `s`, each with 3 attempts.
+const SERVICE: &str = "{\"options\":{\"service_inter_check_delay_method\":\"n\",\
+\"host_inter_check_delay_method\":\"n\"},\
+\"hosts\":[{\"name\":\"h\",\"check_interval\":0,\"max_check_attempts\":3}],\
+\"services\":[{\"host\":\"h\",\"description\":\"s\",\"max_check_attempts\":3}]}";
+
+/// What a run on a setup and a script writes, and how it ends.
+fn run_script(alloc: Global, setup: &str, lines: &str) -> Result<(Vec<u8>, Outcome), Fail> {
+    let input = format!(in alloc; "{setup}\n{lines}")?;
+    run_on(alloc, input.as_bytes())
 }

@@ -3,7 +3,7 @@
 ghost use Rattle.std.specs.Prelude.{◌≡◌, ◌++◌, OnOk, string_bytes};
 ghost use Rattle.check_objects.specs.Configuration.{name_of};
 ghost use Rattle.check_sched.specs.Reply.{NamesObjectOf};
-ghost use Rattle.nagsched.specs.Text.{line_of, reply_line, taken_text, idle_text, standing_text, asked_name, state_text, kind_text, changed_text, refused_text, refusal_line, call_refusal_text, part_text, fault_text};
+ghost use Rattle.nagsched.specs.Text.{line_of, reply_line, taken_text, putoff_text, idle_text, standing_text, freed_text, done_text, asked_name, state_text, kind_text, changed_text, refused_text, refusal_line, call_refusal_text, part_text, fault_text};
 
 use crate::refusal::{InputRefusal, LineFault};
 use check_objects::{LoadError, Part, Place, Setup};
@@ -26,7 +26,9 @@ pub fn push_reply(
 {
     match reply {
         Reply::Taken { object, run } => push_taken(line, run, setup.name(object)),
+        Reply::PutOff { object, until } => push_putoff(line, TimeText(until), setup.name(object)),
         Reply::Idle { next } => push_idle(line, TimeText(next)),
+        Reply::AtLimit => line.push_str("atlimit\n"),
         Reply::Standing {
             standing,
             changed,
@@ -38,6 +40,8 @@ pub fn push_reply(
             TimeText(next),
             asked_name(setup, call),
         ),
+        Reply::Freed { next } => push_freed(line, next, asked_name(setup, call)),
+        Reply::Done => push_done(line, asked_name(setup, call)),
         Reply::Refused(refusal) => push_refused(line, call_refusal_text(refusal)),
     }
 }
@@ -47,6 +51,13 @@ fn push_taken(line: &mut String, run: u64, name: &str) -> Result<(), AllocError>
         (string_bytes line.new ≡ string_bytes line.old ++ line_of (taken_text run name.now)) }
 {
     writeln!(line, "taken {run} {name}")
+}
+
+fn push_putoff(line: &mut String, until: TimeText, name: &str) -> Result<(), AllocError>
+    ensures { OnOk result
+        (string_bytes line.new ≡ string_bytes line.old ++ line_of (putoff_text until.0 name.now)) }
+{
+    writeln!(line, "putoff {until} {name}")
 }
 
 fn push_idle(line: &mut String, next: TimeText) -> Result<(), AllocError>
@@ -76,13 +87,31 @@ fn push_standing(
     )
 }
 
+fn push_freed(line: &mut String, next: u64, name: &str) -> Result<(), AllocError>
+    ensures { OnOk result
+        (string_bytes line.new ≡ string_bytes line.old ++ line_of (freed_text next name.now)) }
+{
+    writeln!(line, "freed {next} {name}")
+}
+
+fn push_done(line: &mut String, name: &str) -> Result<(), AllocError>
+    ensures { OnOk result
+        (string_bytes line.new ≡ string_bytes line.old ++ line_of (done_text name.now)) }
+{
+    writeln!(line, "done {name}")
+}
+
 /// The full name of the object that a call asks for, or nothing where it asks for none.
 fn asked_name(setup: &Setup, call: Call) -> &str
     ensures { result.now ≡ asked_name setup.now call }
 {
     match call {
         Call::Take { .. } => "",
-        Call::Report { object, .. } => name_or_nothing(setup, object),
+        Call::Report { object, .. }
+        | Call::Abandon { object, .. }
+        | Call::Reschedule { object, .. }
+        | Call::Enable { object, .. }
+        | Call::Status { object } => name_or_nothing(setup, object),
     }
 }
 
@@ -225,6 +254,7 @@ impl fmt::Display for LoadText {
         let (reason, place) = match self.0 {
             LoadError::NotJson => return f.write_str("L1 NotJson"),
             LoadError::TooMany => return f.write_str("L3 TooMany"),
+            LoadError::DependencyCycle => return f.write_str("L9 DependencyCycle"),
             LoadError::ParentCycle => return f.write_str("L10 ParentCycle"),
             LoadError::Memory => return f.write_str("L11 Memory"),
             LoadError::TooLong => return f.write_str("L12 TooLong"),
@@ -232,6 +262,7 @@ impl fmt::Display for LoadText {
             LoadError::BadName(place) => ("L4 BadName", PlaceText(place)),
             LoadError::Duplicate(place) => ("L5 Duplicate", PlaceText(place)),
             LoadError::UnknownHost(place) => ("L6 UnknownHost", PlaceText(place)),
+            LoadError::UnknownMaster(place) => ("L7 UnknownMaster", PlaceText(place)),
             LoadError::Range(place) => ("L8 Range", PlaceText(place)),
         };
         write!(f, "{reason} {place}")
@@ -266,5 +297,7 @@ fn part_text(part: Part) -> &'static str
         Part::Options => "options",
         Part::Hosts => "hosts",
         Part::Services => "services",
+        Part::ServiceDependencies => "service_dependencies",
+        Part::HostDependencies => "host_dependencies",
     }
 }

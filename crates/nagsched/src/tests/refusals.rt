@@ -4,7 +4,7 @@ use super::{run_on, with_host};
 use crate::drive::Outcome;
 use std::test::Fail;
 
-/// The option that a document with a host has to name.
+/// The first checks of hosts are all due at the start.
 const OPTIONS: &str = "\"options\":{\"host_inter_check_delay_method\":\"n\"}";
 
 #[test]
@@ -46,7 +46,7 @@ fn refuses_documents(rt: HostRuntime) -> Result<(), Fail> {
         ("{\"hots\":[]}", "refused L2 Shape document\n"),
         ("{\"options\":5}", "refused L2 Shape options\n"),
         (
-            "{\"hosts\":[{\"name\":\"a\",\"max_check_attempts\":3}]}",
+            "{\"options\":{\"host_inter_check_delay_method\":\"x\"}}",
             "refused L2 Shape options\n",
         ),
     ] {

@@ -1,26 +1,13 @@
 //! Reports and the lines of standings.
 
-use super::run_on;
+use super::{SERVICE, run_script};
 use crate::drive::Outcome;
-use std::alloc::Global;
 use std::test::Fail;
-
-/// A host `h` that is never checked by itself, and its service `s`, each with 3 attempts.
-const SERVICE: &str = "{\"options\":{\"service_inter_check_delay_method\":\"n\",\
-\"host_inter_check_delay_method\":\"n\"},\
-\"hosts\":[{\"name\":\"h\",\"check_interval\":0,\"max_check_attempts\":3}],\
-\"services\":[{\"host\":\"h\",\"description\":\"s\",\"max_check_attempts\":3}]}";
 
 /// A host `p` and a host `h` behind it, each with 3 attempts.
 const PARENT: &str = "{\"options\":{\"host_inter_check_delay_method\":\"n\"},\
 \"hosts\":[{\"name\":\"h\",\"parents\":[\"p\"],\"max_check_attempts\":3},\
 {\"name\":\"p\",\"max_check_attempts\":3}]}";
-
-/// What a run on a setup and a script writes, and how it ends.
-fn run_script(alloc: Global, setup: &str, lines: &str) -> Result<(Vec<u8>, Outcome), Fail> {
-    let input = format!(in alloc; "{setup}\n{lines}")?;
-    run_on(alloc, input.as_bytes())
-}
 
 #[test]
 fn reports_services(rt: HostRuntime) -> Result<(), Fail> {

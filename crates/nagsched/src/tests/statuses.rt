@@ -1,14 +1,25 @@
-//! The program's exit statuses, and the line that refuses its words.
+//! The program's words and its exit statuses.
 
-use super::devices::ShortWriter;
+use super::devices::{FailingReader, ShortWriter};
+use super::with_host;
 use crate::drive::{DriveError, Outcome};
-use crate::session::{Ending, exit_status, refuse_words};
+use crate::job::job;
+use crate::session::{Ending, exit_status, refuse_words, session};
+use crate::words::{Job, WordsError};
+use std::io::ErrorKind;
 use std::test::Fail;
+
+/// Two takes on the setup with one host, whose check is due at the scheduler's start.
+const TAKES: &str = "[\"take\",7]\n[\"take\",7]\n";
+
+/// What they write from the start 0 or 7 on.
+const TAKEN: &[u8] = b"taken 1 h\nidle none\n";
 
 #[test]
 fn tells_statuses(rt: HostRuntime) {
     for (ended, status) in [
         (Ok(Ending::Drove(Outcome::Ran)), 0),
+        (Ok(Ending::Helped), 0),
         (Ok(Ending::Drove(Outcome::Refused)), 1),
         (Ok(Ending::RefusedWords), 2),
         (Err(DriveError::Read), 3),
@@ -29,5 +40,130 @@ fn refuses_words(rt: HostRuntime) -> Result<(), Fail> {
     writer.room = 5;
     assert_eq!(rt; refuse_words(&mut writer), Err(DriveError::Write));
     assert!(rt; writer.taken.as_slice() == b"refus".as_slice());
+    Ok(())
+}
+
+#[test]
+fn reads_the_start(rt: HostRuntime) {
+    for (words, start) in [
+        (["nagsched"].as_slice(), 0),
+        (["nagsched", "run"].as_slice(), 0),
+        (["nagsched", "run", "--start", "7"].as_slice(), 7),
+        (["nagsched", "run", "--start=7"].as_slice(), 7),
+        (["nagsched", "run", "--start", "+7"].as_slice(), 7),
+        (["nagsched", "run", "--start", "007"].as_slice(), 7),
+        (
+            ["nagsched", "run", "--start", "1152921504606846976"].as_slice(),
+            1152921504606846976,
+        ),
+        ([].as_slice(), 0),
+    ] {
+        let Ok(Job::Run { start: read }) = job(rt.alloc(), words) else {
+            assert!(rt; false);
+            return;
+        };
+        assert_eq!(rt; read, start);
+    }
+}
+
+#[test]
+fn refuses_other_words(rt: HostRuntime) {
+    for words in [
+        ["nagsched", "run", "--start", "x"].as_slice(),
+        ["nagsched", "run", "--start", "1152921504606846977"].as_slice(),
+        ["nagsched", "run", "--start", "18446744073709551616"].as_slice(),
+        ["nagsched", "run", "--start", ""].as_slice(),
+        ["nagsched", "run", "--start=-0"].as_slice(),
+        ["nagsched", "run", "--start"].as_slice(),
+        ["nagsched", "run", "--start", "1", "--start", "2"].as_slice(),
+        ["nagsched", "run", "7"].as_slice(),
+        ["nagsched", "--start", "7"].as_slice(),
+        ["nagsched", "drill"].as_slice(),
+        ["nagsched", "Run"].as_slice(),
+        ["nagsched", ""].as_slice(),
+    ] {
+        assert!(rt; matches!(&job(rt.alloc(), words), Err(WordsError::Refused)));
+    }
+}
+
+/// The help at the program and at its subcommand.
+#[test]
+fn tells_help(rt: HostRuntime) -> Result<(), Fail> {
+    let alloc = rt.alloc();
+    for words in [
+        ["nagsched", "--help"].as_slice(),
+        ["nagsched", "run", "--help"].as_slice(),
+        ["nagsched", "run", "--start", "7", "--help"].as_slice(),
+    ] {
+        let mut reader = FailingReader {
+            bytes: b"",
+            most: 7,
+            error: ErrorKind::Other,
+        };
+        let mut writer = ShortWriter::new(alloc, 100);
+        assert_eq!(rt; session(&rt, alloc, words, &mut reader, &mut writer), 0);
+        let Ok(help) = str::from_utf8(&writer.taken) else {
+            return Err(Fail::from("help that is no text"));
+        };
+        assert!(rt; help.contains("docs/FORMATS.md") && help.contains("Exit status:"));
+        assert!(rt; help.contains("--start <N>") == (words.len() > 2));
+        assert_eq!(rt; writer.flushed, writer.taken.len());
+        let mut writer = ShortWriter::new(alloc, 100);
+        writer.room = 99;
+        assert_eq!(rt; session(&rt, alloc, words, &mut reader, &mut writer), 3);
+    }
+    Ok(())
+}
+
+#[test]
+fn runs_from_the_start(rt: HostRuntime) -> Result<(), Fail> {
+    let alloc = rt.alloc();
+    let input = with_host(alloc, TAKES)?;
+    let refused = with_host(alloc, "[\"take\"]")?;
+    for (words, input, status, text) in [
+        (
+            ["nagsched", "run", "--start", "7"].as_slice(),
+            input.as_bytes(),
+            0,
+            TAKEN,
+        ),
+        (["nagsched"].as_slice(), input.as_bytes(), 0, TAKEN),
+        (
+            ["nagsched", "run", "--start", "8"].as_slice(),
+            input.as_bytes(),
+            0,
+            b"idle 8\nidle 8\n",
+        ),
+        (
+            ["nagsched"].as_slice(),
+            refused.as_bytes(),
+            1,
+            b"refused S3 Shape 2\n",
+        ),
+        (
+            ["nagsched", "run", "--start", "x"].as_slice(),
+            input.as_bytes(),
+            2,
+            b"refused words\n",
+        ),
+    ] {
+        let mut reader = input;
+        let mut writer = ShortWriter::new(alloc, 100);
+        assert_eq!(rt;
+            session(&rt, alloc, words, &mut reader, &mut writer),
+            status
+        );
+        assert!(rt; writer.taken.as_slice() == text);
+        assert_eq!(rt; writer.flushed, text.len());
+        assert_eq!(rt; reader.len(), if status == 2 { input.len() } else { 0 });
+        let mut writer = ShortWriter::new(alloc, 100);
+        writer.room = 3;
+        let mut reader = input;
+        assert_eq!(rt; session(&rt, alloc, words, &mut reader, &mut writer), 3);
+        let mut writer = ShortWriter::new(alloc, 100);
+        writer.flush_error = Some(ErrorKind::Other);
+        let mut reader = input;
+        assert_eq!(rt; session(&rt, alloc, words, &mut reader, &mut writer), 3);
+    }
     Ok(())
 }
