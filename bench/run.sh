@@ -1,9 +1,10 @@
 #!/usr/bin/env bash
-# Times two runs of the built program, and prints one table. Run by hand; no part of the gate.
-#   bench/run.sh [REPEATS]     the best of so many runs is told, 5 where no number is given
-# The inputs are made here: 1,000,000 takes on one host, and 20,000 takes on 4,096 hosts.
+# Times the built program on long scripts, and prints one table. Run by hand; no part of the gate.
+#   bench/run.sh [REPEATS]     the best of so many runs is told, 3 where no number is given
+# For 64, 512 and 4,096 hosts an input of 60 MB is made here: round after round each host is taken and
+# its result reported. The ratio is to the time in which `jq -c .` reads the same bytes, in the same run.
 set -eu
-repeats=${1:-5}
+repeats=${1:-3}
 crate=$(cd "$(dirname "$0")/../crates/nagsched" && pwd)
 work=$(mktemp -d)
 trap 'rm -rf "$work"' EXIT
@@ -11,21 +12,33 @@ trap 'rm -rf "$work"' EXIT
 # Proves and builds the program where it isn't yet.
 (cd "$crate" && rt run < stdin > "$work/build.log" 2>&1) || { cat "$work/build.log"; exit 1; }
 
-# A setup of so many hosts, and then so many takes.
+# A setup of so many hosts, each checked every 5 minutes, and takes and reports that fill 60 MB.
 input() {
-    printf '{"options":{"host_inter_check_delay_method":"n"},"hosts":['
-    seq -f '{"name":"host%05g","max_check_attempts":3}' -s, "$1" | tr -d '\n'
-    printf ']}\n'
-    yes '["take",0]' | head -n "$2"
+    awk -v hosts="$1" -v bytes=60000000 'BEGIN {
+        setup = "{\"options\":{\"host_inter_check_delay_method\":\"n\"},\"hosts\":["
+        for (h = 0; h < hosts; h++)
+            setup = setup (h ? "," : "") sprintf("{\"name\":\"host%04d\",\"max_check_attempts\":3}", h)
+        print setup "]}"
+        written = length(setup) + 3
+        for (run = 0; ; run++) {
+            take = sprintf("[\"take\",%d]", int(run / hosts) * 300000)
+            report = sprintf("[\"report\",\"host%04d\",%d,0]", run % hosts, run + 1)
+            written += length(take) + length(report) + 2
+            if (written > bytes)
+                exit
+            print take
+            print report
+        }
+    }'
 }
 
-# The best time of a run in milliseconds.
+# The best time of a command over an input, in milliseconds.
 best() {
     local least=999999999
     for _ in $(seq "$repeats"); do
         local begun ended
         begun=$(date +%s%N)
-        "$crate/out/nagsched" < "$1" > "$work/output"
+        "${@:2}" < "$1" > "$work/output"
         ended=$(date +%s%N)
         local taken=$(((ended - begun) / 1000000))
         ((taken < least)) && least=$taken
@@ -33,12 +46,16 @@ best() {
     echo "$least"
 }
 
-printf '%10s %10s %10s %14s\n' hosts takes ms 'ns a take'
-for case in '1 1000000' '4096 20000'; do
-    read -r hosts takes <<< "$case"
-    input "$hosts" "$takes" > "$work/input"
-    ms=$(best "$work/input")
+printf '%8s %10s %8s %14s %8s %12s\n' hosts calls ms 'calls a second' 'jq ms' 'ratio to jq'
+for hosts in 64 512 4096; do
+    input "$hosts" > "$work/input"
+    calls=$(($(wc -l < "$work/input") - 1))
+    jq_ms=$(best "$work/input" jq -c .)
+    ms=$(best "$work/input" "$crate/out/nagsched")
     lines=$(wc -l < "$work/output")
-    [[ $lines == "$takes" ]] || { echo "wrote $lines lines for $takes takes"; exit 1; }
-    printf '%10d %10d %10d %14d\n' "$hosts" "$takes" "$ms" $((ms * 1000000 / takes))
+    refused=$(grep -c '^refused' "$work/output" || true)
+    [[ $lines == "$calls" && $refused == 0 ]] || { echo "wrote $lines lines for $calls calls, $refused refused"; exit 1; }
+    awk -v hosts="$hosts" -v calls="$calls" -v ms="$ms" -v jq="$jq_ms" 'BEGIN {
+        printf "%8d %10d %8d %14d %8d %12.2f\n", hosts, calls, ms, calls * 1000 / ms, jq, ms / jq
+    }'
 done

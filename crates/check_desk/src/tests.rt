@@ -123,7 +123,7 @@ fn ask_often(rt: &(impl Wait + Abort), desk: &Desk, mut pass: Pass, calls: u32) 
     requires { IsPassOf desk.now pass }
     ensures { IsPassOf desk.now result }
 {
-    for _ in 0..calls {
+    for _made in 0..calls {
         let (back, answer) = desk.ask(rt, pass, STATUS);
         assert!(rt; matches!(answer, Answer::Reply(_)));
         pass = back;
@@ -168,8 +168,10 @@ fn turns_come_in_the_order_of_their_tickets(rt: HostRuntime) -> Result<(), Fail>
     let pass = desk.gather(first, second);
     assert_eq!(rt; (pass.number(), pass.gathered(), pass.calls()), (0, 2, 2));
     let book = closed(&rt, desk, pass);
-    assert_eq!(rt; book.entries()[0].pass, 0);
-    assert_eq!(rt; book.entries()[1].pass, 1);
+    let [taken, told] = book.entries() else {
+        return Err(Fail::from("not two entries"));
+    };
+    assert_eq!(rt; (taken.pass, told.pass), (0, 1));
     Ok(())
 }
 
@@ -178,7 +180,7 @@ fn rounds_of_one_thread_and_then_two_threads(rt: HostRuntime) -> Result<(), Fail
     let (desk, first, second) = two_passes(rt.alloc())?;
     let mut first = ask_at_once(&rt, &desk, first, Call::Take { now: 0 });
     let mut second = ask_at_once(&rt, &desk, second, STATUS);
-    for _ in 0..50u32 {
+    for _round in 0..50u32 {
         first = ask_at_once(&rt, &desk, first, STATUS);
         second = ask_at_once(&rt, &desk, second, STATUS);
     }
