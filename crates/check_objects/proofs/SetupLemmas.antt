@@ -1,7 +1,6 @@
 -- What a document without a fault gives: few objects, links to hosts, and full names in two parts.
 use Rattle.std.proofs.Common.{◌≡◌, ℕ, suc, ◌+◌, ◌<◌, ◌≤◌, ◌==◌, ◌&&◌, ◌||◌, not, Bool, true, false, cond, List, [], ◌∷◌, map, length, Bor, Option, Some, None, bytes_eq, refl, sym, ap, ◌∙◌, Result, Ok, Err, inl, inr, Ordering, Less, Equal, Greater, arith}
-use Rattle.std.specs.Prelude.{nat_lt, nat_le, unwrap_or, MatchOption}
-use Rattle.std.specs.Option.{IsSome}
+use Rattle.std.specs.Prelude.{nat_lt, nat_le, unwrap_or}
 use Rattle.std.specs.BTreeMap.{insert_entry}
 use Rattle.std.specs.List.{list_any, list_all, position, position_or_len, prefix_len}
 use Rattle.std.specs.Ordering.{match_ordering}

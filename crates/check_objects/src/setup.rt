@@ -115,7 +115,8 @@ impl Setup {
     }
 
     /// How many objects there are, 0 to 4,096. A caller learns here besides what is true of every
-    /// setup: its links are to hosts, and its numbers are within their limits.
+    /// setup: its parents and its services' hosts are hosts, its dependencies are on its objects and
+    /// none of them leads back to its dependent, and its numbers are within their limits.
     pub fn len(&self) -> usize
         ensures count { result ≡ object_count self.now }
         ensures few { result ≤ 4096 }

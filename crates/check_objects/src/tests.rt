@@ -1,5 +1,7 @@
 //! What no clause says: that good documents are read, and refusals at documents from outside.
-use crate::{DelayMethod, InterleaveFactor, LoadError, Options, Part, Place, Setup};
+use crate::{
+    Criteria, DelayMethod, Dependency, InterleaveFactor, LoadError, Options, Part, Place, Setup,
+};
 use std::alloc::{AllocError, Global};
 use std::test::Fail;
 
@@ -333,6 +335,223 @@ fn refuses_services_and_links(rt: HostRuntime) -> Result<(), Fail> {
     ] {
         let refused = Setup::read(alloc, document.as_bytes());
         assert!(rt; matches!(&refused, Err(e) if *e == want), "{document}");
+    }
+    Ok(())
+}
+
+/// Hosts a and b, services a;x and b;y, and besides what the text says.
+fn with_members(alloc: Global, members: &str) -> Result<String, AllocError> {
+    format!(in alloc;
+        "{{\"hosts\":[{{\"name\":\"a\",\"max_check_attempts\":3}},{{\"name\":\"b\",\"max_check_attempts\":3}}],\"services\":[{{\"host\":\"a\",\"description\":\"x\",\"max_check_attempts\":3}},{{\"host\":\"b\",\"description\":\"y\",\"max_check_attempts\":3}}],{members}}}"
+    )
+}
+
+const NO_CRITERIA: Criteria = Criteria {
+    ok: false,
+    warning: false,
+    unknown: false,
+    critical: false,
+    down: false,
+    pending: false,
+    none: false,
+};
+
+#[test]
+fn reads_dependencies_of_both_sorts(rt: HostRuntime) -> Result<(), Fail> {
+    let document = with_members(
+        rt.alloc(),
+        r#""service_dependencies":[{"dependent":"a;x","master":"b;y","criteria":"o,w,u,c,p"},
+        {"dependent":"a;x","master":"b;y","criteria":"n","inherits_parent":true}],
+        "host_dependencies":[{"dependent":"a","master":"b","criteria":"d,u,d"}]"#,
+    )?;
+    let Ok(setup) = Setup::read(rt.alloc(), document.as_bytes()) else {
+        panic!(rt; "the document was refused");
+    };
+    let every_state = Dependency {
+        master: 3,
+        criteria: Criteria {
+            ok: true,
+            warning: true,
+            unknown: true,
+            critical: true,
+            pending: true,
+            ..NO_CRITERIA
+        },
+        inherits: false,
+    };
+    let no_state = Dependency {
+        master: 3,
+        criteria: Criteria {
+            none: true,
+            ..NO_CRITERIA
+        },
+        inherits: true,
+    };
+    let of_hosts = Dependency {
+        master: 1,
+        criteria: Criteria {
+            down: true,
+            unknown: true,
+            ..NO_CRITERIA
+        },
+        inherits: false,
+    };
+    assert_eq!(rt; setup.len(), 4);
+    if setup.len() == 4 {
+        assert!(rt; setup.dependencies(0) == [of_hosts].as_slice());
+        assert!(rt; setup.dependencies(1).is_empty());
+        assert!(rt; setup.dependencies(2) == [every_state, no_state].as_slice());
+        assert!(rt; setup.dependencies(3).is_empty());
+    }
+    let order = setup.order();
+    assert_eq!(rt; order.len(), 4);
+    assert!(rt; order.iter().position(|n| *n == 1) < order.iter().position(|n| *n == 0));
+    assert!(rt; order.iter().position(|n| *n == 3) < order.iter().position(|n| *n == 2));
+    Ok(())
+}
+
+#[test]
+fn refuses_dependencies_of_services(rt: HostRuntime) -> Result<(), Fail> {
+    let at = |index: usize| place(Part::ServiceDependencies, Some(index));
+    for (list, want) in [
+        (
+            "5",
+            LoadError::Shape(place(Part::ServiceDependencies, None)),
+        ),
+        ("[5]", LoadError::Shape(at(0))),
+        (
+            r#"[{"dependent":"a;x","master":"b;y"}]"#,
+            LoadError::Shape(at(0)),
+        ),
+        (
+            r#"[{"dependent":"a;x","master":"b;y","criteria":"o"},{"dependent":"a;x","master":"b;y","criteria":"d"}]"#,
+            LoadError::Shape(at(1)),
+        ),
+        (
+            r#"[{"dependent":"a;x","master":"b;y","criteria":"o","inherits_parent":1}]"#,
+            LoadError::Shape(at(0)),
+        ),
+        (
+            r#"[{"dependent":"a;x","master":"b;z","criteria":"o"}]"#,
+            LoadError::UnknownMaster(at(0)),
+        ),
+        (
+            r#"[{"dependent":"a;x","master":"b","criteria":"o"}]"#,
+            LoadError::UnknownMaster(at(0)),
+        ),
+        (
+            r#"[{"dependent":"a","master":"b;y","criteria":"o"}]"#,
+            LoadError::UnknownMaster(at(0)),
+        ),
+        (
+            r#"[{"dependent":"a;x","master":"a;x","criteria":"n"}]"#,
+            LoadError::DependencyCycle,
+        ),
+        (
+            r#"[{"dependent":"a;x","master":"b;y","criteria":"c"},{"dependent":"b;y","master":"a;x","criteria":"c"}]"#,
+            LoadError::DependencyCycle,
+        ),
+        (
+            r#"[{"dependent":"a;x","master":"b;z","criteria":"o"}],"options":{"interval_length":0}"#,
+            LoadError::UnknownMaster(at(0)),
+        ),
+        (
+            r#"[{"dependent":"a;x","master":"a;x","criteria":"o"}],"options":{"interval_length":0}"#,
+            LoadError::Range(place(Part::Options, None)),
+        ),
+    ] {
+        let members = format!(in rt.alloc(); "\"service_dependencies\":{list}")?;
+        let document = with_members(rt.alloc(), members.as_str())?;
+        let refused = Setup::read(rt.alloc(), document.as_bytes());
+        assert!(rt; matches!(&refused, Err(e) if *e == want), "{list}");
+    }
+    Ok(())
+}
+
+#[test]
+fn refuses_criteria(rt: HostRuntime) -> Result<(), Fail> {
+    for criteria in [
+        "", ",", "o,", ",o", "o,,c", "oc", "o, c", " o", "O", "d", "x",
+    ] {
+        let members = format!(in rt.alloc();
+            "\"service_dependencies\":[{{\"dependent\":\"a;x\",\"master\":\"b;y\",\"criteria\":\"{criteria}\"}}]"
+        )?;
+        let document = with_members(rt.alloc(), members.as_str())?;
+        let refused = Setup::read(rt.alloc(), document.as_bytes());
+        let want = LoadError::Shape(place(Part::ServiceDependencies, Some(0)));
+        assert!(rt; matches!(&refused, Err(e) if *e == want), "{criteria}");
+    }
+    Ok(())
+}
+
+#[test]
+fn refuses_dependencies_of_hosts(rt: HostRuntime) -> Result<(), Fail> {
+    let at = |index: usize| place(Part::HostDependencies, Some(index));
+    for (list, want) in [
+        ("{}", LoadError::Shape(place(Part::HostDependencies, None))),
+        (
+            r#"[{"dependent":"a","master":"b","criteria":"w"}]"#,
+            LoadError::Shape(at(0)),
+        ),
+        (
+            r#"[{"dependent":"a","master":"b","criteria":"d,c"}]"#,
+            LoadError::Shape(at(0)),
+        ),
+        (
+            r#"[{"dependent":"a","master":"b;y","criteria":"d"}]"#,
+            LoadError::UnknownMaster(at(0)),
+        ),
+        (
+            r#"[{"dependent":"a","master":"b","criteria":"d"},{"dependent":"c","master":"b","criteria":"d"}]"#,
+            LoadError::UnknownMaster(at(1)),
+        ),
+        (
+            r#"[{"dependent":"a","master":"b","criteria":"d"},{"dependent":"b","master":"a","criteria":"d"}]"#,
+            LoadError::DependencyCycle,
+        ),
+    ] {
+        let members = format!(in rt.alloc(); "\"host_dependencies\":{list}")?;
+        let document = with_members(rt.alloc(), members.as_str())?;
+        let refused = Setup::read(rt.alloc(), document.as_bytes());
+        assert!(rt; matches!(&refused, Err(e) if *e == want), "{list}");
+    }
+    Ok(())
+}
+
+/// So many times the same dependency of host a on host b.
+fn with_dependencies(alloc: Global, count: usize) -> Result<String, AllocError> {
+    let mut list = String::from_str(alloc, "\"host_dependencies\":[")?;
+    for number in 0..count {
+        if number > 0 {
+            list.push_str(",")?;
+        }
+        list.push_str(r#"{"dependent":"a","master":"b","criteria":"d"}"#)?;
+    }
+    list.push_str("]")?;
+    with_members(alloc, list.as_str())
+}
+
+#[test]
+fn counts_dependencies(rt: HostRuntime) -> Result<(), Fail> {
+    let most = with_dependencies(rt.alloc(), 16_384)?;
+    match Setup::read(rt.alloc(), most.as_bytes()) {
+        Ok(setup) if setup.len() == 4 => assert_eq!(rt; setup.dependencies(0).len(), 16_384),
+        _ => panic!(rt; "the document was refused"),
+    }
+    let more = with_dependencies(rt.alloc(), 16_385)?;
+    let refused = Setup::read(rt.alloc(), more.as_bytes());
+    assert!(rt; matches!(&refused, Err(LoadError::TooMany)));
+    Ok(())
+}
+
+#[test]
+fn refuses_a_document_that_is_cut(rt: HostRuntime) -> Result<(), Fail> {
+    let document = with_service(rt.alloc(), "h", "")?;
+    let whole = document.as_bytes();
+    assert!(rt; Setup::read(rt.alloc(), whole).is_ok());
+    for end in 0..whole.len() {
+        let refused = Setup::read(rt.alloc(), &whole[..end]);
+        assert!(rt; matches!(&refused, Err(LoadError::NotJson)), "{end}");
     }
     Ok(())
 }

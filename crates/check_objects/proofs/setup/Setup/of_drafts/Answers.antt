@@ -1,11 +1,11 @@
-use Rattle.std.proofs.Common.{◌≡◌, ◌≤◌, ◌++◌, sym, ap, subst, ◌∙◌, length, map, cond, true, false, Ok, Err, arith}
+use Rattle.std.proofs.Common.{◌≡◌, ◌≤◌, ◌++◌, sym, ap, subst, ◌∙◌, length, map, cond, true, false, Ok, Err}
 use Rattle.std.specs.Prelude.{nat_lt}
 use Rattle.std.specs.List.{list_all}
 use Rattle.check_objects.specs.declared.error.LoadError.TheVariants as errors
 use Rattle.check_objects.specs.Configuration.{IsSetup, objects_of, masters_of, masters_in, named_host, named_service}
 use Rattle.check_objects.specs.Depth.{has_cycle}
-use Rattle.check_objects.specs.Drafted.{host, service, drafts, texts}
-use Rattle.check_objects.specs.Entries.{host_entry, service_entry, sorted_host, sorted_service, objects_in}
+use Rattle.check_objects.specs.Drafted.{host, service, drafts}
+use Rattle.check_objects.specs.Entries.{sorted_service, objects_in}
 use Rattle.check_objects.specs.Numbering.{configuration, numbered, numbered_host, numbered_service, numbered_dependency, all_dependencies, dependencies_by_number, hosts_in_order, services_in_order, is_host_name}
 use Rattle.check_objects.proofs.DepthLemmas.{order_has_no_cycle}
 use Rattle.check_objects.proofs.ListLemmas.{list_all-map}
