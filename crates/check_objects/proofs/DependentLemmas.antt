@@ -139,8 +139,8 @@ dependents_all n links dependents h d = rw (← take_all n links h) d
 
 -- ---- lists in a vector
 
-pub push_in : {X : Type 0} (f : X → List ℕ) (xs : List X) (i object : ℕ) (v w d : X) → i < length xs → w ≡ get_or xs i d → f v ≡ f w ++ object ∷ []
-    → map f (set xs i v) ≡ set (map f xs) i (links_of (map f xs) i ++ object ∷ [])
+pub push_in : {X Y : Type 0} (f : X → List Y) (xs : List X) (i : ℕ) (object : Y) (v w d : X) → i < length xs → w ≡ get_or xs i d → f v ≡ f w ++ object ∷ []
+    → map f (set xs i v) ≡ set (map f xs) i (get_or (map f xs) i [] ++ object ∷ [])
 push_in f xs i object v w d h e p = map-set f xs i v ∙ ap (set (map f xs) i) (p ∙ ap (λ l. l ++ object ∷ []) (ap f e ∙ sym (get_or-map f xs i d [] h)))
 
 pub adds_next : (object n j d : ℕ) (links : List ℕ) (old mid new : List (List ℕ)) → AddsDependent object (take j links) old mid → j < length links → list_all (λ link. nat_lt link n) links ≡ true → n ≡ length old

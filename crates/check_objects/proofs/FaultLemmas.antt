@@ -1,19 +1,26 @@
 -- The first fault of a list, the parents counted, and the first key that stood before.
-use Rattle.std.proofs.Common.{◌≡◌, ℕ, ◌+◌, ◌<◌, ◌≤◌, not, Bool, true, false, cond, List, [], ◌∷◌, ◌++◌, map, length, drop, get_or, Option, Some, None, refl, sym, ap, ◌∙◌, Ok, Err, append_assoc, arith}
+use Rattle.std.proofs.Common.{◌≡◌, ℕ, Bor, bytes_eq, ◌||◌, ◌&&◌, ◌+◌, ◌<◌, ◌≤◌, not, Bool, true, false, cond, List, [], ◌∷◌, ◌++◌, map, length, drop, get_or, Option, Some, None, refl, sym, ap, ◌∙◌, Ok, Err, append_assoc, arith}
 use Rattle.std.specs.Prelude.{sum_by}
 use Rattle.std.specs.List.{list_any, position}
 use Rattle.std.proofs.lemmas.Grind.{common_steps}
 use Rattle.std.proofs.lemmas.List.{length-map, map-append, drop_all}
 use Rattle.std.proofs.lemmas.List.Sums.{sum_by-cons}
 use Rattle.check_objects.specs.declared.draft.CheckDraft.{CheckDraft}
+use Rattle.check_objects.specs.declared.draft.DependencyDraft.{DependencyDraft}
 use Rattle.check_objects.specs.declared.draft.HostDraft.{HostDraft}
 use Rattle.check_objects.specs.declared.draft.ServiceDraft.{ServiceDraft}
 use Rattle.check_objects.specs.declared.error.LoadError.{LoadError}
 use Rattle.check_objects.specs.LoadError.{refused_at}
-use Rattle.check_objects.specs.Fault.{repeat_after}
-use Rattle.check_objects.specs.Drafted.{host}
+use Rattle.check_objects.specs.Fault.{repeat_after, is_known, known_ends}
+use Rattle.check_objects.specs.declared.error.LoadError.TheVariants as errors
+use Rattle.check_objects.specs.declared.place.Part.{Part}
+use Rattle.check_objects.specs.Draft as spec
+use Rattle.check_objects.specs.Place.{item_of_part}
+use Rattle.std.proofs.lemmas.List.Folds.{list_any-append}
+use Rattle.std.proofs.lemmas.Slice.Eq.{bytes_eq-Decides}
+use Rattle.check_objects.specs.Drafted.{host, texts}
 use Rattle.check_objects.specs.Text.{text}
-use Rattle.check_objects.proofs.ListLemmas.{list_any-map, position-map}
+use Rattle.check_objects.proofs.ListLemmas.{list_any-map, position-map, position-same}
 
 pub refused_some : (fault : ℕ → LoadError) (o : Option ℕ) (i : ℕ) → Some i ≡ o → refused_at fault o ≡ Err (fault i)
 refused_some fault o i e = ap (refused_at fault) (sym e)
@@ -41,6 +48,14 @@ no_host = record { name = record { ref_ptr = (0, 0); now = [] }; parents = recor
 
 abbrev pub no_service : ServiceDraft
 no_service = record { host = record { ref_ptr = (0, 0); now = [] }; description = record { ref_ptr = (0, 0); now = [] }; check = no_check }
+
+abbrev pub no_dependency : DependencyDraft
+no_dependency = record {
+  dependent = record { ref_ptr = (0, 0); now = [] };
+  master = record { ref_ptr = (0, 0); now = [] };
+  criteria = record { ok = false; warning = false; unknown = false; critical = false; down = false; pending = false; none = false };
+  inherits = false;
+}
 
 -- ---- parents counted
 
@@ -99,3 +114,29 @@ was_new b false e f = refl
 -- the keys with one more, where it is new
 pub one_key_more : {A : Type 0} (known : Bool) (keys new : List A) (key : A) → new ≡ cond known keys (keys ++ key ∷ []) → known ≡ false → new ≡ keys ++ key ∷ []
 one_key_more known keys new key e f = e ∙ ap (λ b. cond b keys (keys ++ key ∷ [])) f
+
+-- ---- sets of texts
+
+known_push : (before : List (List ℕ)) (t name : List ℕ) → is_known (before ++ t ∷ []) name ≡ (is_known before name || (bytes_eq name t || false))
+known_push before t name = list_any-append (bytes_eq name) before (t ∷ [])
+
+or_same : (a b : Bool) → (b ≡ true → a ≡ true) → a ≡ (a || (b || false))
+or_same true b h = refl
+or_same false true h = h refl
+or_same false false h = refl
+
+-- a text is known among the keys with one more where it was before, or is that one
+pub known_more : (keys new : List (Bor (List ℕ))) (key : Bor (List ℕ)) (before : List (List ℕ)) (t : List ℕ) (b : Bool) → key.now ≡ t → list_any (λ n. bytes_eq key.now n.now) keys ≡ b → new ≡ cond b keys (keys ++ key ∷ [])
+    → ((name : List ℕ) → is_known (texts keys) name ≡ is_known before name) → (name : List ℕ) → is_known (texts new) name ≡ is_known (before ++ t ∷ []) name
+known_more keys new key before t true same known is agree name =
+    let there : is_known before t ≡ true = sym (agree t) ∙ list_any-map (bytes_eq t) (λ n. n.now) keys ∙ ap (λ x. list_any (λ n. bytes_eq x n.now) keys) (sym same) ∙ known in
+    ap (λ ks. is_known (texts ks) name) is ∙ agree name ∙ or_same (is_known before name) (bytes_eq name t) (λ e. ap (is_known before) ((bytes_eq-Decides name t).0 e) ∙ there) ∙ sym (known_push before t name)
+known_more keys new key before t false same known is agree name =
+    ap (λ ks. is_known (texts ks) name) is ∙ ap (λ l. is_known l name) (map-append (λ n. n.now) keys (key ∷ []))
+    ∙ known_push (texts keys) key.now name ∙ ap (λ b. b || (bytes_eq name key.now || false)) (agree name) ∙ ap (λ x. is_known before name || (bytes_eq name x || false)) same ∙ sym (known_push before t name)
+
+-- the same dependencies have unknown ends, where the same texts are known
+pub same_ends : (p : Part) (names others : List (List ℕ)) (ds : List spec.DependencyDraft) → ((name : List ℕ) → is_known names name ≡ is_known others name) → known_ends p names ds ≡ known_ends p others ds
+same_ends p names others ds same =
+    ap (refused_at (λ i. errors.UnknownMaster (item_of_part p i)))
+    (position-same (λ (d : spec.DependencyDraft). not (is_known names d.dependent && is_known names d.master)) (λ d. not (is_known others d.dependent && is_known others d.master)) (λ d i. not (same d.dependent i && same d.master i)) ds)

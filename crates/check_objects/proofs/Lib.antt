@@ -8,4 +8,5 @@ pub mod GetterLemmas
 pub mod DepthLemmas
 pub mod ClosingLemmas
 pub mod DependentLemmas
+pub mod DependencyLemmas
 pub mod NumberLaws

@@ -12,7 +12,7 @@ use Rattle.std.proofs.lemmas.Map.Text.{is_eq-slice_cmp}
 use Rattle.check_objects.specs.declared.error.LoadError.{LoadError}
 use Rattle.check_objects.specs.declared.error.LoadError.TheVariants as errors
 use Rattle.check_objects.specs.Draft.{Drafts}
-use Rattle.check_objects.specs.Fault.{is_faultless, few_objects, good_names, host_names, names_of, first_repeat, repeat_after, same_key, key_of, no_repeated_services, known_parents, known_hosts, good_ranges}
+use Rattle.check_objects.specs.Fault.{is_faultless, few_items, good_names, host_names, names_of, first_repeat, repeat_after, same_key, key_of, no_repeated_services, known_links, good_ranges}
 use Rattle.check_objects.specs.LoadError.{◌>>=◌, refused_at}
 use Rattle.check_objects.specs.Numbering.{placed, text_order, pair_order, body_of, object_of, hosts_in_order, services_in_order}
 use Rattle.check_objects.specs.Place.{host_at, service_at}
@@ -160,15 +160,15 @@ named_once_by fault None x f y e = (refl, e)
 named_once_by fault (Some i) x f y e = cc
 
 abbrev pub after_names : Drafts → List (List ℕ) → Result (Unit {0}) LoadError
-after_names d names = no_repeated_services d.services >>= λ _. (known_parents names d.hosts >>= λ _. (known_hosts names d.services >>= λ _. good_ranges d.options d.hosts d.services))
+after_names d names = no_repeated_services d.services >>= λ _. (known_links names d >>= λ _. good_ranges d.options d.hosts d.services)
 
 once : (d : Drafts) → is_faultless d ≡ Ok tt → (first_repeat bytes_eq (names_of d.hosts) ≡ None) × (first_repeat same_key (map key_of d.services) ≡ None)
 unfolding is_faultless
 once d e =
-    let after_counts = rest_of (few_objects d.hosts d.services) (λ _. good_names d.hosts d.services >>= λ _. (host_names d.hosts >>= after_names d)) tt e in
+    let after_counts = rest_of (few_items d) (λ _. good_names d.hosts d.services >>= λ _. (host_names d.hosts >>= after_names d)) tt e in
     let named = rest_of (good_names d.hosts d.services) (λ _. host_names d.hosts >>= after_names d) tt after_counts in
     let hosts = named_once_by (λ i. errors.Duplicate (host_at i)) (first_repeat bytes_eq (names_of d.hosts)) (names_of d.hosts) (after_names d) tt named in
-    (hosts.0, not_refused (λ i. errors.Duplicate (service_at i)) (first_repeat same_key (map key_of d.services)) (first_of (no_repeated_services d.services) (λ _. known_parents (names_of d.hosts) d.hosts >>= λ _. (known_hosts (names_of d.hosts) d.services >>= λ _. good_ranges d.options d.hosts d.services)) tt hosts.1))
+    (hosts.0, not_refused (λ i. errors.Duplicate (service_at i)) (first_repeat same_key (map key_of d.services)) (first_of (no_repeated_services d.services) (λ _. known_links (names_of d.hosts) d >>= λ _. good_ranges d.options d.hosts d.services) tt hosts.1))
 
 pub hosts_all : (d : Drafts) → is_faultless d ≡ Ok tt → IsPermutation (map (λ h. (h.name, body_of h)) d.hosts) (hosts_in_order d.hosts)
 hosts_all d e = placed_all text_order texts_total bytes_eq texts_agree (λ h. h.name) body_of [] [] 0 d.hosts (λ q. refl) (once d e).0

@@ -15,7 +15,8 @@ use Rattle.serde_json.specs.declared.value.Value.{Value}
 use Rattle.check_objects.specs.declared.object.Object.{Object}
 use Rattle.check_objects.specs.Entries.{sorted_host}
 use Rattle.check_objects.proofs.ListLemmas.{list_any-map}
-use Rattle.check_objects.specs.Numbering.{placed, text_order, pair_order, is_host_name, full_name}
+use Rattle.check_objects.specs.Configuration.{full_name}
+use Rattle.check_objects.specs.Numbering.{placed, text_order, pair_order, is_host_name}
 
 map_match : {A B : Type 0} (f : A → B) (o : Ordering) (a b c : List A) → map f (match_ordering o a b c) ≡ match_ordering o (map f a) (map f b) (map f c)
 map_match f Less a b c = refl

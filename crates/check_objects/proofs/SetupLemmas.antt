@@ -1,14 +1,17 @@
 -- What a document without a fault gives: few objects, links to hosts, and full names in two parts.
-use Rattle.std.proofs.Common.{◌≡◌, ℕ, zero, suc, replicate, ◌+◌, ◌<◌, ◌≤◌, ◌==◌, ◌&&◌, ◌||◌, not, Bool, true, false, cond, List, [], ◌∷◌, map, length, Bor, Option, Some, None, bytes_eq, refl, sym, ap, ◌∙◌, Result, Ok, Err, Ordering, Less, Equal, Greater, arith}
+use Rattle.std.proofs.Common.{◌≡◌, ℕ, suc, ◌+◌, ◌<◌, ◌≤◌, ◌==◌, ◌&&◌, ◌||◌, not, Bool, true, false, cond, List, [], ◌∷◌, map, length, Bor, Option, Some, None, bytes_eq, refl, sym, ap, ◌∙◌, Result, Ok, Err, inl, inr, Ordering, Less, Equal, Greater, arith}
 use Rattle.std.specs.Prelude.{nat_lt, nat_le, unwrap_or, MatchOption}
 use Rattle.std.specs.Option.{IsSome}
 use Rattle.std.specs.BTreeMap.{insert_entry}
 use Rattle.std.specs.List.{list_any, list_all, position, position_or_len, prefix_len}
 use Rattle.std.specs.Ordering.{match_ordering}
+use Rattle.std.proofs.lemmas.Bool.{cases_lt}
 use Rattle.std.proofs.lemmas.Bool.Decides.{nat_tests}
-use Rattle.std.proofs.lemmas.List.{length-map, length-append, length-replicate}
+use Rattle.std.proofs.lemmas.List.{length-map, length-append}
 use Rattle.std.proofs.lemmas.List.Folds.{list_all-append}
 use Rattle.std.proofs.lemmas.Slice.Eq.{bytes_eq-Decides}
+use Rattle.check_objects.specs.declared.place.Part.{Part}
+use Rattle.check_objects.specs.declared.place.Part.TheVariants as part
 use Rattle.check_objects.specs.declared.error.LoadError.{LoadError}
 use Rattle.check_objects.specs.declared.error.LoadError.TheVariants as errors
 use Rattle.check_objects.specs.declared.dependency.Dependency.{Dependency}
@@ -18,17 +21,17 @@ use Rattle.check_objects.specs.declared.options.InterleaveFactor.{InterleaveFact
 use Rattle.check_objects.specs.declared.options.InterleaveFactor.TheVariants as factor
 use Rattle.check_objects.specs.declared.options.Options.{Options}
 use Rattle.check_objects.specs.declared.object.Object.{Object}
-use Rattle.check_objects.specs.Configuration.{Configuration, Host, IsSetup, IsWithin, IsDelayInRange, IsFactorInRange, is_object_in_range, named_host, named_service, objects_of, object_count, masters_in}
-use Rattle.check_objects.specs.Depth.{deep, any_below, has_cycle, links_of}
+use Rattle.check_objects.specs.Configuration.{Configuration, Host, IsSetup, IsWithin, IsDelayInRange, IsFactorInRange, is_object_in_range, named_host, named_service, objects_of, object_count, masters_in, masters_of, full_name}
+use Rattle.check_objects.specs.Depth.{has_cycle}
 use Rattle.check_objects.specs.Closing.{are_within}
 use Rattle.check_objects.specs.Drafted.{texts}
-use Rattle.check_objects.specs.Draft.{Drafts, HostDraft, ServiceDraft}
-use Rattle.check_objects.specs.Fault.{is_faultless, is_name, is_name_byte, is_known, names_of, few_objects, has_few_parents, key_of, good_names, good_host_names, good_descriptions, host_names, first_repeat, no_repeated_services, known_parents, known_hosts, good_ranges, good_host_ranges, good_options, good_service_ranges, is_in_range, is_within, is_delay_in_range, is_factor_in_range, are_options_in_range}
+use Rattle.check_objects.specs.Draft.{Drafts, HostDraft, ServiceDraft, DependencyDraft}
+use Rattle.check_objects.specs.Fault.{is_faultless, few_items, few_dependencies, full_names, known_ends, known_links, is_name, is_name_byte, is_known, names_of, few_objects, has_few_parents, key_of, good_names, good_host_names, good_descriptions, host_names, first_repeat, no_repeated_services, known_parents, known_hosts, good_ranges, good_host_ranges, good_options, good_service_ranges, is_in_range, is_within, is_delay_in_range, is_factor_in_range, are_options_in_range}
 use Rattle.check_objects.specs.LoadError.{◌>>=◌, refused_at}
-use Rattle.check_objects.specs.Place.{host_at, service_at}
-use Rattle.check_objects.specs.Numbering.{placed, number_in, numbered_host, numbered_service, hosts_in_order, services_in_order, names_in_order, numbered, configuration, is_host_name, object_of, body_of, text_order, pair_order}
+use Rattle.check_objects.specs.Place.{host_at, service_at, item_of_part}
+use Rattle.check_objects.specs.Numbering.{placed, number_in, numbered_host, numbered_service, hosts_in_order, services_in_order, names_in_order, numbered, configuration, numbered_dependency, all_dependencies, is_host_name, object_of, body_of, text_order, pair_order}
 use Rattle.check_objects.proofs.ListLemmas.{list_all-map}
-use Rattle.check_objects.proofs.DependentLemmas.{replicate_within}
+use Rattle.check_objects.proofs.DependencyLemmas.{dependents_below, masters_below, masters_within_lists, length-dependency_lists}
 
 -- ---- nothing was refused
 
@@ -192,11 +195,17 @@ linked_by (x ∷ hs) = hosts_linked (map (λ y. y.0) (x ∷ hs)) _ (names_length
 
 -- ---- a document without a fault
 
+-- the dependents and masters of these dependencies have one of these names
+abbrev pub have_known_ends : List (List ℕ) → List DependencyDraft → Bool
+have_known_ends names ds = list_all (λ d. is_known names d.dependent && is_known names d.master) ds
+
 -- what the tests say of a document that passed them
 pub record IsFaultless (ds : Drafts) : Type 0 where
   pub few : length ds.hosts + length ds.services ≤ 4096
   pub named : list_all (λ h. is_name h.name) ds.hosts ≡ true
   pub known : list_all (λ s. is_known (names_of ds.hosts) s.host) ds.services ≡ true
+  pub service_ends : have_known_ends (full_names ds.services) ds.service_dependencies ≡ true
+  pub host_ends : have_known_ends (names_of ds.hosts) ds.host_dependencies ≡ true
   pub ranged : good_ranges ds.options ds.hosts ds.services ≡ Ok tt
 
 few_by : (a b : Bool) (n : ℕ) (y : Result (Unit {0}) LoadError) → y ≡ Ok tt → nat_lt 4096 n ≡ a → cond (a || b) (Err errors.TooMany) (Ok tt) ≡ y → n ≤ 4096
@@ -209,29 +218,42 @@ names_ok (Err z) x f y e = cc
 
 -- the tests after the names, and those after the repeats
 abbrev pub links_and_limits : Drafts → List (List ℕ) → Result (Unit {0}) LoadError
-links_and_limits ds names = known_parents names ds.hosts >>= λ _. (known_hosts names ds.services >>= λ _. good_ranges ds.options ds.hosts ds.services)
+links_and_limits ds names = known_links names ds >>= λ _. good_ranges ds.options ds.hosts ds.services
 
 abbrev pub repeats_and_more : Drafts → List (List ℕ) → Result (Unit {0}) LoadError
 repeats_and_more ds names = no_repeated_services ds.services >>= λ _. links_and_limits ds names
+
+abbrev pub both_ends : Drafts → List (List ℕ) → Result (Unit {0}) LoadError
+both_ends ds names = known_ends part.ServiceDependencies (full_names ds.services) ds.service_dependencies >>= λ _. known_ends part.HostDependencies names ds.host_dependencies
+
+ends_ok : (p : Part) (names : List (List ℕ)) (ds : List DependencyDraft) → known_ends p names ds ≡ Ok tt → have_known_ends names ds ≡ true
+ends_ok p names ds e = all_by_position (λ d. is_known names d.dependent && is_known names d.master) ds (nowhere (λ i. errors.UnknownMaster (item_of_part p i)) _ e)
 
 pub faultless : (ds : Drafts) → is_faultless ds ≡ Ok tt → IsFaultless ds
 unfolding is_faultless
 faultless ds e =
     let names = names_of ds.hosts in
     let names_and_more = λ (u : Unit {0}). good_names ds.hosts ds.services >>= λ _. (host_names ds.hosts >>= repeats_and_more ds) in
-    let counted : few_objects ds.hosts ds.services ≡ Ok tt = first_ok (few_objects ds.hosts ds.services) names_and_more tt e in
-    let after_counts = rest_ok (few_objects ds.hosts ds.services) names_and_more tt e in
+    let counted : few_items ds ≡ Ok tt = first_ok (few_items ds) names_and_more tt e in
+    let after_counts = rest_ok (few_items ds) names_and_more tt e in
     let named : good_names ds.hosts ds.services ≡ Ok tt = first_ok (good_names ds.hosts ds.services) (λ _. host_names ds.hosts >>= repeats_and_more ds) tt after_counts in
     let after_names = rest_ok (good_names ds.hosts ds.services) (λ _. host_names ds.hosts >>= repeats_and_more ds) tt after_counts in
     let after_repeats = names_ok (refused_at (λ i. errors.Duplicate (host_at i)) (first_repeat bytes_eq names)) names (repeats_and_more ds) tt after_names in
     let linked = rest_ok (no_repeated_services ds.services) (λ _. links_and_limits ds names) tt after_repeats in
-    let hosted = rest_ok (known_parents names ds.hosts) (λ _. known_hosts names ds.services >>= λ _. good_ranges ds.options ds.hosts ds.services) tt linked in
-    let known : known_hosts names ds.services ≡ Ok tt = first_ok (known_hosts names ds.services) (λ _. good_ranges ds.options ds.hosts ds.services) tt hosted in
+    let links = first_ok (known_links names ds) (λ _. good_ranges ds.options ds.hosts ds.services) tt linked in
+    let hosted = rest_ok (known_parents names ds.hosts) (λ _. known_hosts names ds.services >>= λ _. both_ends ds names) tt links in
+    let known : known_hosts names ds.services ≡ Ok tt = first_ok (known_hosts names ds.services) (λ _. both_ends ds names) tt hosted in
+    let ended = rest_ok (known_hosts names ds.services) (λ _. both_ends ds names) tt hosted in
+    let services = known_ends part.ServiceDependencies (full_names ds.services) ds.service_dependencies in
+    let hosts = known_ends part.HostDependencies names ds.host_dependencies in
     record {
-      few = few_by (nat_lt 4096 (length ds.hosts + length ds.services)) (not (has_few_parents ds.hosts)) (length ds.hosts + length ds.services) (Ok tt) refl refl counted;
+      few = few_by (nat_lt 4096 (length ds.hosts + length ds.services)) (not (has_few_parents ds.hosts)) (length ds.hosts + length ds.services) (Ok tt) refl refl
+          (first_ok (few_objects ds.hosts ds.services) (λ _. few_dependencies ds.service_dependencies ds.host_dependencies) tt counted);
       named = all_by_position (λ h. is_name h.name) ds.hosts (nowhere (λ i. errors.BadName (host_at i)) _ (first_ok (good_host_names ds.hosts) (λ _. good_descriptions ds.services) tt named));
       known = all_by_position (λ s. is_known names s.host) ds.services (nowhere (λ i. errors.UnknownHost (service_at i)) _ known);
-      ranged = rest_ok (known_hosts names ds.services) (λ _. good_ranges ds.options ds.hosts ds.services) tt hosted;
+      service_ends = ends_ok part.ServiceDependencies (full_names ds.services) ds.service_dependencies (first_ok services (λ _. hosts) tt ended);
+      host_ends = ends_ok part.HostDependencies names ds.host_dependencies (rest_ok services (λ _. hosts) tt ended);
+      ranged = rest_ok (known_links names ds) (λ _. good_ranges ds.options ds.hosts ds.services) tt linked;
     }
 
 -- the host of every service has a name without a semicolon
@@ -308,37 +330,6 @@ good_options_in_range : (options : Options) (hosts : List HostDraft) (services :
 good_options_in_range options hosts services e =
     options_in_range options (options_by (are_options_in_range options) _ (Ok tt) refl (first_ok (good_options options) (λ _. good_host_ranges hosts >>= λ _. good_service_ranges services) tt e))
 
--- ---- no dependencies
-
-no_masters : (k : ℕ) → map masters_in (replicate k []) ≡ replicate k []
-no_masters zero = refl
-no_masters (suc k) = ap (λ l. [] ∷ l) (no_masters k)
-
-no_links_at : (k object : ℕ) → links_of (replicate k []) object ≡ []
-no_links_at zero object = refl
-no_links_at (suc k) zero = refl
-no_links_at (suc k) (suc object) = no_links_at k object
-
-no_chain : (k n object : ℕ) → 0 < n → deep (replicate k []) object n ≡ false
-no_chain k zero object h = absurd (omega arith)
-no_chain k (suc n) object h = rw (no_links_at k object) refl
-
-no_cycle_by : (k n : ℕ) → 0 < k → any_below (λ object. deep (replicate k []) object k) n ≡ false
-no_cycle_by k zero h = refl
-no_cycle_by k (suc n) h = rw (no_cycle_by k n h, no_chain k k n h) refl
-
-no_cycle_from : (k : ℕ) → any_below (λ object. deep (replicate k []) object k) k ≡ false
-no_cycle_from zero = refl
-no_cycle_from (suc k) = no_cycle_by (suc k) (suc k) (omega arith)
-
--- without links there is no cycle
-pub no_cycle : (k : ℕ) → has_cycle (replicate k []) ≡ false
-unfolding has_cycle
-no_cycle k = ap (λ n. any_below (λ object. deep (replicate k []) object n) n) (length-replicate k []) ∙ no_cycle_from k
-
-pub no_dependency_cycle : (k : ℕ) → has_cycle (map masters_in (replicate k [])) ≡ false
-no_dependency_cycle k = ap has_cycle (no_masters k) ∙ no_cycle k
-
 -- and so are the numbers of every object
 pub objects_in_range : (ds : Drafts) → good_ranges ds.options ds.hosts ds.services ≡ Ok tt → list_all (λ o. is_object_in_range o.object) (objects_of (configuration ds)) ≡ true
 objects_in_range ds e =
@@ -354,9 +345,82 @@ objects_in_range ds e =
     list_all-map (λ o. is_object_in_range o.object) named_service (map (numbered_service ns) (services_in_order ds.services)) ∙ list_all-map (λ s. is_object_in_range s.object) (numbered_service ns) (services_in_order ds.services) ∙ services_placed in
     list_all-append (λ o. is_object_in_range o.object) (map named_host (map (numbered_host ns) (hosts_in_order ds.hosts))) (map named_service (map (numbered_service ns) (services_in_order ds.services))) ∙ rw (hosts_numbered, services_numbered) refl
 
+-- ---- dependencies
+
+-- as many objects as hosts and services
+pub count_of : (c : Configuration) (hosts services : ℕ) → hosts ≡ length c.hosts → services ≡ length c.services → hosts + services ≡ object_count c
+count_of c hosts services h s = omega (arith, h, s, length-append (map named_host c.hosts) (map named_service c.services), length-map c.hosts named_host, length-map c.services named_service)
+
+pub few_in_all : (c : Configuration) → length c.hosts + length c.services ≤ 4096 → object_count c ≤ 4096
+few_in_all c h = omega (arith, h, count_of c (length c.hosts) (length c.services) refl refl)
+
+numbered_few : (ds : Drafts) → IsFaultless ds → length (numbered ds).hosts + length (numbered ds).services ≤ 4096
+numbered_few ds f =
+    let hs = hosts_in_order ds.hosts in
+    let ns = names_in_order ds.hosts in
+    let h = placed_few text_order (λ h. h.name) body_of [] ds.hosts in
+    let s = placed_few pair_order key_of (λ s. object_of s.check) [] ds.services in
+    omega (arith, f.few, h, s, length-map hs (numbered_host ns), length-map (services_in_order ds.services) (numbered_service ns))
+
+pub few_numbered : (ds : Drafts) → is_faultless ds ≡ Ok tt → object_count (numbered ds) ≤ 4096
+few_numbered ds e = few_in_all (numbered ds) (numbered_few ds (faultless ds e))
+
+some_name : (names : List (List ℕ)) (ds : List DependencyDraft) → have_known_ends names ds ≡ true → 0 < length ds → 0 < length names
+some_name names [] k h = absurd (omega arith)
+some_name [] (d ∷ ds) k h = cc
+some_name (n ∷ names) (d ∷ ds) k h = omega arith
+
+-- where there is a dependency, there is an object
+some_object : (ds : Drafts) → IsFaultless ds → 0 < length (all_dependencies ds) → 0 < object_count (numbered ds)
+some_object ds f h =
+    let ns = names_in_order ds.hosts in
+    let count = count_of (numbered ds) (length (numbered ds).hosts) (length (numbered ds).services) refl refl in
+    let hosts = length-map (hosts_in_order ds.hosts) (numbered_host ns) in
+    let services = length-map (services_in_order ds.services) (numbered_service ns) in
+    let parts = length-append ds.service_dependencies ds.host_dependencies in
+    elim (cases_lt 0 (length ds.service_dependencies)) [
+      | inl l ↦ let n = some_name (full_names ds.services) ds.service_dependencies f.service_ends l in
+          let p = placed_some pair_order key_of (λ s. object_of s.check) [] ds.services (omega (arith, n, length-map ds.services (λ s. full_name (key_of s)))) in
+          omega (arith, count, services, p)
+      | inr l ↦ let n = some_name (names_of ds.hosts) ds.host_dependencies f.host_ends (omega (arith, l, h, parts)) in
+          let p = placed_some text_order (λ h. h.name) body_of [] ds.hosts (omega (arith, n, length-map ds.hosts (λ h. h.name))) in
+          omega (arith, count, hosts, p)
+    ]
+
+-- the dependents are objects
+pub dependents_within : (ds : Drafts) → is_faultless ds ≡ Ok tt → list_all (λ d. nat_lt d.0 (object_count (numbered ds))) (map (numbered_dependency (objects_of (numbered ds))) (all_dependencies ds)) ≡ true
+dependents_within ds e = dependents_below (objects_of (numbered ds)) (all_dependencies ds) (some_object ds (faultless ds e))
+
+-- what is true of the lists of dependencies before their order is made
+pub record HasLists (c : Configuration) : Type 0 where
+  pub few : object_count c ≤ 4096
+  pub listed : length c.dependencies ≡ object_count c
+  pub mastered : are_within (object_count c) (masters_of c) ≡ true
+
+pub has_lists : (ds : Drafts) → is_faultless ds ≡ Ok tt → HasLists (configuration ds)
+has_lists ds e =
+    let objects = objects_of (numbered ds) in
+    let all = map (numbered_dependency objects) (all_dependencies ds) in
+    record {
+      few = few_numbered ds e;
+      listed = length-dependency_lists (length objects) all;
+      mastered = masters_within_lists (length objects) all (masters_below objects (all_dependencies ds));
+    }
+
+module _ {L : Type 0} (items : L → List Dependency) (lists : List L) (c : Configuration) (has : HasLists c) (are : map items lists ≡ c.dependencies) where
+  one_each : length lists ≡ object_count c
+  one_each = sym (length-map lists items) ∙ ap length are ∙ has.listed
+
+  pub few_lists : length lists ≤ 4096
+  few_lists = omega (arith, one_each, has.few)
+
+  pub masters_within : are_within (length lists) (map masters_in (map items lists)) ≡ true
+  masters_within = ap (λ n. are_within n (map masters_in (map items lists))) one_each ∙ ap (λ l. are_within (object_count c) (map masters_in l)) are ∙ has.mastered
+
 -- what a document without a fault gives is a setup
-pub configuration_is_setup : (ds : Drafts) → is_faultless ds ≡ Ok tt → IsSetup (configuration ds)
-configuration_is_setup ds e =
+pub configuration_is_setup : (ds : Drafts) → is_faultless ds ≡ Ok tt → has_cycle (masters_of (configuration ds)) ≡ false → IsSetup (configuration ds)
+configuration_is_setup ds e acyclic =
+    let lists = has_lists ds e in
     let f = faultless ds e in
     let o = good_options_in_range ds.options ds.hosts ds.services f.ranged in
     let hs = hosts_in_order ds.hosts in
@@ -368,9 +432,9 @@ configuration_is_setup ds e =
       few = omega (arith, f.few, h, s, length-map hs (numbered_host ns), length-map (services_in_order ds.services) (numbered_service ns));
       linked = linked_by hs;
       hosted = hosted_by ds.hosts ds.services f.known ns (length (map (numbered_host ns) hs)) (names_length hs) some;
-      listed = length-replicate (object_count (numbered ds)) [];
-      mastered = rw (no_masters (object_count (numbered ds))) (replicate_within (object_count (numbered ds)) (object_count (numbered ds)));
-      acyclic = no_dependency_cycle (object_count (numbered ds));
+      listed = lists.listed;
+      mastered = lists.mastered;
+      acyclic = acyclic;
       interval_length = o.interval_length.1;
       some_interval_length = o.interval_length.0;
       service_delay = o.service_delay;
@@ -392,27 +456,3 @@ pub links_within : {L : Type 0} (items : L → List ℕ) (hosts : List Host) (li
 links_within items hosts links e linked =
     let n : length links ≡ length hosts = omega (arith, length-map links items, ap length e, length-map hosts (λ h. h.parents)) in
     ap (λ l. are_within (length links) l) e ∙ list_all-map (λ ls. list_all (λ p. nat_lt p (length links)) ls) (λ h. h.parents) hosts ∙ ap (λ k. list_all (λ h. list_all (λ p. nat_lt p k) h.parents) hosts) n ∙ linked
-
--- ---- the lists of dependencies
-
--- as many objects as hosts and services
-pub count_of : (c : Configuration) (hosts services : ℕ) → hosts ≡ length c.hosts → services ≡ length c.services → hosts + services ≡ object_count c
-count_of c hosts services h s = omega (arith, h, s, length-append (map named_host c.hosts) (map named_service c.services), length-map c.hosts named_host, length-map c.services named_service)
-
-module _ {L : Type 0} (items : L → List Dependency) (lists : List L) (c : Configuration) (is : IsSetup c) (are : map items lists ≡ c.dependencies) where
-  one_each : length lists ≡ object_count c
-  one_each = sym (length-map lists items) ∙ ap length are ∙ is.listed
-
-  pub few_lists : length lists ≤ 4096
-  few_lists = omega (arith, one_each, count_of c (length c.hosts) (length c.services) refl refl, is.few)
-
-  pub masters_within : are_within (length lists) (map masters_in (map items lists)) ≡ true
-  masters_within = ap (λ n. are_within n (map masters_in (map items lists))) one_each ∙ ap (λ l. are_within (object_count c) (map masters_in l)) are ∙ is.mastered
-
-  pub no_cycle_in : has_cycle (map masters_in (map items lists)) ≡ false
-  no_cycle_in = ap (λ l. has_cycle (map masters_in l)) are ∙ is.acyclic
-
--- where there is no cycle there is an order
-pub order_is_there : {A : Type 0} (answer : Option A) (P : A → Type 0) (links : List (List ℕ)) → MatchOption answer (has_cycle links ≡ true) P → has_cycle links ≡ false → IsSome answer
-order_is_there None P links m free = absurd (let e : true ≡ false = sym m ∙ free in cc)
-order_is_there (Some a) P links m free = refl

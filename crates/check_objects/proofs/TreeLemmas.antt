@@ -38,7 +38,7 @@ object_by_members (string s) ms e = cc
 object_by_members (array ds) ms e = cc
 object_by_members (object ms') ms e = cc
 
-among_known : (names : List (Bor (List ℕ))) (key : List ℕ) → list_any (λ name. bytes_eq name.now key) names ≡ is_among (map (λ name. name.now) names) key
+pub among_known : (names : List (Bor (List ℕ))) (key : List ℕ) → list_any (λ name. bytes_eq name.now key) names ≡ is_among (map (λ name. name.now) names) key
 among_known [] key = refl
 among_known (n ∷ ns) key = ap (λ b. bytes_eq n.now key || b) (among_known ns key)
 

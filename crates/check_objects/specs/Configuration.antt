@@ -1,5 +1,5 @@
 -- A setup as contracts see it: its options, its hosts and its services, in the order of their numbers.
-use Rattle.std.specs.Prelude.{◌≡◌, ℕ, ◌+◌, ◌-◌, ◌≤◌, ◌&&◌, Bool, true, nat_le, List, [], ◌++◌, length, map, position, bytes_eq, slice_get, slice_index_or, option_map, unwrap_or, nat_lt, Option, None, false, if◌then◌else◌}
+use Rattle.std.specs.Prelude.{◌≡◌, ℕ, ◌+◌, ◌-◌, ◌≤◌, ◌&&◌, Bool, true, nat_le, List, [], ◌∷◌, ◌++◌, length, map, position, bytes_eq, slice_get, slice_index_or, option_map, unwrap_or, nat_lt, Option, None, false, if◌then◌else◌}
 use Rattle.std.specs.List.{list_all}
 use Rattle.check_objects.specs.declared.dependency.Dependency.{Dependency}
 use Rattle.check_objects.specs.declared.object.Object.{Object}
@@ -56,9 +56,17 @@ host_count c = length c.hosts
 abbrev pub object_count : Configuration → ℕ
 object_count c = length (objects_of c)
 
+-- the place of a full name among these objects
+abbrev pub number_among : List Named → List ℕ → Option ℕ
+number_among objects name = position (λ n. bytes_eq name n.name) objects
+
 -- the number of a full name
 abbrev pub number_of : Configuration → List ℕ → Option ℕ
-number_of c name = position (λ n. bytes_eq name n.name) (objects_of c)
+number_of c name = number_among (objects_of c) name
+
+-- the full name of a service by its host's name and its description, which a semicolon parts
+abbrev pub full_name : List ℕ × List ℕ → List ℕ
+full_name key = key.0 ++ (59 ∷ key.1)
 
 -- the full name of the object with this number
 abbrev pub name_of : Configuration → ℕ → List ℕ

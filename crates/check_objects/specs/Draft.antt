@@ -2,6 +2,7 @@
 use Rattle.std.specs.Prelude.{ℕ, ◌+◌, Bool, true, false, List, [], ◌∷◌, Option, Some, None, option_and_then, Result, Ok, Err, ok_or, codes, bytes_eq, if◌then◌else◌}
 use Rattle.serde_json.specs.Data.{Data, Items, no_items, item}
 use Rattle.serde_json.specs.Find.{get, as_bool, as_str, as_array}
+use Rattle.check_objects.specs.declared.dependency.Criteria.{Criteria}
 use Rattle.check_objects.specs.declared.draft.CheckDraft.{CheckDraft}
 use Rattle.check_objects.specs.declared.error.LoadError.{LoadError}
 use Rattle.check_objects.specs.declared.error.LoadError.TheVariants as errors
@@ -11,8 +12,11 @@ use Rattle.check_objects.specs.declared.options.DelayMethod.TheVariants as metho
 use Rattle.check_objects.specs.declared.options.InterleaveFactor.{InterleaveFactor}
 use Rattle.check_objects.specs.declared.options.InterleaveFactor.TheVariants as factor
 use Rattle.check_objects.specs.declared.place.Place.{Place}
+use Rattle.check_objects.specs.declared.place.Part.{Part}
+use Rattle.check_objects.specs.declared.place.Part.TheVariants as part
+use Rattle.check_objects.specs.Criteria.{criteria_of}
 use Rattle.check_objects.specs.LoadError.{◌>>=◌}
-use Rattle.check_objects.specs.Place.{the_document, the_options, the_hosts, host_at, the_services, service_at}
+use Rattle.check_objects.specs.Place.{the_document, the_options, the_hosts, host_at, the_services, service_at, list_of_part, item_of_part}
 use Rattle.check_objects.specs.Tree.{has_only, whole_number, member_of, member_or, texts_in, ◌>=>◌}
 
 -- a host as the document has it
@@ -27,12 +31,23 @@ pub record ServiceDraft : Type 0 where
   pub description : List ℕ
   pub check : CheckDraft
 
+-- a dependency as the document has it
+pub record DependencyDraft : Type 0 where
+  pub dependent : List ℕ
+  pub master : List ℕ
+  pub criteria : Criteria
+  pub inherits : Bool
+
 pub record Drafts : Type 0 where
   pub options : Options
   -- in the document's order
   pub hosts : List HostDraft
   -- in the document's order
   pub services : List ServiceDraft
+  -- in the document's order
+  pub service_dependencies : List DependencyDraft
+  -- in the document's order
+  pub host_dependencies : List DependencyDraft
 
 -- ---- lists
 
@@ -85,6 +100,34 @@ service_draft d = if has_only service_members d then
     (check_draft d >=> λ check.
     Some (record { host = host; description = description; check = check }))))
     else None
+
+-- ---- dependencies
+
+abbrev pub dependency_members : List (List ℕ)
+dependency_members = codes "dependent" ∷ codes "master" ∷ codes "criteria" ∷ codes "inherits_parent" ∷ []
+
+-- A dependency names who depends on whom, and has criteria with these letters. It doesn't inherit unless it says so.
+unfoldable pub dependency_draft : List (List ℕ) → Data → Option DependencyDraft
+dependency_draft letters d = if has_only dependency_members d then
+    (option_and_then as_str (get (codes "dependent") d) >=> λ dependent.
+    (option_and_then as_str (get (codes "master") d) >=> λ master.
+    (option_and_then as_str (get (codes "criteria") d) >=> λ text.
+    (criteria_of letters text >=> λ criteria.
+    (member_or as_bool false (get (codes "inherits_parent") d) >=> λ inherits.
+    Some (record { dependent = dependent; master = master; criteria = criteria; inherits = inherits }))))))
+    else None
+
+-- the letters of criteria between services
+abbrev pub service_letters : List (List ℕ)
+service_letters = codes "o" ∷ codes "w" ∷ codes "u" ∷ codes "c" ∷ codes "p" ∷ codes "n" ∷ []
+
+-- the letters of criteria between hosts
+abbrev pub host_letters : List (List ℕ)
+host_letters = codes "o" ∷ codes "u" ∷ codes "d" ∷ codes "p" ∷ codes "n" ∷ []
+
+-- the dependencies of one sort
+abbrev pub dependencies_in : Part → List (List ℕ) → Option Data → Result (List DependencyDraft) LoadError
+dependencies_in p letters value = list_of (dependency_draft letters) (list_of_part p) (item_of_part p) value
 
 -- ---- options
 
@@ -146,13 +189,16 @@ options_of value = if has_option_members value then
 -- ---- the document
 
 abbrev pub document_members : List (List ℕ)
-document_members = codes "options" ∷ codes "hosts" ∷ codes "services" ∷ []
+document_members = codes "options" ∷ codes "hosts" ∷ codes "services" ∷ codes "service_dependencies" ∷ codes "host_dependencies" ∷ []
 
--- The document itself is tested first, then its options, then its hosts, then its services.
+-- The document itself is tested first, then its options, hosts, services, and the dependencies between services and
+-- between hosts.
 unfoldable pub drafts_of : Data → Result Drafts LoadError
 drafts_of d = if has_only document_members d then (do
   options ← ok_or (options_of (get (codes "options") d)) (errors.Shape the_options)
   hosts ← list_of host_draft the_hosts host_at (get (codes "hosts") d)
   services ← list_of service_draft the_services service_at (get (codes "services") d)
-  Ok (record { options = options; hosts = hosts; services = services }))
+  service_dependencies ← dependencies_in part.ServiceDependencies service_letters (get (codes "service_dependencies") d)
+  host_dependencies ← dependencies_in part.HostDependencies host_letters (get (codes "host_dependencies") d)
+  Ok (record { options = options; hosts = hosts; services = services; service_dependencies = service_dependencies; host_dependencies = host_dependencies }))
     else Err (errors.Shape the_document)

@@ -4,6 +4,7 @@ use Rattle.std.specs.Borrow.{Bor}
 use Rattle.check_objects.specs.declared.draft.CheckDraft.{CheckDraft}
 use Rattle.check_objects.specs.declared.draft.HostDraft.{HostDraft}
 use Rattle.check_objects.specs.declared.draft.ServiceDraft.{ServiceDraft}
+use Rattle.check_objects.specs.declared.draft.DependencyDraft.{DependencyDraft}
 use Rattle.check_objects.specs.declared.draft.Drafts.{Drafts}
 use Rattle.check_objects.specs.Text.{text}
 use Rattle.check_objects.specs.Draft as spec
@@ -14,8 +15,17 @@ host h = record { name = h.name.now; parents = map text h.parents.now; check = h
 abbrev pub service : ServiceDraft → spec.ServiceDraft
 service s = record { host = s.host.now; description = s.description.now; check = s.check }
 
+abbrev pub dependency : DependencyDraft → spec.DependencyDraft
+dependency d = record { dependent = d.dependent.now; master = d.master.now; criteria = d.criteria; inherits = d.inherits }
+
 abbrev pub drafts : Drafts → spec.Drafts
-drafts d = record { options = d.options; hosts = map host d.hosts.items; services = map service d.services.items }
+drafts d = record {
+  options = d.options;
+  hosts = map host d.hosts.items;
+  services = map service d.services.items;
+  service_dependencies = map dependency d.service_dependencies.items;
+  host_dependencies = map dependency d.host_dependencies.items;
+}
 
 -- the attempts fit a byte
 abbrev pub HasFewAttempts : CheckDraft → Type 0

@@ -10,8 +10,11 @@ use Rattle.check_objects.specs.declared.options.InterleaveFactor.{InterleaveFact
 use Rattle.check_objects.specs.declared.options.InterleaveFactor.TheVariants as factor
 use Rattle.check_objects.specs.declared.options.Options.{Options}
 use Rattle.check_objects.specs.LoadError.{◌>>=◌, refused_at}
-use Rattle.check_objects.specs.Place.{the_options, host_at, service_at}
-use Rattle.check_objects.specs.Draft.{HostDraft, ServiceDraft, Drafts}
+use Rattle.check_objects.specs.declared.place.Part.{Part}
+use Rattle.check_objects.specs.declared.place.Part.TheVariants as part
+use Rattle.check_objects.specs.Configuration.{full_name}
+use Rattle.check_objects.specs.Place.{the_options, host_at, service_at, item_of_part}
+use Rattle.check_objects.specs.Draft.{HostDraft, ServiceDraft, DependencyDraft, Drafts}
 
 -- ---- counts
 
@@ -22,6 +25,13 @@ has_few_parents hosts = nat_le (sum_by (λ h. length h.parents) hosts) 16384
 -- at most 4,096 hosts and services together, and few parents
 abbrev pub few_objects : List HostDraft → List ServiceDraft → Result (Unit {0}) LoadError
 few_objects hosts services = if nat_lt 4096 (length hosts + length services) || not (has_few_parents hosts) then Err errors.TooMany else Ok tt
+
+-- at most 16,384 dependencies of both sorts together
+abbrev pub few_dependencies : List DependencyDraft → List DependencyDraft → Result (Unit {0}) LoadError
+few_dependencies of_services of_hosts = if nat_lt 16384 (length of_services + length of_hosts) then Err errors.TooMany else Ok tt
+
+abbrev pub few_items : Drafts → Result (Unit {0}) LoadError
+few_items drafts = few_objects drafts.hosts drafts.services >>= λ _. few_dependencies drafts.service_dependencies drafts.host_dependencies
 
 -- ---- names
 
@@ -87,6 +97,22 @@ known_parents names hosts = refused_at (λ i. errors.UnknownHost (host_at i)) (p
 abbrev pub known_hosts : List (List ℕ) → List ServiceDraft → Result (Unit {0}) LoadError
 known_hosts names services = refused_at (λ i. errors.UnknownHost (service_at i)) (position (λ s. not (is_known names s.host)) services)
 
+-- the full names of services
+abbrev pub full_names : List ServiceDraft → List (List ℕ)
+full_names services = map (λ s. full_name (key_of s)) services
+
+-- the dependent and the master of every dependency have one of these names; else the first dependency with one that hasn't
+abbrev pub known_ends : Part → List (List ℕ) → List DependencyDraft → Result (Unit {0}) LoadError
+known_ends p names ds = refused_at (λ i. errors.UnknownMaster (item_of_part p i)) (position (λ d. not (is_known names d.dependent && is_known names d.master)) ds)
+
+-- what is named is there: parents, the hosts of services, and what depends and is depended on
+abbrev pub known_links : List (List ℕ) → Drafts → Result (Unit {0}) LoadError
+known_links names drafts =
+    known_parents names drafts.hosts >>= λ _.
+    (known_hosts names drafts.services >>= λ _.
+    (known_ends part.ServiceDependencies (full_names drafts.services) drafts.service_dependencies >>= λ _.
+    known_ends part.HostDependencies names drafts.host_dependencies))
+
 -- ---- limits
 
 -- both intervals are at most 525,600 units, a year of minutes, and the attempts 1 to 255
@@ -137,10 +163,9 @@ good_ranges options hosts services = good_options options >>= λ _. (good_host_r
 -- the first refusal after the shape, if there is one
 unfoldable pub is_faultless : Drafts → Result (Unit {0}) LoadError
 is_faultless drafts =
-    few_objects drafts.hosts drafts.services >>= λ _.
+    few_items drafts >>= λ _.
     (good_names drafts.hosts drafts.services >>= λ _.
     (host_names drafts.hosts >>= λ names.
     (no_repeated_services drafts.services >>= λ _.
-    (known_parents names drafts.hosts >>= λ _.
-    (known_hosts names drafts.services >>= λ _.
-    good_ranges drafts.options drafts.hosts drafts.services)))))
+    (known_links names drafts >>= λ _.
+    good_ranges drafts.options drafts.hosts drafts.services))))

@@ -3,6 +3,7 @@ pub mod LoadError
 pub mod Configuration
 pub mod Tree
 pub mod Text
+pub mod Criteria
 pub mod Draft
 pub mod Fault
 pub mod Numbering

@@ -1,14 +1,15 @@
 -- The numbers of objects: hosts in the order of their names' bytes, then services in the order of their hosts' names and then of their descriptions.
-use Rattle.std.specs.Prelude.{ℕ, ◌==◌, Bool, not, List, [], ◌∷◌, ◌++◌, map, position, bytes_eq, unwrap_or, replicate}
-use Rattle.std.specs.List.{list_all}
+use Rattle.std.specs.Prelude.{ℕ, ◌==◌, Bool, not, List, [], ◌∷◌, ◌++◌, map, position, bytes_eq, unwrap_or, length}
+use Rattle.std.specs.List.{list_all, filter, range_with_len}
 use Rattle.std.specs.declared.cmp.Ordering.{Ordering}
 use Rattle.std.specs.BTreeMap.{insert_entry}
 use Rattle.std.specs.Ordering.{nat_cmp, ordering_then}
 use Rattle.std.specs.Cmp.Lexicographic.{slice_cmp}
+use Rattle.check_objects.specs.declared.dependency.Dependency.{Dependency}
 use Rattle.check_objects.specs.declared.draft.CheckDraft.{CheckDraft}
 use Rattle.check_objects.specs.declared.object.Object.{Object}
-use Rattle.check_objects.specs.Configuration.{Host, Service, Configuration, object_count}
-use Rattle.check_objects.specs.Draft.{HostDraft, ServiceDraft, Drafts}
+use Rattle.check_objects.specs.Configuration.{Named, Host, Service, Configuration, objects_of, number_among, full_name}
+use Rattle.check_objects.specs.Draft.{HostDraft, ServiceDraft, DependencyDraft, Drafts}
 use Rattle.check_objects.specs.Fault.{key_of}
 
 -- ---- the order
@@ -59,10 +60,6 @@ numbered_host names h = record { name = h.0; object = h.1.0; parents = map (numb
 abbrev pub is_host_name : List ℕ → Bool
 is_host_name name = list_all (λ b. not (b == 59)) name
 
--- the full name of a service: a semicolon parts the host's name from the description
-abbrev pub full_name : List ℕ × List ℕ → List ℕ
-full_name key = key.0 ++ (59 ∷ key.1)
-
 -- a service, its host by number
 abbrev pub numbered_service : List (List ℕ) → (List ℕ × List ℕ) × Object → Service
 numbered_service names s = record { name = full_name s.0; object = s.1; host = number_in names s.0.0 }
@@ -80,6 +77,29 @@ numbered drafts = record {
   dependencies = [];
 }
 
--- The setup of drafts without a fault. Dependencies aren't read so far: each object has the empty list of them.
+-- a dependency by number, behind the number of its dependent
+abbrev pub numbered_dependency : List Named → DependencyDraft → ℕ × Dependency
+numbered_dependency objects d = (
+  unwrap_or (number_among objects d.dependent) 0,
+  record { master = unwrap_or (number_among objects d.master) 0; criteria = d.criteria; inherits = d.inherits },
+)
+
+-- of these dependencies those of the object with this number, in the same order
+abbrev pub dependencies_among : List (ℕ × Dependency) → ℕ → List Dependency
+dependencies_among ds object = map (λ d. d.1) (filter (λ d. d.0 == object) ds)
+
+-- these dependencies, for each of so many objects its own
+abbrev pub dependency_lists : ℕ → List (ℕ × Dependency) → List (List Dependency)
+dependency_lists count ds = map (dependencies_among ds) (range_with_len 0 count)
+
+-- the dependencies of both sorts
+abbrev pub all_dependencies : Drafts → List DependencyDraft
+all_dependencies drafts = drafts.service_dependencies ++ drafts.host_dependencies
+
+-- of each of these objects its dependencies, in the document's order
+abbrev pub dependencies_by_number : List Named → Drafts → List (List Dependency)
+dependencies_by_number objects drafts = dependency_lists (length objects) (map (numbered_dependency objects) (all_dependencies drafts))
+
+-- the setup of drafts without a fault
 abbrev pub configuration : Drafts → Configuration
-configuration drafts = let c = numbered drafts in record { options = c.options; hosts = c.hosts; services = c.services; dependencies = replicate (object_count c) [] }
+configuration drafts = let c = numbered drafts in record { options = c.options; hosts = c.hosts; services = c.services; dependencies = dependencies_by_number (objects_of c) drafts }

@@ -1,6 +1,7 @@
 -- The places of a setup document.
 use Rattle.std.specs.Prelude.{ℕ, Some, None}
 use Rattle.check_objects.specs.declared.place.Place.{Place}
+use Rattle.check_objects.specs.declared.place.Part.{Part}
 use Rattle.check_objects.specs.declared.place.Part.TheVariants as part
 
 -- the document itself
@@ -26,3 +27,11 @@ the_services = record { part = part.Services; index = None }
 -- the service at this index of the list
 abbrev pub service_at : ℕ → Place
 service_at i = record { part = part.Services; index = Some i }
+
+-- a part as a whole
+abbrev pub list_of_part : Part → Place
+list_of_part p = record { part = p; index = None }
+
+-- the item at this index of a part's list
+abbrev pub item_of_part : Part → ℕ → Place
+item_of_part p i = record { part = p; index = Some i }

@@ -1,9 +1,9 @@
--- The setup that a document is, or its first refusal: the tree, its drafts, the tests, the numbers, and that no host is its own parent.
+-- The setup that a document is, or its first refusal: the tree, its drafts, the tests, the numbers, and that no object depends on itself and no host is its own parent.
 use Rattle.std.specs.Prelude.{ℕ, List, length, map, Result, Ok, Err, ok_or, nat_lt, if◌then◌else◌}
 use Rattle.serde_json.specs.Data.{Data}
 use Rattle.check_objects.specs.declared.error.LoadError.{LoadError}
 use Rattle.check_objects.specs.declared.error.LoadError.TheVariants as errors
-use Rattle.check_objects.specs.Configuration.{Configuration}
+use Rattle.check_objects.specs.Configuration.{Configuration, masters_of}
 use Rattle.check_objects.specs.Depth.{has_cycle}
 use Rattle.check_objects.specs.LoadError.{◌>>=◌}
 use Rattle.check_objects.specs.Tree.{tree_of}
@@ -11,13 +11,17 @@ use Rattle.check_objects.specs.Draft.{drafts_of}
 use Rattle.check_objects.specs.Fault.{is_faultless}
 use Rattle.check_objects.specs.Numbering.{configuration}
 
+-- the setup, unless some object depends on itself through one dependency or more
+abbrev pub without_dependency_cycle : Configuration → Result Configuration LoadError
+without_dependency_cycle c = if has_cycle (masters_of c) then Err errors.DependencyCycle else Ok c
+
 -- the setup, unless some host is its own parent through one parent or more
-abbrev pub without_cycle : Configuration → Result Configuration LoadError
-without_cycle c = if has_cycle (map (λ h. h.parents) c.hosts) then Err errors.ParentCycle else Ok c
+abbrev pub without_parent_cycle : Configuration → Result Configuration LoadError
+without_parent_cycle c = if has_cycle (map (λ h. h.parents) c.hosts) then Err errors.ParentCycle else Ok c
 
 -- the setup of a tree
 unfoldable pub setup_of_tree : Data → Result Configuration LoadError
-setup_of_tree d = drafts_of d >>= λ drafts. (is_faultless drafts >>= λ _. without_cycle (configuration drafts))
+setup_of_tree d = drafts_of d >>= λ drafts. (is_faultless drafts >>= λ _. (without_dependency_cycle (configuration drafts) >>= without_parent_cycle))
 
 -- the setup of a document's bytes
 unfoldable pub setup_of : List ℕ → Result Configuration LoadError

@@ -1,13 +1,9 @@
 //! Execution dependencies: which objects' checks wait for the states of which others.
-ghost use Rattle.std.specs.Prelude.{◌≡◌, ◌≤◌, length, map, replicate, true, [], IfOk, IsOkUnless, MatchOption};
-ghost use Rattle.check_objects.specs.Closing.{are_within};
-ghost use Rattle.check_objects.specs.Configuration.{masters_in};
-ghost use Rattle.check_objects.specs.Depth.{has_cycle, IsOrder};
+ghost use Rattle.std.specs.Prelude.{◌≡◌, map, bytes_eq, codes};
+ghost use Rattle.std.specs.List.{list_all, list_any};
+ghost use Rattle.check_objects.specs.Criteria.{pieces, are_letters, has_letter, criteria_of};
 
-use crate::error::LoadError;
-use crate::order::order_by_links;
-use smallvec::SmallVec;
-use std::alloc::{AllocError, Global};
+use crate::tree::is_known;
 
 /// The states of the master in which a dependency fails, one for each letter of the document's
 /// text (manual: Host and Service Dependencies).
@@ -40,62 +36,39 @@ pub struct Dependency {
     pub inherits: bool,
 }
 
-/// The dependencies of an object, in the document's order. Most objects have few.
-pub(crate) type Dependencies = SmallVec<Dependency, 2>;
+/// The letters that the criteria of a dependency between services may have.
+pub(crate) const SERVICE_LETTERS: [&str; 6] = ["o", "w", "u", "c", "p", "n"];
 
-/// So many lists without a dependency.
-pub(crate) fn no_dependencies(alloc: Global, count: usize) -> Result<Vec<Dependencies>, LoadError>
-    ensures lists { IfOk result (λ lists. map (λ list. list.items) lists.items ≡ replicate count []) }
-    ensures memory { IsOkUnless result LoadError.Memory }
+/// The letters that the criteria of a dependency between hosts may have.
+pub(crate) const HOST_LETTERS: [&str; 5] = ["o", "u", "d", "p", "n"];
+
+/// The criteria of a text: some of these letters, with one comma between two of them.
+#[tactic(auto, unfolding(crate::specs::Criteria::criteria_of))]
+pub(crate) fn read_criteria(text: &str, letters: &[&str]) -> Option<Criteria>
+    ensures { result ≡ criteria_of (map (λ letter. letter.now) letters.now) text.now }
 {
-    let mut lists = Vec::with_capacity(alloc, count)?;
-    for _made in 0..count {
-        lists.push(SmallVec::new(alloc))?;
+    if !are_letters(text, letters) {
+        return None;
     }
-    Ok(lists)
+    Some(Criteria {
+        ok: has_letter(text, "o"),
+        warning: has_letter(text, "w"),
+        unknown: has_letter(text, "u"),
+        critical: has_letter(text, "c"),
+        down: has_letter(text, "d"),
+        pending: has_letter(text, "p"),
+        none: has_letter(text, "n"),
+    })
 }
 
-/// The numbers of the objects in an order in which each stands behind all that it depends on. None
-/// where some object depends on itself through one dependency or more.
-pub(crate) fn order_by_masters(
-    alloc: Global,
-    dependencies: &[Dependencies],
-) -> Result<Option<Vec<u32>>, LoadError>
-    requires few { length dependencies.now ≤ 4096 }
-    requires within { are_within (length dependencies.now)
-        (map masters_in (map (λ list. list.items) dependencies.now)) ≡ true }
-    ensures order { IfOk result (λ answer. MatchOption answer
-        (has_cycle (map masters_in (map (λ list. list.items) dependencies.now)) ≡ true)
-        (λ order. IsOrder (map masters_in (map (λ list. list.items) dependencies.now))
-        order.items)) }
-    ensures memory { IsOkUnless result LoadError.Memory }
+fn are_letters(text: &str, letters: &[&str]) -> bool
+    ensures { result ≡ are_letters (map (λ letter. letter.now) letters.now) text.now }
 {
-    let links = master_links(alloc, dependencies)?;
-    Ok(order_by_links(alloc, &links)?)
+    text.split(',').all(|piece| is_known(piece, letters))
 }
 
-/// The masters of each object, by number.
-fn master_links(
-    alloc: Global,
-    dependencies: &[Dependencies],
-) -> Result<Vec<SmallVec<u32, 4>>, AllocError>
-    ensures { IfOk result (λ links. map (λ list. list.items) links.items
-        ≡ map masters_in (map (λ list. list.items) dependencies.now)) }
+fn has_letter(text: &str, letter: &str) -> bool
+    ensures { result ≡ has_letter letter.now text.now }
 {
-    let mut links = Vec::with_capacity(alloc, dependencies.len())?;
-    for list in dependencies {
-        links.push(masters(alloc, list.as_slice())?)?;
-    }
-    Ok(links)
-}
-
-/// The masters of these dependencies.
-fn masters(alloc: Global, dependencies: &[Dependency]) -> Result<SmallVec<u32, 4>, AllocError>
-    ensures { IfOk result (λ masters. masters.items ≡ masters_in dependencies.now) }
-{
-    let mut masters = SmallVec::new(alloc);
-    for dependency in dependencies {
-        masters.push(dependency.master)?;
-    }
-    Ok(masters)
+    text.split(',').any(|piece| piece == letter)
 }

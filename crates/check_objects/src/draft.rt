@@ -5,14 +5,15 @@
 ghost use Rattle.std.specs.Prelude.{◌≡◌, map, option_map};
 ghost use Rattle.serde_json.specs.View.{view, items_view};
 ghost use Rattle.check_objects.specs.LoadError.{Gives};
-ghost use Rattle.check_objects.specs.Place.{the_hosts, host_at, the_services, service_at};
-ghost use Rattle.check_objects.specs.Draft.{host_draft, service_draft, check_draft, drafts_of, items_from, list_of, delay_method, interleave_factor, options_of, has_option_members};
+ghost use Rattle.check_objects.specs.Place.{the_hosts, host_at, the_services, service_at, list_of_part, item_of_part};
+ghost use Rattle.check_objects.specs.Draft.{host_draft, service_draft, check_draft, dependency_draft, drafts_of, items_from, list_of, delay_method, interleave_factor, options_of, has_option_members};
 ghost use Rattle.check_objects.specs.Tree.{member_or};
-ghost use Rattle.check_objects.specs.Drafted.{host, service, drafts};
+ghost use Rattle.check_objects.specs.Drafted.{host, service, dependency, drafts};
 
+use crate::dependency::{Criteria, HOST_LETTERS, SERVICE_LETTERS, read_criteria};
 use crate::error::LoadError;
 use crate::options::{DelayMethod, InterleaveFactor, Options};
-use crate::place::Place;
+use crate::place::{Part, Place};
 use crate::tree::{bool_or, has_only, member, number_or, texts_in};
 use serde_json::Value;
 use std::alloc::Global;
@@ -42,12 +43,23 @@ pub(crate) struct ServiceDraft<'v> {
     pub(crate) check: CheckDraft,
 }
 
+/// What a document says of a dependency, between services or between hosts.
+#[derive(Clone, Copy)]
+pub(crate) struct DependencyDraft<'v> {
+    pub(crate) dependent: &'v str,
+    pub(crate) master: &'v str,
+    pub(crate) criteria: Criteria,
+    pub(crate) inherits: bool,
+}
+
 /// A document in the right shape.
 #[derive(Drop)]
 pub(crate) struct Drafts<'v> {
     pub(crate) options: Options,
     pub(crate) hosts: Vec<HostDraft<'v>>,
     pub(crate) services: Vec<ServiceDraft<'v>>,
+    pub(crate) service_dependencies: Vec<DependencyDraft<'v>>,
+    pub(crate) host_dependencies: Vec<DependencyDraft<'v>>,
 }
 
 impl<'v> Drafts<'v> {
@@ -56,16 +68,39 @@ impl<'v> Drafts<'v> {
     pub(crate) fn read(alloc: Global, tree: &'v Value) -> Result<Self, LoadError>
         ensures { Gives drafts result (drafts_of (view tree.now)) }
     {
-        if !has_only(tree, &["options", "hosts", "services"]) {
+        if !has_only(
+            tree,
+            &[
+                "options",
+                "hosts",
+                "services",
+                "service_dependencies",
+                "host_dependencies",
+            ],
+        ) {
             return Err(LoadError::Shape(Place::DOCUMENT));
         }
         let options = read_options(tree.get("options")).ok_or(LoadError::Shape(Place::OPTIONS))?;
         let hosts = read_hosts(alloc, tree.get("hosts"))?;
         let services = read_services(alloc, tree.get("services"))?;
+        let service_dependencies = read_dependencies(
+            alloc,
+            tree.get("service_dependencies"),
+            Part::ServiceDependencies,
+            &SERVICE_LETTERS,
+        )?;
+        let host_dependencies = read_dependencies(
+            alloc,
+            tree.get("host_dependencies"),
+            Part::HostDependencies,
+            &HOST_LETTERS,
+        )?;
         Ok(Drafts {
             options,
             hosts,
             services,
+            service_dependencies,
+            host_dependencies,
         })
     }
 }
@@ -214,6 +249,46 @@ fn read_service_list<'v>(
     Ok(services)
 }
 
+/// The dependencies of one sort, with the letters that their criteria may have.
+fn read_dependencies<'v>(
+    alloc: Global,
+    value: Option<&'v Value>,
+    part: Part,
+    letters: &[&str],
+) -> Result<Vec<DependencyDraft<'v>>, LoadError>
+    ensures { Gives (λ v. map dependency v.items) result
+        (list_of (dependency_draft (map (λ letter. letter.now) letters.now)) (list_of_part part)
+        (item_of_part part) (option_map (λ v. view v.now) value.entry)) }
+{
+    match value {
+        Some(value) => {
+            let items = value.as_array().ok_or(LoadError::Shape(Place::list(part)))?;
+            read_dependency_list(alloc, items, part, letters)
+        }
+        None => Ok(Vec::new(alloc)),
+    }
+}
+
+fn read_dependency_list<'v>(
+    alloc: Global,
+    items: &'v [Value],
+    part: Part,
+    letters: &[&str],
+) -> Result<Vec<DependencyDraft<'v>>, LoadError>
+    ensures { Gives (λ v. map dependency v.items) result
+        (items_from (dependency_draft (map (λ letter. letter.now) letters.now)) (item_of_part part) 0
+        (items_view items.now)) }
+{
+    let mut dependencies = Vec::new(alloc);
+    for (index, item) in items.iter().enumerate() {
+        let draft = read_dependency(item, letters).ok_or(LoadError::Shape(Place::item(
+            part, index,
+        )))?;
+        dependencies.push(draft)?;
+    }
+    Ok(dependencies)
+}
+
 #[tactic(auto, unfolding(crate::specs::Draft::host_draft))]
 fn read_host(value: &Value) -> Option<HostDraft<'_>>
     ensures { option_map host result ≡ host_draft (view value.now) }
@@ -259,6 +334,26 @@ fn read_service(value: &Value) -> Option<ServiceDraft<'_>>
         host: value.get("host").and_then(Value::as_str)?,
         description: value.get("description").and_then(Value::as_str)?,
         check: read_check(value)?,
+    })
+}
+
+#[tactic(auto, unfolding(crate::specs::Draft::dependency_draft))]
+fn read_dependency<'v>(value: &'v Value, letters: &[&str]) -> Option<DependencyDraft<'v>>
+    ensures { option_map dependency result
+        ≡ dependency_draft (map (λ letter. letter.now) letters.now) (view value.now) }
+{
+    if !has_only(
+        value,
+        &["dependent", "master", "criteria", "inherits_parent"],
+    ) {
+        return None;
+    }
+    let criteria = value.get("criteria").and_then(Value::as_str);
+    Some(DependencyDraft {
+        dependent: value.get("dependent").and_then(Value::as_str)?,
+        master: value.get("master").and_then(Value::as_str)?,
+        criteria: read_criteria(criteria?, letters)?,
+        inherits: bool_or(value.get("inherits_parent"), false)?,
     })
 }
 

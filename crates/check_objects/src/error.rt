@@ -13,7 +13,8 @@ pub enum LoadError {
     NotJson,
     /// A member that is unknown, missing or of the wrong kind.
     Shape(Place),
-    /// More than 4,096 hosts and services together, or more than 16,384 parents of all hosts.
+    /// More than 4,096 hosts and services together, more than 16,384 dependencies of both sorts, or
+    /// more than 16,384 parents of all hosts.
     TooMany,
     /// A host name or a service description that is empty, is longer than 255 bytes, or has a `;`,
     /// a byte below 32 or the byte 127 in it.
@@ -23,9 +24,15 @@ pub enum LoadError {
     Duplicate(Place),
     /// A host with a parent that isn't there, or a service whose host isn't there.
     UnknownHost(Place),
-    /// A number out of its limits: an interval above 525,600 units, attempts not from 1 to 255, or
-    /// an `interval_length` not from 1 to 86,400 seconds.
+    /// A dependency whose dependent or master isn't there, or is of the other sort.
+    UnknownMaster(Place),
+    /// A number out of its limits: an interval above 525,600 units, attempts not from 1 to 255, an
+    /// `interval_length` not from 1 to 86,400 seconds, a fixed delay above 86,400,000 milliseconds,
+    /// a spread not from 1 to 525,600 minutes, an interleave factor not from 1 to 4,096, or more
+    /// than 1,000,000 concurrent checks.
     Range(Place),
+    /// Some object depends on itself, through one dependency or more.
+    DependencyCycle,
     /// Some host is its own parent, through one parent or more.
     ParentCycle,
     /// Want of memory, at any growth. It may come in place of any answer but `TooLong`.

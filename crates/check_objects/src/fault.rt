@@ -1,16 +1,17 @@
 //! The tests after the shape: counts, names, repeats, links, limits. Each covers the whole document
 //! before the next begins, and tells its first place.
-ghost use Rattle.std.specs.Prelude.{◌≡◌, ◌≤◌, ◌+◌, map, length, not, position, IfNone, OnOk, IsTrue, All};
+ghost use Rattle.std.specs.Prelude.{◌≡◌, ◌≤◌, ◌+◌, ◌&&◌, ℕ, List, string_bytes, IfOk, IsOkUnless, map, length, not, position, IfNone, OnOk, IsTrue, All};
 ghost use Rattle.std.specs.List.{list_all};
 ghost use Rattle.check_objects.specs.LoadError.{Gives};
-ghost use Rattle.check_objects.specs.Fault.{few_objects, has_few_parents, good_names, good_host_names, good_descriptions, host_names, no_repeated_services, known_parents, known_hosts, good_ranges, good_options, good_host_ranges, good_service_ranges, is_faultless, is_name_byte, is_name, is_known, is_in_range, is_within, is_delay_in_range, is_factor_in_range, are_options_in_range};
-ghost use Rattle.check_objects.specs.Drafted.{host, service, drafts, texts, HasFewAttempts};
+ghost use Rattle.check_objects.specs.Fault.{few_objects, has_few_parents, good_names, good_host_names, good_descriptions, host_names, no_repeated_services, known_parents, known_hosts, full_names, known_ends, known_links, few_dependencies, few_items, good_ranges, good_options, good_host_ranges, good_service_ranges, is_faultless, is_name_byte, is_name, is_known, is_in_range, is_within, is_delay_in_range, is_factor_in_range, are_options_in_range};
+ghost use Rattle.check_objects.specs.Drafted.{host, service, dependency, drafts, texts, HasFewAttempts};
 ghost use Rattle.check_objects.specs.Text.{text};
 
-use crate::draft::{CheckDraft, Drafts, HostDraft, ServiceDraft};
+use crate::draft::{CheckDraft, DependencyDraft, Drafts, HostDraft, ServiceDraft};
 use crate::error::LoadError;
+use crate::numbering::full_name;
 use crate::options::{DelayMethod, InterleaveFactor, Options};
-use crate::place::Place;
+use crate::place::{Part, Place};
 use crate::tree::text;
 use indexmap::IndexSet;
 use serde_json::Value;
@@ -19,6 +20,8 @@ use std::alloc::Global;
 const MAX_OBJECTS: usize = 4096;
 
 const MAX_PARENTS: usize = 16_384;
+
+const MAX_DEPENDENCIES: usize = 16_384;
 
 const MAX_NAME_BYTES: usize = 255;
 
@@ -46,17 +49,38 @@ impl<'v> Drafts<'v> {
         ensures hosts { OnOk result (All (λ h. HasFewAttempts h.check) self.now.hosts.items) }
         ensures services { OnOk result (All (λ s. HasFewAttempts s.check) self.now.services.items) }
     {
-        test_counts(&self.hosts, &self.services)?;
+        self.test_counts()?;
         test_names(&self.hosts, &self.services)?;
         let names = distinct_names(alloc, &self.hosts)?;
         test_repeated_services(alloc, &self.services)?;
-        test_parents(&self.hosts, &names)?;
-        test_hosts(&self.services, &names)?;
+        self.test_links(alloc, &names)?;
         test_ranges(&self.options, &self.hosts, &self.services)
+    }
+
+    fn test_counts(&self) -> Result<(), LoadError>
+        ensures exact { Gives (λ u. u) result (few_items (drafts self.now)) }
+        ensures few { OnOk result
+            (length self.now.hosts.items + length self.now.services.items ≤ 4096) }
+    {
+        test_object_counts(&self.hosts, &self.services)?;
+        test_dependency_counts(&self.service_dependencies, &self.host_dependencies)
+    }
+
+    /// Whether all that is named is there.
+    fn test_links(&self, alloc: Global, names: &IndexSet<&str>) -> Result<(), LoadError>
+        ensures { Gives (λ u. u) result (known_links (texts names.now.keys) (drafts self.now)) }
+    {
+        test_parents(&self.hosts, names)?;
+        test_hosts(&self.services, names)?;
+        test_service_dependencies(alloc, &self.services, &self.service_dependencies)?;
+        test_dependencies(Part::HostDependencies, &self.host_dependencies, names)
     }
 }
 
-fn test_counts(hosts: &[HostDraft<'_>], services: &[ServiceDraft<'_>]) -> Result<(), LoadError>
+fn test_object_counts(
+    hosts: &[HostDraft<'_>],
+    services: &[ServiceDraft<'_>],
+) -> Result<(), LoadError>
     ensures exact { Gives (λ u. u) result
         (few_objects (map host hosts.now) (map service services.now)) }
     ensures few { OnOk result (length hosts.now + length services.now ≤ 4096) }
@@ -65,6 +89,21 @@ fn test_counts(hosts: &[HostDraft<'_>], services: &[ServiceDraft<'_>]) -> Result
         return Err(LoadError::TooMany);
     }
     if !has_few_parents(hosts) {
+        return Err(LoadError::TooMany);
+    }
+    Ok(())
+}
+
+fn test_dependency_counts(
+    of_services: &[DependencyDraft<'_>],
+    of_hosts: &[DependencyDraft<'_>],
+) -> Result<(), LoadError>
+    ensures { Gives (λ u. u) result
+        (few_dependencies (map dependency of_services.now) (map dependency of_hosts.now)) }
+{
+    if of_services.len() > MAX_DEPENDENCIES
+        || of_hosts.len() > MAX_DEPENDENCIES - of_services.len()
+    {
         return Err(LoadError::TooMany);
     }
     Ok(())
@@ -221,6 +260,69 @@ fn unknown_host(services: &[ServiceDraft<'_>], names: &IndexSet<&str>) -> Option
     services
         .iter()
         .position(|service| !knows(names, service.host))
+}
+
+fn test_service_dependencies(
+    alloc: Global,
+    services: &[ServiceDraft<'_>],
+    dependencies: &[DependencyDraft<'_>],
+) -> Result<(), LoadError>
+    ensures { Gives (λ u. u) result
+        (known_ends Part.ServiceDependencies (full_names (map service services.now))
+        (map dependency dependencies.now)) }
+{
+    let names = full_names(alloc, services)?;
+    let names = distinct_texts(alloc, &names)?;
+    test_dependencies(Part::ServiceDependencies, dependencies, &names)
+}
+
+/// The full names of the services.
+fn full_names(alloc: Global, services: &[ServiceDraft<'_>]) -> Result<Vec<String>, LoadError>
+    ensures names { IfOk result (λ names.
+        map string_bytes names.items ≡ full_names (map service services.now)) }
+    ensures memory { IsOkUnless result LoadError.Memory }
+{
+    let mut names = Vec::with_capacity(alloc, services.len())?;
+    for service in services {
+        names.push(full_name(alloc, service.host, service.description)?)?;
+    }
+    Ok(names)
+}
+
+/// The set of these texts.
+fn distinct_texts<'t>(alloc: Global, all: &'t [String]) -> Result<IndexSet<&'t str>, LoadError>
+    ensures same { IfOk result (λ set. (name : List ℕ)
+        → is_known (texts set.keys) name ≡ is_known (map string_bytes all.now) name) }
+    ensures memory { IsOkUnless result LoadError.Memory }
+{
+    let mut set = IndexSet::with_capacity(alloc, all.len())?;
+    for text in all {
+        set.insert(text.as_str())?;
+    }
+    Ok(set)
+}
+
+fn test_dependencies(
+    part: Part,
+    dependencies: &[DependencyDraft<'_>],
+    names: &IndexSet<&str>,
+) -> Result<(), LoadError>
+    ensures { Gives (λ u. u) result
+        (known_ends part (texts names.now.keys) (map dependency dependencies.now)) }
+{
+    match unknown_end(dependencies, names) {
+        Some(index) => Err(LoadError::UnknownMaster(Place::item(part, index))),
+        None => Ok(()),
+    }
+}
+
+fn unknown_end(dependencies: &[DependencyDraft<'_>], names: &IndexSet<&str>) -> Option<usize>
+    ensures { result ≡ position (λ d. not (is_known (texts names.now.keys) d.dependent.now
+        && is_known (texts names.now.keys) d.master.now)) dependencies.now }
+{
+    dependencies.iter().position(|dependency| {
+        !(knows(names, dependency.dependent) && knows(names, dependency.master))
+    })
 }
 
 // ---- limits

@@ -8,6 +8,7 @@
 #![tactic(auto)]
 
 mod dependency;
+mod dependency_lists;
 mod draft;
 mod error;
 mod fault;

@@ -3,9 +3,10 @@
 ghost use Rattle.std.specs.Prelude.{◌≡◌, ◌≤◌, ◌<◌, length, map, bytes_eq, IfOk, OnOk, IsOkUnless, All, true, false, [], ◌∷◌, ◌++◌, bytes_eq, string_bytes};
 ghost use Rattle.std.specs.BTreeMap.{btree_map_len};
 ghost use Rattle.std.specs.List.{list_all, list_any};
-ghost use Rattle.check_objects.specs.Numbering.{hosts_in_order, services_in_order, number_in, numbered_host, numbered_service, object_of, full_name, is_host_name};
+ghost use Rattle.check_objects.specs.Numbering.{hosts_in_order, services_in_order, number_in, numbered_host, numbered_service, object_of, is_host_name};
+ghost use Rattle.check_objects.specs.Configuration.{full_name, number_among};
 ghost use Rattle.check_objects.specs.Drafted.{host, service, texts, HasFewAttempts};
-ghost use Rattle.check_objects.specs.Entries.{host_entry, service_entry, sorted_host, sorted_service};
+ghost use Rattle.check_objects.specs.Entries.{objects_in, host_entry, service_entry, sorted_host, sorted_service};
 ghost use Rattle.check_objects.specs.Text.{text};
 
 use crate::draft::{CheckDraft, HostDraft, ServiceDraft};
@@ -172,6 +173,24 @@ pub(crate) fn index_services(
     Ok(services)
 }
 
+/// The number of the object with this full name, or None where there is no such object.
+pub(crate) fn object_number(
+    hosts: &IndexMap<String, Host>,
+    services: &IndexMap<String, Service>,
+    name: &str,
+) -> Option<u32>
+    requires { length (objects_in hosts.now.entries services.now.entries) ≤ 4096 }
+    ensures { result ≡ number_among (objects_in hosts.now.entries services.now.entries) name.now }
+{
+    match hosts.get_index_of(name) {
+        Some(index) => Some(index as u32),
+        None => {
+            let index = services.get_index_of(name)?;
+            Some((hosts.len() + index) as u32)
+        }
+    }
+}
+
 /// Puts a new name behind those of the map.
 fn append<T: Drop>(map: &mut IndexMap<String, T>, name: String, value: T) -> Result<(), LoadError>
     requires { list_any (λ e. bytes_eq (string_bytes name) (string_bytes e.0)) map.old.entries
@@ -184,7 +203,7 @@ fn append<T: Drop>(map: &mut IndexMap<String, T>, name: String, value: T) -> Res
 }
 
 /// The full name of a service: a semicolon parts the host's name from the description.
-fn full_name(alloc: Global, host: &str, description: &str) -> Result<String, LoadError>
+pub(crate) fn full_name(alloc: Global, host: &str, description: &str) -> Result<String, LoadError>
     ensures name { IfOk result (λ s. string_bytes s ≡ full_name (host.now, description.now)) }
     ensures memory { IsOkUnless result LoadError.Memory }
 {

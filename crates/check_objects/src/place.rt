@@ -11,6 +11,10 @@ pub enum Part {
     Hosts,
     /// Its member `services`.
     Services,
+    /// Its member `service_dependencies`.
+    ServiceDependencies,
+    /// Its member `host_dependencies`.
+    HostDependencies,
 }
 
 /// Where a fault of the document lies.
@@ -24,7 +28,7 @@ pub struct Place {
 
 impl Place {
     ghost use Rattle.std.specs.Prelude.{◌≡◌};
-    ghost use Rattle.check_objects.specs.Place.{host_at, service_at};
+    ghost use Rattle.check_objects.specs.Place.{host_at, service_at, list_of_part, item_of_part};
 
     pub(crate) const DOCUMENT: Place = Place {
         part: Part::Document,
@@ -62,6 +66,23 @@ impl Place {
     {
         Place {
             part: Part::Services,
+            index: Some(index),
+        }
+    }
+
+    /// The part as a whole.
+    pub(crate) fn list(part: Part) -> Place
+        ensures { result ≡ list_of_part part }
+    {
+        Place { part, index: None }
+    }
+
+    /// The item with this index in the part's list.
+    pub(crate) fn item(part: Part, index: usize) -> Place
+        ensures { result ≡ item_of_part part index }
+    {
+        Place {
+            part,
             index: Some(index),
         }
     }

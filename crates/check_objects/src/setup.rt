@@ -3,17 +3,19 @@ ghost use Rattle.std.specs.Prelude.{◌≡◌, ◌<◌, ◌≤◌, length, map, 
 ghost use Rattle.check_objects.specs.Configuration.{object_count, host_count, objects_of, number_of, name_of, host_of, parents_of, dependencies_of, masters_of, IsSetup};
 ghost use Rattle.check_objects.specs.Depth.{IsOrder};
 ghost use Rattle.check_objects.specs.Numbering.{configuration};
-ghost use Rattle.check_objects.specs.Setup.{setup_of, without_cycle};
+ghost use Rattle.check_objects.specs.Setup.{setup_of, without_dependency_cycle, without_parent_cycle};
 ghost use Rattle.check_objects.specs.Fault.{is_faultless};
 ghost use Rattle.check_objects.specs.Drafted.{HasFewAttempts};
 ghost use Rattle.check_objects.specs.Entries.{host_entry};
 ghost use Rattle.check_objects.specs.LoadError.{Gives};
 
-use crate::dependency::{Dependencies, Dependency, no_dependencies, order_by_masters};
+use crate::dependency::Dependency;
+use crate::dependency_lists::{Dependencies, list_dependencies, order_by_masters};
 use crate::draft::Drafts;
 use crate::error::LoadError;
 use crate::numbering::{
-    Host, Parents, Service, index_hosts, index_services, number_names, sort_hosts, sort_services,
+    Host, Parents, Service, index_hosts, index_services, number_names, object_number, sort_hosts,
+    sort_services,
 };
 use crate::object::Object;
 use crate::options::Options;
@@ -71,36 +73,39 @@ impl Setup {
         let drafts = Drafts::read(alloc, &tree)?;
         drafts.test(alloc)?;
         let setup = Setup::of_drafts(alloc, &drafts)?;
-        setup.without_cycle(alloc)
+        setup.without_parent_cycle(alloc)
     }
 
-    /// The setup of drafts without a fault.
+    /// The setup of drafts without a fault, unless some object depends on itself through one
+    /// dependency or more.
     fn of_drafts(alloc: Global, document: &Drafts<'_>) -> Result<Setup, LoadError>
         requires faultless { is_faultless (drafts document.now) ≡ Ok tt }
         requires hosts { All (λ h. HasFewAttempts h.check) document.now.hosts.items }
         requires services { All (λ s. HasFewAttempts s.check) document.now.services.items }
-        ensures setup { IfOk result (λ s. s ≡ configuration (drafts document.now)) }
-        ensures memory { IsOkUnless result LoadError.Memory }
+        ensures { Gives (λ s. s) result
+            (without_dependency_cycle (configuration (drafts document.now))) }
     {
         let hosts = sort_hosts(alloc, &document.hosts)?;
         let services = sort_services(alloc, &document.services)?;
         let names = number_names(alloc, &hosts)?;
         let hosts = index_hosts(alloc, hosts, &names)?;
         let services = index_services(alloc, services, &names)?;
-        let dependencies = no_dependencies(alloc, hosts.len() + services.len())?;
-        let order = order_by_masters(alloc, &dependencies)?.unwrap();
-        Ok(Setup {
-            options: document.options,
-            hosts,
-            services,
-            dependencies,
-            order,
-        })
+        let dependencies = list_dependencies(alloc, document, &hosts, &services)?;
+        match order_by_masters(alloc, &dependencies)? {
+            Some(order) => Ok(Setup {
+                options: document.options,
+                hosts,
+                services,
+                dependencies,
+                order,
+            }),
+            None => Err(LoadError::DependencyCycle),
+        }
     }
 
     /// The setup, unless some host is its own parent through one parent or more.
-    fn without_cycle(self, alloc: Global) -> Result<Setup, LoadError>
-        ensures { Gives (λ s. s) result (without_cycle self) }
+    fn without_parent_cycle(self, alloc: Global) -> Result<Setup, LoadError>
+        ensures { Gives (λ s. s) result (without_parent_cycle self) }
     {
         let links = parent_links(alloc, &self.hosts)?;
         match order_by_links(alloc, &links)? {
@@ -177,13 +182,7 @@ impl Setup {
     pub fn number(&self, name: &str) -> Option<u32>
         ensures { result ≡ number_of self.now name.now }
     {
-        match self.hosts.get_index_of(name) {
-            Some(index) => Some(index as u32),
-            None => {
-                let index = self.services.get_index_of(name)?;
-                Some((self.hosts.len() + index) as u32)
-            }
-        }
+        object_number(&self.hosts, &self.services, name)
     }
 
     /// The number of the service's host, or None for a host.

@@ -44,7 +44,8 @@ fn are_known(members: &Map<String, Value>, names: &[&str]) -> bool
     members.keys().all(|key| is_known(key.as_str(), names))
 }
 
-fn is_known(key: &str, names: &[&str]) -> bool
+/// Whether the text is one of these.
+pub(crate) fn is_known(key: &str, names: &[&str]) -> bool
     ensures { result ≡ list_any (λ name. bytes_eq name.now key.now) names.now }
 {
     names.iter().any(|name| *name == key)

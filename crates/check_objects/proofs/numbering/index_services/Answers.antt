@@ -2,7 +2,8 @@ use Rattle.std.proofs.Common.{sym, ap, ◌∙◌, bytes_eq, string_bytes, refl}
 use Rattle.std.specs.List.{list_any}
 use Rattle.check_objects.specs.Drafted.{texts}
 use Rattle.check_objects.specs.Entries.{service_entry, sorted_service}
-use Rattle.check_objects.specs.Numbering.{numbered_service, pair_order, full_name, is_host_name}
+use Rattle.check_objects.specs.Configuration.{full_name}
+use Rattle.check_objects.specs.Numbering.{numbered_service, pair_order, is_host_name}
 use Rattle.check_objects.proofs.ListLemmas.{list_any-map}
 use Rattle.check_objects.proofs.NumberingLemmas.{built_seen, built_all, new_among, map_twice, names_apart}
 use Rattle.check_objects.proofs.numbering.index_services.Goals as goal

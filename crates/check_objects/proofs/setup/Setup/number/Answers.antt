@@ -1,18 +1,9 @@
-use Rattle.std.proofs.Common.{ap, ◌∙◌, ◌+◌, length, option_map, Some}
-use Rattle.check_objects.proofs.GetterLemmas.{number_front, number_back}
+use Rattle.check_objects.specs.Kept.{configuration_of}
+use Rattle.check_objects.proofs.SetupLemmas.{few_in_all}
 use Rattle.check_objects.proofs.setup.Setup.number.Goals as goal
 
-pub returns-in-Some : goal.returns-in-Some
-returns-in-Some c = rw (← c.self.view_is) (number_front c.self.inside.hosts.entries c.self.inside.services.entries c.args.name.now c.in-Some.index c.in-Some.ensures.index)
+pub object_number-requires : goal.object_number-requires
+object_number-requires c = few_in_all (configuration_of c.self.inside) c.self.invariant.setup.few
 
-pub returns-in_err-index-in-None : goal.returns-in_err-index-in-None
-returns-in_err-index-in-None c =
-    rw (← c.self.view_is) (c.from_residual.ensures
-    ∙ ap (option_map (λ j. length c.self.inside.hosts.entries + j)) c.in_err-index-in-None.ensures.index
-    ∙ number_back c.self.inside.hosts.entries c.self.inside.services.entries c.args.name.now c.in-None.ensures.index)
-
-pub returns-in_ok-index-in-None : goal.returns-in_ok-index-in-None
-returns-in_ok-index-in-None c =
-    rw (← c.self.view_is) (ap (λ l. Some (l + c.in_ok-index-in-None.index)) c.len.ensures.len
-    ∙ ap (option_map (λ j. length c.self.inside.hosts.entries + j)) c.in_ok-index-in-None.ensures.index
-    ∙ number_back c.self.inside.hosts.entries c.self.inside.services.entries c.args.name.now c.in-None.ensures.index)
+pub returns : goal.returns
+returns c = rw (← c.self.view_is) c.object_number.ensures

@@ -1,12 +1,15 @@
-use Rattle.std.proofs.Common.{◌≡◌, [], replicate, sym, ap, subst, ◌∙◌, length, map}
+use Rattle.std.proofs.Common.{◌≡◌, ◌≤◌, ◌++◌, sym, ap, subst, ◌∙◌, length, map, cond, true, false, Ok, Err, arith}
+use Rattle.std.specs.Prelude.{nat_lt}
 use Rattle.std.specs.List.{list_all}
-use Rattle.std.proofs.lemmas.List.{length-map}
-use Rattle.check_objects.specs.Configuration.{IsSetup, object_count}
-use Rattle.check_objects.specs.Drafted.{host, service, drafts}
-use Rattle.check_objects.specs.Entries.{host_entry, service_entry, sorted_service}
-use Rattle.check_objects.specs.Numbering.{configuration, numbered, numbered_host, numbered_service, hosts_in_order, services_in_order, is_host_name}
+use Rattle.check_objects.specs.declared.error.LoadError.TheVariants as errors
+use Rattle.check_objects.specs.Configuration.{IsSetup, objects_of, masters_of, masters_in, named_host, named_service}
+use Rattle.check_objects.specs.Depth.{has_cycle}
+use Rattle.check_objects.specs.Drafted.{host, service, drafts, texts}
+use Rattle.check_objects.specs.Entries.{host_entry, service_entry, sorted_host, sorted_service, objects_in}
+use Rattle.check_objects.specs.Numbering.{configuration, numbered, numbered_host, numbered_service, numbered_dependency, all_dependencies, dependencies_by_number, hosts_in_order, services_in_order, is_host_name}
+use Rattle.check_objects.proofs.DepthLemmas.{order_has_no_cycle}
 use Rattle.check_objects.proofs.ListLemmas.{list_all-map}
-use Rattle.check_objects.proofs.SetupLemmas.{few_hosts, few_names, parted, configuration_is_setup, count_of, few_lists, masters_within, no_cycle_in, order_is_there}
+use Rattle.check_objects.proofs.SetupLemmas.{few_hosts, few_names, parted, configuration_is_setup, few_numbered, dependents_within, has_lists, few_lists, masters_within}
 use Rattle.check_objects.proofs.setup.Setup.of_drafts.Goals as goal
 
 pub index_hosts-requires : goal.index_hosts-requires
@@ -21,6 +24,28 @@ index_services-requires-clause-parted c =
     ∙ ap (list_all (λ e. is_host_name e.0.0)) (c.in_ok-services.ensures.order ∙ ap (λ l. services_in_order (map service l)) c.deref-2.ensures.value)
     ∙ parted (drafts c.args.document.now) c.requires.faultless
 
+pub list_dependencies-requires-clause-few : goal.list_dependencies-requires-clause-few
+list_dependencies-requires-clause-few c =
+    let ds = drafts c.args.document.now in
+    let host_order = c.in_ok-hosts.ensures.order ∙ ap (λ l. hosts_in_order (map host l)) c.deref.ensures.value in
+    let service_order = c.in_ok-services.ensures.order ∙ ap (λ l. services_in_order (map service l)) c.deref-2.ensures.value in
+    let names = c.in_ok-names.ensures.names ∙ ap (map (λ e. e.0)) host_order in
+    let hosts = c.in_ok-hosts-2.ensures.hosts ∙ (λ i. map (numbered_host (names i)) (host_order i)) in
+    let services = c.in_ok-services-2.ensures.services ∙ (λ i. map (numbered_service (names i)) (service_order i)) in
+    let objects : objects_in c.in_ok-hosts-2.hosts.entries c.in_ok-services-2.services.entries ≡ objects_of (numbered ds) = λ i. map named_host (hosts i) ++ map named_service (services i) in
+    subst (λ o. length o ≤ 4096) (sym objects) (few_numbered ds c.requires.faultless)
+
+pub list_dependencies-requires-clause-within : goal.list_dependencies-requires-clause-within
+list_dependencies-requires-clause-within c =
+    let ds = drafts c.args.document.now in
+    let host_order = c.in_ok-hosts.ensures.order ∙ ap (λ l. hosts_in_order (map host l)) c.deref.ensures.value in
+    let service_order = c.in_ok-services.ensures.order ∙ ap (λ l. services_in_order (map service l)) c.deref-2.ensures.value in
+    let names = c.in_ok-names.ensures.names ∙ ap (map (λ e. e.0)) host_order in
+    let hosts = c.in_ok-hosts-2.ensures.hosts ∙ (λ i. map (numbered_host (names i)) (host_order i)) in
+    let services = c.in_ok-services-2.ensures.services ∙ (λ i. map (numbered_service (names i)) (service_order i)) in
+    let objects : objects_in c.in_ok-hosts-2.hosts.entries c.in_ok-services-2.services.entries ≡ objects_of (numbered ds) = λ i. map named_host (hosts i) ++ map named_service (services i) in
+    subst (λ o. list_all (λ d. nat_lt d.0 (length o)) (map (numbered_dependency o) (all_dependencies ds)) ≡ true) (sym objects) (dependents_within ds c.requires.faultless)
+
 pub order_by_masters-requires-clause-few : goal.order_by_masters-requires-clause-few
 order_by_masters-requires-clause-few c =
     let ds = drafts c.args.document.now in
@@ -29,11 +54,10 @@ order_by_masters-requires-clause-few c =
     let names = c.in_ok-names.ensures.names ∙ ap (map (λ e. e.0)) host_order in
     let hosts = c.in_ok-hosts-2.ensures.hosts ∙ (λ i. map (numbered_host (names i)) (host_order i)) in
     let services = c.in_ok-services-2.ensures.services ∙ (λ i. map (numbered_service (names i)) (service_order i)) in
-    let count = count_of (numbered ds) c.len.result c.len-2.result (c.len.ensures.len ∙ sym (length-map c.in_ok-hosts-2.hosts.entries host_entry) ∙ ap length hosts) (c.len-2.ensures.len ∙ sym (length-map c.in_ok-services-2.services.entries service_entry) ∙ ap length services) in
-    let lists : map (λ list. list.items) c.in_ok-dependencies.dependencies.items ≡ replicate (object_count (numbered ds)) [] = c.in_ok-dependencies.ensures.lists ∙ ap (λ n. replicate n []) count in
+    let objects : objects_in c.in_ok-hosts-2.hosts.entries c.in_ok-services-2.services.entries ≡ objects_of (numbered ds) = λ i. map named_host (hosts i) ++ map named_service (services i) in
+    let lists : map (λ list. list.items) c.in_ok-dependencies.dependencies.items ≡ dependencies_by_number (objects_of (numbered ds)) ds = c.in_ok-dependencies.ensures.lists ∙ ap (λ o. dependencies_by_number o ds) objects in
     let seen = ap (map (λ list. list.items)) c.deref-3.ensures.value ∙ lists in
-    let setup = configuration_is_setup ds c.requires.faultless in
-    few_lists (λ list. list.items) c.deref-3.result.now (configuration ds) setup seen
+    few_lists (λ list. list.items) c.deref-3.result.now (configuration ds) (has_lists ds c.requires.faultless) seen
 
 pub order_by_masters-requires-clause-within : goal.order_by_masters-requires-clause-within
 order_by_masters-requires-clause-within c =
@@ -43,25 +67,10 @@ order_by_masters-requires-clause-within c =
     let names = c.in_ok-names.ensures.names ∙ ap (map (λ e. e.0)) host_order in
     let hosts = c.in_ok-hosts-2.ensures.hosts ∙ (λ i. map (numbered_host (names i)) (host_order i)) in
     let services = c.in_ok-services-2.ensures.services ∙ (λ i. map (numbered_service (names i)) (service_order i)) in
-    let count = count_of (numbered ds) c.len.result c.len-2.result (c.len.ensures.len ∙ sym (length-map c.in_ok-hosts-2.hosts.entries host_entry) ∙ ap length hosts) (c.len-2.ensures.len ∙ sym (length-map c.in_ok-services-2.services.entries service_entry) ∙ ap length services) in
-    let lists : map (λ list. list.items) c.in_ok-dependencies.dependencies.items ≡ replicate (object_count (numbered ds)) [] = c.in_ok-dependencies.ensures.lists ∙ ap (λ n. replicate n []) count in
+    let objects : objects_in c.in_ok-hosts-2.hosts.entries c.in_ok-services-2.services.entries ≡ objects_of (numbered ds) = λ i. map named_host (hosts i) ++ map named_service (services i) in
+    let lists : map (λ list. list.items) c.in_ok-dependencies.dependencies.items ≡ dependencies_by_number (objects_of (numbered ds)) ds = c.in_ok-dependencies.ensures.lists ∙ ap (λ o. dependencies_by_number o ds) objects in
     let seen = ap (map (λ list. list.items)) c.deref-3.ensures.value ∙ lists in
-    let setup = configuration_is_setup ds c.requires.faultless in
-    masters_within (λ list. list.items) c.deref-3.result.now (configuration ds) setup seen
-
-pub unwrap-order-requires : goal.unwrap-order-requires
-unwrap-order-requires c =
-    let ds = drafts c.args.document.now in
-    let host_order = c.in_ok-hosts.ensures.order ∙ ap (λ l. hosts_in_order (map host l)) c.deref.ensures.value in
-    let service_order = c.in_ok-services.ensures.order ∙ ap (λ l. services_in_order (map service l)) c.deref-2.ensures.value in
-    let names = c.in_ok-names.ensures.names ∙ ap (map (λ e. e.0)) host_order in
-    let hosts = c.in_ok-hosts-2.ensures.hosts ∙ (λ i. map (numbered_host (names i)) (host_order i)) in
-    let services = c.in_ok-services-2.ensures.services ∙ (λ i. map (numbered_service (names i)) (service_order i)) in
-    let count = count_of (numbered ds) c.len.result c.len-2.result (c.len.ensures.len ∙ sym (length-map c.in_ok-hosts-2.hosts.entries host_entry) ∙ ap length hosts) (c.len-2.ensures.len ∙ sym (length-map c.in_ok-services-2.services.entries service_entry) ∙ ap length services) in
-    let lists : map (λ list. list.items) c.in_ok-dependencies.dependencies.items ≡ replicate (object_count (numbered ds)) [] = c.in_ok-dependencies.ensures.lists ∙ ap (λ n. replicate n []) count in
-    let seen = ap (map (λ list. list.items)) c.deref-3.ensures.value ∙ lists in
-    let setup = configuration_is_setup ds c.requires.faultless in
-    order_is_there c.in_ok-order_by_masters.field-0 _ _ c.in_ok-order_by_masters.ensures.order (no_cycle_in (λ list. list.items) c.deref-3.result.now (configuration ds) setup seen)
+    masters_within (λ list. list.items) c.deref-3.result.now (configuration ds) (has_lists ds c.requires.faultless) seen
 
 pub invariant_of-result : goal.invariant_of-result
 invariant_of-result c =
@@ -71,21 +80,42 @@ invariant_of-result c =
     let names = c.in_ok-names.ensures.names ∙ ap (map (λ e. e.0)) host_order in
     let hosts = c.in_ok-hosts-2.ensures.hosts ∙ (λ i. map (numbered_host (names i)) (host_order i)) in
     let services = c.in_ok-services-2.ensures.services ∙ (λ i. map (numbered_service (names i)) (service_order i)) in
-    let count = count_of (numbered ds) c.len.result c.len-2.result (c.len.ensures.len ∙ sym (length-map c.in_ok-hosts-2.hosts.entries host_entry) ∙ ap length hosts) (c.len-2.ensures.len ∙ sym (length-map c.in_ok-services-2.services.entries service_entry) ∙ ap length services) in
-    let lists : map (λ list. list.items) c.in_ok-dependencies.dependencies.items ≡ replicate (object_count (numbered ds)) [] = c.in_ok-dependencies.ensures.lists ∙ ap (λ n. replicate n []) count in
+    let objects : objects_in c.in_ok-hosts-2.hosts.entries c.in_ok-services-2.services.entries ≡ objects_of (numbered ds) = λ i. map named_host (hosts i) ++ map named_service (services i) in
+    let lists : map (λ list. list.items) c.in_ok-dependencies.dependencies.items ≡ dependencies_by_number (objects_of (numbered ds)) ds = c.in_ok-dependencies.ensures.lists ∙ ap (λ o. dependencies_by_number o ds) objects in
+    let seen = ap (map (λ list. list.items)) c.deref-3.ensures.value ∙ lists in
+    let order = rw c.in-Some.is at c.in_ok-order.ensures.order in
+    let free : has_cycle (masters_of (configuration ds)) ≡ false = ap (λ l. has_cycle (map masters_in l)) (sym seen) ∙ order_has_no_cycle _ _ order in
     record {
-      setup = subst IsSetup (λ i. record { options = c.args.document.now.options; hosts = sym hosts i; services = sym services i; dependencies = sym lists i }) (configuration_is_setup ds c.requires.faultless);
-      order = rw (← c.deref-3.ensures.value) (rw c.unwrap-order.ensures at c.in_ok-order_by_masters.ensures.order);
+      setup = subst IsSetup (λ i. record { options = c.args.document.now.options; hosts = sym hosts i; services = sym services i; dependencies = sym lists i }) (configuration_is_setup ds c.requires.faultless free);
+      order = rw (← c.deref-3.ensures.value) order;
     }
 
-pub returns-clause-setup : goal.returns-clause-setup
-returns-clause-setup c =
+pub returns-in-Some : goal.returns-in-Some
+returns-in-Some c =
     let ds = drafts c.args.document.now in
     let host_order = c.in_ok-hosts.ensures.order ∙ ap (λ l. hosts_in_order (map host l)) c.deref.ensures.value in
     let service_order = c.in_ok-services.ensures.order ∙ ap (λ l. services_in_order (map service l)) c.deref-2.ensures.value in
     let names = c.in_ok-names.ensures.names ∙ ap (map (λ e. e.0)) host_order in
     let hosts = c.in_ok-hosts-2.ensures.hosts ∙ (λ i. map (numbered_host (names i)) (host_order i)) in
     let services = c.in_ok-services-2.ensures.services ∙ (λ i. map (numbered_service (names i)) (service_order i)) in
-    let count = count_of (numbered ds) c.len.result c.len-2.result (c.len.ensures.len ∙ sym (length-map c.in_ok-hosts-2.hosts.entries host_entry) ∙ ap length hosts) (c.len-2.ensures.len ∙ sym (length-map c.in_ok-services-2.services.entries service_entry) ∙ ap length services) in
-    let lists : map (λ list. list.items) c.in_ok-dependencies.dependencies.items ≡ replicate (object_count (numbered ds)) [] = c.in_ok-dependencies.ensures.lists ∙ ap (λ n. replicate n []) count in
-    λ i. record { options = c.args.document.now.options; hosts = hosts i; services = services i; dependencies = lists i }
+    let objects : objects_in c.in_ok-hosts-2.hosts.entries c.in_ok-services-2.services.entries ≡ objects_of (numbered ds) = λ i. map named_host (hosts i) ++ map named_service (services i) in
+    let lists : map (λ list. list.items) c.in_ok-dependencies.dependencies.items ≡ dependencies_by_number (objects_of (numbered ds)) ds = c.in_ok-dependencies.ensures.lists ∙ ap (λ o. dependencies_by_number o ds) objects in
+    let seen = ap (map (λ list. list.items)) c.deref-3.ensures.value ∙ lists in
+    let order = rw c.in-Some.is at c.in_ok-order.ensures.order in
+    let free : has_cycle (masters_of (configuration ds)) ≡ false = ap (λ l. has_cycle (map masters_in l)) (sym seen) ∙ order_has_no_cycle _ _ order in
+    ap (λ b. cond b (Err errors.DependencyCycle) (Ok (configuration ds))) free
+    ∙ (λ i. Ok (record { options = c.args.document.now.options; hosts = sym hosts i; services = sym services i; dependencies = sym lists i }))
+
+pub returns : goal.returns
+returns c =
+    let ds = drafts c.args.document.now in
+    let host_order = c.in_ok-hosts.ensures.order ∙ ap (λ l. hosts_in_order (map host l)) c.deref.ensures.value in
+    let service_order = c.in_ok-services.ensures.order ∙ ap (λ l. services_in_order (map service l)) c.deref-2.ensures.value in
+    let names = c.in_ok-names.ensures.names ∙ ap (map (λ e. e.0)) host_order in
+    let hosts = c.in_ok-hosts-2.ensures.hosts ∙ (λ i. map (numbered_host (names i)) (host_order i)) in
+    let services = c.in_ok-services-2.ensures.services ∙ (λ i. map (numbered_service (names i)) (service_order i)) in
+    let objects : objects_in c.in_ok-hosts-2.hosts.entries c.in_ok-services-2.services.entries ≡ objects_of (numbered ds) = λ i. map named_host (hosts i) ++ map named_service (services i) in
+    let lists : map (λ list. list.items) c.in_ok-dependencies.dependencies.items ≡ dependencies_by_number (objects_of (numbered ds)) ds = c.in_ok-dependencies.ensures.lists ∙ ap (λ o. dependencies_by_number o ds) objects in
+    let seen = ap (map (λ list. list.items)) c.deref-3.ensures.value ∙ lists in
+    let cyclic = rw c.in-None.is at c.in_ok-order.ensures.order in
+    ap (λ b. cond b (Err errors.DependencyCycle) (Ok (configuration ds))) (ap (λ l. has_cycle (map masters_in l)) (sym seen) ∙ cyclic)

@@ -3,7 +3,7 @@ use Rattle.check_objects.specs.Depth.{has_cycle}
 use Rattle.check_objects.specs.Entries.{host_entry}
 use Rattle.check_objects.proofs.DepthLemmas.{order_has_no_cycle}
 use Rattle.check_objects.proofs.SetupLemmas.{links_within}
-use Rattle.check_objects.proofs.setup.Setup.without_cycle.Goals as goal
+use Rattle.check_objects.proofs.setup.Setup.without_parent_cycle.Goals as goal
 
 pub order_by_links-requires-clause-within : goal.order_by_links-requires-clause-within
 order_by_links-requires-clause-within c =
