@@ -51,13 +51,6 @@ take_cases P now s refused off take wait =
     (λ u m. by_test P s (run_left s) _ refused
     (λ v r. take_by P now s (least (eligible now s)) (λ c e. off c (range_is now u m) e) (λ c e. take c (range_is now u m) (left_is s v r) e) wait))
 
--- what a Take answers, by the one that is chosen
-pub take_answers : (now : ℕ) (s : State) (found : Option Candidate) → now ≤ 2 ^ 60 → s.runs < 2 ^ 60 → least (eligible now s) ≡ found → step s (call.Take now) ≡ take_least now s found
-take_answers now s found m r e =
-    let in_range : nat_lt (2 ^ 60) now ≡ false = grind (arith, nat_tests, m) in
-    let spare : nat_lt s.runs (2 ^ 60) ≡ true = grind (arith, nat_tests, r) in
-    rw (in_range, spare, e) refl
-
 -- ---- the limits
 
 -- what may be checked now is one of the objects
