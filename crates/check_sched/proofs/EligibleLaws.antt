@@ -12,7 +12,7 @@ use Rattle.check_sched.specs.ObjectState.{candidate_time}
 use Rattle.check_sched.specs.Candidate.{candidate, candidates_among, due_among, least}
 use Rattle.check_sched.specs.State.{State, has_room, is_host}
 use Rattle.check_sched.specs.Step.{candidates, due, eligible, is_open, waiting_reply}
-use Rattle.check_sched.proofs.CandidateLaws.{FoundLeast, IsLeast, all_at_least, all_filtered, any_filtered, both_and, candidates_within, if_due, is_same, least_due, least_is_found, none_filtered, same_is}
+use Rattle.check_sched.proofs.CandidateLaws.{FoundLeast, IsLeast, all_at_least, any_filtered, both_and, if_due, is_same, least_due, least_is_found, none_filtered, same_is}
 
 -- ---- filters
 

@@ -1,6 +1,6 @@
 -- Laws of the limit: how many services are being checked, and that no call passes the limit.
-use Rattle.std.proofs.Common.{◌≡◌, ℕ, zero, suc, ◌+◌, ◌<◌, ◌≤◌, Bool, true, false, ◌||◌, cond, List, [], ◌∷◌, length, map, drop, Option, None, refl, ap, ◌∙◌, arith}
-use Rattle.std.specs.Prelude.{count_by, is_some, nat_lt}
+use Rattle.std.proofs.Common.{◌≡◌, ℕ, zero, suc, ◌+◌, ◌<◌, ◌≤◌, Bool, true, false, ◌||◌, cond, List, [], ◌∷◌, map, drop, refl, ap, ◌∙◌, arith}
+use Rattle.std.specs.Prelude.{count_by, is_some}
 use Rattle.std.proofs.lemmas.Bool.Decides.{nat_tests}
 use Rattle.std.proofs.lemmas.List.Sums.{sum_by-cons}
 use Rattle.check_objects.specs.Configuration.{host_count}

@@ -1,5 +1,5 @@
 -- Laws of the opening.
-use Rattle.std.proofs.Common.{◌≡◌, ℕ, zero, suc, ◌+◌, ◌<◌, ◌≤◌, ◌^◌, Bool, true, List, [], ◌∷◌, ◌++◌, length, map, take, get_or, min, Option, Some, None, option_map, refl, sym, ap, subst, ◌∙◌, arith, IfSome}
+use Rattle.std.proofs.Common.{◌≡◌, ℕ, zero, suc, ◌+◌, ◌<◌, ◌^◌, Bool, true, List, [], ◌∷◌, ◌++◌, length, map, take, get_or, min, Option, Some, None, option_map, refl, sym, ap, subst, ◌∙◌, arith, IfSome}
 use Rattle.std.specs.Prelude.{slice_get, zip, All}
 use Rattle.std.specs.List.{list_all, enumerate_from}
 use Rattle.std.proofs.lemmas.Bool.Decides.{nat_tests}
@@ -77,6 +77,10 @@ opened_is_state setup start times seen objects standings valid made count within
     rw (at, t) (opening_is_state setup start valid (ap length (sym made) ∙ count) (subst (All (λ first. IfSome first (λ time. time < 2 ^ 61))) made within))
 
 -- ---- the opening, object by object
+
+-- the first of a list, and one more
+pub one_more : {X : Type 0} (n : ℕ) (all was more : List X) (x : X) → more ≡ was ++ x ∷ [] → was ≡ take n all → take n all ++ x ∷ [] ≡ take (n + 1) all → more ≡ take (n + 1) all
+one_more n all was more x e f g = e ∙ ap (λ xs. xs ++ x ∷ []) f ∙ g
 
 object_at : (n : ℕ) (times : List (Option ℕ)) (os : List Named) (o : Object) (first : Option ℕ) (d : ObjectState) → n < length times → option_map (λ x. x.object) (slice_get os n) ≡ Some o → first ≡ get_or times n None
     → get_or (map (λ p. opening_object p.0 p.1.object.enabled) (zip times os)) n d ≡ opening_object first o.enabled

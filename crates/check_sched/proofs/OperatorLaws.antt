@@ -11,7 +11,7 @@ use Rattle.check_sched.specs.declared.call.Refusal.{Refusal}
 use Rattle.check_sched.specs.ObjectState.{ended, enabled_as, freed_time, rescheduled, run_under}
 use Rattle.check_sched.specs.State.{State, IsState, is_in_time, is_moment, is_time, standing_at}
 use Rattle.check_sched.specs.Step.{known, step, with_object, within_range}
-use Rattle.check_sched.proofs.AnswerLaws.{by_test, known_is, range_is, under_is}
+use Rattle.check_sched.proofs.AnswerLaws.{by_test, known_is, range_is}
 use Rattle.check_sched.proofs.CandidateLaws.{and_both, both_and}
 use Rattle.check_sched.proofs.LimitLaws.{BeginsNone, limit_kept}
 use Rattle.check_sched.proofs.ReportLaws.{next_of_state}

@@ -50,12 +50,6 @@ no_host_by setup n false e h f =
     let count : object_count setup ≡ host_count setup + length setup.services = simp (length-append, length-map) refl in
     absurd (omega (arith, past, least, count, h))
 
--- hosts are objects
-pub host_count-below : (setup : Configuration) → host_count setup ≤ object_count setup
-host_count-below setup =
-    let count : object_count setup ≡ host_count setup + length setup.services = simp (length-append, length-map) refl in
-    omega (arith, count)
-
 -- an object of the setup without a host is a host
 pub is_host-none : (setup : Configuration) (n : ℕ) → n < object_count setup → host_of setup n ≡ None → is_host setup n ≡ true
 is_host-none setup n h e = no_host_by setup n (nat_lt n (host_count setup)) refl h e

@@ -1,5 +1,5 @@
 -- The least candidate, found object by object.
-use Rattle.std.proofs.Common.{◌≡◌, ℕ, suc, ◌+◌, ◌<◌, ◌≤◌, Bool, true, false, cond, List, [], ◌∷◌, ◌++◌, length, take, get_or, Option, Some, None, refl, sym, ap, ◌∙◌, arith, append-nil, length-take-le}
+use Rattle.std.proofs.Common.{◌≡◌, ℕ, suc, ◌+◌, ◌<◌, ◌≤◌, Bool, true, false, cond, List, [], ◌∷◌, ◌++◌, length, take, get_or, Option, Some, None, refl, ap, ◌∙◌, arith, append-nil, length-take-le}
 use Rattle.std.specs.Prelude.{nat_lt, nat_le}
 use Rattle.std.specs.List.{list_any, list_all, filter_map, enumerate_from, cons_option}
 use Rattle.std.proofs.lemmas.Bool.Decides.{nat_tests}
@@ -77,7 +77,3 @@ scanned_add least_so_far n t objects d h e s =
 
 pub scanned_all : (least_so_far : Option Candidate) (n : ℕ) (objects : List ObjectState) → take n objects ≡ objects → Scanned least_so_far n objects → least_so_far ≡ least (candidates_among objects)
 scanned_all least_so_far n objects e s = least_found least_so_far _ s.found ∙ ap (λ os. least (candidates_among os)) e
-
--- the answer of a scan, told of the list that was scanned
-pub scan_tells : (objects seen : List ObjectState) (answer first : Option Candidate) → seen ≡ objects → answer ≡ least (candidates_among seen) → answer ≡ first → least (candidates_among objects) ≡ first
-scan_tells objects seen answer first same told is = ap (λ os. least (candidates_among os)) (sym same) ∙ sym told ∙ is

@@ -1,5 +1,5 @@
 -- Laws of the step: what stays, and what is true of every state and reply.
-use Rattle.std.proofs.Common.{◌≡◌, suc, ◌≤◌, ◌^◌, List, [], ◌∷◌, length, refl, ap, ◌∙◌, Some}
+use Rattle.std.proofs.Common.{◌≡◌, suc, ◌^◌, List, [], ◌∷◌, length, refl, ap, ◌∙◌, Some}
 use Rattle.check_sched.specs.declared.call.Call.{Call}
 use Rattle.check_sched.specs.declared.call.Call.TheVariants as call
 use Rattle.check_sched.specs.declared.call.Refusal.{Refusal}

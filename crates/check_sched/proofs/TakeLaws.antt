@@ -1,5 +1,5 @@
 -- Laws of Take: its answers, and the state that it leaves.
-use Rattle.std.proofs.Common.{◌≡◌, ℕ, ◌+◌, ◌<◌, ◌≤◌, ◌^◌, Bool, true, false, cond, List, length, get_or, set, Option, Some, None, option_map, refl, sym, ap, ◌∙◌, arith, IfSome}
+use Rattle.std.proofs.Common.{◌≡◌, ℕ, ◌+◌, ◌<◌, ◌≤◌, ◌^◌, Bool, true, false, cond, length, get_or, set, Option, Some, None, option_map, refl, sym, ap, ◌∙◌, arith, IfSome}
 use Rattle.std.specs.Prelude.{nat_lt, nat_le}
 use Rattle.std.proofs.lemmas.Bool.Decides.{nat_tests}
 use Rattle.check_objects.specs.Configuration.{object_count}
@@ -10,7 +10,7 @@ use Rattle.check_sched.specs.declared.call.Reply.TheVariants as reply
 use Rattle.check_sched.specs.declared.call.Refusal.{Refusal}
 use Rattle.check_sched.specs.declared.call.Call.TheVariants as call
 use Rattle.check_sched.specs.ObjectState.{put_off_to, running_from}
-use Rattle.check_sched.specs.Candidate.{candidates_among, least}
+use Rattle.check_sched.specs.Candidate.{least}
 use Rattle.check_sched.specs.State.{State, IsState, is_in_time, is_moment, is_time}
 use Rattle.check_sched.proofs.OperatorLaws.{with_object_is_state}
 use Rattle.check_sched.proofs.ReportLaws.{put_off_in_time}
@@ -19,7 +19,7 @@ use Rattle.check_sched.specs.Step.{candidates, due, eligible, is_held_back, is_o
 use Rattle.check_sched.proofs.EligibleLaws.{eligible_open}
 use Rattle.check_sched.proofs.LimitLaws.{limit_taken}
 use Rattle.check_sched.proofs.AnswerLaws.{by_test, left_is, range_is}
-use Rattle.check_sched.proofs.CandidateLaws.{all_at_least, and_both, both_and, all_filtered, candidates_within, candidates_times, if_due, least_due}
+use Rattle.check_sched.proofs.CandidateLaws.{all_at_least, and_both, both_and, all_filtered, candidates_within, candidates_times}
 use Rattle.check_sched.proofs.UpdateLaws.{length-update_at, all-update_at, set_is_update}
 
 -- ---- Take, by its answers
@@ -50,13 +50,6 @@ take_cases P now s refused off take wait =
     by_test P s (within_range now) _ refused
     (λ u m. by_test P s (run_left s) _ refused
     (λ v r. take_by P now s (least (eligible now s)) (λ c e. off c (range_is now u m) e) (λ c e. take c (range_is now u m) (left_is s v r) e) wait))
-
--- what a Take answers, by the one that is chosen
-pub take_answers : (now : ℕ) (s : State) (found : Option Candidate) → now ≤ 2 ^ 60 → s.runs < 2 ^ 60 → least (eligible now s) ≡ found → step s (call.Take now) ≡ take_least now s found
-take_answers now s found m r e =
-    let in_range : nat_lt (2 ^ 60) now ≡ false = grind (arith, nat_tests, m) in
-    let spare : nat_lt s.runs (2 ^ 60) ≡ true = grind (arith, nat_tests, r) in
-    rw (in_range, spare, e) refl
 
 -- ---- the limits
 

@@ -99,14 +99,14 @@ is_held_back s number = not (is_forced s number) && is_blocked s.setup s.standin
 abbrev pub put_off : ℕ → ℕ → State → State
 put_off now number s = with_object number (put_off_to (put_off_until s.setup number now)) s
 
--- The object whose turn it is is put off or checked. (The order of equal times is our own profile:
--- the least number.)
+-- the object whose turn it is, put off or checked
 abbrev pub take_turn : ℕ → ℕ → State → State × Reply
 take_turn now number s =
     if is_held_back s number then (put_off now number s, reply.PutOff number (put_off_until s.setup number now))
     else (taken now number s, reply.Taken number (s.runs + 1))
 
--- It is the turn of the least of those whose check may begin, if there is one.
+-- It is the turn of the least of those whose check may begin, if there is one. (The order of equal
+-- times is our own profile: the least number.)
 abbrev pub take_least : ℕ → State → Option Candidate → State × Reply
 take_least now s (Some c) = take_turn now c.number s
 take_least now s None = (s, waiting_reply now s)

@@ -18,10 +18,8 @@ pub(crate) fn least_due(objects: &[ObjectState], now: u64) -> Option<Candidate>
     requires { length objects.now ≤ 4096 }
     ensures { result ≡ least (due_among now (candidates_among objects.now)) }
 {
-    match least_candidate(objects) {
-        Some(least) if least.time <= now => Some(least),
-        _ => None,
-    }
+    let least = least_candidate(objects)?;
+    if least.time <= now { Some(least) } else { None }
 }
 
 /// The object whose check comes first: the one with the least time, and of those with equal times

@@ -9,7 +9,7 @@
 //! The modules, from what a caller says to how it is answered: `call` has the calls and their
 //! replies, `object_state` what is kept of one object, `candidate` the search for the object that
 //! is checked next, `report` what the result of a check makes of an object, `sched` the scheduler,
-//! `laws` what follows for every row of calls.
+//! `laws` what follows for all calls that are made one after another.
 #![tactic(auto)]
 
 mod book;

@@ -58,6 +58,37 @@ const ONLY_SERVICES_LIMIT_ONE: &[u8] =
 const A_SECOND_APART: &[u8] =
     br#"{"options":{"service_inter_check_delay_method":"d","host_inter_check_delay_method":"n"},"hosts":[{"name":"h","check_interval":0,"max_check_attempts":3}],"services":[{"host":"h","description":"a","max_check_attempts":3},{"host":"h","description":"b","max_check_attempts":3}]}"#;
 
+/// Services 1 and 2 of a host that is never due; the second depends on the first where that is
+/// critical, in its last hard state and in its current one.
+const SECOND_ON_FIRST: &[u8] =
+    br#"{"options":{"service_inter_check_delay_method":"n","host_inter_check_delay_method":"n"},"hosts":[{"name":"h","check_interval":0,"max_check_attempts":3}],"services":[{"host":"h","description":"a","max_check_attempts":3},{"host":"h","description":"b","max_check_attempts":3}],"service_dependencies":[{"dependent":"h;b","master":"h;a","criteria":"c"}]}"#;
+
+const SECOND_ON_FIRST_SOFT: &[u8] =
+    br#"{"options":{"soft_state_dependencies":true,"service_inter_check_delay_method":"n","host_inter_check_delay_method":"n"},"hosts":[{"name":"h","check_interval":0,"max_check_attempts":3}],"services":[{"host":"h","description":"a","max_check_attempts":3},{"host":"h","description":"b","max_check_attempts":3}],"service_dependencies":[{"dependent":"h;b","master":"h;a","criteria":"c"}]}"#;
+
+/// Services 1, 2 and 3, each depending on the one before it where that is critical; the last
+/// inherits, or doesn't. The first has a single attempt.
+const CHAIN_THAT_INHERITS: &[u8] =
+    br#"{"options":{"service_inter_check_delay_method":"n","host_inter_check_delay_method":"n"},"hosts":[{"name":"h","check_interval":0,"max_check_attempts":3}],"services":[{"host":"h","description":"a","max_check_attempts":1},{"host":"h","description":"b","max_check_attempts":3},{"host":"h","description":"c","max_check_attempts":3}],"service_dependencies":[{"dependent":"h;b","master":"h;a","criteria":"c"},{"dependent":"h;c","master":"h;b","criteria":"c","inherits_parent":true}]}"#;
+
+const CHAIN_WITHOUT_INHERITING: &[u8] =
+    br#"{"options":{"service_inter_check_delay_method":"n","host_inter_check_delay_method":"n"},"hosts":[{"name":"h","check_interval":0,"max_check_attempts":3}],"services":[{"host":"h","description":"a","max_check_attempts":1},{"host":"h","description":"b","max_check_attempts":3},{"host":"h","description":"c","max_check_attempts":3}],"service_dependencies":[{"dependent":"h;b","master":"h;a","criteria":"c"},{"dependent":"h;c","master":"h;b","criteria":"c"}]}"#;
+
+/// Service 1 depends on service 2 where that was never checked, or where it is OK.
+const FIRST_ON_PENDING: &[u8] =
+    br#"{"options":{"service_inter_check_delay_method":"n","host_inter_check_delay_method":"n"},"hosts":[{"name":"h","check_interval":0,"max_check_attempts":3}],"services":[{"host":"h","description":"a","max_check_attempts":3},{"host":"h","description":"b","max_check_attempts":3}],"service_dependencies":[{"dependent":"h;a","master":"h;b","criteria":"p"}]}"#;
+
+const FIRST_ON_OK: &[u8] =
+    br#"{"options":{"service_inter_check_delay_method":"n","host_inter_check_delay_method":"n"},"hosts":[{"name":"h","check_interval":0,"max_check_attempts":3}],"services":[{"host":"h","description":"a","max_check_attempts":3},{"host":"h","description":"b","max_check_attempts":3}],"service_dependencies":[{"dependent":"h;a","master":"h;b","criteria":"o"}]}"#;
+
+/// The first of these with a service 1 that isn't checked by itself.
+const UNSCHEDULED_ON_PENDING: &[u8] =
+    br#"{"options":{"service_inter_check_delay_method":"n","host_inter_check_delay_method":"n"},"hosts":[{"name":"h","check_interval":0,"max_check_attempts":3}],"services":[{"host":"h","description":"a","max_check_attempts":3,"check_interval":0},{"host":"h","description":"b","max_check_attempts":3}],"service_dependencies":[{"dependent":"h;a","master":"h;b","criteria":"p"}]}"#;
+
+/// Host 1 depends on host 0, which has a single attempt, where that is down.
+const HOST_ON_HOST: &[u8] =
+    br#"{"options":{"host_inter_check_delay_method":"n"},"hosts":[{"name":"a","max_check_attempts":1},{"name":"b","max_check_attempts":3}],"host_dependencies":[{"dependent":"b","master":"a","criteria":"d"}]}"#;
+
 /// Host 0 behind its parent, host 1.
 const BEHIND_A_PARENT: &[u8] =
     br#"{"options":{"host_inter_check_delay_method":"n"},"hosts":[{"name":"h","parents":["p"],"max_check_attempts":3},{"name":"p","max_check_attempts":3}]}"#;
@@ -121,6 +152,14 @@ fn enable(object: u32, on: bool) -> Call {
 
 fn status(object: u32) -> Call {
     Call::Status { object }
+}
+
+/// The reply where the object was put off to 5 minutes after the start.
+fn put_off(object: u32) -> Reply {
+    Reply::PutOff {
+        object,
+        until: Some(300_000),
+    }
 }
 
 /// The reply to a question for the status of an object that was never checked.
@@ -529,4 +568,81 @@ fn first_checks_are_spread(rt: HostRuntime) -> Result<(), Fail> {
         );
     }
     Ok(())
+}
+
+#[test]
+fn a_soft_problem_holds_back_where_soft_states_count(rt: HostRuntime) -> Result<(), Fail> {
+    use State::{Critical, Ok};
+    let taken = (Call::Take { now: 0 }, Reply::Taken { object: 1, run: 1 });
+    let problem = (
+        report(1, 1, Code::Critical),
+        standing(Critical, Kind::Soft, 1, Ok, true, Some(60_000)),
+    );
+    let second = (Call::Take { now: 0 }, Reply::Taken { object: 2, run: 2 });
+    let calls = [taken, problem, second];
+    answers_as(&rt, rt.alloc(), SECOND_ON_FIRST, &calls)?;
+    let second = (Call::Take { now: 0 }, put_off(2));
+    let calls = [
+        taken,
+        problem,
+        second,
+        (status(2), never_checked(false, Some(300_000))),
+    ];
+    answers_as(&rt, rt.alloc(), SECOND_ON_FIRST_SOFT, &calls)
+}
+
+#[test]
+fn an_inherited_dependency_holds_back(rt: HostRuntime) -> Result<(), Fail> {
+    use State::Critical;
+    let taken = (Call::Take { now: 0 }, Reply::Taken { object: 1, run: 1 });
+    let problem = (
+        report(1, 1, Code::Critical),
+        standing(Critical, Kind::Hard, 1, Critical, true, Some(300_000)),
+    );
+    let second = (Call::Take { now: 0 }, put_off(2));
+    let third = (Call::Take { now: 0 }, put_off(3));
+    let calls = [taken, problem, second, third];
+    answers_as(&rt, rt.alloc(), CHAIN_THAT_INHERITS, &calls)?;
+    let third = (Call::Take { now: 0 }, Reply::Taken { object: 3, run: 2 });
+    let calls = [taken, problem, second, third];
+    answers_as(&rt, rt.alloc(), CHAIN_WITHOUT_INHERITING, &calls)
+}
+
+#[test]
+fn a_master_never_checked_holds_back_but_what_is_forced(rt: HostRuntime) -> Result<(), Fail> {
+    let take = Call::Take { now: 0 };
+    let taken = (take, Reply::Taken { object: 1, run: 1 });
+    answers_as(&rt, rt.alloc(), FIRST_ON_PENDING, &[(take, put_off(1))])?;
+    answers_as(&rt, rt.alloc(), FIRST_ON_OK, &[taken])?;
+    let calls = [(reschedule(1, 0, true), Reply::Done), taken];
+    answers_as(&rt, rt.alloc(), FIRST_ON_PENDING, &calls)
+}
+
+#[test]
+fn put_off_for_good_without_an_interval(rt: HostRuntime) -> Result<(), Fail> {
+    let off = Reply::PutOff {
+        object: 1,
+        until: None,
+    };
+    let calls = [
+        (reschedule(1, 0, false), Reply::Done),
+        (Call::Take { now: 0 }, off),
+        (status(1), never_checked(false, None)),
+        (Call::Take { now: 0 }, Reply::Taken { object: 2, run: 1 }),
+    ];
+    answers_as(&rt, rt.alloc(), UNSCHEDULED_ON_PENDING, &calls)
+}
+
+#[test]
+fn a_host_that_is_down_holds_a_host_back(rt: HostRuntime) -> Result<(), Fail> {
+    use State::Down;
+    let calls = [
+        (Call::Take { now: 0 }, Reply::Taken { object: 0, run: 1 }),
+        (
+            report(0, 1, Code::Critical),
+            standing(Down, Kind::Hard, 1, Down, true, Some(300_000)),
+        ),
+        (Call::Take { now: 0 }, put_off(1)),
+    ];
+    answers_as(&rt, rt.alloc(), HOST_ON_HOST, &calls)
 }

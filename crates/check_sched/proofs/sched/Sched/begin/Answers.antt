@@ -1,4 +1,4 @@
-use Rattle.std.proofs.Common.{◌≡◌, ◌<◌, ◌^◌, ap, arith, length, ◌∙◌}
+use Rattle.std.proofs.Common.{◌<◌, ◌^◌, ap, arith, length, ◌∙◌}
 use Rattle.check_objects.specs.Configuration.{object_count}
 use Rattle.check_sched.specs.Sched.{state_of}
 use Rattle.check_sched.specs.State.{State}

@@ -1,7 +1,6 @@
 use Rattle.std.proofs.Common.{◌≡◌, true, false, take, ap, sym, ◌∙◌}
-use Rattle.check_objects.specs.Configuration.{host_count}
 use Rattle.check_sched.specs.Candidate.{candidates_among, due_among, least}
-use Rattle.check_sched.specs.State.{State, has_room}
+use Rattle.check_sched.specs.State.{has_room}
 use Rattle.check_sched.specs.Sched.{state_of}
 use Rattle.check_sched.specs.Step.{eligible}
 use Rattle.check_sched.proofs.EligibleLaws.{eligible_is}

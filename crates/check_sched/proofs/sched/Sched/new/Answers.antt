@@ -1,4 +1,4 @@
-use Rattle.std.proofs.Common.{◌≡◌, arith}
+use Rattle.std.proofs.Common.{arith}
 use Rattle.check_sched.proofs.OpeningLaws.{opened_is_state}
 use Rattle.check_sched.proofs.sched.Sched.new.Goals as goal
 

@@ -4,7 +4,7 @@ use Rattle.check_rules.specs.declared.standing.Standing.{Standing}
 use Rattle.check_sched.specs.declared.call.Call.TheVariants as call
 use Rattle.check_sched.specs.declared.object_state.ObjectState.{ObjectState}
 use Rattle.check_sched.specs.declared.sched.Sched.TheInside.{Inside}
-use Rattle.check_sched.specs.ObjectState.{ended, run_under}
+use Rattle.check_sched.specs.ObjectState.{ended}
 use Rattle.check_sched.specs.State.{IsState, IsStandingOf, State}
 use Rattle.check_sched.specs.Sched.{state_of}
 use Rattle.check_sched.specs.Report.{judged}

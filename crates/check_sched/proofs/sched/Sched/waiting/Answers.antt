@@ -1,7 +1,7 @@
-use Rattle.std.proofs.Common.{◌≡◌, Some, None, ap, sym, ◌∙◌}
+use Rattle.std.proofs.Common.{ap, sym, ◌∙◌}
 use Rattle.check_sched.specs.Candidate.{candidates_among, least}
 use Rattle.check_sched.specs.Sched.{state_of}
-use Rattle.check_sched.specs.Step.{candidates, eligible}
+use Rattle.check_sched.specs.Step.{eligible}
 use Rattle.check_sched.proofs.EligibleLaws.{waiting_at_limit, waiting_early, waiting_none}
 use Rattle.check_sched.proofs.TakeLaws.{least_time}
 use Rattle.check_sched.proofs.sched.Sched.waiting.Goals as goal
