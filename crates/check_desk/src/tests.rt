@@ -118,6 +118,24 @@ fn ask_at_once(rt: &impl Abort, desk: &Desk, pass: Pass, call: Call) -> Pass
     pass
 }
 
+/// So many rounds in which one thread asks by both passes, each at once.
+fn ask_in_turn(
+    rt: &impl Abort,
+    desk: &Desk,
+    mut first: Pass,
+    mut second: Pass,
+    rounds: u32,
+) -> (Pass, Pass)
+    requires { IsPassOf desk.now first × IsPassOf desk.now second }
+    ensures { IsPassOf desk.now result.0 × IsPassOf desk.now result.1 }
+{
+    for _round in 0..rounds {
+        first = ask_at_once(rt, desk, first, STATUS);
+        second = ask_at_once(rt, desk, second, STATUS);
+    }
+    (first, second)
+}
+
 /// So many calls of one pass, each waiting for its turn.
 fn ask_often(rt: &(impl Wait + Abort), desk: &Desk, mut pass: Pass, calls: u32) -> Pass
     requires { IsPassOf desk.now pass }
@@ -152,11 +170,13 @@ fn turns_come_in_the_order_of_their_tickets(rt: HostRuntime) -> Result<(), Fail>
     let hold = mine(&rt, &desk, second);
     let (second, told) = desk.finish(hold, STATUS);
     assert_eq!(rt; taken, Answer::Reply(Reply::Taken { object: 1, run: 1 }));
-    let Answer::Reply(Reply::Standing {
-        standing,
-        changed,
-        next,
-    }) = told
+    let Answer::Reply(
+        Reply::Standing {
+            standing,
+            changed,
+            next,
+        },
+    ) = told
     else {
         return Err(Fail::from("no standing"));
     };
@@ -178,12 +198,9 @@ fn turns_come_in_the_order_of_their_tickets(rt: HostRuntime) -> Result<(), Fail>
 #[test]
 fn rounds_of_one_thread_and_then_two_threads(rt: HostRuntime) -> Result<(), Fail> {
     let (desk, first, second) = two_passes(rt.alloc())?;
-    let mut first = ask_at_once(&rt, &desk, first, Call::Take { now: 0 });
-    let mut second = ask_at_once(&rt, &desk, second, STATUS);
-    for _round in 0..50u32 {
-        first = ask_at_once(&rt, &desk, first, STATUS);
-        second = ask_at_once(&rt, &desk, second, STATUS);
-    }
+    let first = ask_at_once(&rt, &desk, first, Call::Take { now: 0 });
+    let second = ask_at_once(&rt, &desk, second, STATUS);
+    let (first, second) = ask_in_turn(&rt, &desk, first, second, 50);
     let (first, second) = join(
         &rt,
         || -> Pass
@@ -224,16 +241,24 @@ fn three_passes_out_of_order(rt: HostRuntime) -> Result<(), Fail> {
     let (first, reported) = desk.ask(&rt, first, report);
     let (second, told) = desk.ask(&rt, second, STATUS);
     for (answer, is_new) in [(reported, true), (told, false)] {
-        let Answer::Reply(Reply::Standing {
-            standing,
-            changed,
-            next,
-        }) = answer
+        let Answer::Reply(
+            Reply::Standing {
+                standing,
+                changed,
+                next,
+            },
+        ) = answer
         else {
             return Err(Fail::from("no standing"));
         };
-        assert_eq!(rt; (standing.state, standing.kind), (State::Critical, Kind::Soft));
-        assert_eq!(rt; (standing.attempt, changed, next), (1, is_new, Some(60_000)));
+        assert_eq!(rt;
+            (standing.state, standing.kind),
+            (State::Critical, Kind::Soft)
+        );
+        assert_eq!(rt;
+            (standing.attempt, changed, next),
+            (1, is_new, Some(60_000))
+        );
     }
     let pass = desk.gather(desk.gather(first, second), third);
     assert_eq!(rt; (pass.gathered(), pass.calls()), (3, 3));

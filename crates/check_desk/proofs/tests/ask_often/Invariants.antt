@@ -2,4 +2,4 @@ use Rattle.check_desk.specs.Desks.{IsPassOf}
 use Rattle.check_desk.proofs.tests.ask_often.Given as goal
 
 abbrev pub invariant-loop-made : goal.invariant-loop-made
-invariant-loop-made l = IsPassOf l.desk l.pass
+invariant-loop-made g l = IsPassOf l.desk l.pass

@@ -23,8 +23,7 @@ loop-number-preserved c =
     let more : 1 < passes_of desk - n = omega (arith, desk.passes_are, c.loop-number-test.true) in
     let own : seat_of c.split-own.result.0 ≡ new_pass n = rw (c.split-own.ensures.kept, desk.draws_are, c.count-others.ensures) (own_is n (passes_of desk - n) rest more was.rest_is) in
     let left : seat_of c.split-own.result.1 ≡ rest_from (n + 1) (passes_of desk - n - 1) = rw (c.split-own.ensures.given, desk.draws_are, c.count-others.ensures) (more_is n (passes_of desk - n) rest more was.rest_is) in
-    let less : passes_of desk - n - 1 ≡ passes_of desk - (n + 1) = omega arith in
-    (
+    let less : passes_of desk - n - 1 ≡ passes_of desk - (n + 1) = omega arith in (
       record {
         count = (let pushed = ap length c.push_reserved.ensures.items ∙ length-append c.loop-number.list.items _ in omega (arith, pushed, was.count));
         new = rw c.push_reserved.ensures.items (new_push desk 0 c.loop-number.list.items _ was.new c.split-own.ensures.lock.0 (own ∙ ap new_pass (omega (arith, was.count))));
