@@ -93,8 +93,8 @@ eligible_free now s c e =
 eligible_there : (now : ℕ) (s : State) (c : Candidate) → least (eligible now s) ≡ Some c → c.number < length s.objects
 eligible_there now s c e =
     let within = all_at_least (λ x. nat_lt x.number (length s.objects)) c (eligible now s) e
-        (all_filtered (λ x. nat_lt x.number (length s.objects)) (λ x. is_open s x.number) (due now s)
-        (all_filtered (λ x. nat_lt x.number (length s.objects)) (λ x. nat_le x.time now) (candidates s) (candidates_within s.objects))) in
+    (all_filtered (λ x. nat_lt x.number (length s.objects)) (λ x. is_open s x.number) (due now s)
+    (all_filtered (λ x. nat_lt x.number (length s.objects)) (λ x. nat_le x.time now) (candidates s) (candidates_within s.objects))) in
     grind (arith, nat_tests, within)
 
 -- ---- one call
@@ -122,10 +122,10 @@ some_same x a b e f = let same : Some a ≡ Some b = sym e ∙ f in cc
 run_goes_on : (s : State) (n run o r : ℕ) (f : ObjectState → ObjectState) (x : ObjectState) (q : Run) → slice_get s.objects n ≡ Some x → run_under run x.run ≡ Ok q → run_in o s.objects ≡ Some r → (n == o && (run == r)) ≡ false → run_in o (update_at n f s.objects) ≡ Some r
 run_goes_on s n run o r f x q there under h e = elim (cases_eq n o) [
   | inl same ↦
-    let named : run_in o s.objects ≡ Some run = rw (← same) (run_named s n run x q there under) in
-    let is : run ≡ r = some_same (run_in o s.objects) run r named h in
-    let ends : (n == o && (run == r)) ≡ true = rw (eq-eqb n o same, eq-eqb run r is) refl in
-    absurd (let clash : true ≡ false = sym ends ∙ e in cc)
+      let named : run_in o s.objects ≡ Some run = rw (← same) (run_named s n run x q there under) in
+      let is : run ≡ r = some_same (run_in o s.objects) run r named h in
+      let ends : (n == o && (run == r)) ≡ true = rw (eq-eqb n o same, eq-eqb run r is) refl in
+      absurd (let clash : true ≡ false = sym ends ∙ e in cc)
   | inr other ↦ run_apart n o f s.objects other ∙ h
 ]
 

@@ -100,18 +100,18 @@ pub counts_add : (t u : ℕ → ℕ → Bool) (factor p : ℕ) (xs : List Object
 counts_add t u factor p xs d counts f w l s same more has = record {
   size = length-set counts (p % factor) (count_at counts (p % factor) + 1) ∙ has.size;
   at = λ r h.
-    let step = visits_one (t r) (u r) (p % factor == r) p 0 p xs d (omega arith) l (same r) (more r) in
-    let was = has.at r h in
-    elim (cases_eq (p % factor) r) [
-      | inl e ↦
-        let b : one (is_scheduled (get_or xs p d) && (p % factor == r)) ≡ 1 = rw (s, eq-eqb (p % factor) r e) refl in
-        let new : count_at (set counts (p % factor) (count_at counts (p % factor) + 1)) r ≡ count_at counts r + 1 = rw e (get_or-set_same counts r (count_at counts r + 1) 0 (omega (arith, has.size))) in
-        omega (arith, step, was, b, new)
-      | inr n ↦
-        let b : one (is_scheduled (get_or xs p d) && (p % factor == r)) ≡ 0 = rw (s, ne_eqb (p % factor) r n) refl in
-        let new : count_at (set counts (p % factor) (count_at counts (p % factor) + 1)) r ≡ count_at counts r = get_or-set_other counts (p % factor) r (count_at counts (p % factor) + 1) 0 (λ e. n (sym e)) in
-        omega (arith, step, was, b, new)
-    ];
+      let step = visits_one (t r) (u r) (p % factor == r) p 0 p xs d (omega arith) l (same r) (more r) in
+      let was = has.at r h in
+      elim (cases_eq (p % factor) r) [
+        | inl e ↦
+            let b : one (is_scheduled (get_or xs p d) && (p % factor == r)) ≡ 1 = rw (s, eq-eqb (p % factor) r e) refl in
+            let new : count_at (set counts (p % factor) (count_at counts (p % factor) + 1)) r ≡ count_at counts r + 1 = rw e (get_or-set_same counts r (count_at counts r + 1) 0 (omega (arith, has.size))) in
+            omega (arith, step, was, b, new)
+        | inr n ↦
+            let b : one (is_scheduled (get_or xs p d) && (p % factor == r)) ≡ 0 = rw (s, ne_eqb (p % factor) r n) refl in
+            let new : count_at (set counts (p % factor) (count_at counts (p % factor) + 1)) r ≡ count_at counts r = get_or-set_other counts (p % factor) r (count_at counts (p % factor) + 1) 0 (λ e. n (sym e)) in
+            omega (arith, step, was, b, new)
+      ];
 }
 
 -- the counts after an object that isn't scheduled
@@ -121,9 +121,9 @@ pub counts_skip : (t u : ℕ → ℕ → Bool) (factor p : ℕ) (xs : List Objec
 counts_skip t u factor p xs d counts l s same more has = record {
   size = has.size;
   at = λ r h.
-    let step = visits_one (t r) (u r) (p % factor == r) p 0 p xs d (omega arith) l (same r) (more r) in
-    let none : one (is_scheduled (get_or xs p d) && (p % factor == r)) ≡ 0 = rw s refl in
-    has.at r h ∙ (omega (arith, step, none));
+      let step = visits_one (t r) (u r) (p % factor == r) p 0 p xs d (omega arith) l (same r) (more r) in
+      let none : one (is_scheduled (get_or xs p d) && (p % factor == r)) ≡ 0 = rw s refl in
+      has.at r h ∙ (omega (arith, step, none));
 }
 
 -- ---- the tests

@@ -82,18 +82,24 @@ fn a_disabled_service_leaves_no_gap(rt: HostRuntime) -> Result<(), Fail> {
 }
 
 /// A document of 1,000 services at 5 minutes on 150 hosts, all smart.
-fn thousand_on_hosts(alloc: Global) -> Result<String, Fail> {
+fn thousand_on_hosts(alloc: Global) -> Result<String, AllocError> {
     let mut document = String::new(alloc);
     document.push_str("{\"hosts\":[")?;
     for host in 0..150u32 {
         let comma = if host == 0 { "" } else { "," };
-        write!(document, "{comma}{{\"name\":\"h{host}\",\"max_check_attempts\":3}}")?;
+        write!(
+            document,
+            "{comma}{{\"name\":\"h{host}\",\"max_check_attempts\":3}}"
+        )?;
     }
     document.push_str("],\"services\":[")?;
     for service in 0..1000u32 {
         let comma = if service == 0 { "" } else { "," };
         let host = service % 150;
-        write!(document, "{comma}{{\"host\":\"h{host}\",\"description\":\"s{service}\",\"max_check_attempts\":3}}")?;
+        write!(
+            document,
+            "{comma}{{\"host\":\"h{host}\",\"description\":\"s{service}\",\"max_check_attempts\":3}}"
+        )?;
     }
     document.push_str("]}")?;
     Ok(document)
@@ -103,7 +109,7 @@ fn thousand_on_hosts(alloc: Global) -> Result<String, Fail> {
 fn a_thousand_services_follow_one_another(rt: HostRuntime) -> Result<(), Fail> {
     let document = match thousand_on_hosts(rt.alloc()) {
         Ok(document) => document,
-        Err(_refused) => thousand_on_hosts(rt.alloc())?,
+        Err(AllocError) => thousand_on_hosts(rt.alloc())?,
     };
     let times = times_of(rt.alloc(), document.as_bytes(), 0)?;
     assert_eq!(rt; times.len(), 1150);

@@ -1,6 +1,4 @@
-use Rattle.std.proofs.Common.{rules, ◌≡◌, ◌<◌, ◌≤◌, ◌-◌, ◌+◌, ◌∙◌, ◌||◌, true, false, arith, sym, ap, length, replicate, [], refl}
-use Rattle.std.specs.Prelude.{slice_index_or}
-use Rattle.check_objects.specs.Configuration.{object_count}
+use Rattle.std.proofs.Common.{rules, ◌≡◌, ◌<◌, ◌-◌, ◌∙◌, ◌||◌, false, arith, sym, ap, length, replicate, refl}
 use Rattle.std.specs.List.{list_any}
 use Rattle.check_rules.specs.Dependencies.{is_met}
 use Rattle.check_rules.specs.Marks.{is_inherited, is_marked}

@@ -21,9 +21,9 @@ pub loop-position-preserved : goal.loop-position-preserved
 loop-position-preserved c =
     let below : c.loop-position.position % c.args.factor < c.args.factor = mod-lt c.loop-position.position c.requires.steps in
     elim c.if-is_scheduled.branch [
-      | then-is_scheduled w ↦ 
-        let same = get_or_default_zero c.loop-position.counts.items (c.loop-position.position % c.args.factor) w.index_mut.result.now (omega (arith, below, c.loop-position.invariant.size)) in
-        rw (w.counts-is, w.index_mut.ensures.value, same) (counts_add (has_remainder_before c.args.factor c.loop-position.position) (has_remainder_before c.args.factor (c.loop-position.position + 1)) c.args.factor c.loop-position.position c.args.objects.now _ c.loop-position.counts.items c.requires.steps below c.loop-position-test.true (sym c.is_scheduled.ensures ∙ w.if-is_scheduled.true) (remainder_same c.args.factor c.loop-position.position) (remainder_more c.args.factor c.loop-position.position) c.loop-position.invariant)
+      | then-is_scheduled w ↦
+          let same = get_or_default_zero c.loop-position.counts.items (c.loop-position.position % c.args.factor) w.index_mut.result.now (omega (arith, below, c.loop-position.invariant.size)) in
+          rw (w.counts-is, w.index_mut.ensures.value, same) (counts_add (has_remainder_before c.args.factor c.loop-position.position) (has_remainder_before c.args.factor (c.loop-position.position + 1)) c.args.factor c.loop-position.position c.args.objects.now _ c.loop-position.counts.items c.requires.steps below c.loop-position-test.true (sym c.is_scheduled.ensures ∙ w.if-is_scheduled.true) (remainder_same c.args.factor c.loop-position.position) (remainder_more c.args.factor c.loop-position.position) c.loop-position.invariant)
       | else-is_scheduled w ↦ rw w.counts-is (counts_skip (has_remainder_before c.args.factor c.loop-position.position) (has_remainder_before c.args.factor (c.loop-position.position + 1)) c.args.factor c.loop-position.position c.args.objects.now _ c.loop-position.counts.items c.loop-position-test.true (sym c.is_scheduled.ensures ∙ w.if-is_scheduled.false) (remainder_same c.args.factor c.loop-position.position) (remainder_more c.args.factor c.loop-position.position) c.loop-position.invariant)
     ]
 
