@@ -1,3 +1,4 @@
+#![tactic(auto)]
 //! The desk: one scheduler for any number of callers, in any threads.
 //!
 //! A [`Desk`] keeps a book behind a ticket lock, and hands out its [`Pass`]es, one for each caller. A
@@ -10,7 +11,6 @@
 //! own profile.
 //!
 //! The modules: `passes` has the passes, turns and holds, `desk` the desk and its calls.
-#![tactic(auto)]
 
 mod desk;
 mod passes;

@@ -1,3 +1,4 @@
+#![tactic(auto)]
 //! The sequential scheduler of active checks: which object is checked next, and what each call
 //! answers and leaves.
 //!
@@ -9,8 +10,7 @@
 //! The modules, from what a caller says to how it is answered: `call` has the calls and their
 //! replies, `object_state` what is kept of one object, `candidate` the search for the object that
 //! is checked next, `report` what the result of a check makes of an object, `sched` the scheduler,
-//! `laws` what follows for all calls that are made one after another.
-#![tactic(auto)]
+//! `book` the scheduler with the history of its calls, `laws` what follows for all calls that are made one after another.
 
 mod book;
 mod call;
