@@ -3,6 +3,7 @@ use crate::{
     Criteria, DelayMethod, Dependency, InterleaveFactor, LoadError, Options, Part, Place, Setup,
 };
 use std::alloc::{AllocError, Global};
+use std::process::Abort;
 use std::test::Fail;
 
 const ONE_HOST: &str =
@@ -17,6 +18,24 @@ fn with_hosts(alloc: Global, hosts: &str) -> Result<String, AllocError> {
     format!(in alloc;
         "{{\"options\":{{\"host_inter_check_delay_method\":\"n\"}},\"hosts\":{hosts}}}"
     )
+}
+
+/// The document is refused, and for this reason.
+fn refuses(rt: &impl Abort, alloc: Global, document: &str, want: LoadError) {
+    let refused = Setup::read(alloc, document.as_bytes());
+    assert!(rt; matches!(&refused, Err(e) if *e == want), "{document}");
+}
+
+/// A document with this text as its list of hosts is refused for this reason.
+fn refuses_hosts(
+    rt: &impl Abort,
+    alloc: Global,
+    hosts: &str,
+    want: LoadError,
+) -> Result<(), AllocError> {
+    let document = with_hosts(alloc, hosts)?;
+    refuses(rt, alloc, document.as_str(), want);
+    Ok(())
 }
 
 /// A document with so many hosts.
@@ -84,83 +103,123 @@ fn reads_a_document_without_hosts(rt: HostRuntime) -> Result<(), Fail> {
 
 #[test]
 fn refuses_whole_documents(rt: HostRuntime) -> Result<(), Fail> {
-    for (document, want) in [
-        ("", LoadError::NotJson),
-        ("{", LoadError::NotJson),
-        ("[]", LoadError::Shape(place(Part::Document, None))),
-        (
-            r#"{"hots":[]}"#,
-            LoadError::Shape(place(Part::Document, None)),
-        ),
-        (r#"{"hosts":5}"#, LoadError::Shape(place(Part::Hosts, None))),
-        (
-            r#"{"options":5}"#,
-            LoadError::Shape(place(Part::Options, None)),
-        ),
-        (
-            r#"{"hosts":[5]}"#,
-            LoadError::Shape(place(Part::Hosts, Some(0))),
-        ),
-        (
-            r#"{"options":{"interval_length":0}}"#,
-            LoadError::Range(place(Part::Options, None)),
-        ),
-    ] {
-        let refused = Setup::read(rt.alloc(), document.as_bytes());
-        assert!(rt; matches!(&refused, Err(e) if *e == want), "{document}");
-    }
+    refuses(&rt, rt.alloc(), "", LoadError::NotJson);
+    refuses(&rt, rt.alloc(), "{", LoadError::NotJson);
+    refuses(
+        &rt,
+        rt.alloc(),
+        "[]",
+        LoadError::Shape(place(Part::Document, None)),
+    );
+    refuses(
+        &rt,
+        rt.alloc(),
+        r#"{"hots":[]}"#,
+        LoadError::Shape(place(Part::Document, None)),
+    );
+    refuses(
+        &rt,
+        rt.alloc(),
+        r#"{"hosts":5}"#,
+        LoadError::Shape(place(Part::Hosts, None)),
+    );
+    refuses(
+        &rt,
+        rt.alloc(),
+        r#"{"options":5}"#,
+        LoadError::Shape(place(Part::Options, None)),
+    );
+    refuses(
+        &rt,
+        rt.alloc(),
+        r#"{"hosts":[5]}"#,
+        LoadError::Shape(place(Part::Hosts, Some(0))),
+    );
+    refuses(
+        &rt,
+        rt.alloc(),
+        r#"{"options":{"interval_length":0}}"#,
+        LoadError::Range(place(Part::Options, None)),
+    );
     Ok(())
 }
 
 #[test]
 fn refuses_lists_of_hosts(rt: HostRuntime) -> Result<(), Fail> {
     let at = |index: usize| place(Part::Hosts, Some(index));
-    for (hosts, want) in [
-        ("[5]", LoadError::Shape(at(0))),
-        (r#"[{"name":"a"}]"#, LoadError::Shape(at(0))),
-        (
-            r#"[{"name":"a","max_check_attempts":3.0}]"#,
-            LoadError::Shape(at(0)),
-        ),
-        (
-            r#"[{"name":"a","max_check_attempts":3,"parents":[1]}]"#,
-            LoadError::Shape(at(0)),
-        ),
-        (
-            r#"[{"name":"a;b","max_check_attempts":3}]"#,
-            LoadError::BadName(at(0)),
-        ),
-        (
-            r#"[{"name":"","max_check_attempts":3}]"#,
-            LoadError::BadName(at(0)),
-        ),
-        (
-            r#"[{"name":"a","max_check_attempts":3},{"name":"a","max_check_attempts":3}]"#,
-            LoadError::Duplicate(at(1)),
-        ),
-        (
-            r#"[{"name":"a","max_check_attempts":0},{"name":"b;","max_check_attempts":3}]"#,
-            LoadError::BadName(at(1)),
-        ),
-        (
-            r#"[{"name":"b","max_check_attempts":3},{"name":"a","max_check_attempts":256}]"#,
-            LoadError::Range(at(1)),
-        ),
-        (
-            r#"[{"name":"a","max_check_attempts":3,"retry_interval":525601}]"#,
-            LoadError::Range(at(0)),
-        ),
-    ] {
-        let document = with_hosts(rt.alloc(), hosts)?;
-        let refused = Setup::read(rt.alloc(), document.as_bytes());
-        assert!(rt; matches!(&refused, Err(e) if *e == want), "{hosts}");
-    }
+    refuses_hosts(&rt, rt.alloc(), "[5]", LoadError::Shape(at(0)))?;
+    refuses_hosts(
+        &rt,
+        rt.alloc(),
+        r#"[{"name":"a"}]"#,
+        LoadError::Shape(at(0)),
+    )?;
+    refuses_hosts(
+        &rt,
+        rt.alloc(),
+        r#"[{"name":"a","max_check_attempts":3.0}]"#,
+        LoadError::Shape(at(0)),
+    )?;
+    refuses_hosts(
+        &rt,
+        rt.alloc(),
+        r#"[{"name":"a","max_check_attempts":3,"parents":[1]}]"#,
+        LoadError::Shape(at(0)),
+    )?;
+    refuses_hosts(
+        &rt,
+        rt.alloc(),
+        r#"[{"name":"a;b","max_check_attempts":3}]"#,
+        LoadError::BadName(at(0)),
+    )?;
+    refuses_hosts(
+        &rt,
+        rt.alloc(),
+        r#"[{"name":"","max_check_attempts":3}]"#,
+        LoadError::BadName(at(0)),
+    )?;
+    refuses_hosts(
+        &rt,
+        rt.alloc(),
+        r#"[{"name":"a","max_check_attempts":3},{"name":"a","max_check_attempts":3}]"#,
+        LoadError::Duplicate(at(1)),
+    )?;
+    refuses_hosts(
+        &rt,
+        rt.alloc(),
+        r#"[{"name":"a","max_check_attempts":0},{"name":"b;","max_check_attempts":3}]"#,
+        LoadError::BadName(at(1)),
+    )?;
+    refuses_hosts(
+        &rt,
+        rt.alloc(),
+        r#"[{"name":"b","max_check_attempts":3},{"name":"a","max_check_attempts":256}]"#,
+        LoadError::Range(at(1)),
+    )?;
+    refuses_hosts(
+        &rt,
+        rt.alloc(),
+        r#"[{"name":"a","max_check_attempts":3,"retry_interval":525601}]"#,
+        LoadError::Range(at(0)),
+    )?;
     Ok(())
 }
 
 /// A document with this text as its options alone.
 fn with_options(alloc: Global, options: &str) -> Result<String, AllocError> {
     format!(in alloc; "{{\"options\":{{{options}}}}}")
+}
+
+/// A document with this text as its options is refused for this reason.
+fn refuses_options_of(
+    rt: &impl Abort,
+    alloc: Global,
+    options: &str,
+    want: LoadError,
+) -> Result<(), AllocError> {
+    let document = with_options(alloc, options)?;
+    refuses(rt, alloc, document.as_str(), want);
+    Ok(())
 }
 
 #[test]
@@ -213,28 +272,52 @@ fn options_have_defaults(rt: HostRuntime) -> Result<(), Fail> {
 fn refuses_options(rt: HostRuntime) -> Result<(), Fail> {
     let shape = LoadError::Shape(place(Part::Options, None));
     let range = LoadError::Range(place(Part::Options, None));
-    for (options, want) in [
-        (r#""service_inter_check_delay_method":"x""#, shape),
-        (r#""host_inter_check_delay_method":true"#, shape),
-        (r#""service_interleave_factor":"n""#, shape),
-        (r#""max_host_check_spread":"s""#, shape),
-        (r#""max_concurrent_checks":-1"#, shape),
-        (r#""soft_state_dependencies":0"#, shape),
-        (r#""interval_length":86401"#, range),
-        (r#""service_inter_check_delay_method":86400001"#, range),
-        (r#""host_inter_check_delay_method":86400001"#, range),
-        (r#""max_service_check_spread":0"#, range),
-        (r#""max_service_check_spread":525601"#, range),
-        (r#""max_host_check_spread":0"#, range),
-        (r#""max_host_check_spread":525601"#, range),
-        (r#""service_interleave_factor":0"#, range),
-        (r#""service_interleave_factor":4097"#, range),
-        (r#""max_concurrent_checks":1000001"#, range),
-    ] {
-        let document = with_options(rt.alloc(), options)?;
-        let refused = Setup::read(rt.alloc(), document.as_bytes());
-        assert!(rt; matches!(&refused, Err(e) if *e == want), "{options}");
-    }
+    refuses_options_of(
+        &rt,
+        rt.alloc(),
+        r#""service_inter_check_delay_method":"x""#,
+        shape,
+    )?;
+    refuses_options_of(
+        &rt,
+        rt.alloc(),
+        r#""host_inter_check_delay_method":true"#,
+        shape,
+    )?;
+    refuses_options_of(&rt, rt.alloc(), r#""service_interleave_factor":"n""#, shape)?;
+    refuses_options_of(&rt, rt.alloc(), r#""max_host_check_spread":"s""#, shape)?;
+    refuses_options_of(&rt, rt.alloc(), r#""max_concurrent_checks":-1"#, shape)?;
+    refuses_options_of(&rt, rt.alloc(), r#""soft_state_dependencies":0"#, shape)?;
+    refuses_options_of(&rt, rt.alloc(), r#""interval_length":86401"#, range)?;
+    refuses_options_of(
+        &rt,
+        rt.alloc(),
+        r#""service_inter_check_delay_method":86400001"#,
+        range,
+    )?;
+    refuses_options_of(
+        &rt,
+        rt.alloc(),
+        r#""host_inter_check_delay_method":86400001"#,
+        range,
+    )?;
+    refuses_options_of(&rt, rt.alloc(), r#""max_service_check_spread":0"#, range)?;
+    refuses_options_of(
+        &rt,
+        rt.alloc(),
+        r#""max_service_check_spread":525601"#,
+        range,
+    )?;
+    refuses_options_of(&rt, rt.alloc(), r#""max_host_check_spread":0"#, range)?;
+    refuses_options_of(&rt, rt.alloc(), r#""max_host_check_spread":525601"#, range)?;
+    refuses_options_of(&rt, rt.alloc(), r#""service_interleave_factor":0"#, range)?;
+    refuses_options_of(
+        &rt,
+        rt.alloc(),
+        r#""service_interleave_factor":4097"#,
+        range,
+    )?;
+    refuses_options_of(&rt, rt.alloc(), r#""max_concurrent_checks":1000001"#, range)?;
     Ok(())
 }
 
@@ -320,22 +403,39 @@ fn refuses_services_and_links(rt: HostRuntime) -> Result<(), Fail> {
         alloc,
         r#"[{"name":"b","max_check_attempts":3},{"name":"a","max_check_attempts":3,"parents":["b","c"]}]"#,
     )?;
-    for (document, want) in [
-        (unknown.as_str(), LoadError::UnknownHost(service(0))),
-        (range.as_str(), LoadError::Range(place(Part::Options, None))),
-        (twice.as_str(), LoadError::Duplicate(service(1))),
-        (cycle.as_str(), LoadError::ParentCycle),
-        (own.as_str(), LoadError::ParentCycle),
-        (missing.as_str(), LoadError::UnknownHost(host(1))),
-        (
-            r#"{"services":5}"#,
-            LoadError::Shape(place(Part::Services, None)),
-        ),
-        (r#"{"services":[5]}"#, LoadError::Shape(service(0))),
-    ] {
-        let refused = Setup::read(alloc, document.as_bytes());
-        assert!(rt; matches!(&refused, Err(e) if *e == want), "{document}");
-    }
+    refuses(
+        &rt,
+        alloc,
+        unknown.as_str(),
+        LoadError::UnknownHost(service(0)),
+    );
+    refuses(
+        &rt,
+        alloc,
+        range.as_str(),
+        LoadError::Range(place(Part::Options, None)),
+    );
+    refuses(&rt, alloc, twice.as_str(), LoadError::Duplicate(service(1)));
+    refuses(&rt, alloc, cycle.as_str(), LoadError::ParentCycle);
+    refuses(&rt, alloc, own.as_str(), LoadError::ParentCycle);
+    refuses(
+        &rt,
+        alloc,
+        missing.as_str(),
+        LoadError::UnknownHost(host(1)),
+    );
+    refuses(
+        &rt,
+        alloc,
+        r#"{"services":5}"#,
+        LoadError::Shape(place(Part::Services, None)),
+    );
+    refuses(
+        &rt,
+        alloc,
+        r#"{"services":[5]}"#,
+        LoadError::Shape(service(0)),
+    );
     Ok(())
 }
 
@@ -344,6 +444,24 @@ fn with_members(alloc: Global, members: &str) -> Result<String, AllocError> {
     format!(in alloc;
         "{{\"hosts\":[{{\"name\":\"a\",\"max_check_attempts\":3}},{{\"name\":\"b\",\"max_check_attempts\":3}}],\"services\":[{{\"host\":\"a\",\"description\":\"x\",\"max_check_attempts\":3}},{{\"host\":\"b\",\"description\":\"y\",\"max_check_attempts\":3}}],{members}}}"
     )
+}
+
+const SERVICE_DEPENDENCIES: &str = "service_dependencies";
+
+const HOST_DEPENDENCIES: &str = "host_dependencies";
+
+/// A document with this member beside its hosts and services is refused for this reason.
+fn refuses_member(
+    rt: &impl Abort,
+    alloc: Global,
+    member: &str,
+    text: &str,
+    want: LoadError,
+) -> Result<(), AllocError> {
+    let members = format!(in alloc; "\"{member}\":{text}")?;
+    let document = with_members(alloc, members.as_str())?;
+    refuses(rt, alloc, document.as_str(), want);
+    Ok(())
 }
 
 const NO_CRITERIA: Criteria = Criteria {
@@ -413,108 +531,163 @@ fn reads_dependencies_of_both_sorts(rt: HostRuntime) -> Result<(), Fail> {
 #[test]
 fn refuses_dependencies_of_services(rt: HostRuntime) -> Result<(), Fail> {
     let at = |index: usize| place(Part::ServiceDependencies, Some(index));
-    for (list, want) in [
-        (
-            "5",
-            LoadError::Shape(place(Part::ServiceDependencies, None)),
-        ),
-        ("[5]", LoadError::Shape(at(0))),
-        (
-            r#"[{"dependent":"a;x","master":"b;y"}]"#,
-            LoadError::Shape(at(0)),
-        ),
-        (
-            r#"[{"dependent":"a;x","master":"b;y","criteria":"o"},{"dependent":"a;x","master":"b;y","criteria":"d"}]"#,
-            LoadError::Shape(at(1)),
-        ),
-        (
-            r#"[{"dependent":"a;x","master":"b;y","criteria":"o","inherits_parent":1}]"#,
-            LoadError::Shape(at(0)),
-        ),
-        (
-            r#"[{"dependent":"a;x","master":"b;z","criteria":"o"}]"#,
-            LoadError::UnknownMaster(at(0)),
-        ),
-        (
-            r#"[{"dependent":"a;x","master":"b","criteria":"o"}]"#,
-            LoadError::UnknownMaster(at(0)),
-        ),
-        (
-            r#"[{"dependent":"a","master":"b;y","criteria":"o"}]"#,
-            LoadError::UnknownMaster(at(0)),
-        ),
-        (
-            r#"[{"dependent":"a;x","master":"a;x","criteria":"n"}]"#,
-            LoadError::DependencyCycle,
-        ),
-        (
-            r#"[{"dependent":"a;x","master":"b;y","criteria":"c"},{"dependent":"b;y","master":"a;x","criteria":"c"}]"#,
-            LoadError::DependencyCycle,
-        ),
-        (
-            r#"[{"dependent":"a;x","master":"b;z","criteria":"o"}],"options":{"interval_length":0}"#,
-            LoadError::UnknownMaster(at(0)),
-        ),
-        (
-            r#"[{"dependent":"a;x","master":"a;x","criteria":"o"}],"options":{"interval_length":0}"#,
-            LoadError::Range(place(Part::Options, None)),
-        ),
-    ] {
-        let members = format!(in rt.alloc(); "\"service_dependencies\":{list}")?;
-        let document = with_members(rt.alloc(), members.as_str())?;
-        let refused = Setup::read(rt.alloc(), document.as_bytes());
-        assert!(rt; matches!(&refused, Err(e) if *e == want), "{list}");
-    }
+    refuses_member(
+        &rt,
+        rt.alloc(),
+        SERVICE_DEPENDENCIES,
+        "5",
+        LoadError::Shape(place(Part::ServiceDependencies, None)),
+    )?;
+    refuses_member(
+        &rt,
+        rt.alloc(),
+        SERVICE_DEPENDENCIES,
+        "[5]",
+        LoadError::Shape(at(0)),
+    )?;
+    refuses_member(
+        &rt,
+        rt.alloc(),
+        SERVICE_DEPENDENCIES,
+        r#"[{"dependent":"a;x","master":"b;y"}]"#,
+        LoadError::Shape(at(0)),
+    )?;
+    refuses_member(
+        &rt,
+        rt.alloc(),
+        SERVICE_DEPENDENCIES,
+        r#"[{"dependent":"a;x","master":"b;y","criteria":"o"},{"dependent":"a;x","master":"b;y","criteria":"d"}]"#,
+        LoadError::Shape(at(1)),
+    )?;
+    refuses_member(
+        &rt,
+        rt.alloc(),
+        SERVICE_DEPENDENCIES,
+        r#"[{"dependent":"a;x","master":"b;y","criteria":"o","inherits_parent":1}]"#,
+        LoadError::Shape(at(0)),
+    )?;
+    refuses_member(
+        &rt,
+        rt.alloc(),
+        SERVICE_DEPENDENCIES,
+        r#"[{"dependent":"a;x","master":"b;z","criteria":"o"}]"#,
+        LoadError::UnknownMaster(at(0)),
+    )?;
+    refuses_member(
+        &rt,
+        rt.alloc(),
+        SERVICE_DEPENDENCIES,
+        r#"[{"dependent":"a;x","master":"b","criteria":"o"}]"#,
+        LoadError::UnknownMaster(at(0)),
+    )?;
+    refuses_member(
+        &rt,
+        rt.alloc(),
+        SERVICE_DEPENDENCIES,
+        r#"[{"dependent":"a","master":"b;y","criteria":"o"}]"#,
+        LoadError::UnknownMaster(at(0)),
+    )?;
+    refuses_member(
+        &rt,
+        rt.alloc(),
+        SERVICE_DEPENDENCIES,
+        r#"[{"dependent":"a;x","master":"a;x","criteria":"n"}]"#,
+        LoadError::DependencyCycle,
+    )?;
+    refuses_member(
+        &rt,
+        rt.alloc(),
+        SERVICE_DEPENDENCIES,
+        r#"[{"dependent":"a;x","master":"b;y","criteria":"c"},{"dependent":"b;y","master":"a;x","criteria":"c"}]"#,
+        LoadError::DependencyCycle,
+    )?;
+    refuses_member(
+        &rt,
+        rt.alloc(),
+        SERVICE_DEPENDENCIES,
+        r#"[{"dependent":"a;x","master":"b;z","criteria":"o"}],"options":{"interval_length":0}"#,
+        LoadError::UnknownMaster(at(0)),
+    )?;
+    refuses_member(
+        &rt,
+        rt.alloc(),
+        SERVICE_DEPENDENCIES,
+        r#"[{"dependent":"a;x","master":"a;x","criteria":"o"}],"options":{"interval_length":0}"#,
+        LoadError::Range(place(Part::Options, None)),
+    )?;
     Ok(())
+}
+
+/// A dependency of a service with these criteria is refused for its shape.
+fn refuses_criteria_of(rt: &impl Abort, alloc: Global, criteria: &str) -> Result<(), AllocError> {
+    let list = format!(in alloc;
+        "[{{\"dependent\":\"a;x\",\"master\":\"b;y\",\"criteria\":\"{criteria}\"}}]"
+    )?;
+    let want = LoadError::Shape(place(Part::ServiceDependencies, Some(0)));
+    refuses_member(rt, alloc, SERVICE_DEPENDENCIES, list.as_str(), want)
 }
 
 #[test]
 fn refuses_criteria(rt: HostRuntime) -> Result<(), Fail> {
-    for criteria in [
-        "", ",", "o,", ",o", "o,,c", "oc", "o, c", " o", "O", "d", "x",
-    ] {
-        let members = format!(in rt.alloc();
-            "\"service_dependencies\":[{{\"dependent\":\"a;x\",\"master\":\"b;y\",\"criteria\":\"{criteria}\"}}]"
-        )?;
-        let document = with_members(rt.alloc(), members.as_str())?;
-        let refused = Setup::read(rt.alloc(), document.as_bytes());
-        let want = LoadError::Shape(place(Part::ServiceDependencies, Some(0)));
-        assert!(rt; matches!(&refused, Err(e) if *e == want), "{criteria}");
-    }
+    refuses_criteria_of(&rt, rt.alloc(), "")?;
+    refuses_criteria_of(&rt, rt.alloc(), ",")?;
+    refuses_criteria_of(&rt, rt.alloc(), "o,")?;
+    refuses_criteria_of(&rt, rt.alloc(), ",o")?;
+    refuses_criteria_of(&rt, rt.alloc(), "o,,c")?;
+    refuses_criteria_of(&rt, rt.alloc(), "oc")?;
+    refuses_criteria_of(&rt, rt.alloc(), "o, c")?;
+    refuses_criteria_of(&rt, rt.alloc(), " o")?;
+    refuses_criteria_of(&rt, rt.alloc(), "O")?;
+    refuses_criteria_of(&rt, rt.alloc(), "d")?;
+    refuses_criteria_of(&rt, rt.alloc(), "x")?;
     Ok(())
 }
 
 #[test]
 fn refuses_dependencies_of_hosts(rt: HostRuntime) -> Result<(), Fail> {
     let at = |index: usize| place(Part::HostDependencies, Some(index));
-    for (list, want) in [
-        ("{}", LoadError::Shape(place(Part::HostDependencies, None))),
-        (
-            r#"[{"dependent":"a","master":"b","criteria":"w"}]"#,
-            LoadError::Shape(at(0)),
-        ),
-        (
-            r#"[{"dependent":"a","master":"b","criteria":"d,c"}]"#,
-            LoadError::Shape(at(0)),
-        ),
-        (
-            r#"[{"dependent":"a","master":"b;y","criteria":"d"}]"#,
-            LoadError::UnknownMaster(at(0)),
-        ),
-        (
-            r#"[{"dependent":"a","master":"b","criteria":"d"},{"dependent":"c","master":"b","criteria":"d"}]"#,
-            LoadError::UnknownMaster(at(1)),
-        ),
-        (
-            r#"[{"dependent":"a","master":"b","criteria":"d"},{"dependent":"b","master":"a","criteria":"d"}]"#,
-            LoadError::DependencyCycle,
-        ),
-    ] {
-        let members = format!(in rt.alloc(); "\"host_dependencies\":{list}")?;
-        let document = with_members(rt.alloc(), members.as_str())?;
-        let refused = Setup::read(rt.alloc(), document.as_bytes());
-        assert!(rt; matches!(&refused, Err(e) if *e == want), "{list}");
-    }
+    refuses_member(
+        &rt,
+        rt.alloc(),
+        HOST_DEPENDENCIES,
+        "{}",
+        LoadError::Shape(place(Part::HostDependencies, None)),
+    )?;
+    refuses_member(
+        &rt,
+        rt.alloc(),
+        HOST_DEPENDENCIES,
+        r#"[{"dependent":"a","master":"b","criteria":"w"}]"#,
+        LoadError::Shape(at(0)),
+    )?;
+    refuses_member(
+        &rt,
+        rt.alloc(),
+        HOST_DEPENDENCIES,
+        r#"[{"dependent":"a","master":"b","criteria":"d,c"}]"#,
+        LoadError::Shape(at(0)),
+    )?;
+    refuses_member(
+        &rt,
+        rt.alloc(),
+        HOST_DEPENDENCIES,
+        r#"[{"dependent":"a","master":"b;y","criteria":"d"}]"#,
+        LoadError::UnknownMaster(at(0)),
+    )?;
+    refuses_member(
+        &rt,
+        rt.alloc(),
+        HOST_DEPENDENCIES,
+        r#"[{"dependent":"a","master":"b","criteria":"d"},{"dependent":"c","master":"b","criteria":"d"}]"#,
+        LoadError::UnknownMaster(at(1)),
+    )?;
+    refuses_member(
+        &rt,
+        rt.alloc(),
+        HOST_DEPENDENCIES,
+        r#"[{"dependent":"a","master":"b","criteria":"d"},{"dependent":"b","master":"a","criteria":"d"}]"#,
+        LoadError::DependencyCycle,
+    )?;
     Ok(())
 }
 

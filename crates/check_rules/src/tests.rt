@@ -5,7 +5,6 @@ use crate::{
     Code, Kind, Standing, State, blocked, host_state, lawful, pending, service_state, verdict,
 };
 use check_objects::Setup;
-use std::alloc::Global;
 use std::process::Abort;
 use std::test::Fail;
 
@@ -276,37 +275,35 @@ const CHAIN: &[u8] =
 const LOOSE_CHAIN: &[u8] =
     br#"{"hosts":[{"name":"h","max_check_attempts":3}],"services":[{"host":"h","description":"a","max_check_attempts":1},{"host":"h","description":"b","max_check_attempts":3},{"host":"h","description":"c","max_check_attempts":3}],"service_dependencies":[{"dependent":"h;b","master":"h;a","criteria":"c"},{"dependent":"h;c","master":"h;b","criteria":"c"},{"dependent":"h;b","master":"h;a","criteria":"p"}]}"#;
 
-/// Which of the objects are blocked, where service 1 has this standing and the others were never
-/// checked. The scratch is full of marks at first.
-fn blocked_with(
-    rt: &impl Abort,
-    document: &[u8],
-    first: Standing,
-    alloc: Global,
-) -> Result<[bool; 4], Fail> {
-    let setup = Setup::read(alloc, document)?;
+/// Whether the object with this number is blocked, where service 1 has this standing and the others
+/// were never checked. The scratch is full of marks at first.
+fn is_blocked(rt: &impl Abort, setup: &Setup, first: Standing, number: u32) -> bool {
     let standings = [pending(true), first, pending(false), pending(false)];
     let mut marks = [true; 4];
-    assert_eq!(rt; setup.len(), 4);
-    let mut answers = [false; 4];
-    for number in 0..4u32 {
-        answers[number as usize] = blocked(&setup, &standings, &mut marks, number);
-    }
-    Ok(answers)
+    assert!(rt; setup.len() == 4 && number < 4);
+    blocked(setup, &standings, &mut marks, number)
 }
 
 #[test]
 fn a_failing_dependency_is_inherited(rt: HostRuntime) -> Result<(), Fail> {
-    let alloc = rt.alloc();
+    let chain = Setup::read(rt.alloc(), CHAIN)?;
     let hard = standing(State::Critical, Kind::Hard, 1, State::Critical);
     let soft = standing(State::Critical, Kind::Soft, 1, State::Ok);
-    let answers = blocked_with(&rt, CHAIN, hard, alloc)?;
-    assert_eq!(rt; answers, [false, false, true, true]);
-    let answers = blocked_with(&rt, CHAIN, soft, alloc)?;
-    assert_eq!(rt; answers, [false, false, false, false]);
-    let answers = blocked_with(&rt, LOOSE_CHAIN, hard, alloc)?;
-    assert_eq!(rt; answers, [false, false, true, false]);
-    let answers = blocked_with(&rt, LOOSE_CHAIN, pending(false), alloc)?;
-    assert_eq!(rt; answers, [false, false, true, false]);
+    assert!(rt; !is_blocked(&rt, &chain, hard, 1));
+    assert!(rt; is_blocked(&rt, &chain, hard, 2));
+    assert!(rt; is_blocked(&rt, &chain, hard, 3));
+    assert!(rt; !is_blocked(&rt, &chain, soft, 2));
+    assert!(rt; !is_blocked(&rt, &chain, soft, 3));
+    Ok(())
+}
+
+#[test]
+fn a_dependency_that_does_not_inherit(rt: HostRuntime) -> Result<(), Fail> {
+    let chain = Setup::read(rt.alloc(), LOOSE_CHAIN)?;
+    let hard = standing(State::Critical, Kind::Hard, 1, State::Critical);
+    assert!(rt; is_blocked(&rt, &chain, hard, 2));
+    assert!(rt; !is_blocked(&rt, &chain, hard, 3));
+    assert!(rt; is_blocked(&rt, &chain, pending(false), 2));
+    assert!(rt; !is_blocked(&rt, &chain, pending(false), 3));
     Ok(())
 }

@@ -59,7 +59,9 @@ fn two_hundred_calls_past_a_room_of_four(rt: HostRuntime) -> Result<(), Fail> {
     assert_eq!(rt; book.entries().len() as u64 + refused, 200);
     assert!(rt; refused_at.is_none_or(|made| made >= 4));
     assert_eq!(rt; book.room(), 4);
-    assert_eq!(rt; book.sched().next_of(1), Some(0));
+    let sched = book.sched();
+    assert_eq!(rt; sched.setup().len(), 2);
+    assert_eq!(rt; sched.next_of(1), Some(0));
     Ok(())
 }
 
