@@ -21,7 +21,7 @@ input() {
         print setup "]}"
         written = length(setup) + 3
         for (run = 0; ; run++) {
-            take = sprintf("[\"take\",%d]", int(run / hosts) * 300000)
+            take = sprintf("[\"take\",%.0f]", int(run / hosts) * 300000)
             report = sprintf("[\"report\",\"host%04d\",%d,0]", run % hosts, run + 1)
             written += length(take) + length(report) + 2
             if (written > bytes)
