@@ -1,13 +1,14 @@
 -- The passes of a desk, handed out one after another.
-use Rattle.std.proofs.Common.{◌≡◌, ℕ, zero, suc, ◌+◌, ◌-◌, ◌*◌, ◌<◌, ◌≤◌, ◌^◌, List, [], ◌∷◌, ◌++◌, length, take, drop, true, refl, sym, ap, subst, ◌∙◌, arith, get_or}
+use Rattle.std.proofs.Common.{◌≡◌, ℕ, zero, suc, ◌+◌, ◌-◌, ◌*◌, ◌<◌, ◌^◌, List, [], ◌∷◌, ◌++◌, length, true, refl, ap, subst, ◌∙◌, arith, get_or}
 use Rattle.ticket_steps.specs.Sums.{counted}
-use Rattle.ticket_lock.specs.Callers.{Caller, caller, keeping, given, first_caller}
-use Rattle.ticket_lock.specs.Tokens.{start_of}
+use Rattle.ticket_lock.specs.Callers.{Caller, caller, keeping, given}
+use Rattle.ticket_lock.specs.Legal.{IsLegalFrom}
+use Rattle.check_sched.specs.contracts.book.BookKept.TheImpl as book
 use Rattle.check_sched.specs.declared.call.Call.{Call}
 use Rattle.check_sched.specs.declared.call.Reply.{Reply}
 use Rattle.check_desk.specs.declared.desk.Desk.{Desk}
 use Rattle.check_desk.specs.declared.passes.Pass.{Pass}
-use Rattle.check_desk.specs.Desks.{AreNewPasses, IsPassOf, passes_of}
+use Rattle.check_desk.specs.Desks.{AreNewPasses, IsHistoryOf, IsPassOf, passes_of}
 use Rattle.check_desk.specs.Passes.{pass_of, new_pass}
 
 -- a caller for the numbers from this one on
@@ -59,3 +60,13 @@ pub new_at : (desk : Desk) (n : ℕ) (ps : List Pass) (i : ℕ) (d : Pass) → A
 new_at desk n [] i d h l = absurd (omega arith)
 new_at desk n (p ∷ ps) zero d h l = h.0
 new_at desk n (p ∷ ps) (suc i) d h l = new_at desk (n + 1) ps i d h.2 (omega arith)
+
+-- ---- what each pass is known to have
+
+-- it has made fewer than 2^42 calls
+pub few_calls : (pass : Pass) → (pass_of pass).calls < 2 ^ 42
+few_calls pass = omega (arith, pass.seat.told.calls, pass.seat.told.few_calls)
+
+-- what it has seen is a history of its desk
+pub seen_history : (desk : Desk) (pass : Pass) → IsPassOf desk pass → IsHistoryOf desk (pass_of pass).seen
+seen_history desk pass is = subst (λ start. IsLegalFrom book.ghosts start (pass_of pass).seen) is.1 pass.seat.legal

@@ -2,7 +2,7 @@
 use Rattle.std.specs.Prelude.{◌≡◌, ℕ, ◌+◌, ◌<◌, ◌≤◌, ⊤, List, [], ◌∷◌, ◌++◌, length}
 use Rattle.ticket_steps.specs.declared.kept.Entry.{Entry}
 use Rattle.ticket_steps.specs.History.{entry, IsLegal}
-use Rattle.ticket_lock.specs.Callers.{Caller, drawn, ended, having_seen}
+use Rattle.ticket_lock.specs.Callers.{Caller, drawn, ended}
 use Rattle.ticket_lock.specs.Views.{Follows}
 use Rattle.ticket_lock.specs.Tokens.{start_of, IsSeatOf, IsTurnOf, IsHoldOf}
 use Rattle.check_sched.specs.declared.call.Call.{Call}

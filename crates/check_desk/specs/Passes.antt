@@ -1,9 +1,8 @@
 -- What clauses see of passes, turns and holds: the caller behind them, with its own number, the numbers it answers for,
 -- the calls it has left and has made, and the history it has seen.
-use Rattle.std.specs.Prelude.{ℕ, ◌-◌, ◌^◌, List, [], ◌∷◌, true}
-use Rattle.ticket_steps.specs.declared.kept.Entry.{Entry}
+use Rattle.std.specs.Prelude.{ℕ, ◌-◌, ◌^◌, [], ◌∷◌, true}
 use Rattle.ticket_lock.specs.Callers.{Caller, caller}
-use Rattle.ticket_lock.specs.Tokens.{seat_of, turn_of, hold_of, ticket_of, held_ticket_of}
+use Rattle.ticket_lock.specs.Tokens.{seat_of, turn_of, hold_of}
 use Rattle.check_sched.specs.declared.call.Call.{Call}
 use Rattle.check_sched.specs.declared.call.Reply.{Reply}
 use Rattle.check_desk.specs.declared.passes.Pass.{Pass}

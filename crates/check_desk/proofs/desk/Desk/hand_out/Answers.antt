@@ -1,7 +1,6 @@
-use Rattle.std.proofs.Common.{◌≡◌, ◌<◌, ◌≤◌, ◌+◌, ◌-◌, ◌∙◌, ◌++◌, ◌∷◌, [], ap, subst, sym, arith, length, length-append}
-use Rattle.ticket_lock.specs.Callers.{keeping, given}
+use Rattle.std.proofs.Common.{◌≡◌, ◌<◌, ◌+◌, ◌-◌, ◌∙◌, ap, arith, length, length-append}
 use Rattle.ticket_lock.specs.Tokens.{seat_of}
-use Rattle.check_desk.specs.Desks.{AreNewPasses, passes_of}
+use Rattle.check_desk.specs.Desks.{passes_of}
 use Rattle.check_desk.specs.Passes.{new_pass}
 use Rattle.check_desk.proofs.PassLemmas.{last_is, more_is, new_push, own_is, rest_from, rest_size}
 use Rattle.check_desk.proofs.desk.Desk.hand_out.Goals as goal
