@@ -1,13 +1,12 @@
 -- No object is taken while it runs: what a history alone says of runs is what the state says that its calls leave.
 use Rattle.std.proofs.Common.{◌≡◌, ◌≢◌, ℕ, zero, suc, ◌+◌, ◌<◌, ◌==◌, ◌&&◌, ◌||◌, Bool, true, false, not, cond, List, [], ◌∷◌, ◌++◌, length, Option, Some, None, Ok, Err, option_map, refl, sym, ap, ◌∙◌, arith, inl, inr}
-use Rattle.std.specs.Prelude.{count_by, is_none, nat_le, nat_lt, option_and_then, slice_get}
+use Rattle.std.specs.Prelude.{is_none, nat_le, nat_lt, option_and_then, slice_get}
 use Rattle.std.specs.List.{cons_option, enumerate_from, filter_map, list_all, list_any}
 use Rattle.std.proofs.lemmas.Bool.Decides.{nat_tests}
-use Rattle.std.proofs.lemmas.Bool.{eqb-true, eq-eqb, ne_eqb, cases_eq}
+use Rattle.std.proofs.lemmas.Bool.{eqb-true, eq-eqb, cases_eq}
 use Rattle.std.proofs.lemmas.List.Sums.{sum_by-cons}
 use Rattle.ticket_steps.specs.declared.kept.Entry.{Entry}
 use Rattle.ticket_steps.specs.History.{replay, IsLegal}
-use Rattle.check_rules.specs.declared.state.Code.{Code}
 use Rattle.check_sched.specs.declared.call.Call.{Call}
 use Rattle.check_sched.specs.declared.call.Call.TheVariants as call
 use Rattle.check_sched.specs.declared.call.Reply.{Reply}
@@ -16,10 +15,10 @@ use Rattle.check_sched.specs.declared.call.Refusal.TheVariants as refusal
 use Rattle.check_sched.specs.declared.candidate.Candidate.{Candidate}
 use Rattle.check_sched.specs.declared.object_state.ObjectState.{ObjectState}
 use Rattle.check_sched.specs.declared.object_state.Run.{Run}
-use Rattle.check_sched.specs.ObjectState.{candidate_time, ended, enabled_as, freed_time, put_off_to, rescheduled, run_under, running_from}
+use Rattle.check_sched.specs.ObjectState.{candidate_time, run_under, running_from}
 use Rattle.check_sched.specs.Candidate.{candidate, candidates_among, least}
 use Rattle.check_sched.specs.State.{State, is_host}
-use Rattle.check_sched.specs.Step.{candidates, due, eligible, is_open, known, report_taken, settled, step, taken, update_at, waiting_reply, with_object, within_range}
+use Rattle.check_sched.specs.Step.{candidates, due, eligible, is_open, known, step, taken, update_at, waiting_reply, within_range}
 use Rattle.check_sched.specs.BookState.{book_step}
 use Rattle.check_sched.specs.Runs.{begins, begins_by, ends, ends_by, runs_begun, runs_under, takes_by}
 use Rattle.check_sched.proofs.AnswerLaws.{by_test, known_is, under_is}
@@ -90,7 +89,7 @@ eligible_free now s c e =
     (all_filtered (λ x. is_none (run_in x.number s.objects)) (λ x. is_open s x.number) (due now s)
     (all_filtered (λ x. is_none (run_in x.number s.objects)) (λ x. nat_le x.time now) (candidates s) (waiting_free s.objects)))
 
-eligible_there : (now : ℕ) (s : State) (c : Candidate) → least (eligible now s) ≡ Some c → c.number < length s.objects
+pub eligible_there : (now : ℕ) (s : State) (c : Candidate) → least (eligible now s) ≡ Some c → c.number < length s.objects
 eligible_there now s c e =
     let within = all_at_least (λ x. nat_lt x.number (length s.objects)) c (eligible now s) e
     (all_filtered (λ x. nat_lt x.number (length s.objects)) (λ x. is_open s x.number) (due now s)
@@ -255,11 +254,11 @@ runs_count s (e ∷ h) legal =
 
 -- ---- a history and what comes after it
 
-legal_front : (s : State) (front back : List (Entry Call Reply)) → IsLegal step s (front ++ back) → IsLegal step s front
+pub legal_front : (s : State) (front back : List (Entry Call Reply)) → IsLegal step s (front ++ back) → IsLegal step s front
 legal_front s [] back legal = tt
 legal_front s (e ∷ front) back legal = (legal.0, legal_front (step s e.call).0 front back legal.1)
 
-legal_back : (s : State) (front back : List (Entry Call Reply)) → IsLegal step s (front ++ back) → IsLegal step (replay step s front) back
+pub legal_back : (s : State) (front back : List (Entry Call Reply)) → IsLegal step s (front ++ back) → IsLegal step (replay step s front) back
 legal_back s [] back legal = legal
 legal_back s (e ∷ front) back legal = legal_back (step s e.call).0 front back legal.1
 

@@ -1,0 +1,151 @@
+-- Laws of replies: which replies a call can have in a history.
+use Rattle.std.proofs.Common.{◌≡◌, ℕ, ◌<◌, Bool, true, false, ◌==◌, cond, List, [], ◌∷◌, ◌++◌, length, Option, Some, None, Result, Ok, Err, refl, sym, subst, ◌∙◌, arith}
+use Rattle.std.specs.Prelude.{⊤, ok_or, slice_get}
+use Rattle.ticket_steps.specs.declared.kept.Entry.{Entry}
+use Rattle.ticket_steps.specs.History.{entry, replay, IsLegal}
+use Rattle.check_rules.specs.declared.state.Code.{Code}
+use Rattle.check_sched.specs.declared.call.Call.{Call}
+use Rattle.check_sched.specs.declared.call.Call.TheVariants as call
+use Rattle.check_sched.specs.declared.call.Reply.{Reply}
+use Rattle.check_sched.specs.declared.call.Reply.TheVariants as reply
+use Rattle.check_sched.specs.declared.call.Refusal.{Refusal}
+use Rattle.check_sched.specs.declared.call.Refusal.TheVariants as refusal
+use Rattle.check_sched.specs.declared.object_state.ObjectState.{ObjectState}
+use Rattle.check_sched.specs.declared.object_state.Run.{Run}
+use Rattle.check_sched.specs.ObjectState.{run_under}
+use Rattle.check_sched.specs.State.{State}
+use Rattle.check_sched.specs.Step.{◌>>=◌, report_taken, settled, step}
+use Rattle.check_sched.specs.BookState.{BookState, book_step}
+use Rattle.check_sched.proofs.EligibleLaws.{waiting_cases}
+use Rattle.check_sched.proofs.OperatorLaws.{abandon_cases, enable_cases, reschedule_cases, status_cases}
+use Rattle.check_sched.proofs.ReportLaws.{report_cases}
+use Rattle.check_sched.proofs.RunLaws.{book_is_legal, eligible_there, legal_back, legal_front}
+use Rattle.check_sched.proofs.TakeLaws.{take_cases}
+use Rattle.check_sched.proofs.UpdateLaws.{length-update_at, none_there}
+
+-- a reply that a take can have
+abbrev pub IsTakeReply : Reply → Type 0
+IsTakeReply (reply.Taken object run) = ⊤
+IsTakeReply (reply.PutOff object until) = ⊤
+IsTakeReply (reply.Idle next) = ⊤
+IsTakeReply reply.AtLimit = ⊤
+IsTakeReply (reply.Standing standing changed next) = ⊥
+IsTakeReply (reply.Freed next) = ⊥
+IsTakeReply reply.Done = ⊥
+IsTakeReply (reply.Refused why) = ⊤
+
+-- a reason to refuse the report of an object that is there
+abbrev pub IsReportRefusal : Refusal → Type 0
+IsReportRefusal refusal.UnknownObject = ⊥
+IsReportRefusal refusal.TimeRange = ⊥
+IsReportRefusal refusal.RunsSpent = ⊥
+IsReportRefusal refusal.NotRunning = ⊤
+IsReportRefusal refusal.WrongRun = ⊤
+
+-- a reply that the report of an object that is there can have
+abbrev pub IsReportReply : Reply → Type 0
+IsReportReply (reply.Taken object run) = ⊥
+IsReportReply (reply.PutOff object until) = ⊥
+IsReportReply (reply.Idle next) = ⊥
+IsReportReply reply.AtLimit = ⊥
+IsReportReply (reply.Standing standing changed next) = ⊤
+IsReportReply (reply.Freed next) = ⊥
+IsReportReply reply.Done = ⊥
+IsReportReply (reply.Refused why) = IsReportRefusal why
+
+-- ---- how many objects there are
+
+-- what a call leaves has as many objects as the state before
+abbrev AsMany : State → State × Reply → Type 0
+AsMany s a = length a.0.objects ≡ length s.objects
+
+-- no call changes how many objects there are
+pub step_objects : (s : State) (c : Call) → length (step s c).0.objects ≡ length s.objects
+step_objects s (call.Take now) =
+    take_cases (AsMany s) now s (λ why. refl)
+    (λ c m e. length-update_at c.number _ s.objects) (λ c m q e. length-update_at c.number _ s.objects) (λ e. refl)
+step_objects s (call.Report n run c) = report_cases (AsMany s) n run c s (λ why. refl) (λ o r e f. length-update_at n _ s.objects)
+step_objects s (call.Abandon n run now) = abandon_cases (AsMany s) n run now s (λ why. refl) (λ o e m. length-update_at n _ s.objects)
+step_objects s (call.Reschedule n time forced) = reschedule_cases (AsMany s) n time forced s (λ why. refl) (λ m. length-update_at n _ s.objects)
+step_objects s (call.Enable n on) = enable_cases (AsMany s) n on s (λ why. refl) (length-update_at n _ s.objects)
+step_objects s (call.Status n) = status_cases (AsMany s) n s (λ why. refl) (λ o e. refl)
+
+-- nor do the calls of a history
+pub replay_objects : (s : State) (h : List (Entry Call Reply)) → length (replay step s h).objects ≡ length s.objects
+replay_objects s [] = refl
+replay_objects s (e ∷ h) = replay_objects (step s e.call).0 h ∙ step_objects s e.call
+
+-- ---- one call
+
+-- a take has a take's reply
+pub step_take : (s : State) (now : ℕ) → IsTakeReply (step s (call.Take now)).1
+step_take s now = take_cases (λ a. IsTakeReply a.1) now s (λ why. tt) (λ c m e. tt) (λ c m q e. tt) (λ e. waiting_cases IsTakeReply now s tt tt)
+
+-- what is taken is one of the objects
+pub taken_there : (s : State) (now object run : ℕ) → reply.Taken object run ≡ (step s (call.Take now)).1 → object < length s.objects
+taken_there s now object run =
+    take_cases (λ a. reply.Taken object run ≡ a.1 → object < length s.objects) now s
+    (λ why e. cc) (λ c m f e. cc)
+    (λ c m q f e. let same : c.number ≡ object = cc in let there = eligible_there now s c f in omega (arith, there, same))
+    (λ f e. waiting_cases (λ w. reply.Taken object run ≡ w → object < length s.objects) now s (λ g. cc) (λ g. cc) e)
+
+-- the answer to a report, by the run that the result is for, and by the object
+abbrev run_answer : State → ℕ → Code → ObjectState → Result Run Refusal → Result (State × Reply) Refusal
+run_answer s n code o test = test >>= λ r. Ok (report_taken n r.start code o s)
+
+abbrev object_answer : State → ℕ → ℕ → Code → Result ObjectState Refusal → Result (State × Reply) Refusal
+object_answer s n run code test = test >>= λ o. run_answer s n code o (run_under run o.run)
+
+under_by : (s : State) (n : ℕ) (code : Code) (o : ObjectState) (x : Run) (same : Bool)
+    → IsReportReply (settled s (run_answer s n code o (cond same (Ok x) (Err refusal.WrongRun)))).1
+under_by s n code o x true = tt
+under_by s n code o x false = tt
+
+run_by : (s : State) (n run : ℕ) (code : Code) (o : ObjectState) (running : Option Run)
+    → IsReportReply (settled s (run_answer s n code o (run_under run running))).1
+run_by s n run code o None = tt
+run_by s n run code o (Some x) = under_by s n code o x (x.number == run)
+
+found_by : (s : State) (n run : ℕ) (code : Code) (found : Option ObjectState) → slice_get s.objects n ≡ found → n < length s.objects
+    → IsReportReply (settled s (object_answer s n run code (ok_or found refusal.UnknownObject))).1
+found_by s n run code None e there = let past = none_there s.objects n e in absurd (omega (arith, past, there))
+found_by s n run code (Some o) e there = run_by s n run code o o.run
+
+-- the report of an object that is there has a report's reply
+pub step_report : (s : State) (n run : ℕ) (code : Code) → n < length s.objects → IsReportReply (step s (call.Report n run code)).1
+step_report s n run code there = found_by s n run code (slice_get s.objects n) refl there
+
+-- ---- histories
+
+-- the last reply of a book's history is the scheduler's
+last_reply : (s : BookState) (h : List (Entry Call Reply)) (n : ℕ) (c : Call) (r : Reply)
+    → IsLegal book_step s (h ++ entry n c r ∷ []) → r ≡ (step (replay step s.sched h) c).1
+last_reply s h n c r legal = (legal_back s.sched h (entry n c r ∷ []) (book_is_legal s.sched s.room (h ++ entry n c r ∷ []) legal)).0
+
+-- In a book's history a take is answered by a take's reply.
+pub take_reply : (s : BookState) (h : List (Entry Call Reply)) (n now : ℕ) (r : Reply)
+    → IsLegal book_step s (h ++ entry n (call.Take now) r ∷ []) → IsTakeReply r
+take_reply s h n now r legal = subst IsTakeReply (sym (last_reply s h n (call.Take now) r legal)) (step_take (replay step s.sched h) now)
+
+-- what was taken in a history is one of the objects that it began with
+taken_among : (s : State) (front back : List (Entry Call Reply)) (m now object run : ℕ)
+    → IsLegal step s ((front ++ entry m (call.Take now) (reply.Taken object run) ∷ []) ++ back) → object < length s.objects
+taken_among s front back m now object run legal =
+    let taken = entry m (call.Take now) (reply.Taken object run) in
+    let until = legal_front s (front ++ taken ∷ []) back legal in
+    let there = taken_there (replay step s front) now object run (legal_back s front (taken ∷ []) until).0 in
+    let count = replay_objects s front in
+    omega (arith, there, count)
+
+-- In a book's history the report of an object that was taken before is answered by its standing, or
+-- refused since the object isn't running or runs under another run.
+pub report_reply : (s : BookState) (front back : List (Entry Call Reply)) (m n now object run : ℕ) (code : Code) (r : Reply)
+    → IsLegal book_step s (((front ++ entry m (call.Take now) (reply.Taken object run) ∷ []) ++ back) ++ entry n (call.Report object run code) r ∷ []) → IsReportReply r
+report_reply s front back m n now object run code r legal =
+    let before = (front ++ entry m (call.Take now) (reply.Taken object run) ∷ []) ++ back in
+    let report = entry n (call.Report object run code) r in
+    let first = legal_front s.sched before (report ∷ []) (book_is_legal s.sched s.room (before ++ report ∷ []) legal) in
+    let there = taken_among s.sched front back m now object run first in
+    let count = replay_objects s.sched before in
+    let is = last_reply s before n (call.Report object run code) r legal in
+    subst IsReportReply (sym is) (step_report (replay step s.sched before) object run code (omega (arith, there, count)))
