@@ -10,7 +10,8 @@
 //! The modules, from what a caller says to how it is answered: `call` has the calls and their
 //! replies, `object_state` what is kept of one object, `candidate` the search for the object that
 //! is checked next, `report` what the result of a check makes of an object, `sched` the scheduler,
-//! `book` the scheduler with the history of its calls, `laws` what follows for all calls that are made one after another.
+//! `book` the scheduler with the history of its calls, `laws` what follows for all calls that are
+//! made one after another.
 
 mod book;
 mod call;

@@ -1,5 +1,5 @@
 -- The times of first checks, object by object.
-use Rattle.std.proofs.Common.{◌≡◌, ℕ, zero, suc, ◌+◌, ◌<◌, ◌≤◌, ◌++◌, ◌&&◌, Bool, true, false, List, [], ◌∷◌, length, map, take, drop, get_or, Option, Some, None, option_map, refl, sym, ap, ◌∙◌, arith, All, append_assoc, length-append}
+use Rattle.std.proofs.Common.{◌≡◌, ℕ, zero, suc, ◌+◌, ◌<◌, ◌≤◌, ◌++◌, true, false, List, [], ◌∷◌, length, map, take, drop, get_or, Option, Some, None, option_map, refl, sym, ap, ◌∙◌, arith, All, append_assoc, length-append}
 use Rattle.std.specs.Prelude.{slice_get, nat_lt, nat_le}
 use Rattle.std.specs.List.{enumerate_from, list_all}
 use Rattle.std.proofs.lemmas.Bool.Decides.{nat_tests}
@@ -11,7 +11,7 @@ use Rattle.check_objects.specs.Configuration.{Configuration, Named, Host, Servic
 use Rattle.check_objects.proofs.DepthLemmas.{and_first, and_second}
 use Rattle.check_spread.specs.declared.spread.Load.{Load}
 use Rattle.check_spread.specs.declared.spread.Spread.{Spread}
-use Rattle.check_spread.specs.Spread.{all_objects, host_objects, service_objects, first_time, first_times, is_scheduled, load_of, rank, time_at, factor_by}
+use Rattle.check_spread.specs.Spread.{all_objects, host_objects, service_objects, first_time, first_times, is_scheduled, load_of, rank, time_at}
 
 -- ---- the objects
 

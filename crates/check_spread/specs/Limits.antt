@@ -1,5 +1,5 @@
 -- The limits within which the times of first checks are computed.
-use Rattle.std.specs.Prelude.{ℕ, ◌<◌, ◌≤◌, ◌*◌, ◌^◌}
+use Rattle.std.specs.Prelude.{◌<◌, ◌≤◌, ◌*◌, ◌^◌}
 use Rattle.check_objects.specs.declared.options.DelayMethod.{DelayMethod}
 use Rattle.check_objects.specs.declared.options.DelayMethod.TheVariants as method
 use Rattle.check_spread.specs.declared.spread.Spread.{Spread}

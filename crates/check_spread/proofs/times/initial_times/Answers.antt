@@ -1,4 +1,4 @@
-use Rattle.std.proofs.Common.{◌≡◌, ◌<◌, ◌≤◌, ◌∙◌, ap, arith, length, length-append}
+use Rattle.std.proofs.Common.{◌∙◌, ap, arith, length, length-append}
 use Rattle.std.proofs.lemmas.List.{length-take, length-drop}
 use Rattle.check_spread.specs.Spread.{first_times}
 use Rattle.check_spread.proofs.TimesLemmas.{front_in_range, back_in_range, length-first_times, length-all_objects}

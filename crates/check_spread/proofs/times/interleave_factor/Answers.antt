@@ -1,6 +1,5 @@
-use Rattle.std.proofs.Common.{◌≡◌, ◌≢◌, ◌-◌, ◌<◌, ◌≤◌, ◌∙◌, arith, length, sym, ap, refl}
+use Rattle.std.proofs.Common.{◌≡◌, ◌≢◌, ◌-◌, ◌<◌, ◌∙◌, arith, length, sym, ap}
 use Rattle.std.proofs.lemmas.Bool.{ne_eqb}
-use Rattle.check_spread.specs.Spread.{factor_by, smart_factor}
 use Rattle.check_spread.proofs.TimesLemmas.{count_parts, some_host}
 use Rattle.check_spread.proofs.times.interleave_factor.Goals as goal
 

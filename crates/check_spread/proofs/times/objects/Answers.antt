@@ -1,4 +1,4 @@
-use Rattle.std.proofs.Common.{◌≡◌, ◌∙◌, ◌++◌, ◌∷◌, [], ap, sym, arith}
+use Rattle.std.proofs.Common.{◌∙◌, ◌++◌, ◌∷◌, [], ap, sym, arith}
 use Rattle.std.proofs.lemmas.List.{take_all}
 use Rattle.check_spread.proofs.TimesLemmas.{objects_more, length-all_objects, intervals_in_range}
 use Rattle.check_spread.proofs.times.objects.Goals as goal

@@ -1,13 +1,13 @@
-use Rattle.std.proofs.Common.{◌≡◌, ◌%◌, ◌<◌, ◌≤◌, ◌+◌, ◌^◌, ◌++◌, ◌∷◌, [], Some, None, true, false, arith, sym, ap, ◌∙◌, append_assoc, IfSome}
+use Rattle.std.proofs.Common.{◌%◌, ◌<◌, ◌+◌, ◌^◌, ◌++◌, Some, None, false, arith, sym, ap, ◌∙◌, IfSome}
 use Rattle.std.specs.Prelude.{slice_index_or}
 use Rattle.std.proofs.Math.Nat.{mod-lt}
 use Rattle.std.proofs.lemmas.Grind.{get_or_default_zero}
 use Rattle.std.proofs.lemmas.List.{take_all}
 use Rattle.std.proofs.lemmas.List.Elements.{All-push}
 use Rattle.check_objects.specs.declared.object.Object.{Object}
-use Rattle.check_spread.specs.Spread.{first_time, first_times}
+use Rattle.check_spread.specs.Spread.{first_times}
 use Rattle.check_spread.specs.Visits.{is_visited_earlier}
-use Rattle.check_spread.proofs.VisitLemmas.{counts_add, counts_skip, earlier_first, earlier_same, earlier_more, rank_less, visits_few}
+use Rattle.check_spread.proofs.VisitLemmas.{counts_add, counts_skip, earlier_same, earlier_more, rank_less, visits_few}
 use Rattle.check_spread.proofs.TimesLemmas.{first_times_more, length-first_times, first_time_is, first_time_none, pushed}
 use Rattle.check_spread.proofs.times.push_first_times.Goals as goal
 use Rattle.check_spread.proofs.times.push_first_times.Goals.{then-is_scheduled+in_ok-push, else-is_scheduled+in_ok-push-2}

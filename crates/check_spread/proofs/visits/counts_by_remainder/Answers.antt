@@ -1,7 +1,7 @@
-use Rattle.std.proofs.Common.{◌≡◌, ◌%◌, ◌<◌, ◌≤◌, ◌+◌, arith, sym, ◌∙◌}
+use Rattle.std.proofs.Common.{◌%◌, ◌<◌, ◌+◌, arith, sym, ◌∙◌}
 use Rattle.std.proofs.Math.Nat.{mod-lt}
 use Rattle.std.proofs.lemmas.Grind.{get_or_default_zero}
-use Rattle.check_spread.specs.Visits.{has_remainder_before, visits}
+use Rattle.check_spread.specs.Visits.{has_remainder_before}
 use Rattle.check_spread.proofs.VisitLemmas.{counts_first, counts_add, counts_skip, counts_all, visits_few, remainder_same, remainder_more}
 use Rattle.check_spread.proofs.visits.counts_by_remainder.Goals as goal
 use Rattle.check_spread.proofs.visits.counts_by_remainder.Goals.{then-is_scheduled, else-is_scheduled}

@@ -1,4 +1,4 @@
-use Rattle.std.proofs.Common.{◌≡◌, ◌≤◌, ◌∙◌, arith, ap}
+use Rattle.std.proofs.Common.{◌∙◌, arith, ap}
 use Rattle.check_spread.specs.Visits.{sums_before}
 use Rattle.check_spread.proofs.VisitLemmas.{few_in_all, ranks_first, ok_weaker}
 use Rattle.check_spread.proofs.visits.first_ranks.Goals as goal

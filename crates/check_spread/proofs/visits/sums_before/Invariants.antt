@@ -1,4 +1,4 @@
-use Rattle.std.proofs.Common.{◌≡◌, ◌++◌, ◌+◌, drop, take, sum}
+use Rattle.std.proofs.Common.{◌≡◌, ◌++◌, drop, take, sum}
 use Rattle.check_spread.specs.Visits.{sums_before}
 use Rattle.check_spread.proofs.visits.sums_before.Given as goal
 

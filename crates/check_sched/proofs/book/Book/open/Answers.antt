@@ -1,6 +1,5 @@
-use Rattle.std.proofs.Common.{◌≡◌, ◌≤◌, arith, subst, sym, ap, ◌∙◌}
-use Rattle.ticket_steps.specs.History.{replay, IsLegal}
-use Rattle.check_sched.specs.BookState.{book_opening, book_step}
+use Rattle.std.proofs.Common.{arith}
+use Rattle.check_sched.specs.BookState.{book_opening}
 use Rattle.check_sched.proofs.BookLemmas.{book_opened}
 use Rattle.check_sched.proofs.book.Book.open.Goals as goal
 
