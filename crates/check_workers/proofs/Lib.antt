@@ -1,0 +1,5 @@
+pub mod CallerLemmas
+pub mod TallyLemmas
+pub mod RoundLemmas
+pub mod SumLemmas
+pub mod ShiftLemmas

@@ -1,0 +1,44 @@
+-- Tallies of entries, one list after another.
+use Rattle.std.proofs.Common.{◌≡◌, ℕ, ◌+◌, ◌<◌, ◌≤◌, ◌^◌, List, [], ◌∷◌, ◌++◌, length, refl, ap, cond, sym, ◌∙◌, Bool, length-append, arith}
+use Rattle.std.specs.Prelude.{count_by, ◌&&◌, true}
+use Rattle.std.proofs.lemmas.List.Sums.{count_by-le-length, sum_by-append}
+use Rattle.ticket_steps.specs.declared.kept.Entry.{Entry}
+use Rattle.check_sched.specs.declared.call.Call.{Call}
+use Rattle.check_sched.specs.declared.call.Reply.{Reply}
+use Rattle.check_workers.specs.declared.tally.Stop.{Stop}
+use Rattle.check_workers.specs.declared.tally.Tally.{Tally}
+use Rattle.check_workers.specs.Tallies.{IsFew, is_at_limit, is_idle, is_late, is_no_memory, is_put_off, is_refused, is_report, is_standing, is_take, is_taken, plus, tally_of}
+
+count_append : {X : Type 0} (p : X → Bool) (xs ys : List X) → count_by p (xs ++ ys) ≡ count_by p xs + count_by p ys
+count_append p xs ys = sum_by-append (λ x. cond (p x) 1 0) xs ys
+
+takes_append : (p : Reply → Bool) (es fs : List (Entry Call Reply)) → count_by (λ e. is_take e.call && p e.reply) (es ++ fs) ≡ count_by (λ e. is_take e.call && p e.reply) es + count_by (λ e. is_take e.call && p e.reply) fs
+takes_append p es fs = count_append (λ e. is_take e.call && p e.reply) es fs
+
+reports_append : (p : Reply → Bool) (es fs : List (Entry Call Reply)) → count_by (λ e. is_report e.call && p e.reply) (es ++ fs) ≡ count_by (λ e. is_report e.call && p e.reply) es + count_by (λ e. is_report e.call && p e.reply) fs
+reports_append p es fs = count_append (λ e. is_report e.call && p e.reply) es fs
+
+-- the tally of two lists is the sum of their tallies
+pub tally_append : (es fs : List (Entry Call Reply)) (s t : List Stop) → tally_of (es ++ fs) (s ++ t) ≡ plus (tally_of es s) (tally_of fs t)
+tally_append es fs s t =
+    rw (takes_append (λ r. true) es fs, takes_append is_taken es fs, takes_append is_put_off es fs, takes_append is_idle es fs, takes_append is_at_limit es fs, takes_append is_refused es fs,
+      reports_append (λ r. true) es fs, reports_append is_standing es fs, reports_append is_late es fs, count_append is_no_memory s t, length-append s t) refl
+
+-- the counts of few entries are few
+few_count : {X : Type 0} (p : X → Bool) (xs : List X) → length xs < 2 ^ 42 → count_by p xs < 2 ^ 42
+few_count p xs h = omega (arith, count_by-le-length p xs, h)
+
+pub few_tally : (es : List (Entry Call Reply)) (s : List Stop) → length es < 2 ^ 42 → length s < 2 ^ 42 → IsFew (tally_of es s)
+few_tally es s h k = record {
+  takes = few_count (λ e. is_take e.call && true) es h;
+  taken = few_count (λ e. is_take e.call && is_taken e.reply) es h;
+  put_off = few_count (λ e. is_take e.call && is_put_off e.reply) es h;
+  idle = few_count (λ e. is_take e.call && is_idle e.reply) es h;
+  at_limit = few_count (λ e. is_take e.call && is_at_limit e.reply) es h;
+  refused = few_count (λ e. is_take e.call && is_refused e.reply) es h;
+  reports = few_count (λ e. is_report e.call && true) es h;
+  reported = few_count (λ e. is_report e.call && is_standing e.reply) es h;
+  late = few_count (λ e. is_report e.call && is_late e.reply) es h;
+  unanswered = few_count is_no_memory s k;
+  stops = k;
+}

@@ -1,0 +1,4 @@
+pub mod Tallies
+pub mod Shifts
+pub mod Crews
+pub mod Progress

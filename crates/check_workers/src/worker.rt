@@ -1,0 +1,55 @@
+//! One worker.
+
+ghost use Rattle.std.specs.Prelude.{◌≡◌, ◌+◌};
+ghost use Rattle.check_desk.specs.Desks.{IsHistoryOf, IsPassOf, opened_with};
+ghost use Rattle.check_desk.specs.Passes.{pass_of};
+ghost use Rattle.check_workers.specs.Shifts.{HasWorked, Shift, open_run, shift_entries, stops_of};
+ghost use Rattle.check_workers.specs.Tallies.{IsSum, tally_of};
+
+use crate::plugin::Plugin;
+use crate::round::{Progress, round};
+use crate::tally::Tally;
+use check_desk::{Desk, Pass};
+use std::sync::Wait;
+
+/// Works at each moment of the list in order, in milliseconds: takes the next check by one call of
+/// the pass and, where a check was taken, runs it by the plugin, once, and reports its return code
+/// by one call more. Any other reply ends the work of that moment.
+///
+/// It stops early where there is no memory to record a call, which comes only where the history has
+/// reached the book's room, or where the pass has no call left. The last part of what it gives is
+/// then the object and the run that it took and couldn't report, if any: that check stays open, and
+/// an operator may abandon it.
+///
+/// What this says holds where it returns: it waits for its turns, and for the plugin.
+pub fn work<P: Plugin>(
+    rt: &impl Wait,
+    desk: &Desk,
+    pass: Pass,
+    plugin: &P,
+    moments: &[u64],
+) -> (Pass, Tally, Option<(u32, u64)>)
+    requires { IsPassOf desk.now pass }
+    ensures desk { IsPassOf desk.now result.0 }
+    ensures legal { IsHistoryOf desk.now (pass_of result.0).seen }
+    ensures worked { (s : Shift)
+        × HasWorked (P.allows plugin.now) moments.now (opened_with desk.now).room s
+            (pass_of pass) (pass_of result.0)
+        × (result.1 ≡ tally_of (shift_entries s) (stops_of s.stopped))
+        × (result.2 ≡ open_run s.left_open) }
+    ensures sums { IsSum result.1 }
+    ensures left { (pass_of pass).left ≡ (pass_of result.0).left + result.1.takes
+        + result.1.reports + result.1.unanswered }
+{
+    let mut pass = pass;
+    let mut tally = Tally::default();
+    for now in moments {
+        let (back, made, progress) = round(rt, desk, pass, plugin, *now);
+        pass = back;
+        tally = tally.plus(made);
+        if let Progress::Stopped(stop, open) = progress {
+            return (pass, tally.plus(Tally::of_stop(stop)), open);
+        }
+    }
+    (pass, tally, None)
+}
