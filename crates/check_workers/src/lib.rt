@@ -1,10 +1,12 @@
 #![tactic(auto)]
 //! Workers.
+mod crews;
 mod plugin;
 mod round;
 mod tally;
 mod worker;
 
+pub use crews::{CrewError, crew};
 pub use plugin::Plugin;
 pub use tally::Tally;
 pub use worker::work;
