@@ -5,6 +5,7 @@ pub mod Script
 pub mod Scripted
 pub mod Agreement
 pub mod Text
+pub mod ScriptedCodes
 pub mod Drive
 pub mod Words
 pub mod Session

@@ -9,12 +9,14 @@
 #![tactic(auto)]
 
 mod command;
+mod drill;
 mod drive;
 mod input;
 mod job;
 mod output;
 mod refusal;
 mod script;
+mod scripted;
 mod session;
 #[cfg(test)]
 mod tests;
