@@ -10,7 +10,8 @@ use Rattle.nagsched.specs.Output.{WroteFront}
 use Rattle.nagsched.specs.Script.{Script, script_of}
 use Rattle.nagsched.specs.Text.{text}
 
-abbrev pub outcome_by : Result Script InputRefusal → Outcome
+-- a script that was read is run
+abbrev pub outcome_by : {K : Type 0} → Result (Script K) InputRefusal → Outcome
 outcome_by (Ok s) = outcome.Ran
 outcome_by (Err r) = outcome.Refused
 

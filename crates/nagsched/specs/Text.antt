@@ -181,8 +181,8 @@ line_from s c = reply_line s.setup c (step s c).1
 abbrev pub text_from : State → List Call → List ℕ
 text_from s calls = flat_map (λ p. reply_line s.setup p.0 p.1) (zip calls (replies s calls))
 
-abbrev pub script_text : ℕ → Result Script InputRefusal → List ℕ
-script_text start (Ok s) = text_from (opening s.setup start) s.calls
+abbrev pub script_text : ℕ → Result (Script Call) InputRefusal → List ℕ
+script_text start (Ok s) = text_from (opening s.setup start) s.commands
 script_text start (Err r) = refusal_line r
 
 -- What a run on the input writes, the scheduler starting at the moment `start`: the one line of the
