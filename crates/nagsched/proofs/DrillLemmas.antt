@@ -1,5 +1,5 @@
 -- The members of a drill's commands, and what the commands say together.
-use Rattle.std.proofs.Common.{◌≡◌, ◌≢◌, ℕ, suc, zero, ◌+◌, ◌≤◌, ◌<◌, ◌==◌, Bool, true, false, cond, ◌&&◌, List, [], ◌∷◌, ◌++◌, length, map, replicate, Option, Some, None, get_or, refl, sym, ◌∙◌, ap, append-nil, inl, inr, arith}
+use Rattle.std.proofs.Common.{◌≡◌, ℕ, suc, zero, ◌+◌, ◌≤◌, ◌<◌, ◌==◌, true, false, cond, ◌&&◌, List, [], ◌∷◌, ◌++◌, length, map, replicate, Option, Some, None, get_or, refl, sym, ◌∙◌, ap, append-nil, inl, inr, arith}
 use Rattle.std.specs.Prelude.{is_some, unwrap_or, filter_map}
 use Rattle.std.specs.List.{list_all, last_or, range_with_len, cons_option}
 use Rattle.std.proofs.Math.ListN.{set}
