@@ -12,6 +12,9 @@ use Rattle.nagsched.specs.Output.{WroteFront}
 use Rattle.serde_json.specs.Data.{Items}
 use Rattle.check_objects.specs.Configuration.{Configuration}
 use Rattle.nagsched.specs.Command.{call_by}
+use Rattle.nagsched.specs.DrillCommand.{drill_command_by}
+use Rattle.nagsched.specs.DrillScript.{drill_over, drill_script_of}
+use Rattle.nagsched.specs.Line.{◌>>=◌}
 use Rattle.nagsched.specs.Script.{script_by}
 use Rattle.nagsched.specs.declared.refusal.LineFault.{LineFault}
 use Rattle.nagsched.specs.Text.{text, script_text}
@@ -31,6 +34,10 @@ script_take_by meaning bytes (inr h) = let e = take_all 67108865 bytes (omega ar
 
 pub script_take : {K : Type 0} (meaning : Configuration → List ℕ → Items → Result K LineFault) (bytes : List ℕ) → script_by meaning (take 67108865 bytes) ≡ script_by meaning bytes
 script_take meaning bytes = script_take_by meaning bytes (cases_lt 67108864 (length bytes))
+
+pub drill_script_take : (bytes : List ℕ) → drill_script_of (take 67108865 bytes) ≡ drill_script_of bytes
+unfolding drill_script_of
+drill_script_take bytes = ap (λ r. r >>= λ s. Ok (drill_over s)) (script_take drill_command_by bytes)
 
 pub text_take : (start : ℕ) (bytes : List ℕ) → text start (take 67108865 bytes) ≡ text start bytes
 unfolding text

@@ -18,7 +18,8 @@ use std::alloc::Global;
 /// How many bytes a line may have without its line feed.
 const MAX_LINE: usize = 4096;
 
-/// A command of a vocabulary. An implementation says what each word of it means.
+/// A command of a vocabulary. An implementation names a command as the definitions see it (`Seen`,
+/// `seen`), and what a word with the members after it means over a setup (`meaning`).
 pub trait Command: Drop {
     ghost Seen: { Type 0 };
 
