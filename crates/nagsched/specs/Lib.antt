@@ -14,3 +14,4 @@ pub mod ScriptedCodes
 pub mod Drive
 pub mod Words
 pub mod Session
+pub mod Drill

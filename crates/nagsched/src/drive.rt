@@ -153,7 +153,7 @@ fn make_call<W: Write>(
 }
 
 /// Writes the line of a refusal.
-fn refuse<W: Write>(
+pub fn refuse<W: Write>(
     alloc: Global,
     refusal: InputRefusal,
     writer: &mut W,
@@ -172,7 +172,7 @@ fn refuse<W: Write>(
 }
 
 /// Flushes what was written, and hands the outcome on.
-fn finish<W: Write>(writer: &mut W, outcome: Outcome) -> Result<Outcome, DriveError>
+pub fn finish<W: Write>(writer: &mut W, outcome: Outcome) -> Result<Outcome, DriveError>
     ensures kept { Keeps (W.contents writer.old) (W.contents writer.new) }
     ensures outcome { IfOk result (λ given. given ≡ outcome) }
     ensures kind { IsOkUnless result DriveError.Write }

@@ -3,6 +3,7 @@ ghost use Rattle.std.specs.Prelude.{◌≡◌, map};
 ghost use Rattle.nagsched.specs.ScriptedCodes.{code_of_run, scripted_code};
 
 use check_rules::Code;
+use check_workers::Plugin;
 
 /// The return codes of each object's plugin, by the object's number.
 #[derive(Drop)]
@@ -22,6 +23,17 @@ impl Scripted {
             Some(codes) => code_of_run(codes, run),
             None => Code::Ok,
         }
+    }
+}
+
+impl Plugin for Scripted {
+    ghost use Rattle.std.specs.Prelude.{map};
+    ghost use Rattle.nagsched.specs.Drill.{gives_scripted};
+
+    ghost allows = { λ s. gives_scripted (map (λ list. list.items) s.codes.items) };
+
+    fn check(&self, object: u32, run: u64, _now: u64) -> Code {
+        self.code(object, run)
     }
 }
 
