@@ -1,5 +1,5 @@
 -- The passes of a desk, handed out one after another.
-use Rattle.std.proofs.Common.{◌≡◌, ℕ, zero, suc, ◌+◌, ◌-◌, ◌*◌, ◌<◌, ◌^◌, List, [], ◌∷◌, ◌++◌, length, true, refl, ap, subst, ◌∙◌, arith, get_or}
+use Rattle.std.proofs.Common.{◌≡◌, ◌≤◌, ℕ, zero, suc, ◌+◌, ◌-◌, ◌*◌, ◌<◌, ◌^◌, List, [], ◌∷◌, ◌++◌, length, true, refl, ap, subst, ◌∙◌, arith, get_or}
 use Rattle.ticket_steps.specs.Sums.{counted}
 use Rattle.ticket_lock.specs.Callers.{Caller, caller, keeping, given}
 use Rattle.ticket_lock.specs.Legal.{IsLegalFrom}
@@ -70,3 +70,10 @@ few_calls pass = omega (arith, pass.seat.told.calls, pass.seat.told.few_calls)
 -- what it has seen is a history of its desk
 pub seen_history : (desk : Desk) (pass : Pass) → IsPassOf desk pass → IsHistoryOf desk (pass_of pass).seen
 seen_history desk pass is = subst (λ start. IsLegalFrom book.ghosts start (pass_of pass).seen) is.1 pass.seat.legal
+
+-- it stands for at least one number, and for at most 1,024
+pub some_number : (pass : Pass) → 0 < length (pass_of pass).numbers
+some_number pass = omega (arith, pass.seat.told.count, pass.seat.told.some_number)
+
+pub few_numbers : (pass : Pass) → length (pass_of pass).numbers ≤ 1024
+few_numbers pass = omega (arith, pass.seat.told.count, pass.seat.told.few_numbers)

@@ -1,19 +1,18 @@
 -- What a caller has made, call by call.
-use Rattle.std.proofs.Common.{◌≡◌, ℕ, ◌+◌, ◌-◌, ◌<◌, ◌≤◌, List, [], ◌∷◌, ◌++◌, length, refl, sym, ap, subst, ◌∙◌, append_assoc, append-nil, length-append, arith}
+use Rattle.std.proofs.Common.{◌≡◌, ℕ, ◌+◌, ◌-◌, List, [], ◌∷◌, ◌++◌, length, refl, sym, ap, subst, ◌∙◌, append_assoc, append-nil, length-append, arith}
 use mathlib.Core.List.{IsPrefix}
 use Rattle.ticket_steps.specs.declared.kept.Entry.{Entry}
 use Rattle.ticket_steps.specs.History.{entry, of}
-use Rattle.ticket_steps.specs.Sums.{times}
 use Rattle.ticket_steps.proofs.Ofs.{of-append}
-use Rattle.ticket_lock.specs.Callers.{Caller, drawn, ended}
+use Rattle.ticket_lock.specs.Callers.{Caller}
 use Rattle.check_sched.specs.declared.call.Call.{Call}
 use Rattle.check_sched.specs.declared.call.Reply.{Reply}
-use Rattle.check_desk.specs.Desks.{HasNoMemory, HasRecorded, recorded}
+use Rattle.check_desk.specs.Desks.{HasNoMemory, HasRecorded}
 use Rattle.check_workers.specs.Shifts.{HasMade}
 
 -- ---- beginnings of histories
 
-prefix_trans : {A : Type 0} (xs ys zs : List A) → IsPrefix xs ys → IsPrefix ys zs → IsPrefix xs zs
+pub prefix_trans : {A : Type 0} (xs ys zs : List A) → IsPrefix xs ys → IsPrefix ys zs → IsPrefix xs zs
 prefix_trans xs ys zs (us, p) (vs, q) = (us ++ vs, sym (append_assoc xs us vs) ∙ ap (λ l. l ++ vs) p ∙ q)
 
 -- ---- a caller that has made nothing, one call, one call after another

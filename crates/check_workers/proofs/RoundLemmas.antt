@@ -1,5 +1,5 @@
 -- The work of one moment, from its calls.
-use Rattle.std.proofs.Common.{◌≡◌, ℕ, ◌+◌, ◌<◌, ◌≤◌, ◌^◌, List, [], ◌∷◌, ◌++◌, length, Option, Some, None, refl, sym, ap, subst, ◌∙◌, arith}
+use Rattle.std.proofs.Common.{◌≡◌, ℕ, ◌+◌, List, [], ◌∷◌, Some, None, refl, sym, subst, arith}
 use Rattle.ticket_steps.specs.declared.kept.Entry.{Entry}
 use Rattle.ticket_steps.specs.History.{entry}
 use Rattle.ticket_lock.specs.Callers.{Caller}
@@ -11,9 +11,8 @@ use Rattle.check_sched.specs.declared.call.Reply.TheVariants as reply
 use Rattle.check_desk.specs.Desks.{HasRecorded}
 use Rattle.check_workers.specs.declared.round.Progress.{Progress}
 use Rattle.check_workers.specs.declared.round.Progress.TheVariants as progress
-use Rattle.check_workers.specs.declared.tally.Stop.{Stop}
 use Rattle.check_workers.specs.declared.tally.Tally.{Tally}
-use Rattle.check_workers.specs.Progress.{HasCome, HasReported, IsDone, IsReported, IsUnreported}
+use Rattle.check_workers.specs.Progress.{HasCome, HasReported, IsDone}
 use Rattle.check_workers.specs.Shifts.{HasMade, IsResult, report_entries}
 use Rattle.check_workers.specs.Tallies.{IsFew, plus, tally_of}
 use Rattle.check_workers.proofs.CallerLemmas.{made_reply, made_then}

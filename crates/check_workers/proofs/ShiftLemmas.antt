@@ -1,5 +1,5 @@
 -- A shift, round by round.
-use Rattle.std.proofs.Common.{◌≡◌, ◌≢◌, ℕ, ◌+◌, ◌<◌, ◌≤◌, ◌^◌, List, [], ◌∷◌, ◌++◌, length, map, take, drop, get_or, Option, Some, None, refl, sym, ap, subst, ◌∙◌, append_assoc, append-nil, length-append, arith}
+use Rattle.std.proofs.Common.{◌≡◌, ℕ, ◌+◌, ◌<◌, ◌^◌, List, [], ◌∷◌, ◌++◌, length, map, Option, Some, None, refl, sym, ap, subst, ◌∙◌, append_assoc, append-nil, length-append, arith}
 use Rattle.std.specs.Prelude.{flat_map, count_by, true}
 use Rattle.std.proofs.lemmas.List.Concat.{flat_map-cons}
 use Rattle.std.specs.List.{All}
@@ -20,7 +20,7 @@ use Rattle.check_workers.specs.declared.tally.Stop.{Stop}
 use Rattle.check_workers.specs.declared.tally.Stop.TheVariants as stop
 use Rattle.check_workers.specs.declared.tally.Tally.{Tally}
 use Rattle.check_workers.specs.Progress.{HasCome, IsDone, IsOpenAt, IsStopped}
-use Rattle.check_workers.specs.Shifts.{HasMade, HasWorked, IsRound, IsShift, Open, Round, Shift, open_entries, open_moments, round_entries, shift_entries, shift_moments, stops_of, unanswered}
+use Rattle.check_workers.specs.Shifts.{HasMade, HasWorked, IsRound, Open, Round, Shift, open_entries, open_moments, round_entries, shift_entries, stops_of, unanswered}
 use Rattle.check_workers.specs.Tallies.{IsFew, is_no_memory, plus, reports_with, takes_with, tally_of}
 use Rattle.check_workers.proofs.CallerLemmas.{made_none, made_then}
 use Rattle.check_workers.proofs.TallyLemmas.{few_tally, tally_append}
@@ -51,7 +51,7 @@ pub working_more : (allows : ℕ → ℕ → ℕ → Code → Type 0) (done : Li
 working_more allows done now before mid after t u w d =
     let own : mid.own ≡ before.own = w.made.own in
     let entries : rounds_entries before.own (w.rounds ++ d.round ∷ []) ≡ rounds_entries before.own w.rounds ++ round_entries before.own d.round =
-      flat_map-append (round_entries before.own) w.rounds (d.round ∷ []) ∙ ap (λ l. rounds_entries before.own w.rounds ++ l) (append-nil (round_entries before.own d.round)) in
+    flat_map-append (round_entries before.own) w.rounds (d.round ∷ []) ∙ ap (λ l. rounds_entries before.own w.rounds ++ l) (append-nil (round_entries before.own d.round)) in
     record {
       rounds = w.rounds ++ d.round ∷ [];
       allowed = All-append (IsRound allows) w.rounds (d.round ∷ []) w.allowed (All-cons (IsRound allows) d.round [] d.allowed (All-nil (IsRound allows)));
@@ -83,7 +83,7 @@ working_stopped allows done rest moments now room stop given before mid after t 
       };
       made = subst (λ k. HasMade (rounds_entries before.own w.rounds ++ open_entries before.own h.left_open) k before after) none
           (made_then (rounds_entries before.own w.rounds) (open_entries before.own h.left_open) 0 (unanswered (Some stop)) before mid after w.made
-            (subst (λ number. HasMade (open_entries number h.left_open) (unanswered (Some stop)) mid after) own h.made));
+          (subst (λ number. HasMade (open_entries number h.left_open) (unanswered (Some stop)) mid after) own h.made));
       reason = h.reason;
     }
 
@@ -194,7 +194,7 @@ both_shift s =
     let len = length-append es fs in
     omega arith
 
-unanswered_count : (o : Option Stop) → count_by is_no_memory (stops_of o) ≡ unanswered o
+pub unanswered_count : (o : Option Stop) → count_by is_no_memory (stops_of o) ≡ unanswered o
 unanswered_count None = refl
 unanswered_count (Some stop.NoMemory) = refl
 unanswered_count (Some stop.Spent) = refl

@@ -1,7 +1,5 @@
 -- Each take and each report is counted under its reply.
-use Rattle.std.proofs.Common.{◌≡◌, ℕ, ◌+◌, List, [], ◌∷◌, ◌++◌, refl, sym, ap, subst, ◌∙◌, arith}
-use mathlib.Core.List.{IsPrefix}
-use Rattle.ticket_steps.specs.declared.kept.Entry.{Entry}
+use Rattle.std.proofs.Common.{◌≡◌, ℕ, [], ◌∷◌, ◌++◌, refl, sym, ap, subst, ◌∙◌, arith}
 use Rattle.ticket_steps.specs.History.{entry, IsLegal}
 use Rattle.ticket_lock.specs.Callers.{Caller}
 use Rattle.check_rules.specs.declared.state.Code.{Code}
@@ -72,4 +70,4 @@ report_sum s object run code r before after ends h legal number =
     let back = h.follows.0.0 in
     let history : h.history ≡ (ends.front ++ taken ∷ []) ++ back = sym h.follows.0.1 ∙ ap (λ l. l ++ back) ends.is in
     sum_of_report number object run code r (report_reply s ends.front back ends.pass before.own ends.now object run code r
-      (subst (λ l. IsLegal book_step s (l ++ entry before.own (call.Report object run code) r ∷ [])) history (rw h.after_is at legal)))
+    (subst (λ l. IsLegal book_step s (l ++ entry before.own (call.Report object run code) r ∷ [])) history (rw h.after_is at legal)))

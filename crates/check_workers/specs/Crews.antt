@@ -1,9 +1,11 @@
 -- What the workers of a crew leave in the book.
-use Rattle.std.specs.Prelude.{◌≡◌, ℕ, ◌+◌, ◌≤◌, ◌<◌, ⊤, List, [], ◌∷◌, ◌++◌, length, flat_map, Option, Some, None, sum_by}
+use Rattle.std.specs.Prelude.{◌≡◌, ℕ, ◌+◌, ◌≤◌, ◌<◌, ⊤, List, [], ◌∷◌, ◌++◌, length, flat_map, Option, Some, None, slice_index_or, sum_by}
 use Rattle.ticket_steps.specs.declared.kept.Entry.{Entry}
 use Rattle.ticket_steps.specs.History.{of}
 use Rattle.ticket_steps.specs.Sums.{times}
+use Rattle.std.specs.List.{All}
 use Rattle.ticket_lock.specs.Callers.{Caller}
+use Rattle.ticket_lock.specs.Views.{Follows}
 use Rattle.check_rules.specs.declared.state.Code.{Code}
 use Rattle.check_sched.specs.declared.call.Call.{Call}
 use Rattle.check_sched.specs.declared.call.Reply.{Reply}
@@ -13,10 +15,9 @@ use Rattle.check_desk.specs.Desks.{IsPassOf, opened_with}
 use Rattle.check_desk.specs.Passes.{pass_of}
 use Rattle.check_workers.specs.declared.crews.CrewError.{CrewError}
 use Rattle.check_workers.specs.declared.crews.CrewError.TheVariants as error
-use Rattle.check_workers.specs.declared.tally.Stop.{Stop}
 use Rattle.check_workers.specs.declared.tally.Tally.{Tally}
 use Rattle.check_workers.specs.Shifts.{HasWorked, Shift, IsReason, IsShift, shift_entries, stops_of, unanswered}
-use Rattle.check_workers.specs.Tallies.{IsSum, tally_of}
+use Rattle.check_workers.specs.Tallies.{IsSum, plus, tally_of}
 
 -- The shift that a worker worked on these moments with this pass, as the history of the closed book tells: of the numbers that
 -- the pass answers for, what is new since it came to the crew are the entries of the shift.
@@ -47,11 +48,6 @@ numbers_in passes = sum_by (λ pass. length (pass_of pass).numbers) passes
 abbrev pub calls_in : List Pass → ℕ
 calls_in passes = sum_by (λ pass. (pass_of pass).calls) passes
 
--- each pass is of this desk
-abbrev pub ArePassesOf : Desk → List Pass → Type 0
-ArePassesOf desk [] = ⊤
-ArePassesOf desk (pass ∷ passes) = IsPassOf desk pass × ArePassesOf desk passes
-
 -- each pass has more than so many calls left
 abbrev pub HaveLeft : ℕ → List Pass → Type 0
 HaveLeft least [] = ⊤
@@ -74,8 +70,44 @@ pub record IsWorked (allows : ℕ → ℕ → ℕ → Code → Type 0) (moments 
   pub sums : IsSum tally
 
 -- the workers of these passes have, in order
-abbrev pub AreWorked : (ℕ → ℕ → ℕ → Code → Type 0) → List ℕ → Desk → List Pass → List (Pass × Tally) → Type 0
-AreWorked allows moments desk [] [] = ⊤
-AreWorked allows moments desk [] (w ∷ worked) = ⊥
-AreWorked allows moments desk (pass ∷ passes) [] = ⊥
-AreWorked allows moments desk (pass ∷ passes) (w ∷ worked) = IsWorked allows moments desk pass w.0 w.1 × AreWorked allows moments desk passes worked
+pub record AreWorked (allows : ℕ → ℕ → ℕ → Code → Type 0) (moments : List ℕ) (desk : Desk) (passes : List Pass) (worked : List (Pass × Tally)) : Type 0 where
+  pub count : length worked ≡ length passes
+  pub each : (i : ℕ) (p : Pass) (w : Pass × Tally) → i < length passes
+      → IsWorked allows moments desk (slice_index_or passes i p) (slice_index_or worked i w).0 (slice_index_or worked i w).1
+
+-- ---- passes that are gathered
+
+-- the counts are at most these: calls for each but the stops, and numbers for the stops
+pub record IsWithin (calls numbers : ℕ) (t : Tally) : Type 0 where
+  pub takes : t.takes ≤ calls
+  pub taken : t.taken ≤ calls
+  pub put_off : t.put_off ≤ calls
+  pub idle : t.idle ≤ calls
+  pub at_limit : t.at_limit ≤ calls
+  pub refused : t.refused ≤ calls
+  pub reports : t.reports ≤ calls
+  pub reported : t.reported ≤ calls
+  pub late : t.late ≤ calls
+  pub unanswered : t.unanswered ≤ calls
+  pub stops : t.stops ≤ numbers
+
+-- a pass of the desk, with a tally of some of its calls
+abbrev pub IsTallied : Desk → Pass → Tally → Type 0
+IsTallied desk pass tally = IsPassOf desk pass × IsWithin (pass_of pass).calls (length (pass_of pass).numbers) tally
+
+-- tallies, added up
+abbrev pub sum_of : List (Pass × Tally) → Tally
+sum_of [] = tally_of [] []
+sum_of (w ∷ worked) = plus w.1 (sum_of worked)
+
+-- The passes are gathered in this one, and their tallies are added up to this one.
+pub record AreGathered (desk : Desk) (worked : List (Pass × Tally)) (pass : Pass) (tally : Tally) : Type 0 where
+  pub tallied : IsTallied desk pass tally
+  pub numbers : (pass_of pass).numbers ≡ flat_map (λ w. (pass_of w.0).numbers) worked
+  pub calls : (pass_of pass).calls ≡ sum_by (λ w. (pass_of w.0).calls) worked
+  pub seen : All (λ w. Follows (pass_of w.0).numbers (pass_of w.0).seen (pass_of pass).seen) worked
+  pub sum : tally ≡ sum_of worked
+
+abbrev pub MatchGathered : Desk → List (Pass × Tally) → Option (Pass × Tally) → Type 0
+MatchGathered desk worked None = worked ≡ []
+MatchGathered desk worked (Some w) = AreGathered desk worked w.0 w.1

@@ -1,12 +1,14 @@
 //! Many workers on one desk.
 
 ghost use Rattle.std.specs.Prelude.{◌≡◌, ℕ, ◌+◌, ◌*◌, ◌<◌, ◌≤◌, [], List, length, IfOk, IfErr};
+ghost use Rattle.std.specs.List.{All};
 ghost use Rattle.ticket_steps.specs.History.{of};
 ghost use Rattle.ticket_steps.specs.Books.{book_state, IsLawfulBook};
 ghost use Rattle.check_sched.specs.BookState.{book_step};
 ghost use Rattle.check_sched.specs.Books.{entries_of, opening_of, refused_of, state_of};
 ghost use Rattle.check_desk.specs.Desks.{IsPassOf, opened_with, passes_of};
-ghost use Rattle.check_workers.specs.Crews.{ArePassesOf, AreShiftsOf, AreWorked, HaveLeft, IsWorked, MatchCrewError, calls_in, numbers_in, tally_of_all};
+ghost use Rattle.check_desk.specs.Passes.{pass_of};
+ghost use Rattle.check_workers.specs.Crews.{AreGathered, AreShiftsOf, AreWorked, HaveLeft, IsTallied, IsWorked, MatchCrewError, MatchGathered, calls_in, numbers_in, tally_of_all};
 ghost use Rattle.check_workers.specs.Shifts.{Shift};
 ghost use Rattle.check_workers.specs.Tallies.{IsSum};
 
@@ -47,7 +49,27 @@ pub fn crew<R: Threads + Wait + Sync, P: Plugin + Sync>(
     plugin: &P,
     moments: &[u64],
 ) -> Result<(Book, Tally), CrewError>
-    requires { ArePassesOf desk passes.items }
+    requires { All (IsPassOf desk) passes.items }
+    ensures shifts { IfOk result (λ made. (shifts : List Shift)
+        × AreShiftsOf (P.allows plugin.now) moments.now (opened_with desk).room
+        (entries_of made.0) passes.items shifts
+        × (made.1 ≡ tally_of_all shifts)) }
+    ensures sums { IfOk result (λ made. IsSum made.1) }
+    ensures calls { IfOk result (λ made. length (entries_of made.0) + refused_of made.0
+        ≡ calls_in passes.items + made.1.takes + made.1.reports + made.1.unanswered) }
+    ensures memory { IfOk result (λ made. HaveLeft (2 * length moments.now) passes.items
+        → made.1.stops ≡ made.1.unanswered) }
+    ensures opening { IfOk result (λ made. opening_of made.0 ≡ opened_with desk) }
+    ensures lawful { IfOk result (λ made. IsLawfulBook book_step (opening_of made.0)
+        (book_state (state_of made.0) (entries_of made.0) (refused_of made.0))) }
+    ensures numbers { IfOk result (λ made. (number : ℕ)
+        → passes_of desk ≤ number → of number (entries_of made.0) ≡ []) }
+    ensures all { IfOk result (λ made. passes_of desk ≤ numbers_in passes.items) }
+    ensures errors { IfErr result (λ e. MatchCrewError e
+        (λ back. (back ≡ desk) × (passes.items ≡ []))
+        (λ back pass. (back ≡ desk) × IsPassOf desk pass
+        × (numbers_in passes.items < passes_of desk))
+        (λ back. back ≡ desk)) }
 {
     if passes.is_empty() {
         return Err(CrewError::NoPass(desk));
@@ -66,7 +88,7 @@ fn work_all<R: Threads + Wait + Sync, P: Plugin + Sync>(
     plugin: &P,
     moments: &[u64],
 ) -> Result<Vec<(Pass, Tally)>, AllocError>
-    requires { ArePassesOf desk.now passes.items }
+    requires { All (IsPassOf desk.now) passes.items }
     ensures { IfOk result (λ worked.
         AreWorked (P.allows plugin.now) moments.now desk.now passes.items worked.items) }
 {
@@ -89,17 +111,43 @@ fn one<P: Plugin>(
 }
 
 /// Gathers the passes into the first, adds up the tallies, and closes the desk.
-fn close(desk: Desk, mut worked: Vec<(Pass, Tally)>) -> Result<(Book, Tally), CrewError>
+fn close(desk: Desk, worked: Vec<(Pass, Tally)>) -> Result<(Book, Tally), CrewError>
+    requires { All (λ w. IsTallied desk w.0 w.1) worked.items }
+    ensures gathered { IfOk result (λ made. (pass : Pass)
+        × AreGathered desk worked.items pass made.1
+        × (entries_of made.0 ≡ (pass_of pass).seen)
+        × (length (entries_of made.0) + refused_of made.0 ≡ (pass_of pass).calls)
+        × (passes_of desk ≤ length (pass_of pass).numbers)) }
+    ensures opening { IfOk result (λ made. opening_of made.0 ≡ opened_with desk) }
+    ensures lawful { IfOk result (λ made. IsLawfulBook book_step (opening_of made.0)
+        (book_state (state_of made.0) (entries_of made.0) (refused_of made.0))) }
+    ensures numbers { IfOk result (λ made. (number : ℕ)
+        → passes_of desk ≤ number → of number (entries_of made.0) ≡ []) }
+    ensures errors { IfErr result (λ e. MatchCrewError e
+        (λ back. (back ≡ desk) × (worked.items ≡ []))
+        (λ back pass. (back ≡ desk) × IsPassOf desk pass × (tally : Tally)
+        × AreGathered desk worked.items pass tally
+        × (length (pass_of pass).numbers < passes_of desk))
+        (λ back. ⊥)) }
 {
-    let Some((mut pass, mut tally)) = worked.pop() else {
+    let Some((pass, tally)) = gather_all(&desk, worked) else {
         return Err(CrewError::NoPass(desk));
     };
-    while let Some((other, more)) = worked.pop() {
-        pass = desk.gather(other, pass);
-        tally = more.plus(tally);
-    }
     match desk.close(pass) {
         Ok(book) => Ok((book, tally)),
         Err((desk, pass)) => Err(CrewError::Missing(desk, pass)),
     }
+}
+
+/// Gathers the passes into the first, and adds up the tallies, where there are any.
+fn gather_all(desk: &Desk, mut worked: Vec<(Pass, Tally)>) -> Option<(Pass, Tally)>
+    requires { All (λ w. IsTallied desk.now w.0 w.1) worked.items }
+    ensures { MatchGathered desk.now worked.items result }
+{
+    let (mut pass, mut tally) = worked.pop()?;
+    while let Some((other, more)) = worked.pop() {
+        pass = desk.gather(other, pass);
+        tally = more.plus(tally);
+    }
+    Some((pass, tally))
 }

@@ -34,7 +34,7 @@ pub fn work<P: Plugin>(
     ensures legal { IsHistoryOf desk.now (pass_of result.0).seen }
     ensures worked { (s : Shift)
         × HasWorked (P.allows plugin.now) moments.now (opened_with desk.now).room s
-            (pass_of pass) (pass_of result.0)
+        (pass_of pass) (pass_of result.0)
         × (result.1 ≡ tally_of (shift_entries s) (stops_of s.stopped))
         × (result.2 ≡ open_run s.left_open) }
     ensures sums { IsSum result.1 }

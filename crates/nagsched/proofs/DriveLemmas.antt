@@ -9,31 +9,43 @@ use Rattle.std.proofs.lemmas.List.{take_all}
 use Rattle.nagsched.specs.declared.drive.DriveError.{DriveError}
 use Rattle.nagsched.specs.declared.drive.DriveError.TheVariants as errors
 use Rattle.nagsched.specs.Output.{WroteFront}
-use Rattle.nagsched.specs.Script.{script_of}
+use Rattle.serde_json.specs.Data.{Items}
+use Rattle.check_objects.specs.Configuration.{Configuration}
+use Rattle.nagsched.specs.Command.{call_by}
+use Rattle.nagsched.specs.DrillCommand.{drill_command_by}
+use Rattle.nagsched.specs.DrillScript.{drill_over, drill_script_of}
+use Rattle.nagsched.specs.Line.{◌>>=◌}
+use Rattle.nagsched.specs.Script.{script_by}
+use Rattle.nagsched.specs.declared.refusal.LineFault.{LineFault}
 use Rattle.nagsched.specs.Text.{text, script_text}
 use Rattle.nagsched.specs.Drive.{outcome_of, outcome_by, HasRead, AfterFault}
 use Rattle.nagsched.proofs.OutputLemmas.{front_none, front_all, Appends-Keeps}
 
 -- One byte more than an input may have is enough to refuse it.
-script_take_by : (bytes : List ℕ) → (67108864 < length bytes) ⊎ (length bytes ≤ 67108864) → script_of (take 67108865 bytes) ≡ script_of bytes
-unfolding script_of
-script_take_by bytes (inl h) =
+script_take_by : {K : Type 0} (meaning : Configuration → List ℕ → Items → Result K LineFault) (bytes : List ℕ) → (67108864 < length bytes) ⊎ (length bytes ≤ 67108864)
+    → script_by meaning (take 67108865 bytes) ≡ script_by meaning bytes
+unfolding script_by
+script_take_by meaning bytes (inl h) =
     let a : nat_lt 67108864 (length bytes) ≡ true = grind (arith, nat_tests, h) in
     let l = length-take 67108865 bytes in
     let b : nat_lt 67108864 (length (take 67108865 bytes)) ≡ true = grind (arith, nat_tests, h, l) in
     rw (a, b) refl
-script_take_by bytes (inr h) = let e = take_all 67108865 bytes (omega arith) in rw e refl
+script_take_by meaning bytes (inr h) = let e = take_all 67108865 bytes (omega arith) in rw e refl
 
-pub script_take : (bytes : List ℕ) → script_of (take 67108865 bytes) ≡ script_of bytes
-script_take bytes = script_take_by bytes (cases_lt 67108864 (length bytes))
+pub script_take : {K : Type 0} (meaning : Configuration → List ℕ → Items → Result K LineFault) (bytes : List ℕ) → script_by meaning (take 67108865 bytes) ≡ script_by meaning bytes
+script_take meaning bytes = script_take_by meaning bytes (cases_lt 67108864 (length bytes))
+
+pub drill_script_take : (bytes : List ℕ) → drill_script_of (take 67108865 bytes) ≡ drill_script_of bytes
+unfolding drill_script_of
+drill_script_take bytes = ap (λ r. r >>= λ s. Ok (drill_over s)) (script_take drill_command_by bytes)
 
 pub text_take : (start : ℕ) (bytes : List ℕ) → text start (take 67108865 bytes) ≡ text start bytes
 unfolding text
-text_take start bytes = ap (script_text start) (script_take bytes)
+text_take start bytes = ap (script_text start) (script_take call_by bytes)
 
 pub outcome_take : (bytes : List ℕ) → outcome_of (take 67108865 bytes) ≡ outcome_of bytes
 unfolding outcome_of
-outcome_take bytes = ap outcome_by (script_take bytes)
+outcome_take bytes = ap outcome_by (script_take call_by bytes)
 
 pub Keeps-same : (known : Option (List ℕ)) → Keeps known known
 Keeps-same None = tt

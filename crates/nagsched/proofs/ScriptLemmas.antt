@@ -3,18 +3,19 @@ use Rattle.std.proofs.Common.{ℕ, ◌≡◌, ◌==◌, ◌+◌, ◌≤◌, Bool
 use Rattle.std.specs.Iterator.{YieldsFirstRef}
 use Rattle.check_objects.specs.Configuration.{Configuration}
 use Rattle.check_objects.specs.Setup.{setup_of}
-use Rattle.check_sched.specs.declared.call.Call.{Call}
+use Rattle.serde_json.specs.Data.{Items}
 use Rattle.nagsched.specs.Agreement.{Fails}
-use Rattle.nagsched.specs.Command.{◌>>=◌}
+use Rattle.nagsched.specs.Line.{◌>>=◌}
 use Rattle.nagsched.specs.Input.{lines_of, onto_first}
-use Rattle.nagsched.specs.Script.{calls_from, in_setup, script_over}
+use Rattle.nagsched.specs.Script.{commands_from, in_setup, script_over}
 use Rattle.nagsched.specs.declared.input.Lines.{Lines}
 use Rattle.nagsched.specs.declared.refusal.InputRefusal.{InputRefusal}
+use Rattle.nagsched.specs.declared.refusal.LineFault.{LineFault}
 use Rattle.nagsched.specs.declared.refusal.ScriptError.{ScriptError}
 use Rattle.nagsched.specs.declared.refusal.ScriptError.TheVariants as errors
 
--- a list of calls that goes on with what follows it
-abbrev pub with_front : List Call → Result (List Call) InputRefusal → Result (List Call) InputRefusal
+-- a list of commands that goes on with what follows it
+abbrev pub with_front : {K : Type 0} → List K → Result (List K) InputRefusal → Result (List K) InputRefusal
 with_front front rest = rest >>= λ more. Ok (front ++ more)
 
 -- ---- how many lines there are
@@ -41,16 +42,18 @@ few_left s t (Some x) n h b = omega (arith, ap length h)
 -- ---- a document and the lines after it
 
 -- the document is refused
-pub over_setup_fails : (e : ScriptError) (document : List ℕ) (ls : List (List ℕ)) → Fails e (in_setup (setup_of document)) → Fails e (script_over document ls)
-over_setup_fails errors.Memory document ls f = tt
-over_setup_fails (errors.Refused r) document ls f = rw f refl
+pub over_setup_fails : {K : Type 0} (meaning : Configuration → List ℕ → Items → Result K LineFault) (e : ScriptError) (document : List ℕ) (ls : List (List ℕ))
+    → Fails e (in_setup (setup_of document)) → Fails e (script_over meaning document ls)
+over_setup_fails meaning errors.Memory document ls f = tt
+over_setup_fails meaning (errors.Refused r) document ls f = rw f refl
 
 -- a line is refused
-pub over_calls_fail : (e : ScriptError) (c : Configuration) (document : List ℕ) (ls : List (List ℕ)) → in_setup (setup_of document) ≡ Ok c → Fails e (calls_from c 2 ls) → Fails e (script_over document ls)
-over_calls_fail errors.Memory c document ls s f = tt
-over_calls_fail (errors.Refused r) c document ls s f = rw (s, f) refl
+pub over_commands_fail : {K : Type 0} (meaning : Configuration → List ℕ → Items → Result K LineFault) (e : ScriptError) (c : Configuration) (document : List ℕ) (ls : List (List ℕ))
+    → in_setup (setup_of document) ≡ Ok c → Fails e (commands_from (meaning c) 2 ls) → Fails e (script_over meaning document ls)
+over_commands_fail meaning errors.Memory c document ls s f = tt
+over_commands_fail meaning (errors.Refused r) c document ls s f = rw (s, f) refl
 
 -- nothing is refused
-pub over_reads : (c : Configuration) (cs : List Call) (document : List ℕ) (ls : List (List ℕ)) → in_setup (setup_of document) ≡ Ok c → calls_from c 2 ls ≡ Ok cs
-    → script_over document ls ≡ Ok (record { setup = c; calls = cs })
-over_reads c cs document ls s f = rw (s, f) refl
+pub over_reads : {K : Type 0} (meaning : Configuration → List ℕ → Items → Result K LineFault) (c : Configuration) (all : List K) (document : List ℕ) (ls : List (List ℕ))
+    → in_setup (setup_of document) ≡ Ok c → commands_from (meaning c) 2 ls ≡ Ok all → script_over meaning document ls ≡ Ok (record { setup = c; commands = all })
+over_reads meaning c all document ls s f = rw (s, f) refl

@@ -1,5 +1,5 @@
 -- What the program's words ask for.
-use Rattle.std.proofs.Common.{rules, ◌≡◌, ◌∙◌, ℕ, ◌^◌, ◌<◌, ◌≤◌, Bool, true, false, List, None, Some, Ok, Err, IfOk, IfErr, Option, refl, sym, ap, subst, arith, inl, inr}
+use Rattle.std.proofs.Common.{rules, ◌≡◌, ◌∙◌, ℕ, ◌^◌, ◌<◌, ◌≤◌, Bool, true, false, List, None, Some, Ok, Err, IfOk, IfErr, Option, refl, sym, ap, subst, inl, inr}
 use Rattle.std.specs.Prelude.{if◌then◌else◌, OnOk, Result, ◌⊎◌}
 use Rattle.std.specs.Str.Parse.{IsNumeral, digits_value, without_leading_plus}
 use Rattle.clap.specs.ValueTests.{is_unsigned_in}
@@ -8,23 +8,23 @@ use Rattle.clap.specs.declared.builder.value_parser.ValueParser.TheVariants as v
 use Rattle.clap.specs.declared.error.kind.ErrorKind.{ErrorKind}
 use Rattle.clap.specs.declared.error.kind.ErrorKind.TheVariants as kind
 use Rattle.clap.proofs.ValueTestLemmas.{accepts-Accepts, Accepts-accepts}
-use Rattle.nagsched.specs.Words.{start_of, job_asked, program, Explains, Reads, Tells}
+use Rattle.nagsched.specs.Words.{number_between, job_asked, program, Explains, Reads, Tells}
 use Rattle.nagsched.specs.declared.words.Job.{Job}
 use Rattle.nagsched.specs.declared.words.WordsError.{WordsError}
 use Rattle.nagsched.specs.declared.words.WordsError.TheVariants as error
 
 -- a text that std reads as a number within the limits
-pub start_some : (text : Text) (n : ℕ) → IsNumeral 10 (without_leading_plus text) × (digits_value 10 (without_leading_plus text) < 2 ^ 64)
-    → n ≡ digits_value 10 (without_leading_plus text) → n ≤ 2 ^ 60 → Some n ≡ start_of text
-start_some text n h e below = rw (Accepts-accepts false (vp.Unsigned 0 (2 ^ 60)) text (h.0, h.1, omega arith, rw (← e) below)) (ap Some e)
+pub number_some : (least most : ℕ) (text : Text) (n : ℕ) → IsNumeral 10 (without_leading_plus text) × (digits_value 10 (without_leading_plus text) < 2 ^ 64)
+    → n ≡ digits_value 10 (without_leading_plus text) → least ≤ n → n ≤ most → Some n ≡ number_between least most text
+number_some least most text n h e above below = rw (Accepts-accepts false (vp.Unsigned least most) text (h.0, h.1, rw (← e) above, rw (← e) below)) (ap Some e)
 
 none_by : (b : Bool) (n : ℕ) → (b ≡ true → ⊥) → None ≡ (if b then Some n else None)
 none_by true n h = absurd (h refl)
 none_by false n h = refl
 
 -- a text that std doesn't read
-pub start_none : (text : Text) → (IsNumeral 10 (without_leading_plus text) × (digits_value 10 (without_leading_plus text) < 2 ^ 64) → ⊥) → None ≡ start_of text
-start_none text h = none_by (is_unsigned_in 0 (2 ^ 60) text) _ (λ e. let a = accepts-Accepts false (vp.Unsigned 0 (2 ^ 60)) text e in h (a.0, a.1))
+pub number_none : (least most : ℕ) (text : Text) → (IsNumeral 10 (without_leading_plus text) × (digits_value 10 (without_leading_plus text) < 2 ^ 64) → ⊥) → None ≡ number_between least most text
+number_none least most text h = none_by (is_unsigned_in least most text) _ (λ e. let a = accepts-Accepts false (vp.Unsigned least most) text e in h (a.0, a.1))
 
 -- ---- what a reading says
 

@@ -1,9 +1,8 @@
--- The call of one line: a JSON array whose first member is its word.
-use Rattle.std.specs.Prelude.{ℕ, ◌||◌, ◌==◌, Bool, List, length, Option, Some, None, Result, Ok, Err, ok_or, codes, bytes_eq, nat_lt, if◌then◌else◌}
-use Rattle.std.specs.List.{list_all}
+-- The words of `run`, and the call that each means with the members after it.
+use Rattle.std.specs.Prelude.{ℕ, ◌==◌, Bool, List, Option, Some, None, Result, Ok, Err, ok_or, codes, bytes_eq, if◌then◌else◌}
 use Rattle.serde_json.specs.Data.{Data, Items, no_items, item}
-use Rattle.serde_json.specs.Find.{as_array, as_bool, as_str}
-use Rattle.check_objects.specs.Tree.{◌>=>◌, tree_of, whole_number}
+use Rattle.serde_json.specs.Find.{as_bool, as_str}
+use Rattle.check_objects.specs.Tree.{◌>=>◌, whole_number}
 use Rattle.check_objects.specs.Configuration.{Configuration, number_of}
 use Rattle.check_rules.specs.declared.state.Code.{Code}
 use Rattle.check_rules.specs.declared.state.Code.TheVariants as code
@@ -11,18 +10,7 @@ use Rattle.check_sched.specs.declared.call.Call.{Call}
 use Rattle.check_sched.specs.declared.call.Call.TheVariants as call
 use Rattle.nagsched.specs.declared.refusal.LineFault.{LineFault}
 use Rattle.nagsched.specs.declared.refusal.LineFault.TheVariants as fault
-use Rattle.nagsched.specs.declared.refusal.InputRefusal.{InputRefusal}
-use Rattle.nagsched.specs.declared.refusal.InputRefusal.TheVariants as refusal
-
--- a value and what follows from it, or the error before
-infixl 10 ◌>>=◌
-abbrev pub ◌>>=◌ : {A B E : Type 0} → Result A E → (A → Result B E) → Result B E
-(Ok x) >>= f = f x
-(Err e) >>= f = Err e
-
--- a line that is passed over: spaces, tabs and carriage returns alone, or nothing
-abbrev pub is_blank : List ℕ → Bool
-is_blank line = list_all (λ b. b == 32 || b == 9 || b == 13) line
+use Rattle.nagsched.specs.Line.{◌>>=◌}
 
 -- ---- the members after a word
 
@@ -97,7 +85,7 @@ abbrev pub status_call : Configuration → Items → Result Call LineFault
 status_call c members = ok_or (name_in members) fault.Shape >>= λ name.
     (object_named c name >>= λ object. Ok (call.Status object))
 
--- ---- the call of a tree
+-- ---- all words
 
 -- the call of a word with these members after it
 abbrev pub call_by : Configuration → List ℕ → Items → Result Call LineFault
@@ -107,28 +95,3 @@ call_by c word members = if bytes_eq word (codes "take") then take_call members
     else (if bytes_eq word (codes "reschedule") then reschedule_call c members
     else (if bytes_eq word (codes "enable") then enable_call c members
     else (if bytes_eq word (codes "status") then status_call c members else Err fault.Shape)))))
-
--- the call of an array's members, the word first
-abbrev pub call_in : Configuration → Items → Result Call LineFault
-call_in c no_items = Err fault.Shape
-call_in c (item word members) = ok_or (as_str word) fault.Shape >>= λ w. call_by c w members
-
-abbrev pub call_of_array : Configuration → Option Items → Result Call LineFault
-call_of_array c (Some items) = call_in c items
-call_of_array c None = Err fault.Shape
-
--- the call that a tree is, over this setup
-abbrev pub call_of : Configuration → Data → Result Call LineFault
-call_of c d = call_of_array c (as_array d)
-
--- ---- the call of a line
-
--- a fault as the refusal of the line with number n
-abbrev pub at_line : {A : Type 0} → ℕ → Result A LineFault → Result A InputRefusal
-at_line n (Ok x) = Ok x
-at_line n (Err e) = Err (refusal.Line e n)
-
--- the call of the line with number n, or its first fault: too long, then no JSON, then those of the command
-unfoldable pub command_of : Configuration → ℕ → List ℕ → Result Call InputRefusal
-command_of c n line = if nat_lt 4096 (length line) then Err (refusal.Line fault.TooLong n)
-    else (ok_or (tree_of line) (refusal.Line fault.NotJson n) >>= λ d. at_line n (call_of c d))

@@ -7,11 +7,12 @@ use Rattle.nagsched.specs.declared.drive.Outcome.{Outcome}
 use Rattle.nagsched.specs.declared.drive.Outcome.TheVariants as outcome
 use Rattle.nagsched.specs.declared.refusal.InputRefusal.{InputRefusal}
 use Rattle.nagsched.specs.Output.{WroteFront}
-use Rattle.nagsched.specs.Script.{Script, script_of}
+use Rattle.nagsched.specs.Script.{script_of}
 use Rattle.nagsched.specs.Text.{text}
 
-abbrev pub outcome_by : Result Script InputRefusal → Outcome
-outcome_by (Ok s) = outcome.Ran
+-- what was read is run
+abbrev pub outcome_by : {A : Type 0} → Result A InputRefusal → Outcome
+outcome_by (Ok x) = outcome.Ran
 outcome_by (Err r) = outcome.Refused
 
 -- whether a run on the input makes its calls or refuses it

@@ -1,10 +1,16 @@
 pub mod Input
 pub mod Output
+pub mod Line
 pub mod Command
+pub mod DrillCommand
+pub mod DrillCommanded
 pub mod Script
 pub mod Scripted
+pub mod DrillScript
+pub mod DrillScripted
 pub mod Agreement
 pub mod Text
+pub mod ScriptedCodes
 pub mod Drive
 pub mod Words
 pub mod Session

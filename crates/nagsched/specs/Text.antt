@@ -1,7 +1,8 @@
 -- The text that a run writes: a function of the start and of the input. The words of each line are
 -- said once, here.
-use Rattle.std.specs.Prelude.{ℕ, Bool, true, false, if◌then◌else◌, List, [], ◌∷◌, ◌++◌, Option, Some, None, Result, Ok, Err, codes, decimal, flat_map}
+use Rattle.std.specs.Prelude.{ℕ, Bool, true, false, if◌then◌else◌, List, [], ◌∷◌, ◌++◌, Option, Some, None, Result, Ok, Err, codes, decimal, flat_map, length}
 use Rattle.std.specs.List.{zip}
+use Rattle.ticket_steps.specs.declared.kept.Entry.{Entry}
 use Rattle.check_objects.specs.Configuration.{Configuration, name_of}
 use Rattle.check_objects.specs.declared.error.LoadError.{LoadError}
 use Rattle.check_objects.specs.declared.error.LoadError.TheVariants as load
@@ -180,11 +181,28 @@ line_from s c = reply_line s.setup c (step s c).1
 abbrev pub text_from : State → List Call → List ℕ
 text_from s calls = flat_map (λ p. reply_line s.setup p.0 p.1) (zip calls (replies s calls))
 
-abbrev pub script_text : ℕ → Result Script InputRefusal → List ℕ
-script_text start (Ok s) = text_from (opening s.setup start) s.calls
+abbrev pub script_text : ℕ → Result (Script Call) InputRefusal → List ℕ
+script_text start (Ok s) = text_from (opening s.setup start) s.commands
 script_text start (Err r) = refusal_line r
 
 -- What a run on the input writes, the scheduler starting at the moment `start`: the one line of the
 -- input's first refusal, or the lines of the replies to its calls, in order.
 unfoldable pub text : ℕ → List ℕ → List ℕ
 text start input = script_text start (script_of input)
+
+-- ---- the text of a drill
+
+-- the line of an entry: the number of the pass that made the call, and the line of the reply
+abbrev pub entry_line : Configuration → Entry Call Reply → List ℕ
+entry_line c e = decimal e.pass ++ (codes " " ++ reply_line c e.call e.reply)
+
+-- how many entries there are, and how many calls were refused for want of memory
+abbrev pub total_text : ℕ → ℕ → List ℕ
+total_text entries refused = codes "total " ++ (decimal entries ++ (codes " " ++ decimal refused))
+
+abbrev pub total_line : ℕ → ℕ → List ℕ
+total_line entries refused = line_of (total_text entries refused)
+
+-- What a drill writes of a history: the lines of its entries, in order, and then the total.
+abbrev pub drill_text : Configuration → List (Entry Call Reply) → ℕ → List ℕ
+drill_text c entries refused = flat_map (entry_line c) entries ++ total_line (length entries) refused

@@ -13,45 +13,87 @@ use Rattle.nagsched.specs.declared.words.WordsError.TheVariants as error
 
 -- ---- the program's command
 
+-- an option `--name N` of a number, which is `otherwise` where it isn't given
+abbrev pub number_option : Text → Text → Rule
+number_option name otherwise = record (new_rule name) {
+  long = Some name;
+  value_names = 1;
+  defaults = otherwise ∷ [];
+}
+
 -- the option `--start N`, which is 0 where it isn't given
 abbrev pub start_option : Rule
-start_option = record (new_rule (codes "start")) {
-  long = Some (codes "start");
-  value_names = 1;
-  defaults = codes "0" ∷ [];
-}
+start_option = number_option (codes "start") (codes "0")
+
+-- the option `--workers N`, which is 2 where it isn't given
+abbrev pub workers_option : Rule
+workers_option = number_option (codes "workers") (codes "2")
+
+-- the option `--room N`, which is 1000 where it isn't given
+abbrev pub room_option : Rule
+room_option = number_option (codes "room") (codes "1000")
 
 -- the subcommand `run`, with its option
 abbrev pub run_command : App
 run_command = with_rule (new_app (codes "run")) start_option
 
--- the program's command, with its one subcommand
+-- the subcommand `drill`, with its three options
+abbrev pub drill_command : App
+drill_command = with_rule (with_rule (with_rule (new_app (codes "drill")) start_option) workers_option) room_option
+
+-- the program's command, with its two subcommands
 abbrev pub program : App
-program = with_subcommand (new_app (codes "nagsched")) run_command.top
+program = with_subcommand (with_subcommand (new_app (codes "nagsched")) run_command.top) drill_command.top
 
 -- ---- what the words ask for
 
--- the number that std reads as a `u64` from a text, where it is at most 2^60
-abbrev pub start_of : Text → Option ℕ
-start_of text = if is_unsigned_in 0 (2 ^ 60) text then Some (digits_value 10 (without_leading_plus text)) else None
+-- the number that std reads as a `u64` from a text, where it is within these limits
+abbrev pub number_between : ℕ → ℕ → Text → Option ℕ
+number_between least most text = if is_unsigned_in least most text then Some (digits_value 10 (without_leading_plus text)) else None
+
+-- the number of an option, within these limits, by the options that were read
+abbrev pub number_of : Text → ℕ → ℕ → List Row → Option ℕ
+number_of name least most options = option_and_then (number_between least most) (first_of name options)
+
+-- the moment at which the scheduler starts, by the options that were read
+abbrev pub start_of : List Row → Option ℕ
+start_of = number_of (codes "start") 0 (2 ^ 60)
+
+-- how many workers there are, by the options that were read
+abbrev pub workers_of : List Row → Option ℕ
+workers_of = number_of (codes "workers") 1 64
+
+-- for how many entries there is room, by the options that were read
+abbrev pub room_of : List Row → Option ℕ
+room_of = number_of (codes "room") 0 1000000
 
 -- `run`, by the options that were read for it
 abbrev pub run_of : List Row → Option Job
-run_of options = option_map job.Run (option_and_then start_of (first_of (codes "start") options))
+run_of options = option_map job.Run (start_of options)
+
+-- `drill`, by the options that were read for it
+abbrev pub drill_of : List Row → Option Job
+drill_of options = option_and_then (λ start.
+    option_and_then (λ workers.
+    option_map (job.Drill start workers) (room_of options))
+    (workers_of options)) (start_of options)
 
 -- the job of a subcommand with its options; without a subcommand it is `run` from the start 0
 abbrev pub job_of : Option (Text × List Row) → Option Job
 job_of None = Some (job.Run 0)
-job_of (Some (name, options)) = if bytes_eq name (codes "run") then run_of options else None
+job_of (Some (name, options)) =
+    if bytes_eq name (codes "run") then run_of options
+    else (if bytes_eq name (codes "drill") then drill_of options else None)
 
 -- The job that the words ask for, the program's name first: of the subcommand that `clap` reads
--- from them, with the first value of its option.
+-- from them, with the first value of each of its options.
 abbrev pub job_asked : List Text → Option Job
 job_asked words = job_of (subcommand_of program words)
 
--- a start is within its limits
+-- the numbers of a job are within their limits
 abbrev pub IsWithinLimits : Job → Type 0
 IsWithinLimits (job.Run start) = start ≤ 2 ^ 60
+IsWithinLimits (job.Drill start workers room) = (start ≤ 2 ^ 60) × (1 ≤ workers) × (workers ≤ 64) × (room ≤ 1000000)
 
 -- ---- where the words are no job
 

@@ -1,95 +1,36 @@
-//! The call of one line of a script: a JSON array whose first member is its word. Each word has one
-//! function here and one definition in `specs/Command.antt`.
-ghost use Rattle.std.specs.Prelude.{◌≡◌, ok_or, option_map, Err};
-ghost use Rattle.std.specs.List.{list_all};
+//! The words of `run`: the calls of a script. Each word has one function here and one definition in
+//! `specs/Command.antt`.
+ghost use Rattle.std.specs.Prelude.{◌≡◌, option_map, Err};
 ghost use Rattle.serde_json.specs.View.{view, items_view};
-ghost use Rattle.check_objects.specs.Tree.{tree_of};
-ghost use Rattle.nagsched.specs.Command.{is_blank, call_of, call_in, call_by, take_call, report_call, abandon_call, reschedule_call, enable_call, status_call, name_in, name_and_switch, name_and_numbers, name_number_switch, object_named, code_of, command_of};
-ghost use Rattle.nagsched.specs.Agreement.{Gives};
+ghost use Rattle.nagsched.specs.Command.{call_by, take_call, report_call, abandon_call, reschedule_call, enable_call, status_call, name_in, name_and_switch, name_and_numbers, name_number_switch, object_named, code_of};
+ghost use Rattle.check_sched.specs.declared.call.Call.{Call};
 
-use crate::refusal::{InputRefusal, LineFault, ScriptError};
+use crate::line::{Command, refused};
+use crate::refusal::{LineFault, ScriptError};
 use check_objects::Setup;
 use check_rules::Code;
 use check_sched::Call;
 use serde_json::Value;
 use std::alloc::Global;
 
-/// How many bytes a line may have without its line feed.
-const MAX_LINE: usize = 4096;
+impl Command for Call {
+    ghost Seen = { Call };
 
-/// Whether a line has only spaces, tabs and carriage returns, or nothing. Such a line is passed
-/// over.
-pub fn is_blank(line: &[u8]) -> bool
-    ensures { result ≡ is_blank line.now }
-{
-    line.iter()
-        .all(|byte| *byte == b' ' || *byte == b'\t' || *byte == b'\r')
-}
+    ghost seen = { λ call. call };
 
-/// The call of the line with this number, or its first fault: too long, then no JSON, then another
-/// shape, then a return code above 3, then a name that the setup doesn't have.
-#[tactic(auto, unfolding(crate::specs::Command::command_of))]
-pub fn read_command(
-    alloc: Global,
-    setup: &Setup,
-    line: &[u8],
-    number: usize,
-) -> Result<Call, ScriptError>
-    ensures { Gives (λ call. call) result (command_of setup.now number line.now) }
-{
-    if line.len() > MAX_LINE {
-        return Err(refused(LineFault::TooLong, number));
-    }
-    let tree = read_tree(alloc, line, number)?;
-    match call_of(setup, &tree) {
-        Ok(call) => Ok(call),
-        Err(fault) => Err(refused(fault, number)),
-    }
-}
+    ghost meaning = { call_by };
 
-/// The tree that `serde_json` reads from a line.
-fn read_tree(alloc: Global, line: &[u8], number: usize) -> Result<Value, ScriptError>
-    ensures { Gives view result
-        (ok_or (tree_of line.now) (InputRefusal.Line LineFault.NotJson number)) }
-{
-    match Value::from_slice(alloc, line) {
-        Ok(tree) => Ok(tree),
-        Err(e) => {
-            if e.is_memory() {
-                return Err(ScriptError::Memory);
-            }
-            Err(refused(LineFault::NotJson, number))
+    fn read(
+        _alloc: Global,
+        setup: &Setup,
+        word: &str,
+        members: &[Value],
+        number: usize,
+    ) -> Result<Call, ScriptError> {
+        match call_by(setup, word, members) {
+            Ok(call) => Ok(call),
+            Err(fault) => Err(refused(fault, number)),
         }
-    }
-}
-
-/// The refusal of a line for a fault.
-pub fn refused(fault: LineFault, line: usize) -> ScriptError
-    ensures { result ≡ ScriptError.Refused (InputRefusal.Line fault line) }
-{
-    ScriptError::Refused(InputRefusal::Line { fault, line })
-}
-
-/// The call that a command's tree is.
-fn call_of(setup: &Setup, tree: &Value) -> Result<Call, LineFault>
-    ensures { result ≡ call_of setup.now (view tree.now) }
-{
-    match tree.as_array() {
-        Some(items) => call_in(setup, items),
-        None => Err(LineFault::Shape),
-    }
-}
-
-/// The call that an array is: its word, and the members after it.
-fn call_in(setup: &Setup, items: &[Value]) -> Result<Call, LineFault>
-    ensures { result ≡ call_in setup.now (items_view items.now) }
-{
-    match items {
-        [word, members @ ..] => match word.as_str() {
-            Some(word) => call_by(setup, word, members),
-            None => Err(LineFault::Shape),
-        },
-        [] => Err(LineFault::Shape),
     }
 }
 
@@ -236,7 +177,7 @@ fn name_number_switch(members: &[Value]) -> Option<(&str, u64, bool)>
 }
 
 /// The number of the object with this full name.
-fn object_named(setup: &Setup, name: &str) -> Result<u32, LineFault>
+pub fn object_named(setup: &Setup, name: &str) -> Result<u32, LineFault>
     ensures { result ≡ object_named setup.now name.now }
 {
     match setup.number(name) {
@@ -246,7 +187,7 @@ fn object_named(setup: &Setup, name: &str) -> Result<u32, LineFault>
 }
 
 /// The return code of a plugin, 0 to 3.
-fn code_of(number: u64) -> Option<Code>
+pub fn code_of(number: u64) -> Option<Code>
     ensures { result ≡ code_of number }
 {
     match number {

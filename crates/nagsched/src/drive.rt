@@ -109,23 +109,23 @@ fn answer<W: Write>(
 fn run<W: Write>(
     alloc: Global,
     start: u64,
-    script: Script,
+    script: Script<Call>,
     writer: &mut W,
 ) -> Result<Outcome, DriveError>
     requires { start ≤ 2 ^ 60 }
     ensures written { OnOk result (Appends (W.contents writer.old) (W.contents writer.new)
-        (text_from (opening script.setup start) script.calls.items)) }
+        (text_from (opening script.setup start) script.commands.items)) }
     ensures outcome { IfOk result (λ outcome. outcome ≡ Outcome.Ran) }
     ensures fault { OnErr result (WroteFront (W.contents writer.old) (W.contents writer.new)
-        (text_from (opening script.setup start) script.calls.items)) }
+        (text_from (opening script.setup start) script.commands.items)) }
     ensures kind { IfErr result (λ e. e ≢ DriveError.Read) }
 {
-    let Script { setup, calls } = script;
+    let Script { setup, commands } = script;
     let Ok(mut sched) = Sched::new(alloc, setup, start) else {
         return Err(DriveError::Memory);
     };
     let mut line = String::new(alloc);
-    for call in &calls {
+    for call in &commands {
         make_call(&mut sched, *call, &mut line, writer)?;
     }
     Ok(Outcome::Ran)

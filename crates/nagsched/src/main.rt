@@ -3,18 +3,25 @@
 //!
 //! The words say what is to be done: `job` reads them, `words` has what they can ask for, and
 //! `session` does it and gives the exit status. What comes in and goes out flows through these
-//! modules: `input` (bytes and lines), `script` (the setup and the calls of an input), `command` (the
-//! call of one line), `drive` (the run), `text` (the line of a reply or a refusal) and `output`
-//! (bytes to the writer). `refusal` has the errors of an input.
+//! modules: `input` (bytes and lines), `script` (the setup and the commands of an input), `line` (the
+//! command of one line), `command` (the calls that the words of `run` mean), `drive` (the run), `text`
+//! (the line of a reply or a refusal) and `output` (bytes to the writer). `refusal` has the errors of
+//! an input. A drill has words of its own, `drill_command`, which `drill_script` puts together;
+//! `scripted` is its plugin, and `drill` writes what came of it.
 #![tactic(auto)]
 
 mod command;
+mod drill;
+mod drill_command;
+mod drill_script;
 mod drive;
 mod input;
 mod job;
+mod line;
 mod output;
 mod refusal;
 mod script;
+mod scripted;
 mod session;
 #[cfg(test)]
 mod tests;

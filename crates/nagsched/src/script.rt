@@ -1,36 +1,35 @@
 //! The script of an input: line 1 is the setup document, and each later line that isn't blank is
-//! one command.
-ghost use Rattle.std.specs.Prelude.{◌≡◌, ◌≤◌, length};
+//! one command, of the vocabulary that is asked for.
+ghost use Rattle.std.specs.Prelude.{◌≡◌, ◌≤◌, length, map};
 ghost use Rattle.check_objects.specs.Setup.{setup_of};
 ghost use Rattle.nagsched.specs.Input.{lines_of};
-ghost use Rattle.nagsched.specs.Script.{calls_from, script_of, script_over, in_setup};
+ghost use Rattle.nagsched.specs.Script.{commands_from, script_by, script_over, in_setup};
 ghost use Rattle.nagsched.specs.Scripted.{script};
 ghost use Rattle.nagsched.specs.Agreement.{Gives};
 
-use crate::command::{is_blank, read_command, refused};
 use crate::input::Lines;
+use crate::line::{Command, is_blank, read_command, refused};
 use crate::refusal::{InputRefusal, LineFault, ScriptError};
 use check_objects::{LoadError, Setup};
-use check_sched::Call;
 use std::alloc::Global;
 
 /// How many bytes an input may have.
 const MAX_INPUT: usize = 67_108_864;
 
-/// A setup, and the calls to make over it in their order.
+/// A setup, and the commands over it in their order.
 #[derive(Drop)]
-pub struct Script {
+pub struct Script<C> {
     pub setup: Setup,
-    pub calls: Vec<Call>,
+    pub commands: Vec<C>,
 }
 
-impl Script {
+impl<C: Command> Script<C> {
     /// Reads an input, every line of it, or gives its first refusal: the input's length is tested
     /// first, then the setup document, then the lines in their order. Want of memory is an error of
     /// its own.
-    #[tactic(auto, unfolding(crate::specs::Script::script_of))]
-    pub fn read(alloc: Global, input: &[u8]) -> Result<Script, ScriptError>
-        ensures { Gives script result (script_of input.now) }
+    #[tactic(auto, unfolding(crate::specs::Script::script_by))]
+    pub fn read(alloc: Global, input: &[u8]) -> Result<Script<C>, ScriptError>
+        ensures { Gives (script C.seen) result (script_by C.meaning input.now) }
     {
         if input.len() > MAX_INPUT {
             return Err(refused(LineFault::TooLong, 0));
@@ -42,13 +41,18 @@ impl Script {
 }
 
 /// The script of a setup document and the lines after it.
-fn read_over(alloc: Global, document: &[u8], lines: Lines<'_>) -> Result<Script, ScriptError>
+fn read_over<C: Command>(
+    alloc: Global,
+    document: &[u8],
+    lines: Lines<'_>,
+) -> Result<Script<C>, ScriptError>
     requires { length (lines_of lines.rest.now) ≤ 67108864 }
-    ensures { Gives script result (script_over document.now (lines_of lines.entry.rest.now)) }
+    ensures { Gives (script C.seen) result
+        (script_over C.meaning document.now (lines_of lines.entry.rest.now)) }
 {
     let setup = read_setup(alloc, document)?;
-    let calls = read_calls(alloc, &setup, lines)?;
-    Ok(Script { setup, calls })
+    let commands = read_commands(alloc, &setup, lines)?;
+    Ok(Script { setup, commands })
 }
 
 /// The setup of the document on line 1.
@@ -62,20 +66,24 @@ fn read_setup(alloc: Global, document: &[u8]) -> Result<Setup, ScriptError>
     }
 }
 
-/// The calls of the lines from line 2 on. A blank line is passed over, whatever its length, but
+/// The commands of the lines from line 2 on. A blank line is passed over, whatever its length, but
 /// counted.
-fn read_calls(alloc: Global, setup: &Setup, lines: Lines<'_>) -> Result<Vec<Call>, ScriptError>
+fn read_commands<C: Command>(
+    alloc: Global,
+    setup: &Setup,
+    lines: Lines<'_>,
+) -> Result<Vec<C>, ScriptError>
     requires { length (lines_of lines.rest.now) ≤ 67108864 }
-    ensures { Gives (λ v. v.items) result
-        (calls_from setup.now 2 (lines_of lines.entry.rest.now)) }
+    ensures { Gives (λ v. map C.seen v.items) result
+        (commands_from (C.meaning setup.now) 2 (lines_of lines.entry.rest.now)) }
 {
-    let mut calls = Vec::new(alloc);
+    let mut commands = Vec::new(alloc);
     let mut number = 2;
     for line in lines {
         if !is_blank(line) {
-            calls.push(read_command(alloc, setup, line, number)?)?;
+            commands.push(read_command(alloc, setup, line, number)?)?;
         }
         number += 1;
     }
-    Ok(calls)
+    Ok(commands)
 }

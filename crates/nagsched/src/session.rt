@@ -59,6 +59,8 @@ fn serve<R: Read, W: Write>(
             Ok(outcome) => Ok(Ending::Drove(outcome)),
             Err(e) => Err(e),
         },
+        // joined later
+        Ok(Job::Drill { .. }) => Err(DriveError::Memory),
         Err(WordsError::Help(text)) => {
             tell(writer, text.as_bytes())?;
             Ok(Ending::Helped)

@@ -1,8 +1,11 @@
 //! Tests of what no clause says: worked inputs whose outputs were written down beforehand, readers
-//! and writers that fail, the limits of an input and its lines, and the program's exit statuses.
+//! and writers that fail, the limits of an input and its lines, drills, the program's words and exit
+//! statuses.
 
 mod dependencies;
 mod devices;
+mod drill_words;
+mod drills;
 mod faults;
 mod limits;
 mod office;

@@ -2,8 +2,7 @@
 //! subcommand writes it.
 ghost use Rattle.std.specs.Prelude.{◌≡◌, ◌++◌, OnOk, string_bytes};
 ghost use Rattle.check_objects.specs.Configuration.{name_of};
-ghost use Rattle.check_sched.specs.Reply.{NamesObjectOf};
-ghost use Rattle.nagsched.specs.Text.{line_of, reply_line, taken_text, putoff_text, idle_text, standing_text, freed_text, done_text, asked_name, state_text, kind_text, changed_text, refused_text, refusal_line, call_refusal_text, part_text, fault_text};
+ghost use Rattle.nagsched.specs.Text.{line_of, reply_line, taken_text, putoff_text, idle_text, standing_text, freed_text, done_text, asked_name, state_text, kind_text, changed_text, refused_text, refusal_line, call_refusal_text, part_text, fault_text, entry_line, total_line};
 
 use crate::refusal::{InputRefusal, LineFault};
 use check_objects::{LoadError, Part, Place, Setup};
@@ -11,22 +10,24 @@ use check_rules::{Kind, Standing, State};
 use check_sched::{Call, Refusal, Reply};
 use std::alloc::AllocError;
 use std::fmt;
+use ticket_steps::Entry;
 
 /// Appends the line of the reply to a call, with its line feed. Objects are told by their full
-/// names.
+/// names, and by nothing where the setup has no object of the number.
 pub fn push_reply(
     line: &mut String,
     setup: &Setup,
     call: Call,
     reply: Reply,
 ) -> Result<(), AllocError>
-    requires { NamesObjectOf setup.now reply }
     ensures { OnOk result
         (string_bytes line.new ≡ string_bytes line.old ++ reply_line setup.now call reply) }
 {
     match reply {
-        Reply::Taken { object, run } => push_taken(line, run, setup.name(object)),
-        Reply::PutOff { object, until } => push_putoff(line, TimeText(until), setup.name(object)),
+        Reply::Taken { object, run } => push_taken(line, run, name_or_nothing(setup, object)),
+        Reply::PutOff { object, until } => {
+            push_putoff(line, TimeText(until), name_or_nothing(setup, object))
+        }
         Reply::Idle { next } => push_idle(line, TimeText(next)),
         Reply::AtLimit => line.push_str("atlimit\n"),
         Reply::Standing {
@@ -166,6 +167,30 @@ fn push_refused(line: &mut String, reason: &str) -> Result<(), AllocError>
         (string_bytes line.new ≡ string_bytes line.old ++ line_of (refused_text reason.now)) }
 {
     writeln!(line, "refused {reason}")
+}
+
+/// Appends the line of an entry of a history, with its line feed: the number of the pass that made
+/// the call, a space, and the line of the reply.
+pub fn push_entry(
+    line: &mut String,
+    setup: &Setup,
+    entry: &Entry<Call, Reply>,
+) -> Result<(), AllocError>
+    ensures { OnOk result
+        (string_bytes line.new ≡ string_bytes line.old ++ entry_line setup.now entry.now) }
+{
+    let Entry { pass, call, reply } = *entry;
+    write!(line, "{pass} ")?;
+    push_reply(line, setup, call, reply)
+}
+
+/// Appends the last line of a drill, with its line feed: how many entries its history has, and how
+/// many calls were refused for want of memory.
+pub fn push_total(line: &mut String, entries: usize, refused: u64) -> Result<(), AllocError>
+    ensures { OnOk result
+        (string_bytes line.new ≡ string_bytes line.old ++ total_line entries refused) }
+{
+    writeln!(line, "total {entries} {refused}")
 }
 
 /// Appends the line of an input's refusal, with its line feed.

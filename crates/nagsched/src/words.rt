@@ -8,7 +8,17 @@ use thiserror::Error;
 pub enum Job {
     /// To make the calls of a script on a scheduler that starts at the moment `start`, in
     /// milliseconds, from 0 to 2^60.
-    Run { start: u64 },
+    Run {
+        start: u64,
+    },
+    /// To have workers, 1 to 64 of them, check what is due at the moments of a script, on one
+    /// scheduler that starts at the moment `start`, as above. The scheduler's book has room for
+    /// `room` entries from the outset, 0 to 1,000,000.
+    Drill {
+        start: u64,
+        workers: u32,
+        room: usize,
+    },
 }
 
 /// Why the program's words ask for nothing that it could do.

@@ -78,7 +78,7 @@ fn refuses_other_words(rt: HostRuntime) {
         ["nagsched", "run", "--start", "1", "--start", "2"].as_slice(),
         ["nagsched", "run", "7"].as_slice(),
         ["nagsched", "--start", "7"].as_slice(),
-        ["nagsched", "drill"].as_slice(),
+        ["nagsched", "drills"].as_slice(),
         ["nagsched", "Run"].as_slice(),
         ["nagsched", ""].as_slice(),
     ] {
@@ -86,7 +86,7 @@ fn refuses_other_words(rt: HostRuntime) {
     }
 }
 
-/// The help at the program and at its subcommand.
+/// The help at the program and at its subcommands.
 #[test]
 fn tells_help(rt: HostRuntime) -> Result<(), Fail> {
     let alloc = rt.alloc();
@@ -94,6 +94,7 @@ fn tells_help(rt: HostRuntime) -> Result<(), Fail> {
         ["nagsched", "--help"].as_slice(),
         ["nagsched", "run", "--help"].as_slice(),
         ["nagsched", "run", "--start", "7", "--help"].as_slice(),
+        ["nagsched", "drill", "--help"].as_slice(),
     ] {
         let mut reader = FailingReader {
             bytes: b"",

@@ -3,7 +3,6 @@ use Rattle.std.proofs.lemmas.List.{take_all, take-append-drop, take_more}
 use Rattle.check_desk.proofs.PassLemmas.{few_calls}
 use Rattle.check_desk.specs.Desks.{opened_with}
 use Rattle.check_desk.specs.Passes.{pass_of}
-use Rattle.check_workers.specs.Shifts.{Shift}
 use Rattle.check_workers.specs.Tallies.{IsFew, IsSum, tally_of}
 use Rattle.check_workers.proofs.ShiftLemmas.{IsWorking, both_few, came_counted, counted_few, ended_counted, stopped_counted, worked_left, working_ended, working_few, working_more, working_none, working_stopped}
 use Rattle.check_workers.proofs.SumLemmas.{sum_plus}
@@ -32,8 +31,8 @@ loop-now-preserved g c =
     let done = rw c.in_default.is at c.round-back.ensures.came in (
       c.round-back.ensures.desk,
       subst (λ l. IsWorking allows l (pass_of c.args.pass) (pass_of c.round-back.result.0) c.plus-tally.result) (sym (take_more xs i 0 c.loop-now-test.true))
-        (rw c.plus-tally.ensures (working_more allows (take i xs) (get_or xs i 0) (pass_of c.args.pass) (pass_of c.loop-now.pass) (pass_of c.round-back.result.0) c.loop-now.tally c.round-back.result.1
-            c.loop-now.invariant.1 done)),
+          (rw c.plus-tally.ensures (working_more allows (take i xs) (get_or xs i 0) (pass_of c.args.pass) (pass_of c.loop-now.pass) (pass_of c.round-back.result.0) c.loop-now.tally c.round-back.result.1
+          c.loop-now.invariant.1 done)),
       rw c.plus-tally.ensures (sum_plus c.loop-now.tally c.round-back.result.1 c.loop-now.invariant.2 c.round-back.ensures.sums),
     )
 
@@ -46,7 +45,7 @@ returns-in-Stopped-clause-worked g c =
     let h = rw c.in-Stopped.is at c.round-back.ensures.came in (
       record { number = (pass_of c.args.pass).own; rounds = w.rounds; left_open = h.left_open; stopped = Some c.in-Stopped.stop },
       working_stopped allows (take i xs) (drop (i + 1) xs) xs (get_or xs i 0) (opened_with c.args.desk.now).room c.in-Stopped.stop c.in-Stopped.open (pass_of c.args.pass) (pass_of c.loop-now.pass)
-        (pass_of c.round-back.result.0) c.loop-now.tally c.round-back.result.1 (split_at xs i c.loop-now-test.true) w h,
+          (pass_of c.round-back.result.0) c.loop-now.tally c.round-back.result.1 (split_at xs i c.loop-now-test.true) w h,
       rw (c.plus.ensures, c.plus-tally.ensures, c.of_stop.ensures) (stopped_counted allows (take i xs) (get_or xs i 0) (opened_with c.args.desk.now).room c.in-Stopped.stop c.in-Stopped.open
           (pass_of c.args.pass) (pass_of c.loop-now.pass) (pass_of c.round-back.result.0) c.loop-now.tally c.round-back.result.1 w h),
       h.told,
@@ -63,12 +62,12 @@ returns-clause-worked g c =
     let xs = c.args.moments.now in
     let all : take c.loop-now.now-index xs ≡ xs = take_all c.loop-now.now-index xs c.loop-now-test.false in
     let w : IsWorking allows xs (pass_of c.args.pass) (pass_of c.loop-now.pass) c.loop-now.tally =
-      subst (λ l. IsWorking allows l (pass_of c.args.pass) (pass_of c.loop-now.pass) c.loop-now.tally) all c.loop-now.invariant.1 in (
-        record { number = (pass_of c.args.pass).own; rounds = w.rounds; left_open = None; stopped = None },
-        working_ended allows xs (opened_with c.args.desk.now).room (pass_of c.args.pass) (pass_of c.loop-now.pass) c.loop-now.tally w,
-        ended_counted allows xs (pass_of c.args.pass) (pass_of c.loop-now.pass) c.loop-now.tally w,
-        refl,
-      )
+    subst (λ l. IsWorking allows l (pass_of c.args.pass) (pass_of c.loop-now.pass) c.loop-now.tally) all c.loop-now.invariant.1 in (
+      record { number = (pass_of c.args.pass).own; rounds = w.rounds; left_open = None; stopped = None },
+      working_ended allows xs (opened_with c.args.desk.now).room (pass_of c.args.pass) (pass_of c.loop-now.pass) c.loop-now.tally w,
+      ended_counted allows xs (pass_of c.args.pass) (pass_of c.loop-now.pass) c.loop-now.tally w,
+      refl,
+    )
 
 pub returns-clause-left : goal.returns-clause-left
 returns-clause-left g c =
@@ -79,8 +78,8 @@ pub plus-tally-requires : goal.plus-tally-requires
 plus-tally-requires g c = (
   working_few (g.P.Plugin.allows c.args.plugin.now) (take c.loop-now.now-index c.args.moments.now) (pass_of c.args.pass) (pass_of c.loop-now.pass) c.loop-now.tally c.loop-now.invariant.1 (few_calls c.loop-now.pass),
   counted_few (pass_of c.loop-now.pass) (pass_of c.round-back.result.0) c.round-back.result.1
-    (came_counted (g.P.Plugin.allows c.args.plugin.now) _ (opened_with c.args.desk.now).room (pass_of c.loop-now.pass) (pass_of c.round-back.result.0) c.round-back.result.1 c.round-back.result.2 c.round-back.ensures.came)
-    (few_calls c.round-back.result.0),
+      (came_counted (g.P.Plugin.allows c.args.plugin.now) _ (opened_with c.args.desk.now).room (pass_of c.loop-now.pass) (pass_of c.round-back.result.0) c.round-back.result.1 c.round-back.result.2 c.round-back.ensures.came)
+      (few_calls c.round-back.result.0),
 )
 
 pub plus-requires : goal.plus-requires

@@ -1,5 +1,5 @@
 use Rattle.nagsched.proofs.CommandLemmas.{tree_some, tree_none}
-use Rattle.nagsched.proofs.command.read_tree.Goals as goal
+use Rattle.nagsched.proofs.line.read_tree.Goals as goal
 
 pub returns-in-Ok : goal.returns-in-Ok
 returns-in-Ok c = tree_some _ _ _ c.in-Ok.ensures.ok.0 c.in-Ok.ensures.ok.1
