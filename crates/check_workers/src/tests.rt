@@ -31,7 +31,7 @@ const TWO_SERVICES: &[u8] =
     br#"{"options":{"service_inter_check_delay_method":"n","host_inter_check_delay_method":"n"},"hosts":[{"name":"h","check_interval":0,"max_check_attempts":3}],"services":[{"host":"h","description":"a","max_check_attempts":3},{"host":"h","description":"b","max_check_attempts":3}]}"#;
 
 /// How often a check looks whether another one has begun, before it gives up.
-const LOOKS: u32 = 200_000_000;
+const LOOKS: u32 = 1_000_000_000;
 
 /// The first run finds a problem, and each later one none.
 struct FirstIsCritical;
