@@ -27,8 +27,9 @@ use std::thread::Threads;
 pub enum CrewError {
     /// There was no pass in the list, and so no worker.
     NoPass(Desk),
-    /// All workers have returned, but passes of the desk weren't in the list: the desk can't be
-    /// closed before they are gathered too. All that were in the list are gathered in this one.
+    /// All workers have done their work and returned, but passes of the desk weren't in the list:
+    /// the desk can't be closed before they are gathered too. All that were in the list are gathered
+    /// in this one.
     Missing(Desk, Pass),
     /// There was no memory for the threads. Some workers may have worked and others not; all that
     /// started have returned. Their passes are lost, so the desk can't be closed any more.
@@ -68,7 +69,11 @@ pub fn crew<R: Threads + Wait + Sync, P: Plugin + Sync>(
     ensures errors { IfErr result (λ e. MatchCrewError e
         (λ back. (back ≡ desk) × (passes.items ≡ []))
         (λ back pass. (back ≡ desk) × IsPassOf desk pass
-        × (numbers_in passes.items < passes_of desk))
+        × (numbers_in passes.items < passes_of desk)
+        × (length (pass_of pass).numbers ≡ numbers_in passes.items)
+        × ((shifts : List Shift)
+        × AreShiftsOf (P.allows plugin.now) moments.now (opened_with desk).room
+        (pass_of pass).seen passes.items shifts))
         (λ back. back ≡ desk)) }
 {
     if passes.is_empty() {

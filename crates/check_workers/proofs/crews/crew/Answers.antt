@@ -1,5 +1,6 @@
 use Rattle.std.proofs.Common.{◌≡◌, length, sym, ap, subst, ◌∙◌, arith}
 use Rattle.check_sched.specs.Books.{entries_of}
+use Rattle.check_desk.specs.Passes.{pass_of}
 use Rattle.check_workers.specs.Tallies.{IsSum}
 use Rattle.check_workers.proofs.CrewLemmas.{all_tallied, are_shifts, crew_error, failed_then_so, made_then_so, none_brought, same_numbers, shifts_from, sum_calls, sum_is, sum_stops, sum_sums}
 use Rattle.check_workers.proofs.crews.crew.Goals as goal
@@ -39,8 +40,14 @@ returns-in-Ok-clause-errors g c =
     let worked = c.in-Ok.ensures in
     failed_then_so c.close.result c.close.ensures.errors (λ e h. crew_error (λ back. back ≡ c.args.desk) e h
     (λ back x. (x.0, none_brought c.args.passes.items c.in-Ok.worked.items worked.count x.1))
-    (λ back pass x. (
+    (λ back pass x.
+    let same = ap length x.3.numbers ∙ same_numbers (g.P.Plugin.allows c.args.plugin.now) c.args.moments.now c.args.desk c.args.passes.items c.in-Ok.worked.items worked in (
       x.0,
       x.1,
-      (let same = ap length x.3.numbers ∙ same_numbers (g.P.Plugin.allows c.args.plugin.now) c.args.moments.now c.args.desk c.args.passes.items c.in-Ok.worked.items worked in omega (arith, same, x.4)),
+      omega (arith, same, x.4),
+      same,
+      (
+        shifts_from (g.P.Plugin.allows c.args.plugin.now) c.args.moments.now c.args.desk c.args.passes.items c.in-Ok.worked.items worked,
+        are_shifts (g.P.Plugin.allows c.args.plugin.now) c.args.moments.now c.args.desk (pass_of pass).seen c.args.passes.items c.in-Ok.worked.items worked x.3.seen,
+      ),
     )))
