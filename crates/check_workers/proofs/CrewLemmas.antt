@@ -87,7 +87,7 @@ open_calls : (number : ℕ) (o : Option Open) → length (open_entries number o)
 open_calls number None = omega arith
 open_calls number (Some o) = omega arith
 
-shift_short : (s : Shift) (moments : List ℕ) → IsPrefix (shift_moments s) moments → length (shift_entries s) ≤ 2 * length moments
+pub shift_short : (s : Shift) (moments : List ℕ) → IsPrefix (shift_moments s) moments → length (shift_entries s) ≤ 2 * length moments
 shift_short s moments p =
     let short = length_prefix (shift_moments s) moments p in
     let entries = length-append (rounds_entries s.number s.rounds) (open_entries s.number s.left_open) in

@@ -6,3 +6,4 @@ pub mod DrillLemmas
 pub mod TextLemmas
 pub mod DriveLemmas
 pub mod WordsLemmas
+pub mod DrillLaws

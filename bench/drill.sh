@@ -1,0 +1,111 @@
+#!/usr/bin/env bash
+# Times the workers of `nagsched drill`, and prints one table. Run by hand; no part of the gate.
+#   bench/drill.sh [REPEATS]     the best of so many runs is told, 3 where no number is given
+# 4,096 hosts are taken and reported 500,000 times: a million asks, which fill the largest room. So many
+# moments are made here that 1, 2 and 4 workers share the takes equally, each taking once at each moment.
+# Moments are 5 minutes apart, the hosts' check interval, so that each host which doesn't run is due,
+# also for a worker behind the others, up to 4,096 takes. A worker further behind finds nothing due and
+# reports nothing: `taken` is the share of the takes that found a host, and asks are those made.
+# The ratio is to `nagsched run`, one thread without a lock, on a script of the same million calls. All times
+# hold reading and writing: `run` reads a line for each call, `drill` one for each moment.
+set -eu
+repeats=${1:-3}
+hosts=4096
+takes=500000
+crate=$(cd "$(dirname "$0")/../crates/nagsched" && pwd)
+program=$crate/out/nagsched
+work=$(mktemp -d)
+trap 'rm -rf "$work"' EXIT
+
+fail() {
+    echo "$1"
+    exit 1
+}
+
+# Proves and builds the program where it isn't yet.
+(cd "$crate" && rt run < stdin > "$work/build.log" 2>&1) || { cat "$work/build.log"; exit 1; }
+
+# The setup: a line.
+setup() {
+    awk -v hosts="$hosts" 'BEGIN {
+        printf "{\"options\":{\"host_inter_check_delay_method\":\"n\"},\"hosts\":["
+        for (h = 0; h < hosts; h++)
+            printf "%s{\"name\":\"host%04d\",\"max_check_attempts\":3}", h ? "," : "", h
+        print "]}"
+    }'
+}
+
+# The setup, and a take and its report at each moment.
+script() {
+    setup
+    awk -v hosts="$hosts" -v takes="$takes" 'BEGIN {
+        for (run = 0; run < takes; run++) {
+            printf "[\"take\",%.0f]\n", run * 300000
+            printf "[\"report\",\"host%04d\",%d,0]\n", run % hosts, run + 1
+        }
+    }'
+}
+
+# The setup, and so many moments.
+moments() {
+    setup
+    awk -v count="$1" 'BEGIN {
+        for (at = 0; at < count; at++)
+            printf "[\"moment\",%.0f]\n", at * 300000
+    }'
+}
+
+# The best time of a command over an input, in milliseconds.
+best() {
+    local least=999999999
+    for _ in $(seq "$repeats"); do
+        local begun ended
+        begun=$(date +%s%N)
+        "${@:2}" < "$1" > "$work/output"
+        ended=$(date +%s%N)
+        local taken=$(((ended - begun) / 1000000))
+        ((taken < least)) && least=$taken
+    done
+    echo "$least"
+}
+
+# A line of the table: what ran, its asks and time, and the share of takes that found a host.
+tell() {
+    awk -v what="$1" -v asks="$2" -v ms="$3" -v found="$4" -v takes="$takes" -v run_ms="$run_ms" 'BEGIN {
+        printf "%-16s %10d %8d %14d %7.1f%% %8.2f\n", what, asks, ms, asks * 1000 / ms, found * 100 / takes,
+            (asks / ms) / (2 * takes / run_ms)
+    }'
+}
+
+# Checks the output of a drill: all takes, a report for each that found a host, none refused.
+check() {
+    local last lines found idle
+    last=$(tail -n 1 "$work/output")
+    lines=$(($(wc -l < "$work/output") - 1))
+    found=$(grep -c '^[0-9]* taken ' "$work/output" || true)
+    idle=$(grep -c '^[0-9]* idle ' "$work/output" || true)
+    [[ $last == "total $lines 0" ]] || fail "wrote $lines entries, and then: $last"
+    [[ $((found + idle)) == "$takes" ]] || fail "$found takes found a host and $idle didn't, of $takes"
+    [[ $(grep -c '^[0-9]* standing UP ' "$work/output") == "$found" ]] || fail "not $found reports"
+    [[ $lines == $((takes + found)) ]] || fail "$lines entries, of them $takes takes and $found reports"
+    echo "$found"
+}
+
+script > "$work/script"
+run_ms=$(best "$work/script" "$program")
+[[ $(wc -l < "$work/output") == $((2 * takes)) ]] || fail "run wrote $(wc -l < "$work/output") lines"
+grep -q '^refused\|^idle' "$work/output" && fail "run refused a call, or found nothing due"
+mv "$work/output" "$work/run_output"
+
+printf '%-16s %10s %8s %14s %8s %8s\n' '' asks ms 'asks a second' taken 'to run'
+tell run $((2 * takes)) "$run_ms" "$takes"
+for workers in 1 2 4; do
+    moments $((takes / workers)) > "$work/moments"
+    ms=$(best "$work/moments" "$program" drill --workers "$workers" --room $((2 * takes)) --start 0)
+    found=$(check) || fail "$found"
+    # One worker makes the very calls of the script.
+    if ((workers == 1)); then
+        head -n -1 "$work/output" | sed 's/^0 //' | cmp - "$work/run_output"
+    fi
+    tell "drill, $workers" $((takes + found)) "$ms" "$found"
+done
