@@ -1,6 +1,6 @@
 -- The members of a drill's commands, and what the commands say together.
-use Rattle.std.proofs.Common.{◌≡◌, ℕ, suc, zero, ◌+◌, ◌≤◌, ◌<◌, ◌==◌, true, false, cond, ◌&&◌, List, [], ◌∷◌, ◌++◌, length, map, replicate, Option, Some, None, get_or, refl, sym, ◌∙◌, ap, append-nil, inl, inr, arith}
-use Rattle.std.specs.Prelude.{is_some, unwrap_or, filter_map}
+use Rattle.std.proofs.Common.{◌≡◌, ℕ, suc, zero, ◌+◌, ◌≤◌, ◌<◌, ◌==◌, true, false, cond, ◌&&◌, List, [], ◌∷◌, ◌++◌, length, map, replicate, Option, Some, None, get_or, refl, sym, ◌∙◌, ap, append-nil, inl, inr, arith, Result, Ok, Err}
+use Rattle.std.specs.Prelude.{is_some, unwrap_or, filter_map, IfOk, ⊤}
 use Rattle.std.specs.List.{list_all, last_or, range_with_len, cons_option}
 use Rattle.std.proofs.Math.ListN.{set}
 use Rattle.std.proofs.lemmas.List.{ext_get_or, get_or-set_same, get_or-set_other, length-set}
@@ -12,10 +12,14 @@ use Rattle.serde_json.specs.declared.value.Value.{Value}
 use Rattle.check_objects.specs.Configuration.{Configuration, object_count}
 use Rattle.check_objects.specs.Tree.{◌>=>◌, whole_number}
 use Rattle.check_rules.specs.declared.state.Code.{Code}
-use Rattle.nagsched.specs.DrillCommand.{Command, PluginOf, MomentAt, are_numbers, are_some_numbers, number_in}
+use Rattle.nagsched.specs.DrillCommand.{Command, PluginOf, MomentAt, are_numbers, are_some_numbers, drill_command_by, number_in}
 use Rattle.nagsched.specs.DrillCommanded.{drill_command}
-use Rattle.nagsched.specs.DrillScript.{DrillScript, drill_over, given_by, moment_of, moments_in, returns_below, returns_by, returns_of}
+use Rattle.nagsched.specs.DrillScript.{DrillScript, drill_over, drill_script_of, given_by, moment_of, moments_in, returns_below, returns_by, returns_of}
+use Rattle.nagsched.specs.Line.{◌>>=◌}
+use Rattle.nagsched.specs.Script.{Script, script_by}
 use Rattle.nagsched.specs.declared.drill_command.DrillCommand.{DrillCommand}
+use Rattle.nagsched.specs.declared.refusal.InputRefusal.{InputRefusal}
+use Rattle.nagsched.proofs.ScriptLemmas.{few_script}
 
 -- ---- members
 
@@ -51,6 +55,27 @@ filter_map-map h v (x ∷ xs) = ap (cons_option (h (v x))) (filter_map-map h v x
 
 pub moments_seen : (commands : List DrillCommand) → filter_map (λ c. moment_of (drill_command c)) commands ≡ moments_in (map drill_command commands)
 moments_seen commands = filter_map-map moment_of drill_command commands
+
+length-cons_moment : (o : Option ℕ) (xs : List ℕ) (n : ℕ) → length xs ≤ n → length (cons_option o xs) ≤ suc n
+length-cons_moment None xs n h = omega (arith, h)
+length-cons_moment (Some x) xs n h = omega (arith, h)
+
+length-moments_in : (commands : List Command) → length (moments_in commands) ≤ length commands
+length-moments_in [] = omega arith
+length-moments_in (c ∷ commands) = length-cons_moment (moment_of c) (moments_in commands) (length commands) (length-moments_in commands)
+
+few_over_by : (r : Result (Script Command) InputRefusal) (s : DrillScript) (n : ℕ) → IfOk r (λ read. length read.commands ≤ n) → (r >>= λ read. Ok (drill_over read)) ≡ Ok s
+    → length s.moments ≤ n
+few_over_by (Ok read) s n h e = let k : drill_over read ≡ s = cc in rw (← k) (omega (arith, length-moments_in read.commands, h))
+few_over_by (Err r) s n h e =
+    let k : Err r ≡ Ok s = e in
+    let f : ⊥ = cc in
+    absurd f
+
+-- a script has no more moments than an input may have bytes
+pub few_moments : (input : List ℕ) (s : DrillScript) → drill_script_of input ≡ Ok s → length s.moments ≤ 67108864
+unfolding drill_script_of
+few_moments input s e = few_over_by (script_by drill_command_by input) s 67108864 (few_script drill_command_by input) e
 
 -- ---- return codes
 

@@ -62,7 +62,7 @@ read_fault errors.Memory start (Some bytes) left held n = (front_none held (text
 front_of : (start : ℕ) (held holds : Option (List ℕ)) (input bytes : List ℕ) → input ≡ take 67108865 bytes → WroteFront held holds (text start input) → WroteFront held holds (text start bytes)
 front_of start held holds input bytes e f = (f.0, record { front = f.1.front; parts = sym (ap (text start) e ∙ text_take start bytes) ∙ f.1.parts; appended = f.1.appended })
 
-has_read : (left : Option (List ℕ)) (input bytes : List ℕ) → input ≡ take 67108865 bytes → Consumes (Some bytes) left input → HasRead (Some bytes) left bytes
+pub has_read : (left : Option (List ℕ)) (input bytes : List ℕ) → input ≡ take 67108865 bytes → Consumes (Some bytes) left input → HasRead (Some bytes) left bytes
 has_read None input bytes e c = absurd c
 has_read (Some rest) input bytes e c = c ∙ ap (λ l. l ++ rest) e
 

@@ -5,5 +5,6 @@ pub mod ScriptLemmas
 pub mod DrillLemmas
 pub mod TextLemmas
 pub mod DriveLemmas
+pub mod DrillDriveLemmas
 pub mod WordsLemmas
 pub mod DrillLaws

@@ -1,13 +1,16 @@
 -- The lines of a script.
-use Rattle.std.proofs.Common.{ℕ, ◌≡◌, ◌==◌, ◌+◌, ◌≤◌, Bool, true, false, cond, List, [], ◌∷◌, length, Option, Some, None, Result, Ok, ◌++◌, refl, ap, arith, Bor}
+use Rattle.std.proofs.Common.{ℕ, suc, ◌≡◌, ◌==◌, ◌+◌, ◌≤◌, Bool, true, false, cond, List, [], ◌∷◌, length, Option, Some, None, Result, Ok, Err, ◌<◌, ◌++◌, refl, ap, arith, Bor, inl, inr, ◌⊎◌}
+use Rattle.std.specs.Prelude.{nat_lt, IfOk, ⊤}
+use Rattle.std.proofs.lemmas.Bool.{cases_lt}
+use Rattle.std.proofs.lemmas.Bool.Decides.{nat_tests}
 use Rattle.std.specs.Iterator.{YieldsFirstRef}
 use Rattle.check_objects.specs.Configuration.{Configuration}
 use Rattle.check_objects.specs.Setup.{setup_of}
 use Rattle.serde_json.specs.Data.{Items}
 use Rattle.nagsched.specs.Agreement.{Fails}
-use Rattle.nagsched.specs.Line.{◌>>=◌}
+use Rattle.nagsched.specs.Line.{◌>>=◌, command_of, is_blank}
 use Rattle.nagsched.specs.Input.{lines_of, onto_first}
-use Rattle.nagsched.specs.Script.{commands_from, in_setup, script_over}
+use Rattle.nagsched.specs.Script.{Script, commands_from, in_setup, script_by, script_in, script_over}
 use Rattle.nagsched.specs.declared.input.Lines.{Lines}
 use Rattle.nagsched.specs.declared.refusal.InputRefusal.{InputRefusal}
 use Rattle.nagsched.specs.declared.refusal.LineFault.{LineFault}
@@ -57,3 +60,51 @@ over_commands_fail meaning (errors.Refused r) c document ls s f = rw (s, f) refl
 pub over_reads : {K : Type 0} (meaning : Configuration → List ℕ → Items → Result K LineFault) (c : Configuration) (all : List K) (document : List ℕ) (ls : List (List ℕ))
     → in_setup (setup_of document) ≡ Ok c → commands_from (meaning c) 2 ls ≡ Ok all → script_over meaning document ls ≡ Ok (record { setup = c; commands = all })
 over_reads meaning c all document ls s f = rw (s, f) refl
+
+-- ---- how many commands there are
+
+abbrev pub script_with : {K : Type 0} → Configuration → List K → Script K
+script_with c all = record { setup = c; commands = all }
+
+few_more : {K : Type 0} (first : Result K InputRefusal) (more : Result (List K) InputRefusal) (n : ℕ) → IfOk more (λ all. length all ≤ n)
+    → IfOk (first >>= λ x. (more >>= λ all. Ok (x ∷ all))) (λ all. length all ≤ suc n)
+few_more (Err e) more n h = tt
+few_more (Ok x) (Err e) n h = tt
+few_more (Ok x) (Ok all) n h = omega (arith, h)
+
+few_by : {K : Type 0} (blank : Bool) (first : Result K InputRefusal) (more : Result (List K) InputRefusal) (n : ℕ) → IfOk more (λ all. length all ≤ n)
+    → IfOk (cond blank more (first >>= λ x. (more >>= λ all. Ok (x ∷ all)))) (λ all. length all ≤ suc n)
+few_by true first (Ok all) n h = omega (arith, h)
+few_by true first (Err e) n h = tt
+few_by false first more n h = few_more first more n h
+
+-- no more commands than lines
+few_commands : {K : Type 0} (meaning : List ℕ → Items → Result K LineFault) (n : ℕ) (ls : List (List ℕ)) → IfOk (commands_from meaning n ls) (λ all. length all ≤ length ls)
+few_commands meaning n [] = omega arith
+few_commands meaning n (l ∷ ls) = few_by (is_blank l) (command_of meaning n l) (commands_from meaning (n + 1) ls) (length ls) (few_commands meaning (n + 1) ls)
+
+few_with : {K : Type 0} (c : Configuration) (all : Result (List K) InputRefusal) (n m : ℕ) → n ≤ m → IfOk all (λ l. length l ≤ n)
+    → IfOk (all >>= λ l. Ok (script_with c l)) (λ s. length s.commands ≤ m)
+few_with c (Ok l) n m b h = omega (arith, b, h)
+few_with c (Err e) n m b h = tt
+
+few_over : {K : Type 0} (meaning : Configuration → List ℕ → Items → Result K LineFault) (setup : Result Configuration InputRefusal) (ls : List (List ℕ)) (m : ℕ) → length ls ≤ m
+    → IfOk (setup >>= λ c. (commands_from (meaning c) 2 ls >>= λ all. Ok (script_with c all))) (λ s. length s.commands ≤ m)
+few_over meaning (Err e) ls m b = tt
+few_over meaning (Ok c) ls m b = few_with c (commands_from (meaning c) 2 ls) (length ls) m b (few_commands (meaning c) 2 ls)
+
+few_in : {K : Type 0} (meaning : Configuration → List ℕ → Items → Result K LineFault) (ls : List (List ℕ)) (m : ℕ) → length ls ≤ m → IfOk (script_in meaning ls) (λ s. length s.commands ≤ m)
+few_in meaning [] m b = few_over meaning (in_setup (setup_of [])) [] m b
+few_in meaning (l ∷ ls) m b = few_over meaning (in_setup (setup_of l)) ls m (omega (arith, b))
+
+few_script_by : {K : Type 0} (meaning : Configuration → List ℕ → Items → Result K LineFault) (input : List ℕ) → (67108864 < length input) ⊎ (length input ≤ 67108864)
+    → IfOk (script_by meaning input) (λ s. length s.commands ≤ 67108864)
+unfolding script_by
+few_script_by meaning input (inl h) = let a : nat_lt 67108864 (length input) ≡ true = grind (arith, nat_tests, h) in rw a tt
+few_script_by meaning input (inr h) =
+    let a : nat_lt 67108864 (length input) ≡ false = grind (arith, nat_tests, h) in
+    rw a (few_in meaning (lines_of input) 67108864 (few_lines input h))
+
+-- the script of an input has no more commands than an input may have bytes
+pub few_script : {K : Type 0} (meaning : Configuration → List ℕ → Items → Result K LineFault) (input : List ℕ) → IfOk (script_by meaning input) (λ s. length s.commands ≤ 67108864)
+few_script meaning input = few_script_by meaning input (cases_lt 67108864 (length input))

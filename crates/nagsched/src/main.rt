@@ -34,6 +34,8 @@ use std::alloc::{AllocError, Global};
 use std::io::{BufWriter, ErrorKind};
 use std::process::ExitCode;
 use std::rt::Env;
+use std::sync::Wait;
+use std::thread::Threads;
 use std::{env, io};
 
 fn main(rt: HostRuntime) -> ExitCode {
@@ -42,7 +44,7 @@ fn main(rt: HostRuntime) -> ExitCode {
 
 /// The session of the program's own words, from standard input to standard output. Writes are
 /// gathered, and flushed once at the end. Words that are no text are refused.
-fn own_session<R: Env + Input + Print + AllocGlobal>(rt: &R) -> u8 {
+fn own_session<R: Env + Input + Print + AllocGlobal + Threads + Wait + Sync>(rt: &R) -> u8 {
     let alloc = rt.alloc();
     let Ok(mut writer) = BufWriter::new(alloc, io::writer(rt)) else {
         return exit_status(Err(DriveError::Memory));

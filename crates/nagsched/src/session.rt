@@ -7,12 +7,15 @@ ghost use Rattle.nagsched.specs.declared.session.Ending.{Ending};
 ghost use Rattle.nagsched.specs.Output.{WroteFront};
 ghost use Rattle.nagsched.specs.Session.{exit_status, Ends};
 
+use crate::drill::drill;
 use crate::drive::{DriveError, Outcome, drive};
 use crate::job::job;
 use crate::output::write_text;
 use crate::words::{Job, WordsError};
 use std::alloc::Global;
 use std::io::{Read, Write};
+use std::sync::Wait;
+use std::thread::Threads;
 
 /// How a session ended that met no fault and no want of memory.
 #[derive(Clone, Copy, Debug, PartialEq, Eq)]
@@ -29,9 +32,9 @@ pub enum Ending {
 /// tested first: where they are refused, or ask for help, the input isn't read, and the line
 /// `refused words` or the help's text is written. The writer is flushed once, at the end.
 ///
-/// `_rt` is the machine beside memory, reader and writer. No job uses it so far.
-pub fn session<H, R: Read, W: Write>(
-    _rt: &H,
+/// `rt` is the machine that starts threads and waits, which only a drill uses.
+pub fn session<H: Threads + Wait + Sync, R: Read, W: Write>(
+    rt: &H,
     alloc: Global,
     words: &[&str],
     reader: &mut R,
@@ -41,11 +44,12 @@ pub fn session<H, R: Read, W: Write>(
         × Ends (texts words.now) ended (R.remaining reader.old) (R.remaining reader.new)
         (W.contents writer.old) (W.contents writer.new) }
 {
-    exit_status(serve(alloc, words, reader, writer))
+    exit_status(serve(rt, alloc, words, reader, writer))
 }
 
 /// Does what the words ask for.
-fn serve<R: Read, W: Write>(
+fn serve<H: Threads + Wait + Sync, R: Read, W: Write>(
+    rt: &H,
     alloc: Global,
     words: &[&str],
     reader: &mut R,
@@ -59,8 +63,16 @@ fn serve<R: Read, W: Write>(
             Ok(outcome) => Ok(Ending::Drove(outcome)),
             Err(e) => Err(e),
         },
-        // joined later
-        Ok(Job::Drill { .. }) => Err(DriveError::Memory),
+        Ok(
+            Job::Drill {
+                start,
+                workers,
+                room,
+            },
+        ) => match drill(rt, alloc, start, workers, room, reader, writer) {
+            Ok(outcome) => Ok(Ending::Drove(outcome)),
+            Err(e) => Err(e),
+        },
         Err(WordsError::Help(text)) => {
             tell(writer, text.as_bytes())?;
             Ok(Ending::Helped)
@@ -100,7 +112,7 @@ fn tell<W: Write>(writer: &mut W, text: &[u8]) -> Result<(), DriveError>
 }
 
 /// The exit status of a session: 0 ran or told its help, 1 input refused, 2 words refused, 3 a fault
-/// of the reader or the writer, 4 want of memory.
+/// of the reader or the writer, 4 want of memory, or a thread that couldn't be had.
 pub fn exit_status(ended: Result<Ending, DriveError>) -> u8
     ensures { result ≡ exit_status ended }
 {

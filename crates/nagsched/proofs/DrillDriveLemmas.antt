@@ -1,0 +1,89 @@
+-- A whole drill, and what its faults leave.
+use Rattle.std.proofs.Common.{◌≡◌, ◌≢◌, ℕ, List, take, Option, Some, None, Result, Ok, Err, refl, sym, ap, ◌∙◌, inl, inr, ◌⊎◌}
+use Rattle.std.specs.Prelude.{IfSome, IfOk, IfErr, OnOk, OnErr, IsOkUnless, ⊤}
+use Rattle.std.specs.Io.KnownBytes.{Appends, Keeps, Consumes}
+use Rattle.std.proofs.lemmas.Result.{on_err_weaker}
+use Rattle.ticket_steps.specs.declared.kept.Entry.{Entry}
+use Rattle.check_sched.specs.declared.call.Call.{Call}
+use Rattle.check_sched.specs.declared.call.Reply.{Reply}
+use Rattle.nagsched.specs.declared.drive.DriveError.{DriveError}
+use Rattle.nagsched.specs.declared.drive.DriveError.TheVariants as errors
+use Rattle.nagsched.specs.declared.drive.Outcome.{Outcome}
+use Rattle.nagsched.specs.Drill.{AfterDrillFault, IsDrill, IsTextBy, IsTextOf, WroteDrill, WroteDrillFront, drill_outcome, drill_outcome_by}
+use Rattle.nagsched.specs.DrillScript.{DrillScript, drill_script_of}
+use Rattle.nagsched.specs.Drive.{HasRead}
+use Rattle.nagsched.specs.Output.{WroteFront}
+use Rattle.nagsched.specs.Text.{drill_text}
+use Rattle.nagsched.proofs.DriveLemmas.{Keeps-same, drill_script_take, has_read}
+use Rattle.nagsched.proofs.OutputLemmas.{Appends-Keeps, front_all}
+
+-- the text of a history of the input's script
+pub text_of_drill : (start workers room : ℕ) (input : List ℕ) (s : DrillScript) (history : List (Entry Call Reply)) (refused : ℕ) → drill_script_of input ≡ Ok s
+    → IsDrill s start workers room history refused → IsTextOf start workers room input (drill_text s.setup history refused)
+text_of_drill start workers room input s history refused e d = rw e (record { history = history; refused = refused; drill = d; text_is = refl })
+
+-- a front of it was written
+pub front_of_drill : (r : Result Outcome DriveError) (start workers room : ℕ) (input : List ℕ) (s : DrillScript) (history : List (Entry Call Reply)) (refused : ℕ) (held holds : Option (List ℕ))
+    → drill_script_of input ≡ Ok s → IsDrill s start workers room history refused → OnErr r (WroteFront held holds (drill_text s.setup history refused))
+    → OnErr r (Keeps held holds ⊎ WroteDrillFront start workers room input held holds)
+front_of_drill (Ok x) start workers room input s history refused held holds e d f = tt
+front_of_drill (Err x) start workers room input s history refused held holds e d f =
+    inr (record { text = drill_text s.setup history refused; is_text = text_of_drill start workers room input s history refused e d; written = f })
+
+-- ---- what was read is the input, or its front that is too long
+
+text_at : (start workers room : ℕ) (input bytes text : List ℕ) → input ≡ take 67108865 bytes → IsTextOf start workers room input text → IsTextOf start workers room bytes text
+text_at start workers room input bytes text e t = rw (ap drill_script_of e ∙ drill_script_take bytes) at t
+
+wrote_at : (start workers room : ℕ) (held mid holds : Option (List ℕ)) (input bytes : List ℕ) → input ≡ take 67108865 bytes → WroteDrill start workers room input held mid → Keeps mid holds
+    → WroteDrill start workers room bytes held holds
+wrote_at start workers room held mid holds input bytes e w k =
+    record { text = w.text; is_text = text_at start workers room input bytes w.text e w.is_text; written = Appends-Keeps held mid holds w.text w.written k }
+
+front_at : (start workers room : ℕ) (held holds : Option (List ℕ)) (input bytes : List ℕ) → input ≡ take 67108865 bytes → WroteDrillFront start workers room input held holds
+    → WroteDrillFront start workers room bytes held holds
+front_at start workers room held holds input bytes e w = record { text = w.text; is_text = text_at start workers room input bytes w.text e w.is_text; written = w.written }
+
+-- ---- faults
+
+pub drill_read_fault : (e : DriveError) (start workers room : ℕ) (had left held : Option (List ℕ)) → e ≢ errors.Write → AfterDrillFault e start workers room had left held held
+drill_read_fault errors.Read start workers room had left held n = Keeps-same held
+drill_read_fault errors.Write start workers room had left held n = absurd (n refl)
+drill_read_fault errors.Memory start workers room None left held n = tt
+drill_read_fault errors.Memory start workers room (Some bytes) left held n = inl (Keeps-same held)
+
+left_by : (start workers room : ℕ) (left held holds : Option (List ℕ)) (input bytes : List ℕ) → input ≡ take 67108865 bytes → Consumes (Some bytes) left input
+    → Keeps held holds ⊎ WroteDrillFront start workers room input held holds
+    → Keeps held holds ⊎ (HasRead (Some bytes) left bytes × WroteDrillFront start workers room bytes held holds)
+left_by start workers room left held holds input bytes all c (inl k) = inl k
+left_by start workers room left held holds input bytes all c (inr f) = inr (has_read left input bytes all c, front_at start workers room held holds input bytes all f)
+
+pub drill_write_fault : (e : DriveError) (start workers room : ℕ) (had left held holds : Option (List ℕ)) (input : List ℕ) → e ≢ errors.Read → IfSome had (λ bytes. input ≡ take 67108865 bytes)
+    → Consumes had left input → Keeps held holds ⊎ WroteDrillFront start workers room input held holds → AfterDrillFault e start workers room had left held holds
+drill_write_fault errors.Read start workers room had left held holds input n all c f = absurd (n refl)
+drill_write_fault errors.Write start workers room None left held holds input n all c f = tt
+drill_write_fault errors.Write start workers room (Some bytes) left held holds input n all c f = left_by start workers room left held holds input bytes all c f
+drill_write_fault errors.Memory start workers room None left held holds input n all c f = tt
+drill_write_fault errors.Memory start workers room (Some bytes) left held holds input n all c f = left_by start workers room left held holds input bytes all c f
+
+-- ---- whole drills
+
+pub drill_written : (r : Result Outcome DriveError) (start workers room : ℕ) (had held mid holds : Option (List ℕ)) (input : List ℕ) → IfSome had (λ bytes. input ≡ take 67108865 bytes)
+    → WroteDrill start workers room input held mid → Keeps mid holds → OnOk r (IfSome had (λ bytes. WroteDrill start workers room bytes held holds))
+drill_written (Ok x) start workers room None held mid holds input all w k = tt
+drill_written (Ok x) start workers room (Some bytes) held mid holds input all w k = wrote_at start workers room held mid holds input bytes all w k
+drill_written (Err e) start workers room had held mid holds input all w k = tt
+
+pub drill_outcome_is : (r : Result Outcome DriveError) (had : Option (List ℕ)) (given : Outcome) (input : List ℕ) → IfSome had (λ bytes. input ≡ take 67108865 bytes) → given ≡ drill_outcome input
+    → IfOk r (λ o. o ≡ given) → IfOk r (λ o. IfSome had (λ bytes. o ≡ drill_outcome bytes))
+drill_outcome_is (Ok x) None given input all g o = tt
+drill_outcome_is (Ok x) (Some bytes) given input all g o = o ∙ g ∙ ap drill_outcome_by (ap drill_script_of all ∙ drill_script_take bytes)
+drill_outcome_is (Err e) had given input all g o = tt
+
+pub drill_fault : (r : Result Outcome DriveError) (start workers room : ℕ) (had left held mid holds : Option (List ℕ)) (input : List ℕ) → IfSome had (λ bytes. input ≡ take 67108865 bytes)
+    → Consumes had left input → WroteDrill start workers room input held mid → Keeps mid holds → IsOkUnless r errors.Write
+    → IfErr r (λ e. AfterDrillFault e start workers room had left held holds)
+drill_fault (Ok x) start workers room had left held mid holds input all c w k u = tt
+drill_fault (Err e) start workers room had left held mid holds input all c w k u =
+    let front : WroteDrillFront start workers room input held holds = record { text = w.text; is_text = w.is_text; written = front_all held holds w.text (Appends-Keeps held mid holds w.text w.written k) } in
+    rw u (drill_write_fault errors.Write start workers room had left held holds input (λ q. cc) all c (inr front))
