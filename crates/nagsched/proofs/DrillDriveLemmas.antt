@@ -1,15 +1,14 @@
 -- A whole drill, and what its faults leave.
-use Rattle.std.proofs.Common.{◌≡◌, ◌≢◌, ℕ, List, take, Option, Some, None, Result, Ok, Err, refl, sym, ap, ◌∙◌, inl, inr, ◌⊎◌}
-use Rattle.std.specs.Prelude.{IfSome, IfOk, IfErr, OnOk, OnErr, IsOkUnless, ⊤}
+use Rattle.std.proofs.Common.{◌≡◌, ◌≢◌, ℕ, List, take, Option, Some, None, Result, Ok, Err, refl, ap, ◌∙◌, inl, inr, ◌⊎◌}
+use Rattle.std.specs.Prelude.{IfSome, IfOk, IfErr, OnOk, OnErr, IsOkUnless}
 use Rattle.std.specs.Io.KnownBytes.{Appends, Keeps, Consumes}
-use Rattle.std.proofs.lemmas.Result.{on_err_weaker}
 use Rattle.ticket_steps.specs.declared.kept.Entry.{Entry}
 use Rattle.check_sched.specs.declared.call.Call.{Call}
 use Rattle.check_sched.specs.declared.call.Reply.{Reply}
 use Rattle.nagsched.specs.declared.drive.DriveError.{DriveError}
 use Rattle.nagsched.specs.declared.drive.DriveError.TheVariants as errors
 use Rattle.nagsched.specs.declared.drive.Outcome.{Outcome}
-use Rattle.nagsched.specs.Drill.{AfterDrillFault, IsDrill, IsTextBy, IsTextOf, WroteDrill, WroteDrillFront, drill_outcome, drill_outcome_by}
+use Rattle.nagsched.specs.Drill.{AfterDrillFault, IsDrill, IsTextOf, WroteDrill, WroteDrillFront, drill_outcome, drill_outcome_by}
 use Rattle.nagsched.specs.DrillScript.{DrillScript, drill_script_of}
 use Rattle.nagsched.specs.Drive.{HasRead}
 use Rattle.nagsched.specs.Output.{WroteFront}

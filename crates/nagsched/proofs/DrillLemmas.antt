@@ -1,6 +1,6 @@
 -- The members of a drill's commands, and what the commands say together.
 use Rattle.std.proofs.Common.{◌≡◌, ℕ, suc, zero, ◌+◌, ◌≤◌, ◌<◌, ◌==◌, true, false, cond, ◌&&◌, List, [], ◌∷◌, ◌++◌, length, map, replicate, Option, Some, None, get_or, refl, sym, ◌∙◌, ap, append-nil, inl, inr, arith, Result, Ok, Err}
-use Rattle.std.specs.Prelude.{is_some, unwrap_or, filter_map, IfOk, ⊤}
+use Rattle.std.specs.Prelude.{is_some, unwrap_or, filter_map, IfOk}
 use Rattle.std.specs.List.{list_all, last_or, range_with_len, cons_option}
 use Rattle.std.proofs.Math.ListN.{set}
 use Rattle.std.proofs.lemmas.List.{ext_get_or, get_or-set_same, get_or-set_other, length-set}

@@ -1,6 +1,6 @@
 -- The lines of a script.
 use Rattle.std.proofs.Common.{ℕ, suc, ◌≡◌, ◌==◌, ◌+◌, ◌≤◌, Bool, true, false, cond, List, [], ◌∷◌, length, Option, Some, None, Result, Ok, Err, ◌<◌, ◌++◌, refl, ap, arith, Bor, inl, inr, ◌⊎◌}
-use Rattle.std.specs.Prelude.{nat_lt, IfOk, ⊤}
+use Rattle.std.specs.Prelude.{nat_lt, IfOk}
 use Rattle.std.proofs.lemmas.Bool.{cases_lt}
 use Rattle.std.proofs.lemmas.Bool.Decides.{nat_tests}
 use Rattle.std.specs.Iterator.{YieldsFirstRef}

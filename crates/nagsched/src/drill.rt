@@ -152,7 +152,7 @@ fn write_book<W: Write>(alloc: Global, book: &Book, writer: &mut W) -> Result<Ou
 /// flushed.
 ///
 /// An Err is `Write` or `Memory`. A front of the text was written then.
-fn write_history<W: Write>(
+pub fn write_history<W: Write>(
     alloc: Global,
     setup: &Setup,
     entries: &[Entry<Call, Reply>],

@@ -7,7 +7,7 @@
 //! command of one line), `command` (the calls that the words of `run` mean), `drive` (the run), `text`
 //! (the line of a reply or a refusal) and `output` (bytes to the writer). `refusal` has the errors of
 //! an input. A drill has words of its own, `drill_command`, which `drill_script` puts together;
-//! `scripted` is its plugin, and `drill` writes what came of it.
+//! `scripted` is its plugin, and `drill` lets workers work on it and writes what came of it.
 #![tactic(auto)]
 
 mod command;

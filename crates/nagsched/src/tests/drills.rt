@@ -1,10 +1,12 @@
-//! The input of a drill, the codes that its plugin returns, and the text of a history.
+//! The input of a drill, the codes that its plugin returns, the text of a history, and whole drills.
+
+ghost use Rattle.std.specs.Prelude.{◌<◌, ◌≤◌};
 
 use super::SERVICE;
 use super::devices::ShortWriter;
-use crate::drill::write_history;
+use crate::drill::{drill, write_history};
 use crate::drill_script::DrillScript;
-use crate::drive::DriveError;
+use crate::drive::{DriveError, Outcome};
 use crate::refusal::ScriptError;
 use crate::scripted::Scripted;
 use crate::text::push_refusal;
@@ -13,7 +15,9 @@ use check_rules::{Code, Kind, Standing, State};
 use check_sched::{Call, Refusal, Reply};
 use std::alloc::Global;
 use std::process::Abort;
+use std::sync::Wait;
 use std::test::Fail;
+use std::thread::Threads;
 use ticket_steps::Entry;
 
 /// The drill of these lines after the setup with the host `h`, number 0, and its service `s`,
@@ -212,5 +216,54 @@ fn writes_a_front_of_a_history(rt: HostRuntime) -> Result<(), Fail> {
     assert_eq!(rt; answer, Err(DriveError::Write));
     assert!(rt; writer.taken.as_slice() == b"0 taken 1 h;s\n12 idl".as_slice());
     assert_eq!(rt; writer.flushes, 0);
+    Ok(())
+}
+
+/// What a drill of so many workers with this room writes on an input, from the start 0.
+fn drilled<H: Threads + Wait + Sync>(
+    rt: &H,
+    alloc: Global,
+    workers: u32,
+    room: usize,
+    input: &str,
+) -> Result<String, Fail>
+    requires { (0 < workers) × (workers ≤ 64) }
+{
+    let mut reader = input.as_bytes();
+    let mut written = Vec::new(alloc);
+    if drill(rt, alloc, 0, workers, room, &mut reader, &mut written)? != Outcome::Ran {
+        return Err(Fail::from("the input was refused"));
+    }
+    match String::from_utf8(written) {
+        Ok(text) => Ok(text),
+        Err(_) => Err(Fail::from("the output is no text")),
+    }
+}
+
+/// Three lines of one length in some order, and the total after them.
+#[test]
+fn three_workers_find_nothing(rt: HostRuntime) -> Result<(), Fail> {
+    let text = drilled(&rt, rt.alloc(), 3, 100, "{}\n[\"moment\",5]\n")?;
+    for line in ["0 idle none\n", "1 idle none\n", "2 idle none\n"] {
+        assert!(rt; text.contains(line), "{line}");
+    }
+    assert!(rt; text.ends_with("total 3 0\n"));
+    assert_eq!(rt; text.len(), 3 * 12 + 10);
+    Ok(())
+}
+
+/// A service that fails once and is well again at its second check.
+const WELL_AGAIN: &str = "0 taken 1 h;s\n0 standing CRITICAL SOFT 1 yes 60000 h;s\n\
+0 taken 2 h;s\n0 standing OK SOFT 2 yes 360000 h;s\ntotal 4 0\n";
+
+#[test]
+fn one_worker_checks_a_service(rt: HostRuntime) -> Result<(), Fail> {
+    let alloc = rt.alloc();
+    let lines = "[\"plugin\",\"h;s\",2,0]\n[\"moment\",0]\n[\"moment\",60000]\n";
+    let input = format!(in alloc; "{SERVICE}\n{lines}")?;
+    let with_room = drilled(&rt, alloc, 1, 100, &input)?;
+    assert_eq!(rt; with_room.as_str(), WELL_AGAIN);
+    let without_room = drilled(&rt, alloc, 1, 0, &input)?;
+    assert_eq!(rt; without_room.as_str(), WELL_AGAIN);
     Ok(())
 }
