@@ -1,7 +1,7 @@
 -- A whole drill, and what its faults leave.
 use Rattle.std.proofs.Common.{◌≡◌, ◌≢◌, ℕ, List, take, Option, Some, None, Result, Ok, Err, refl, ap, ◌∙◌, inl, inr, ◌⊎◌}
 use Rattle.std.specs.Prelude.{IfSome, IfOk, IfErr, OnOk, OnErr, IsOkUnless}
-use Rattle.std.specs.Io.KnownBytes.{Appends, Keeps, Consumes}
+use Rattle.std.specs.Io.KnownBytes.{Keeps, Consumes}
 use Rattle.ticket_steps.specs.declared.kept.Entry.{Entry}
 use Rattle.check_sched.specs.declared.call.Call.{Call}
 use Rattle.check_sched.specs.declared.call.Reply.{Reply}

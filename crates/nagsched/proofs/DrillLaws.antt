@@ -1,5 +1,5 @@
 -- What a crew of new passes leaves is a drill.
-use Rattle.std.proofs.Common.{◌≡◌, ℕ, zero, suc, ◌+◌, ◌-◌, ◌*◌, ◌<◌, ◌≤◌, ◌^◌, List, [], ◌∷◌, ◌++◌, length, Option, Some, None, refl, sym, ap, subst, ◌∙◌, inl, inr, arith}
+use Rattle.std.proofs.Common.{◌≡◌, ℕ, ◌+◌, ◌*◌, ◌<◌, ◌≤◌, List, [], ◌∷◌, ◌++◌, length, Option, Some, None, refl, sym, ap, subst, ◌∙◌, inl, inr, arith}
 use Rattle.std.specs.Prelude.{flat_map, sum_by, ◌⊎◌}
 use Rattle.std.proofs.lemmas.List.Concat.{flat_map-cons}
 use Rattle.std.proofs.lemmas.List.Sums.{sum_by-cons}
@@ -122,7 +122,7 @@ each_worker s room refused history desk n (p ∷ ps) [] few new are missing numb
 each_worker s room refused history desk n (p ∷ ps) (shift ∷ ss) few new are missing number from below =
     let sum = unanswered_cons shift ss in
     turn_to s room refused history desk n p ps shift ss few new are missing number (eq-or-lt_of_le from) below
-      (each_worker s room refused history desk (n + 1) ps ss few new.2 are.1 (omega arith))
+    (each_worker s room refused history desk (n + 1) ps ss few new.2 are.1 (omega arith))
 
 -- ---- counts
 
@@ -146,9 +146,9 @@ all_calls [] = refl
 all_calls (s ∷ ss) =
     let t = tally_of (shift_entries s) (stops_of s.stopped) in
     let both : tally_of_all (s ∷ ss) ≡ plus t (tally_of_all ss) =
-      ap (λ l. tally_of l (flat_map (λ v. stops_of v.stopped) (s ∷ ss))) (flat_map-cons shift_entries s ss)
-      ∙ ap (tally_of (shift_entries s ++ flat_map shift_entries ss)) (flat_map-cons (λ v. stops_of v.stopped) s ss)
-      ∙ tally_append (shift_entries s) (flat_map shift_entries ss) (stops_of s.stopped) (flat_map (λ v. stops_of v.stopped) ss) in
+    ap (λ l. tally_of l (flat_map (λ v. stops_of v.stopped) (s ∷ ss))) (flat_map-cons shift_entries s ss)
+    ∙ ap (tally_of (shift_entries s ++ flat_map shift_entries ss)) (flat_map-cons (λ v. stops_of v.stopped) s ss)
+    ∙ tally_append (shift_entries s) (flat_map shift_entries ss) (stops_of s.stopped) (flat_map (λ v. stops_of v.stopped) ss) in
     let takes = ap (λ u. u.takes) both in
     let reports = ap (λ u. u.reports) both in
     let missing = ap (λ u. u.unanswered) both in
