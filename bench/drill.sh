@@ -55,19 +55,7 @@ moments() {
     }'
 }
 
-# The best time of a command over an input, in milliseconds.
-best() {
-    local least=999999999
-    for _ in $(seq "$repeats"); do
-        local begun ended
-        begun=$(date +%s%N)
-        "${@:2}" < "$1" > "$work/output"
-        ended=$(date +%s%N)
-        local taken=$(((ended - begun) / 1000000))
-        ((taken < least)) && least=$taken
-    done
-    echo "$least"
-}
+. "$(dirname "$0")/best.sh"
 
 # A line of the table: what ran, its asks and time, and the share of takes that found a host.
 tell() {

@@ -32,19 +32,7 @@ input() {
     }'
 }
 
-# The best time of a command over an input, in milliseconds.
-best() {
-    local least=999999999
-    for _ in $(seq "$repeats"); do
-        local begun ended
-        begun=$(date +%s%N)
-        "${@:2}" < "$1" > "$work/output"
-        ended=$(date +%s%N)
-        local taken=$(((ended - begun) / 1000000))
-        ((taken < least)) && least=$taken
-    done
-    echo "$least"
-}
+. "$(dirname "$0")/best.sh"
 
 printf '%8s %10s %8s %14s %8s %12s\n' hosts calls ms 'calls a second' 'jq ms' 'ratio to jq'
 for hosts in 64 512 4096; do
