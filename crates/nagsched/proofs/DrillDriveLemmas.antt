@@ -1,5 +1,5 @@
 -- A whole drill, and what its faults leave.
-use Rattle.std.proofs.Common.{◌≡◌, ◌≢◌, ℕ, List, take, Option, Some, None, Result, Ok, Err, refl, ap, ◌∙◌, inl, inr, ◌⊎◌}
+use Rattle.std.proofs.Common.{◌≡◌, ◌≢◌, ℕ, List, [], take, Option, Some, None, Result, Ok, Err, refl, ap, ◌∙◌, inl, inr, ◌⊎◌}
 use Rattle.std.specs.Prelude.{IfSome, IfOk, IfErr, OnOk, OnErr, IsOkUnless}
 use Rattle.std.specs.Io.KnownBytes.{Keeps, Consumes}
 use Rattle.ticket_steps.specs.declared.kept.Entry.{Entry}
@@ -8,12 +8,12 @@ use Rattle.check_sched.specs.declared.call.Reply.{Reply}
 use Rattle.nagsched.specs.declared.drive.DriveError.{DriveError}
 use Rattle.nagsched.specs.declared.drive.DriveError.TheVariants as errors
 use Rattle.nagsched.specs.declared.drive.Outcome.{Outcome}
-use Rattle.nagsched.specs.Drill.{AfterDrillFault, IsDrill, IsTextOf, WroteDrill, WroteDrillFront, drill_outcome, drill_outcome_by}
+use Rattle.nagsched.specs.Drill.{AfterDrillFault, IsDrill, IsDrillOnInput, IsTextOf, WroteDrill, WroteDrillFront, drill_outcome}
 use Rattle.nagsched.specs.DrillScript.{DrillScript, drill_script_of}
-use Rattle.nagsched.specs.Drive.{HasRead}
+use Rattle.nagsched.specs.Drive.{HasRead, outcome_by}
 use Rattle.nagsched.specs.Output.{WroteFront}
 use Rattle.nagsched.specs.Text.{drill_text}
-use Rattle.nagsched.proofs.DriveLemmas.{Keeps-same, drill_script_take, has_read}
+use Rattle.nagsched.proofs.DriveLemmas.{Keeps-same, drill_script_take, has_read, input_of, input_of-is}
 use Rattle.nagsched.proofs.OutputLemmas.{Appends-Keeps, front_all}
 
 -- the text of a history of the input's script
@@ -76,7 +76,7 @@ drill_written (Err e) start workers room had held mid holds input all w k = tt
 pub drill_outcome_is : (r : Result Outcome DriveError) (had : Option (List ℕ)) (given : Outcome) (input : List ℕ) → IfSome had (λ bytes. input ≡ take 67108865 bytes) → given ≡ drill_outcome input
     → IfOk r (λ o. o ≡ given) → IfOk r (λ o. IfSome had (λ bytes. o ≡ drill_outcome bytes))
 drill_outcome_is (Ok x) None given input all g o = tt
-drill_outcome_is (Ok x) (Some bytes) given input all g o = o ∙ g ∙ ap drill_outcome_by (ap drill_script_of all ∙ drill_script_take bytes)
+drill_outcome_is (Ok x) (Some bytes) given input all g o = o ∙ g ∙ ap outcome_by (ap drill_script_of all ∙ drill_script_take bytes)
 drill_outcome_is (Err e) had given input all g o = tt
 
 pub drill_fault : (r : Result Outcome DriveError) (start workers room : ℕ) (had left held mid holds : Option (List ℕ)) (input : List ℕ) → IfSome had (λ bytes. input ≡ take 67108865 bytes)
@@ -86,3 +86,43 @@ drill_fault (Ok x) start workers room had left held mid holds input all c w k u 
 drill_fault (Err e) start workers room had left held mid holds input all c w k u =
     let front : WroteDrillFront start workers room input held holds = record { text = w.text; is_text = w.is_text; written = front_all held holds w.text (Appends-Keeps held mid holds w.text w.written k) } in
     rw u (drill_write_fault errors.Write start workers room had left held holds input (λ q. cc) all c (inr front))
+
+-- ---- the input of a drill, whatever is known of its reader
+
+input_of-script : (had : Option (List ℕ)) (read : List ℕ) → IfSome had (λ bytes. read ≡ take 67108865 bytes) → drill_script_of read ≡ drill_script_of (input_of had read)
+input_of-script None read all = refl
+input_of-script (Some bytes) read all = ap drill_script_of all ∙ drill_script_take bytes
+
+text_of_read : (start workers room : ℕ) (had : Option (List ℕ)) (read text : List ℕ) → IfSome had (λ bytes. read ≡ take 67108865 bytes) → IsTextOf start workers room read text
+    → IsTextOf start workers room (input_of had read) text
+text_of_read start workers room had read text all t = rw (input_of-script had read all) at t
+
+front_of_read : (start workers room : ℕ) (had held holds : Option (List ℕ)) (read : List ℕ) → IfSome had (λ bytes. read ≡ take 67108865 bytes)
+    → Keeps held holds ⊎ WroteDrillFront start workers room read held holds → Keeps held holds ⊎ WroteDrillFront start workers room (input_of had read) held holds
+front_of_read start workers room had held holds read all (inl k) = inl k
+front_of_read start workers room had held holds read all (inr f) = inr (record { text = f.text; is_text = text_of_read start workers room had read f.text all f.is_text; written = f.written })
+
+-- a drill that nothing was written in
+pub unwritten_drill : (e : DriveError) (start workers room : ℕ) (had held : Option (List ℕ)) → IsDrillOnInput start workers room (Err e) had held held
+unwritten_drill e start workers room had held =
+    record { input = input_of had []; is_input = input_of-is had []; outcome_is = tt; written = tt; front = inl (Keeps-same held) }
+
+-- a drill that an error ended when its input had been read
+pub cut_drill : (e : DriveError) (start workers room : ℕ) (had held holds : Option (List ℕ)) (read : List ℕ) → IfSome had (λ bytes. read ≡ take 67108865 bytes)
+    → Keeps held holds ⊎ WroteDrillFront start workers room read held holds → IsDrillOnInput start workers room (Err e) had held holds
+cut_drill e start workers room had held holds read all f =
+    record { input = input_of had read; is_input = input_of-is had read; outcome_is = tt; written = tt; front = front_of_read start workers room had held holds read all f }
+
+-- a drill that came to its flush
+pub flushed_drill : (r : Result Outcome DriveError) (start workers room : ℕ) (had held mid holds : Option (List ℕ)) (given : Outcome) (read : List ℕ)
+    → IfSome had (λ bytes. read ≡ take 67108865 bytes) → WroteDrill start workers room read held mid → Keeps mid holds → given ≡ drill_outcome read → IfOk r (λ o. o ≡ given)
+    → IsDrillOnInput start workers room r had held holds
+flushed_drill (Ok x) start workers room had held mid holds given read all w k g o = record {
+  input = input_of had read;
+  is_input = input_of-is had read;
+  outcome_is = o ∙ g ∙ ap outcome_by (input_of-script had read all);
+  written = record { text = w.text; is_text = text_of_read start workers room had read w.text all w.is_text; written = Appends-Keeps held mid holds w.text w.written k };
+  front = tt;
+}
+flushed_drill (Err e) start workers room had held mid holds given read all w k g o =
+    cut_drill e start workers room had held holds read all (inr (record { text = w.text; is_text = w.is_text; written = front_all held holds w.text (Appends-Keeps held mid holds w.text w.written k) }))

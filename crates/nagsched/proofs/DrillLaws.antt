@@ -1,9 +1,9 @@
 -- What a crew of new passes leaves is a drill.
-use Rattle.std.proofs.Common.{◌≡◌, ℕ, ◌+◌, ◌*◌, ◌<◌, ◌≤◌, List, [], ◌∷◌, ◌++◌, length, Option, Some, None, refl, sym, ap, subst, ◌∙◌, inl, inr, arith}
-use Rattle.std.specs.Prelude.{flat_map, sum_by, ◌⊎◌}
+use Rattle.std.proofs.Common.{◌≡◌, ℕ, ◌+◌, ◌*◌, ◌<◌, ◌≤◌, List, [], ◌∷◌, ◌++◌, length, Option, Some, None, refl, sym, ap, subst, suc, zero-add, ◌∙◌, arith}
+use Rattle.std.specs.Prelude.{filter_map, flat_map, sum_by}
+use Rattle.std.specs.List.{AllByRecursion, cons_option}
 use Rattle.std.proofs.lemmas.List.Concat.{flat_map-cons}
 use Rattle.std.proofs.lemmas.List.Sums.{sum_by-cons}
-use Rattle.std.proofs.Math.Nat.{eq-or-lt_of_le}
 use Rattle.ticket_steps.specs.declared.kept.Entry.{Entry}
 use Rattle.ticket_steps.specs.History.{entry, of, IsLegal}
 use Rattle.ticket_steps.specs.Sums.{counted, times}
@@ -29,7 +29,7 @@ use Rattle.check_workers.specs.Tallies.{plus, tally_of}
 use Rattle.check_workers.proofs.CrewLemmas.{shift_short}
 use Rattle.check_workers.proofs.ShiftLemmas.{rounds_entries, shift_calls}
 use Rattle.check_workers.proofs.TallyLemmas.{tally_append}
-use Rattle.nagsched.specs.Drill.{IsDrill, IsWorkerOf, gives_scripted}
+use Rattle.nagsched.specs.Drill.{AreWorkersOf, IsDrill, IsWorkerOf, gives_scripted, stopped_in}
 use Rattle.nagsched.specs.DrillScript.{DrillScript}
 
 -- ---- the entries of a shift are all of its own number
@@ -76,26 +76,31 @@ new_history allows moments room n history pass s e h =
     let seen : of n (pass_of pass).seen ≡ [] = ap (λ c. of n c.seen) e in
     h.new n (subst (λ l. 0 < times n l) (sym numbers) among) ∙ ap (λ l. l ++ of n (shift_entries s)) seen ∙ subst (λ m. of m (shift_entries s) ≡ shift_entries s) number (of_shift s)
 
--- it stops for want of memory alone
-stopped_none : (room recorded left before calls moments : ℕ) (o : Option Stop) → IsReason room recorded left o → before ≡ left + calls + unanswered o → calls ≤ 2 * moments → 2 * moments < before → unanswered o ≤ 0 → o ≡ None
-stopped_none room recorded left before calls moments None r e short many none = refl
-stopped_none room recorded left before calls moments (Some stop.NoMemory) r e short many none = absurd (omega arith)
-stopped_none room recorded left before calls moments (Some stop.Spent) r e short many none = absurd (omega (arith, r, e, short, many))
-
-one_worker : (s : DrillScript) (room refused n : ℕ) (history : List (Entry Call Reply)) (pass : Pass) (shift : Shift) → length s.moments ≤ 67108864 → pass_of pass ≡ new_pass n
-    → IsShiftOf (gives_scripted s.returns) s.moments room history (pass_of pass) shift → unanswered shift.stopped ≤ refused → IsWorkerOf s refused n (of n history)
-one_worker s room refused n history pass shift few e h missing = record {
-  shift = shift;
+one_worker : (s : DrillScript) (room n : ℕ) (history : List (Entry Call Reply)) (pass : Pass) (shift : Shift) → pass_of pass ≡ new_pass n
+    → IsShiftOf (gives_scripted s.returns) s.moments room history (pass_of pass) shift → IsWorkerOf s n (of n history) shift
+one_worker s room n history pass shift e h = record {
   number_is = h.number ∙ ap (λ c. c.own) e;
   worked = h.shift;
   entries_are = new_history (gives_scripted s.returns) s.moments room n history pass shift e h;
-  whole = (λ none.
-      let brought : (pass_of pass).left ≡ 4294967295 = ap (λ c. c.left) e in
-      let short = shift_short shift s.moments h.shift.in_order in
-      stopped_none room (length history) h.left (pass_of pass).left (length (shift_entries shift)) (length s.moments) shift.stopped h.reason h.left_is short (omega arith) (omega arith));
 }
 
 -- ---- all workers
+
+each_worker : (s : DrillScript) (room : ℕ) (history : List (Entry Call Reply)) (desk : Desk) (n : ℕ) (ps : List Pass) (ss : List Shift) → AreNewPasses desk n ps
+    → AreShiftsOf (gives_scripted s.returns) s.moments room history ps ss → AreWorkersOf s history n ss
+each_worker s room history desk n [] [] new are = tt
+each_worker s room history desk n [] (shift ∷ ss) new are = absurd are
+each_worker s room history desk n (p ∷ ps) [] new are = absurd are
+each_worker s room history desk n (p ∷ ps) (shift ∷ ss) new are =
+    (one_worker s room n history p shift new.1 are.0, each_worker s room history desk (n + 1) ps ss new.2 are.1)
+
+-- there are as many shifts as passes
+as_many : (allows : ℕ → ℕ → ℕ → Code → Type 0) (moments : List ℕ) (room : ℕ) (history : List (Entry Call Reply)) (ps : List Pass) (ss : List Shift) → AreShiftsOf allows moments room history ps ss
+    → length ss ≡ length ps
+as_many allows moments room history [] [] are = refl
+as_many allows moments room history [] (shift ∷ ss) are = absurd are
+as_many allows moments room history (p ∷ ps) [] are = absurd are
+as_many allows moments room history (p ∷ ps) (shift ∷ ss) are = ap suc (as_many allows moments room history ps ss are.1)
 
 unanswered_in : List Shift → ℕ
 unanswered_in shifts = sum_by (λ s. unanswered s.stopped) shifts
@@ -104,25 +109,35 @@ unanswered_cons : (s : Shift) (shifts : List Shift) → unanswered_in (s ∷ shi
 unfolding unanswered_in
 unanswered_cons s shifts = sum_by-cons (λ v. unanswered v.stopped) s shifts
 
--- it is the first pass's, or one of the later ones
-turn_to : (s : DrillScript) (room refused : ℕ) (history : List (Entry Call Reply)) (desk : Desk) (n : ℕ) (p : Pass) (ps : List Pass) (shift : Shift) (ss : List Shift) → length s.moments ≤ 67108864
-    → AreNewPasses desk n (p ∷ ps) → AreShiftsOf (gives_scripted s.returns) s.moments room history (p ∷ ps) (shift ∷ ss) → unanswered_in (shift ∷ ss) ≤ refused
-    → (number : ℕ) → (n ≡ number) ⊎ (n < number) → number < n + length (p ∷ ps)
-    → ((number : ℕ) → n + 1 ≤ number → number < n + 1 + length ps → IsWorkerOf s refused number (of number history)) → IsWorkerOf s refused number (of number history)
-turn_to s room refused history desk n p ps shift ss few new are missing number (inl same) below rest =
-    let sum = unanswered_cons shift ss in
-    subst (λ m. IsWorkerOf s refused m (of m history)) same (one_worker s room refused n history p shift few new.1 are.0 (omega arith))
-turn_to s room refused history desk n p ps shift ss few new are missing number (inr later) below rest = rest number (omega arith) (omega arith)
+-- ---- stops
 
--- the worker of each pass number, where these are counted from n
-each_worker : (s : DrillScript) (room refused : ℕ) (history : List (Entry Call Reply)) (desk : Desk) (n : ℕ) (ps : List Pass) (ss : List Shift) → length s.moments ≤ 67108864 → AreNewPasses desk n ps
-    → AreShiftsOf (gives_scripted s.returns) s.moments room history ps ss → unanswered_in ss ≤ refused → (number : ℕ) → n ≤ number → number < n + length ps → IsWorkerOf s refused number (of number history)
-each_worker s room refused history desk n [] ss few new are missing number from below = absurd (omega arith)
-each_worker s room refused history desk n (p ∷ ps) [] few new are missing number from below = absurd are
-each_worker s room refused history desk n (p ∷ ps) (shift ∷ ss) few new are missing number from below =
-    let sum = unanswered_cons shift ss in
-    turn_to s room refused history desk n p ps shift ss few new are missing number (eq-or-lt_of_le from) below
-    (each_worker s room refused history desk (n + 1) ps ss few new.2 are.1 (omega arith))
+length_cons : {A : Type 0} (o : Option A) (xs : List A) → length (cons_option o xs) ≡ length (cons_option o []) + length xs
+length_cons None xs = sym (zero-add (length xs))
+length_cons (Some x) xs = omega arith
+
+-- a worker stops for want of memory alone, since its pass has calls enough
+one_stop : (room recorded left before calls moments : ℕ) (o : Option Stop) → IsReason room recorded left o → before ≡ left + calls + unanswered o → calls ≤ 2 * moments → 2 * moments < before
+    → unanswered o ≡ length (cons_option o [])
+one_stop room recorded left before calls moments None r e short many = refl
+one_stop room recorded left before calls moments (Some stop.NoMemory) r e short many = refl
+one_stop room recorded left before calls moments (Some stop.Spent) r e short many = absurd (omega (arith, r, e, short, many))
+
+-- the calls without an answer are the shifts that stopped
+stops_counted : (allows : ℕ → ℕ → ℕ → Code → Type 0) (moments : List ℕ) (room : ℕ) (history : List (Entry Call Reply)) (desk : Desk) (n : ℕ) (ps : List Pass) (ss : List Shift)
+    → length moments ≤ 67108864 → AreNewPasses desk n ps → AreShiftsOf allows moments room history ps ss → unanswered_in ss ≡ stopped_in ss
+unfolding unanswered_in
+stops_counted allows moments room history desk n [] [] few new are = refl
+stops_counted allows moments room history desk n [] (s ∷ ss) few new are = absurd are
+stops_counted allows moments room history desk n (p ∷ ps) [] few new are = absurd are
+stops_counted allows moments room history desk n (p ∷ ps) (s ∷ ss) few new are =
+    let h = are.0 in
+    let brought : (pass_of p).left ≡ 4294967295 = ap (λ c. c.left) new.1 in
+    let short = shift_short s moments h.shift.in_order in
+    let here = one_stop room (length history) h.left (pass_of p).left (length (shift_entries s)) (length moments) s.stopped h.reason h.left_is short (omega arith) in
+    let rest = stops_counted allows moments room history desk (n + 1) ps ss few new.2 are.1 in
+    let sum = sum_by-cons (λ v. unanswered v.stopped) s ss in
+    let stops = length_cons s.stopped (filter_map (λ v. v.stopped) ss) in
+    omega arith
 
 -- ---- counts
 
@@ -167,23 +182,6 @@ no_calls desk n (p ∷ ps) new =
     let sum = sum_by-cons (λ q. (pass_of q).calls) p ps in
     omega arith
 
-at_most_one : (o : Option Stop) → unanswered o ≤ 1
-at_most_one None = omega arith
-at_most_one (Some stop.NoMemory) = omega arith
-at_most_one (Some stop.Spent) = omega arith
-
-few_unanswered : (allows : ℕ → ℕ → ℕ → Code → Type 0) (moments : List ℕ) (room : ℕ) (history : List (Entry Call Reply)) (ps : List Pass) (ss : List Shift) → AreShiftsOf allows moments room history ps ss
-    → unanswered_in ss ≤ length ps
-unfolding unanswered_in
-few_unanswered allows moments room history [] [] are = omega arith
-few_unanswered allows moments room history [] (s ∷ ss) are = absurd are
-few_unanswered allows moments room history (p ∷ ps) [] are = absurd are
-few_unanswered allows moments room history (p ∷ ps) (s ∷ ss) are =
-    let here = at_most_one s.stopped in
-    let rest = few_unanswered allows moments room history ps ss are.1 in
-    let sum = sum_by-cons (λ v. unanswered v.stopped) s ss in
-    omega arith
-
 none_below : (room recorded left : ℕ) (o : Option Stop) → IsReason room recorded left o → recorded < room → unanswered o ≡ 0
 none_below room recorded left None r below = refl
 none_below room recorded left (Some stop.NoMemory) r below = absurd (omega (arith, r, below))
@@ -225,7 +223,36 @@ drill_is s start workers room history refused desk ps ss t few count new are sum
     record {
       legal = legal;
       numbers = numbers;
-      each = (λ number below. each_worker s room refused history desk 0 ps ss few new are (omega arith) number (omega arith) (omega arith));
-      few_refused = (let short = few_unanswered allows s.moments room history ps ss are in omega arith);
+      shifts = ss;
+      one_each = as_many allows s.moments room history ps ss are ∙ count;
+      each = each_worker s room history desk 0 ps ss new are;
+      refusals = is ∙ stops_counted allows s.moments room history desk 0 ps ss few new are;
       within_room = (λ below. is ∙ answered_below allows s.moments room history ps ss are below);
     }
+
+-- ---- what follows of the refusals
+
+few_stops : (shifts : List Shift) → stopped_in shifts ≤ length shifts
+few_stops [] = omega arith
+few_stops (s ∷ shifts) =
+    let rest = few_stops shifts in
+    elim s.stopped as (λ o. length (cons_option o (filter_map (λ v. v.stopped) shifts)) ≤ length (s ∷ shifts)) [ None ↦ omega arith | Some why ↦ omega arith ]
+
+-- there are at most as many refusals as workers
+pub few_refused : (s : DrillScript) (start workers room : ℕ) (history : List (Entry Call Reply)) (refused : ℕ) → IsDrill s start workers room history refused → refused ≤ workers
+few_refused s start workers room history refused d = let few = few_stops d.shifts in omega (arith, few, d.refusals, d.one_each)
+
+none_by : {A : Type 0} (o : Option A) → length (cons_option o []) ≡ 0 → o ≡ None
+none_by None e = refl
+none_by (Some x) e = absurd (omega (arith, e))
+
+none_stopped : (shifts : List Shift) → stopped_in shifts ≡ 0 → AllByRecursion (λ shift. shift.stopped ≡ None) shifts
+none_stopped [] e = tt
+none_stopped (s ∷ shifts) e =
+    let both = length_cons s.stopped (filter_map (λ v. v.stopped) shifts) in
+    (none_by s.stopped (omega (arith, both, e)), none_stopped shifts (omega (arith, both, e)))
+
+-- where nothing was refused each shift is whole
+pub whole_shifts : (s : DrillScript) (start workers room : ℕ) (history : List (Entry Call Reply)) (refused : ℕ) → (d : IsDrill s start workers room history refused) → refused ≡ 0
+    → AllByRecursion (λ shift. shift.stopped ≡ None) d.shifts
+whole_shifts s start workers room history refused d none = none_stopped d.shifts (sym d.refusals ∙ none)

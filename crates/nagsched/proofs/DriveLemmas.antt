@@ -1,6 +1,6 @@
 -- A whole run, and what its faults leave.
-use Rattle.std.proofs.Common.{◌≡◌, ◌≢◌, ℕ, ◌<◌, ◌≤◌, ◌≡◌, true, List, ◌++◌, length, take, Option, Some, None, Result, Ok, Err, refl, sym, ap, ◌∙◌, arith, length-take, inl, inr, ◌⊎◌}
-use Rattle.std.specs.Prelude.{nat_lt, IfSome, IfOk, IfErr, OnOk, IsOkUnless}
+use Rattle.std.proofs.Common.{◌≡◌, ◌≢◌, ℕ, ◌<◌, ◌≤◌, ◌≡◌, true, List, [], ◌++◌, length, take, Option, Some, None, Result, Ok, Err, refl, sym, ap, ◌∙◌, arith, length-take, inl, inr, ◌⊎◌}
+use Rattle.std.specs.Prelude.{nat_lt, IfSome, IfOk, IfErr, OnErr, OnOk, IsOkUnless}
 use Rattle.nagsched.specs.declared.drive.Outcome.{Outcome}
 use Rattle.std.specs.Io.KnownBytes.{Appends, Keeps, Consumes}
 use Rattle.std.proofs.lemmas.Bool.{cases_lt}
@@ -18,7 +18,7 @@ use Rattle.nagsched.specs.Line.{◌>>=◌}
 use Rattle.nagsched.specs.Script.{script_by}
 use Rattle.nagsched.specs.declared.refusal.LineFault.{LineFault}
 use Rattle.nagsched.specs.Text.{text, script_text}
-use Rattle.nagsched.specs.Drive.{outcome_of, outcome_by, HasRead, AfterFault}
+use Rattle.nagsched.specs.Drive.{outcome_of, outcome_by, HasRead, AfterFault, IsInput, IsRunOnInput}
 use Rattle.nagsched.proofs.OutputLemmas.{front_none, front_all, Appends-Keeps}
 
 -- One byte more than an input may have is enough to refuse it.
@@ -101,3 +101,48 @@ pub finished_fault : (r : Result Outcome DriveError) (start : ℕ) (had left hel
 finished_fault (Ok x) start had left held mid holds input all c a k u = tt
 finished_fault (Err e) start had left held mid holds input all c a k u =
     rw u (write_fault errors.Write start had left held holds input (λ q. cc) all c (front_all held holds (text start input) (Appends-Keeps held mid holds (text start input) a k)))
+
+-- ---- the input of a run, whatever is known of its reader
+
+-- what the reader had where that is known, else what was read
+abbrev pub input_of : Option (List ℕ) → List ℕ → List ℕ
+input_of None read = read
+input_of (Some bytes) read = bytes
+
+pub input_of-is : (had : Option (List ℕ)) (read : List ℕ) → IsInput had (input_of had read)
+input_of-is None read = tt
+input_of-is (Some bytes) read = refl
+
+-- what is cut off past the limit tells nothing of the text, or of the outcome
+pub input_of-text : (start : ℕ) (had : Option (List ℕ)) (read : List ℕ) → IfSome had (λ bytes. read ≡ take 67108865 bytes) → text start read ≡ text start (input_of had read)
+input_of-text start None read all = refl
+input_of-text start (Some bytes) read all = ap (text start) all ∙ text_take start bytes
+
+pub input_of-outcome : (had : Option (List ℕ)) (read : List ℕ) → IfSome had (λ bytes. read ≡ take 67108865 bytes) → outcome_of read ≡ outcome_of (input_of had read)
+input_of-outcome None read all = refl
+input_of-outcome (Some bytes) read all = ap outcome_of all ∙ outcome_take bytes
+
+-- a run that nothing was written in
+pub unwritten_run : (e : DriveError) (start : ℕ) (had held : Option (List ℕ)) → IsRunOnInput start (Err e) had held held
+unwritten_run e start had held =
+    let input = input_of had [] in
+    record { input = input; is_input = input_of-is had []; outcome_is = tt; written = tt; front = front_none held (text start input) }
+
+-- a run whose writing failed, or that wanted memory
+pub cut_run : (e : DriveError) (start : ℕ) (had held holds : Option (List ℕ)) (read : List ℕ) → IfSome had (λ bytes. read ≡ take 67108865 bytes) → WroteFront held holds (text start read)
+    → IsRunOnInput start (Err e) had held holds
+cut_run e start had held holds read all f =
+    record { input = input_of had read; is_input = input_of-is had read; outcome_is = tt; written = tt; front = rw (input_of-text start had read all) at f }
+
+-- a run that came to its flush
+pub flushed_run : (r : Result Outcome DriveError) (start : ℕ) (had held mid holds : Option (List ℕ)) (given : Outcome) (read : List ℕ) → IfSome had (λ bytes. read ≡ take 67108865 bytes)
+    → Appends held mid (text start read) → Keeps mid holds → given ≡ outcome_of read → IfOk r (λ o. o ≡ given) → IsRunOnInput start r had held holds
+flushed_run (Ok x) start had held mid holds given read all a k g o = record {
+  input = input_of had read;
+  is_input = input_of-is had read;
+  outcome_is = o ∙ g ∙ input_of-outcome had read all;
+  written = rw (input_of-text start had read all) at (Appends-Keeps held mid holds (text start read) a k);
+  front = tt;
+}
+flushed_run (Err e) start had held mid holds given read all a k g o =
+    cut_run e start had held holds read all (front_all held holds (text start read) (Appends-Keeps held mid holds (text start read) a k))

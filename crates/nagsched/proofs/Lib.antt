@@ -1,5 +1,6 @@
 pub mod OutputLemmas
 pub mod InputLemmas
+pub mod LineLaws
 pub mod CommandLemmas
 pub mod ScriptLemmas
 pub mod DrillLemmas

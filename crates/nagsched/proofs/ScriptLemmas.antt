@@ -1,5 +1,5 @@
 -- The lines of a script.
-use Rattle.std.proofs.Common.{ℕ, suc, ◌≡◌, ◌==◌, ◌+◌, ◌≤◌, Bool, true, false, cond, List, [], ◌∷◌, length, Option, Some, None, Result, Ok, Err, ◌<◌, ◌++◌, refl, ap, arith, Bor, inl, inr, ◌⊎◌}
+use Rattle.std.proofs.Common.{ℕ, suc, ◌≡◌, ◌==◌, ◌+◌, ◌≤◌, Bool, true, false, not, if◌then◌else◌, cond, List, [], ◌∷◌, length, map, Option, Some, None, Result, Ok, Err, ◌<◌, ◌++◌, refl, ap, arith, Bor, inl, inr, ◌⊎◌}
 use Rattle.std.specs.Prelude.{nat_lt, IfOk}
 use Rattle.std.proofs.lemmas.Bool.{cases_lt}
 use Rattle.std.proofs.lemmas.Bool.Decides.{nat_tests}
@@ -10,7 +10,7 @@ use Rattle.serde_json.specs.Data.{Items}
 use Rattle.nagsched.specs.Agreement.{Fails}
 use Rattle.nagsched.specs.Line.{◌>>=◌, command_of, is_blank}
 use Rattle.nagsched.specs.Input.{lines_of, onto_first}
-use Rattle.nagsched.specs.Script.{Script, commands_from, in_setup, script_by, script_in, script_over}
+use Rattle.nagsched.specs.Script.{Script, all_or_first, commands_of, in_setup, numbered_from, script_by, script_in, script_over}
 use Rattle.nagsched.specs.declared.input.Lines.{Lines}
 use Rattle.nagsched.specs.declared.refusal.InputRefusal.{InputRefusal}
 use Rattle.nagsched.specs.declared.refusal.LineFault.{LineFault}
@@ -20,6 +20,35 @@ use Rattle.nagsched.specs.declared.refusal.ScriptError.TheVariants as errors
 -- a list of commands that goes on with what follows it
 abbrev pub with_front : {K : Type 0} → List K → Result (List K) InputRefusal → Result (List K) InputRefusal
 with_front front rest = rest >>= λ more. Ok (front ++ more)
+
+pub with_front-nothing : {K : Type 0} (rest : Result (List K) InputRefusal) → with_front [] rest ≡ rest
+with_front-nothing (Ok more) = refl
+with_front-nothing (Err e) = refl
+
+-- ---- line after line
+
+-- The commands of the lines from number n on, one line after another.
+abbrev pub commands_from : {K : Type 0} → (List ℕ → Items → Result K LineFault) → ℕ → List (List ℕ) → Result (List K) InputRefusal
+commands_from meaning n [] = Ok []
+commands_from meaning n (line ∷ lines) = if is_blank line then commands_from meaning (n + 1) lines
+    else (command_of meaning n line >>= λ first. (commands_from meaning (n + 1) lines >>= λ more. Ok (first ∷ more)))
+
+abbrev pub commands_at : {K : Type 0} → (List ℕ → Items → Result K LineFault) → List (ℕ × List ℕ) → Result (List K) InputRefusal
+commands_at meaning numbered = all_or_first (map (λ p. command_of meaning p.0 p.1) numbered)
+
+commands_numbered : {K : Type 0} (meaning : List ℕ → Items → Result K LineFault) (n : ℕ) (ls : List (List ℕ)) → commands_at meaning (numbered_from n ls) ≡ commands_from meaning n ls
+commands_numbered meaning n [] = refl
+commands_numbered meaning n (line ∷ ls) =
+    let again = commands_numbered meaning (n + 1) ls in
+    elim (is_blank line) as (λ v. commands_at meaning (cond (not v) ((n, line) ∷ numbered_from (n + 1) ls) (numbered_from (n + 1) ls))
+    ≡ cond v (commands_from meaning (n + 1) ls) (command_of meaning n line >>= λ first. (commands_from meaning (n + 1) ls >>= λ more. Ok (first ∷ more)))) [
+      | true ↦ again
+      | false ↦ ap (λ r. command_of meaning n line >>= λ first. (r >>= λ more. Ok (first ∷ more))) again
+    ]
+
+-- one line after another gives the commands of all
+pub commands_by_line : {K : Type 0} (meaning : List ℕ → Items → Result K LineFault) (ls : List (List ℕ)) → commands_of meaning ls ≡ commands_from meaning 2 ls
+commands_by_line meaning ls = commands_numbered meaning 2 ls
 
 -- ---- how many lines there are
 
@@ -52,13 +81,13 @@ over_setup_fails meaning (errors.Refused r) document ls f = rw f refl
 
 -- a line is refused
 pub over_commands_fail : {K : Type 0} (meaning : Configuration → List ℕ → Items → Result K LineFault) (e : ScriptError) (c : Configuration) (document : List ℕ) (ls : List (List ℕ))
-    → in_setup (setup_of document) ≡ Ok c → Fails e (commands_from (meaning c) 2 ls) → Fails e (script_over meaning document ls)
+    → in_setup (setup_of document) ≡ Ok c → Fails e (commands_of (meaning c) ls) → Fails e (script_over meaning document ls)
 over_commands_fail meaning errors.Memory c document ls s f = tt
 over_commands_fail meaning (errors.Refused r) c document ls s f = rw (s, f) refl
 
 -- nothing is refused
 pub over_reads : {K : Type 0} (meaning : Configuration → List ℕ → Items → Result K LineFault) (c : Configuration) (all : List K) (document : List ℕ) (ls : List (List ℕ))
-    → in_setup (setup_of document) ≡ Ok c → commands_from (meaning c) 2 ls ≡ Ok all → script_over meaning document ls ≡ Ok (record { setup = c; commands = all })
+    → in_setup (setup_of document) ≡ Ok c → commands_of (meaning c) ls ≡ Ok all → script_over meaning document ls ≡ Ok (record { setup = c; commands = all })
 over_reads meaning c all document ls s f = rw (s, f) refl
 
 -- ---- how many commands there are
@@ -89,9 +118,10 @@ few_with c (Ok l) n m b h = omega (arith, b, h)
 few_with c (Err e) n m b h = tt
 
 few_over : {K : Type 0} (meaning : Configuration → List ℕ → Items → Result K LineFault) (setup : Result Configuration InputRefusal) (ls : List (List ℕ)) (m : ℕ) → length ls ≤ m
-    → IfOk (setup >>= λ c. (commands_from (meaning c) 2 ls >>= λ all. Ok (script_with c all))) (λ s. length s.commands ≤ m)
+    → IfOk (setup >>= λ c. (commands_of (meaning c) ls >>= λ all. Ok (script_with c all))) (λ s. length s.commands ≤ m)
 few_over meaning (Err e) ls m b = tt
-few_over meaning (Ok c) ls m b = few_with c (commands_from (meaning c) 2 ls) (length ls) m b (few_commands (meaning c) 2 ls)
+few_over meaning (Ok c) ls m b =
+    few_with c (commands_of (meaning c) ls) (length ls) m b (rw (commands_by_line (meaning c) ls) (few_commands (meaning c) 2 ls))
 
 few_in : {K : Type 0} (meaning : Configuration → List ℕ → Items → Result K LineFault) (ls : List (List ℕ)) (m : ℕ) → length ls ≤ m → IfOk (script_in meaning ls) (λ s. length s.commands ≤ m)
 few_in meaning [] m b = few_over meaning (in_setup (setup_of [])) [] m b

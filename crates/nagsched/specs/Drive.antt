@@ -1,6 +1,6 @@
 -- What a run from a reader to a writer leaves, fault or none.
-use Rattle.std.specs.Prelude.{ℕ, ◌⊎◌, List, Option, Some, None, Result, Ok, Err, take, ⊤}
-use Rattle.std.specs.Io.KnownBytes.{Keeps, Consumes}
+use Rattle.std.specs.Prelude.{ℕ, ◌≡◌, ◌⊎◌, List, Option, Some, None, Result, Ok, Err, IfOk, IfSome, OnErr, OnOk, take, ⊤}
+use Rattle.std.specs.Io.KnownBytes.{Appends, Keeps, Consumes}
 use Rattle.nagsched.specs.declared.drive.DriveError.{DriveError}
 use Rattle.nagsched.specs.declared.drive.DriveError.TheVariants as errors
 use Rattle.nagsched.specs.declared.drive.Outcome.{Outcome}
@@ -30,3 +30,16 @@ abbrev pub AfterFault : DriveError → ℕ → Option (List ℕ) → Option (Lis
 AfterFault errors.Read start had left held holds = Keeps held holds
 AfterFault e start None left held holds = ⊤
 AfterFault e start (Some input) left held holds = WroteFront held holds (text start input) × (Keeps held holds ⊎ HasRead (Some input) left input)
+
+-- An input of a reader: where it is known what the reader had, it is that.
+abbrev pub IsInput : Option (List ℕ) → List ℕ → Type 0
+IsInput had input = IfSome had (λ bytes. input ≡ bytes)
+
+-- Whatever is known of reader and writer, a run that ended so is that of one input: it ran or refused that input and wrote
+-- its text, or after an error a front of it.
+pub record IsRunOnInput (start : ℕ) (ended : Result Outcome DriveError) (had held holds : Option (List ℕ)) : Type 0 where
+  pub input : List ℕ
+  pub is_input : IsInput had input
+  pub outcome_is : IfOk ended (λ outcome. outcome ≡ outcome_of input)
+  pub written : OnOk ended (Appends held holds (text start input))
+  pub front : OnErr ended (WroteFront held holds (text start input))

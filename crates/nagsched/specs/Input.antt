@@ -1,13 +1,32 @@
 -- The lines of an input.
-use Rattle.std.specs.Prelude.{ℕ, ◌==◌, List, [], ◌∷◌, if◌then◌else◌}
+use Rattle.std.specs.Prelude.{◌≡◌, ◌≢◌, ℕ, ◌==◌, List, [], ◌∷◌, if◌then◌else◌}
+use Rattle.std.specs.List.{AllByRecursion, join_with_byte}
+
+-- the bytes without the line feed (byte 10) at their end, where there is one
+abbrev pub without_last_feed : List ℕ → List ℕ
+without_last_feed [] = []
+without_last_feed (b ∷ []) = if b == 10 then [] else b ∷ []
+without_last_feed (b ∷ c ∷ bs) = b ∷ without_last_feed (c ∷ bs)
+
+-- a line has no line feed
+abbrev pub HasNoFeed : List ℕ → Type 0
+HasNoFeed line = AllByRecursion (λ b. b ≢ 10) line
+
+-- These are the lines of the input: none has a line feed, and with a line feed between each two they are the input, but for
+-- one line feed at its end. No byte gives no line, and any bytes give one.
+pub record AreLines (input : List ℕ) (lines : List (List ℕ)) : Type 0 where
+  pub feedless : AllByRecursion HasNoFeed lines
+  pub joined : join_with_byte 10 lines ≡ without_last_feed input
+  pub none : input ≡ [] → lines ≡ []
+  pub some : input ≢ [] → lines ≢ []
 
 -- the lines, with the byte b in front of the first
 abbrev pub onto_first : ℕ → List (List ℕ) → List (List ℕ)
 onto_first b [] = (b ∷ []) ∷ []
 onto_first b (line ∷ lines) = (b ∷ line) ∷ lines
 
--- The lines of the bytes, each without its line feed (byte 10). The last needs none, and one at the
--- end begins no further line.
+-- The lines of the bytes, each without its line feed. The last needs none, and one at the end begins no further line. These
+-- are the lines in the sense of `AreLines`, and no others are, as `Lines::new` says.
 abbrev pub lines_of : List ℕ → List (List ℕ)
 lines_of [] = []
 lines_of (b ∷ bs) = if b == 10 then [] ∷ lines_of bs else onto_first b (lines_of bs)

@@ -1,6 +1,7 @@
 -- The script that an input is: a setup and the commands over it, or the first refusal. What a word of a command means is a
 -- matter of the vocabulary.
-use Rattle.std.specs.Prelude.{ℕ, ◌+◌, List, [], ◌∷◌, length, Result, Ok, Err, nat_lt, if◌then◌else◌}
+use Rattle.std.specs.Prelude.{ℕ, List, [], ◌∷◌, filter, length, map, not, Result, Ok, Err, nat_lt, if◌then◌else◌}
+use Rattle.std.specs.List.{enumerate_from}
 use Rattle.serde_json.specs.Data.{Items}
 use Rattle.check_objects.specs.Configuration.{Configuration}
 use Rattle.check_objects.specs.Setup.{setup_of}
@@ -19,21 +20,28 @@ pub record Script (K : Type 0) : Type 0 where
   pub setup : Configuration
   pub commands : List K
 
--- The commands of the lines, which count from n on. A blank line is passed over, but counted.
-abbrev pub commands_from : {K : Type 0} → (List ℕ → Items → Result K LineFault) → ℕ → List (List ℕ) → Result (List K) InputRefusal
-commands_from meaning n [] = Ok []
-commands_from meaning n (line ∷ lines) = if is_blank line then commands_from meaning (n + 1) lines
-    else (command_of meaning n line >>= λ first. (commands_from meaning (n + 1) lines >>= λ more. Ok (first ∷ more)))
+-- the lines that aren't blank, each with its number, where the first of the lines has the number n
+abbrev pub numbered_from : ℕ → List (List ℕ) → List (ℕ × List ℕ)
+numbered_from n lines = filter (λ p. not (is_blank p.1)) (enumerate_from n lines)
+
+-- the values of all, or the first error among them
+abbrev pub all_or_first : {A E : Type 0} → List (Result A E) → Result (List A) E
+all_or_first [] = Ok []
+all_or_first (r ∷ rs) = r >>= λ x. (all_or_first rs >>= λ xs. Ok (x ∷ xs))
+
+-- The commands of the lines that aren't blank, up to the first fault. Line 1 is the setup, so these count from 2.
+abbrev pub commands_of : {K : Type 0} → (List ℕ → Items → Result K LineFault) → List (List ℕ) → Result (List K) InputRefusal
+commands_of meaning lines = all_or_first (map (λ p. command_of meaning p.0 p.1) (numbered_from 2 lines))
 
 -- a refusal of the setup document as a refusal of the input
 abbrev pub in_setup : Result Configuration LoadError → Result Configuration InputRefusal
 in_setup (Ok c) = Ok c
 in_setup (Err e) = Err (refusal.Setup e)
 
--- the script of a setup document and the lines after it, which count from 2
+-- the script of a setup document and the lines after it
 abbrev pub script_over : {K : Type 0} → (Configuration → List ℕ → Items → Result K LineFault) → List ℕ → List (List ℕ) → Result (Script K) InputRefusal
 script_over meaning document lines = in_setup (setup_of document) >>= λ c.
-    (commands_from (meaning c) 2 lines >>= λ all. Ok (record { setup = c; commands = all }))
+    (commands_of (meaning c) lines >>= λ all. Ok (record { setup = c; commands = all }))
 
 -- Line 1 is the setup document, whole, and every later line a command.
 abbrev pub script_in : {K : Type 0} → (Configuration → List ℕ → Items → Result K LineFault) → List (List ℕ) → Result (Script K) InputRefusal

@@ -3,7 +3,7 @@
 ghost use Rattle.std.specs.Prelude.{◌≡◌, ◌≢◌, ◌<◌, ◌≤◌, ◌^◌, ◌⊎◌, OnOk, OnErr, IfOk, IfErr, IfSome, length};
 ghost use Rattle.std.specs.Io.KnownBytes.{Appends, Keeps};
 ghost use Rattle.check_sched.specs.Books.{entries_of, refused_of, sched_of};
-ghost use Rattle.nagsched.specs.Drill.{AfterDrillFault, IsDrill, IsTextOf, WroteDrill, WroteDrillFront, drill_outcome};
+ghost use Rattle.nagsched.specs.Drill.{AfterDrillFault, IsDrill, IsDrillOnInput, WroteDrill, WroteDrillFront, drill_outcome};
 ghost use Rattle.nagsched.specs.DrillScript.{drill_script_of};
 ghost use Rattle.nagsched.specs.DrillScripted.{drill_script};
 ghost use Rattle.nagsched.specs.Drive.{HasRead};
@@ -57,6 +57,8 @@ pub fn drill<H: Threads + Wait + Sync, R: Read, W: Write>(
     ensures fault { IfErr result (λ e.
         AfterDrillFault e start workers room (R.remaining reader.old) (R.remaining reader.new)
         (W.contents writer.old) (W.contents writer.new)) }
+    ensures input { IsDrillOnInput start workers room result (R.remaining reader.old)
+        (W.contents writer.old) (W.contents writer.new) }
 {
     let input = read_input(alloc, reader)?;
     let outcome = answer(rt, alloc, start, workers, room, &input, writer)?;

@@ -5,7 +5,7 @@ ghost use Rattle.check_sched.specs.State.{opening};
 ghost use Rattle.check_sched.specs.Step.{step};
 ghost use Rattle.nagsched.specs.Output.{WroteFront};
 ghost use Rattle.nagsched.specs.Text.{text, text_from, line_from, refusal_line};
-ghost use Rattle.nagsched.specs.Drive.{outcome_of, HasRead, AfterFault};
+ghost use Rattle.nagsched.specs.Drive.{outcome_of, HasRead, AfterFault, IsRunOnInput};
 
 use crate::input::read_input;
 use crate::output::write_text;
@@ -76,6 +76,8 @@ pub fn drive<R: Read, W: Write>(
     ensures fault { IfErr result (λ e.
         AfterFault e start (R.remaining reader.old) (R.remaining reader.new)
         (W.contents writer.old) (W.contents writer.new)) }
+    ensures input { IsRunOnInput start result (R.remaining reader.old)
+        (W.contents writer.old) (W.contents writer.new) }
 {
     let input = read_input(alloc, reader)?;
     let outcome = answer(alloc, start, &input, writer)?;

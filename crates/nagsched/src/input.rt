@@ -1,8 +1,8 @@
 //! The bytes of an input and its lines. What a line says is read in `script` and `command`.
-ghost use Rattle.std.specs.Prelude.{◌≡◌, ◌==◌, ◌<◌, length, position, ◌≢◌, take, IfOk, IfErr, IfSome, vec_items};
+ghost use Rattle.std.specs.Prelude.{◌≡◌, ◌==◌, ◌<◌, ℕ, List, length, position, ◌≢◌, take, IfOk, IfErr, IfSome, vec_items};
 ghost use Rattle.std.specs.Io.KnownBytes.{Consumes};
 ghost use Rattle.std.specs.Iterator.{YieldsFirstRef, item_count};
-ghost use Rattle.nagsched.specs.Input.{lines_of, first_line_of};
+ghost use Rattle.nagsched.specs.Input.{AreLines, lines_of, first_line_of};
 
 use crate::drive::DriveError;
 use std::alloc::Global;
@@ -51,9 +51,12 @@ pub struct Lines<'a> {
 }
 
 impl<'a> Lines<'a> {
-    /// The lines of these bytes.
+    /// The lines of these bytes. They are their lines by `AreLines`, and no other lines are.
     pub fn new(input: &'a [u8]) -> Self
-        ensures { result.rest.now ≡ input.now }
+        ensures bytes { result.rest.now ≡ input.now }
+        ensures lines { AreLines input.now (lines_of input.now) }
+        ensures only { (others : List (List ℕ)) → AreLines input.now others
+            → others ≡ lines_of input.now }
     {
         Lines { rest: input }
     }

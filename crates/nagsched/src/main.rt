@@ -10,6 +10,9 @@
 //! `scripted` is its plugin, and `drill` lets workers work on it and writes what came of it.
 #![tactic(auto)]
 
+ghost use Rattle.std.specs.Prelude.{◌≡◌, IfOk, map, string_bytes};
+ghost use Rattle.clap.specs.Walk.{texts};
+
 mod command;
 mod drill;
 mod drill_command;
@@ -64,8 +67,10 @@ fn own_session<R: Env + Input + Print + AllocGlobal + Threads + Wait + Sync>(rt:
     }
 }
 
-/// The words as texts.
-fn texts_of(alloc: Global, words: &[String]) -> Result<Vec<&str>, AllocError> {
+/// The words as texts, all of them, in their order.
+fn texts_of(alloc: Global, words: &[String]) -> Result<Vec<&str>, AllocError>
+    ensures { IfOk result (λ given. texts given.items ≡ map string_bytes words.now) }
+{
     let mut texts = Vec::new(alloc);
     for word in words {
         texts.push(word.as_str())?;

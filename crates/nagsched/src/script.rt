@@ -3,7 +3,7 @@
 ghost use Rattle.std.specs.Prelude.{◌≡◌, ◌≤◌, length, map};
 ghost use Rattle.check_objects.specs.Setup.{setup_of};
 ghost use Rattle.nagsched.specs.Input.{lines_of};
-ghost use Rattle.nagsched.specs.Script.{commands_from, script_by, script_over, in_setup};
+ghost use Rattle.nagsched.specs.Script.{commands_of, script_by, script_over, in_setup};
 ghost use Rattle.nagsched.specs.Scripted.{script};
 ghost use Rattle.nagsched.specs.Agreement.{Gives};
 
@@ -75,7 +75,7 @@ fn read_commands<C: Command>(
 ) -> Result<Vec<C>, ScriptError>
     requires { length (lines_of lines.rest.now) ≤ 67108864 }
     ensures { Gives (λ v. map C.seen v.items) result
-        (commands_from (C.meaning setup.now) 2 (lines_of lines.entry.rest.now)) }
+        (commands_of (C.meaning setup.now) (lines_of lines.entry.rest.now)) }
 {
     let mut commands = Vec::new(alloc);
     let mut number = 2;

@@ -5,7 +5,7 @@ ghost use Rattle.clap.specs.Walk.{texts};
 ghost use Rattle.nagsched.specs.declared.drive.DriveError.{DriveError};
 ghost use Rattle.nagsched.specs.declared.session.Ending.{Ending};
 ghost use Rattle.nagsched.specs.Output.{WroteFront};
-ghost use Rattle.nagsched.specs.Session.{exit_status, Ends};
+ghost use Rattle.nagsched.specs.Session.{exit_status, Ends, Tells};
 
 use crate::drill::drill;
 use crate::drive::{DriveError, Outcome, drive};
@@ -73,15 +73,25 @@ fn serve<H: Threads + Wait + Sync, R: Read, W: Write>(
             Ok(outcome) => Ok(Ending::Drove(outcome)),
             Err(e) => Err(e),
         },
-        Err(WordsError::Help(text)) => {
+        Err(error) => tell_words(error, writer),
+    }
+}
+
+/// Tells words that ask for no job their help, or that they are refused. Where memory was wanted it
+/// writes nothing.
+fn tell_words<W: Write>(error: WordsError, writer: &mut W) -> Result<Ending, DriveError>
+    ensures { Tells error result (W.contents writer.old) (W.contents writer.new) }
+{
+    match error {
+        WordsError::Help(text) => {
             tell(writer, text.as_bytes())?;
             Ok(Ending::Helped)
         }
-        Err(WordsError::Refused) => {
+        WordsError::Refused => {
             refuse_words(writer)?;
             Ok(Ending::RefusedWords)
         }
-        Err(WordsError::Memory) => Err(DriveError::Memory),
+        WordsError::Memory => Err(DriveError::Memory),
     }
 }
 

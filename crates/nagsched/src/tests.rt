@@ -4,6 +4,9 @@
 
 mod dependencies;
 mod devices;
+mod drill_example;
+mod drill_faults;
+mod drill_sessions;
 mod drill_words;
 mod drills;
 mod faults;

@@ -4,6 +4,17 @@ use std::alloc::Global;
 use std::io;
 use std::io::{ErrorKind, Read, Write};
 
+/// Kinds of errors that a device may fail with, those of an interruption and of memory among them.
+pub const KINDS: [ErrorKind; 7] = [
+    ErrorKind::Interrupted,
+    ErrorKind::OutOfMemory,
+    ErrorKind::UnexpectedEof,
+    ErrorKind::WouldBlock,
+    ErrorKind::WriteZero,
+    ErrorKind::BrokenPipe,
+    ErrorKind::Other,
+];
+
 /// A reader that gives its bytes, `most` a call, and then fails.
 #[derive(Drop)]
 pub struct FailingReader<'a> {
@@ -47,13 +58,14 @@ impl Read for LongReader<'_> {
     }
 }
 
-/// A writer that takes `room` bytes in all, `most` a call, and then fails. It counts its flushes,
-/// and what it had taken at the last of them.
+/// A writer that takes `room` bytes in all, `most` a call, and then fails with `error`. It counts its
+/// flushes, and what it had taken at the last of them.
 #[derive(Drop)]
 pub struct ShortWriter {
     pub taken: Vec<u8>,
     pub most: usize,
     pub room: usize,
+    pub error: ErrorKind,
     pub flushes: u32,
     pub flushed: usize,
     pub flush_error: Option<ErrorKind>,
@@ -66,6 +78,7 @@ impl ShortWriter {
             taken: Vec::new(alloc),
             most,
             room: usize::MAX,
+            error: ErrorKind::BrokenPipe,
             flushes: 0,
             flushed: 0,
             flush_error: None,
@@ -77,7 +90,7 @@ impl Write for ShortWriter {
     fn write(&mut self, buf: &[u8]) -> io::Result<usize> {
         let room = self.room.saturating_sub(self.taken.len());
         if room == 0 {
-            return Err(io::Error::from(ErrorKind::BrokenPipe));
+            return Err(io::Error::from(self.error));
         }
         let count = buf.len().min(self.most).min(room);
         self.taken.extend_from_slice(&buf[..count])?;

@@ -4,6 +4,7 @@ ghost use Rattle.std.specs.Prelude.{◌<◌, ◌≤◌};
 
 use super::SERVICE;
 use super::devices::ShortWriter;
+use super::drill_faults::WELL_AGAIN;
 use crate::drill::{drill, write_history};
 use crate::drill_script::DrillScript;
 use crate::drive::{DriveError, Outcome};
@@ -251,10 +252,6 @@ fn three_workers_find_nothing(rt: HostRuntime) -> Result<(), Fail> {
     assert_eq!(rt; text.len(), 3 * 12 + 10);
     Ok(())
 }
-
-/// A service that fails once and is well again at its second check.
-const WELL_AGAIN: &str = "0 taken 1 h;s\n0 standing CRITICAL SOFT 1 yes 60000 h;s\n\
-0 taken 2 h;s\n0 standing OK SOFT 2 yes 360000 h;s\ntotal 4 0\n";
 
 #[test]
 fn one_worker_checks_a_service(rt: HostRuntime) -> Result<(), Fail> {

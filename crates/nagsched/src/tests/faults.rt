@@ -1,6 +1,6 @@
 //! Readers and writers that fail.
 
-use super::devices::{FailingReader, ShortWriter};
+use super::devices::{FailingReader, KINDS, ShortWriter};
 use super::with_host;
 use crate::drive::{DriveError, Outcome, drive};
 use std::io::ErrorKind;
@@ -15,7 +15,7 @@ fn readers_fail(rt: HostRuntime) -> Result<(), Fail> {
     let alloc = rt.alloc();
     let input = with_host(alloc, LINES)?;
     for count in 0..=input.len() {
-        for error in [ErrorKind::Interrupted, ErrorKind::Other] {
+        for error in KINDS {
             let mut reader = FailingReader {
                 bytes: &input.as_bytes()[..count],
                 most: 7,
@@ -43,6 +43,14 @@ fn writers_fail(rt: HostRuntime) -> Result<(), Fail> {
             assert_eq!(rt; result, Err(DriveError::Write));
             assert!(rt; writer.taken.as_slice() == &TEXT[..room]);
         }
+    }
+    for error in KINDS {
+        let mut reader = input.as_bytes();
+        let mut writer = ShortWriter::new(alloc, 3);
+        writer.room = 5;
+        writer.error = error;
+        let result = drive(alloc, 0, &mut reader, &mut writer);
+        assert_eq!(rt; result, Err(DriveError::Write));
     }
     Ok(())
 }

@@ -1,5 +1,5 @@
 use Rattle.std.proofs.lemmas.Result.{err_from_is_err_and}
-use Rattle.nagsched.proofs.DrillDriveLemmas.{drill_read_fault, drill_write_fault, drill_written, drill_outcome_is, drill_fault}
+use Rattle.nagsched.proofs.DrillDriveLemmas.{drill_read_fault, drill_write_fault, drill_written, drill_outcome_is, drill_fault, unwritten_drill, cut_drill, flushed_drill}
 use Rattle.nagsched.proofs.drill.drill.Goals as goal
 
 pub returns-in_err-input-clause-fault : goal.returns-in_err-input-clause-fault
@@ -20,3 +20,18 @@ returns-clause-outcome g c = drill_outcome_is _ _ _ c.in_ok-input.input.items c.
 
 pub returns-clause-fault : goal.returns-clause-fault
 returns-clause-fault g c = drill_fault _ _ _ _ _ _ _ _ _ c.in_ok-input.input.items c.in_ok-input.ensures.all c.in_ok-input.ensures.left (rw c.deref.ensures.value at c.in_ok-outcome.ensures.written) c.finish.ensures.kept c.finish.ensures.kind
+
+pub returns-in_err-input-clause-input : goal.returns-in_err-input-clause-input
+returns-in_err-input-clause-input g c =
+    let p = err_from_is_err_and c.from_residual.result c.from_residual.ensures.1 in
+    rw (p.1, p.2) (unwritten_drill _ _ _ _ _ _)
+
+pub returns-in_err-outcome-clause-input : goal.returns-in_err-outcome-clause-input
+returns-in_err-outcome-clause-input g c =
+    let p = err_from_is_err_and c.from_residual-in_err-outcome.result c.from_residual-in_err-outcome.ensures.1 in
+    rw (p.1, p.2) (cut_drill _ _ _ _ _ _ _ c.in_ok-input.input.items c.in_ok-input.ensures.all (rw c.deref.ensures.value at c.in_err-outcome.ensures.fault))
+
+pub returns-clause-input : goal.returns-clause-input
+returns-clause-input g c =
+    flushed_drill _ _ _ _ _ _ _ _ _ c.in_ok-input.input.items c.in_ok-input.ensures.all (rw c.deref.ensures.value at c.in_ok-outcome.ensures.written) c.finish.ensures.kept
+    (rw c.deref.ensures.value at c.in_ok-outcome.ensures.outcome) c.finish.ensures.outcome

@@ -1,5 +1,5 @@
 use Rattle.std.proofs.lemmas.Result.{err_from_is_err_and}
-use Rattle.nagsched.proofs.DriveLemmas.{read_fault, write_fault, finished_written, finished_outcome, finished_fault}
+use Rattle.nagsched.proofs.DriveLemmas.{read_fault, write_fault, finished_written, finished_outcome, finished_fault, unwritten_run, cut_run, flushed_run}
 use Rattle.nagsched.proofs.drive.drive.Goals as goal
 
 pub returns-in_err-input-clause-fault : goal.returns-in_err-input-clause-fault
@@ -20,3 +20,18 @@ returns-clause-outcome g c = finished_outcome _ _ _ c.in_ok-input.input.items c.
 
 pub returns-clause-fault : goal.returns-clause-fault
 returns-clause-fault g c = finished_fault _ _ _ _ _ _ _ c.in_ok-input.input.items c.in_ok-input.ensures.all c.in_ok-input.ensures.left (rw c.deref.ensures.value at c.in_ok-outcome.ensures.written) c.finish.ensures.kept c.finish.ensures.kind
+
+pub returns-in_err-input-clause-input : goal.returns-in_err-input-clause-input
+returns-in_err-input-clause-input g c =
+    let p = err_from_is_err_and c.from_residual.result c.from_residual.ensures.1 in
+    rw (p.1, p.2) (unwritten_run _ _ _ _)
+
+pub returns-in_err-outcome-clause-input : goal.returns-in_err-outcome-clause-input
+returns-in_err-outcome-clause-input g c =
+    let p = err_from_is_err_and c.from_residual-in_err-outcome.result c.from_residual-in_err-outcome.ensures.1 in
+    rw (p.1, p.2) (cut_run _ _ _ _ _ c.in_ok-input.input.items c.in_ok-input.ensures.all (rw c.deref.ensures.value at c.in_err-outcome.ensures.fault))
+
+pub returns-clause-input : goal.returns-clause-input
+returns-clause-input g c =
+    flushed_run _ _ _ _ _ _ _ c.in_ok-input.input.items c.in_ok-input.ensures.all (rw c.deref.ensures.value at c.in_ok-outcome.ensures.written) c.finish.ensures.kept
+    (rw c.deref.ensures.value at c.in_ok-outcome.ensures.outcome) c.finish.ensures.outcome

@@ -1,10 +1,11 @@
 use Rattle.std.proofs.Common.{◌≡◌, ◌+◌, ◌≤◌, length, map}
 use Rattle.nagsched.specs.Input.{lines_of}
-use Rattle.nagsched.specs.Script.{commands_from}
-use Rattle.nagsched.proofs.ScriptLemmas.{with_front}
+use Rattle.nagsched.specs.Script.{commands_of}
+use Rattle.nagsched.proofs.ScriptLemmas.{commands_from, with_front}
 use Rattle.nagsched.proofs.script.read_commands.Given as goal
 
 abbrev pub invariant-loop-line : goal.invariant-loop-line
 invariant-loop-line g l =
-    (commands_from (g.C.Command.meaning l.setup) 2 (lines_of l.fn.lines.rest.now) ≡ with_front (map g.C.Command.seen l.commands.items) (commands_from (g.C.Command.meaning l.setup) l.number (lines_of l.line-iterator.rest.now)))
+    (commands_of (g.C.Command.meaning l.setup) (lines_of l.fn.lines.rest.now)
+    ≡ with_front (map g.C.Command.seen l.commands.items) (commands_from (g.C.Command.meaning l.setup) l.number (lines_of l.line-iterator.rest.now)))
     × (l.number + length (lines_of l.line-iterator.rest.now) ≤ 67108866)
