@@ -80,6 +80,8 @@ fn refuses_other_words(rt: HostRuntime) {
         ["nagsched", "--start", "7"].as_slice(),
         ["nagsched", "drills"].as_slice(),
         ["nagsched", "Run"].as_slice(),
+        ["nagsched", "run", "help"].as_slice(),
+        ["nagsched", "drill", "help"].as_slice(),
         ["nagsched", ""].as_slice(),
     ] {
         assert!(rt; matches!(&job(rt.alloc(), words), Err(WordsError::Refused)));
@@ -95,6 +97,7 @@ fn tells_help(rt: HostRuntime) -> Result<(), Fail> {
         ["nagsched", "run", "--help"].as_slice(),
         ["nagsched", "run", "--start", "7", "--help"].as_slice(),
         ["nagsched", "drill", "--help"].as_slice(),
+        ["nagsched", "help", "drill"].as_slice(),
     ] {
         let mut reader = FailingReader {
             bytes: b"",
