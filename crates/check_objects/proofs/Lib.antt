@@ -10,3 +10,6 @@ pub mod ClosingLemmas
 pub mod DependentLemmas
 pub mod DependencyLemmas
 pub mod NumberLaws
+pub mod CycleLemmas
+pub mod NameLemmas
+pub mod NumberedLemmas

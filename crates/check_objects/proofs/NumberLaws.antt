@@ -14,7 +14,8 @@ use Rattle.check_objects.specs.declared.error.LoadError.TheVariants as errors
 use Rattle.check_objects.specs.Draft.{Drafts}
 use Rattle.check_objects.specs.Fault.{is_faultless, few_items, good_names, host_names, names_of, first_repeat, repeat_after, same_key, key_of, no_repeated_services, known_links, good_ranges}
 use Rattle.check_objects.specs.LoadError.{◌>>=◌, refused_at}
-use Rattle.check_objects.specs.Numbering.{placed, text_order, pair_order, body_of, object_of, hosts_in_order, services_in_order}
+use Rattle.check_objects.specs.Numbering.{placed, body_of, object_of, hosts_in_order, services_in_order}
+use Rattle.check_objects.specs.Name.{text_order, pair_order}
 use Rattle.check_objects.specs.Place.{host_at, service_at}
 
 either_false : (a b : Bool) → (a || b) ≡ false → (a ≡ false) × (b ≡ false)

@@ -1,5 +1,5 @@
 -- The tests after the shape, each over the whole document, in the order in which they are made.
-use Rattle.std.specs.Prelude.{ℕ, ◌+◌, ◌&&◌, ◌||◌, ◌==◌, Bool, true, not, List, [], ◌∷◌, ◌++◌, length, map, sum_by, position, Option, Some, None, Result, Ok, Err, bytes_eq, nat_lt, nat_le, if◌then◌else◌}
+use Rattle.std.specs.Prelude.{ℕ, ◌+◌, ◌&&◌, ◌||◌, Bool, true, not, List, [], ◌∷◌, ◌++◌, length, map, sum_by, position, Option, Some, None, Result, Ok, Err, bytes_eq, nat_lt, nat_le, if◌then◌else◌}
 use Rattle.std.specs.List.{list_any, list_all}
 use Rattle.check_objects.specs.declared.draft.CheckDraft.{CheckDraft}
 use Rattle.check_objects.specs.declared.error.LoadError.{LoadError}
@@ -13,6 +13,7 @@ use Rattle.check_objects.specs.LoadError.{◌>>=◌, refused_at}
 use Rattle.check_objects.specs.declared.place.Part.{Part}
 use Rattle.check_objects.specs.declared.place.Part.TheVariants as part
 use Rattle.check_objects.specs.Configuration.{full_name}
+use Rattle.check_objects.specs.Name.{is_name}
 use Rattle.check_objects.specs.Place.{the_options, host_at, service_at, item_of_part}
 use Rattle.check_objects.specs.Draft.{HostDraft, ServiceDraft, DependencyDraft, Drafts}
 
@@ -34,14 +35,6 @@ abbrev pub few_items : Drafts → Result (Unit {0}) LoadError
 few_items drafts = few_objects drafts.hosts drafts.services >>= λ _. few_dependencies drafts.service_dependencies drafts.host_dependencies
 
 -- ---- names
-
--- no control byte, and no semicolon, which parts a host's name from a description
-abbrev pub is_name_byte : ℕ → Bool
-is_name_byte b = nat_le 32 b && not (b == 127) && not (b == 59)
-
--- 1 to 255 bytes, each of which a name may have
-abbrev pub is_name : List ℕ → Bool
-is_name name = nat_le 1 (length name) && nat_le (length name) 255 && list_all is_name_byte name
 
 -- every host has a name that is one; else the first that hasn't
 abbrev pub good_host_names : List HostDraft → Result (Unit {0}) LoadError

@@ -1,5 +1,6 @@
 pub mod Place
 pub mod LoadError
+pub mod Name
 pub mod Configuration
 pub mod Tree
 pub mod Text

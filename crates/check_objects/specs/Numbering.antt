@@ -3,24 +3,15 @@ use Rattle.std.specs.Prelude.{ℕ, ◌==◌, Bool, not, List, [], ◌∷◌, ◌
 use Rattle.std.specs.List.{list_all, filter, range_with_len}
 use Rattle.std.specs.declared.cmp.Ordering.{Ordering}
 use Rattle.std.specs.BTreeMap.{insert_entry}
-use Rattle.std.specs.Ordering.{nat_cmp, ordering_then}
-use Rattle.std.specs.Cmp.Lexicographic.{slice_cmp}
 use Rattle.check_objects.specs.declared.dependency.Dependency.{Dependency}
 use Rattle.check_objects.specs.declared.draft.CheckDraft.{CheckDraft}
 use Rattle.check_objects.specs.declared.object.Object.{Object}
 use Rattle.check_objects.specs.Configuration.{Named, Host, Service, Configuration, objects_of, number_among, full_name}
 use Rattle.check_objects.specs.Draft.{HostDraft, ServiceDraft, DependencyDraft, Drafts}
 use Rattle.check_objects.specs.Fault.{key_of}
+use Rattle.check_objects.specs.Name.{text_order, pair_order}
 
 -- ---- the order
-
--- texts by their bytes
-abbrev pub text_order : List ℕ → List ℕ → Ordering
-text_order a b = slice_cmp nat_cmp a b
-
--- pairs of texts by the first, and by the second where the first are equal
-abbrev pub pair_order : List ℕ × List ℕ → List ℕ × List ℕ → Ordering
-pair_order p q = ordering_then (text_order p.0 q.0) (text_order p.1 q.1)
 
 -- the items one after another, the value of each put behind its key, in its place among those before it
 abbrev pub placed : {K V A : Type 0} → (K → K → Ordering) → (A → K) → (A → V) → List (K × V) → List A → List (K × V)
@@ -62,7 +53,7 @@ is_host_name name = list_all (λ b. not (b == 59)) name
 
 -- a service, its host by number
 abbrev pub numbered_service : List (List ℕ) → (List ℕ × List ℕ) × Object → Service
-numbered_service names s = record { name = full_name s.0; object = s.1; host = number_in names s.0.0 }
+numbered_service names s = record { name = full_name s.0; description = s.0.1; object = s.1; host = number_in names s.0.0 }
 
 -- the names of hosts in order
 abbrev pub names_in_order : List HostDraft → List (List ℕ)

@@ -1,9 +1,11 @@
 //! Laws of the definitions, each the contract of a function without parameters and code.
-ghost use Rattle.std.specs.Prelude.{◌≡◌, Ok, map};
+ghost use Rattle.std.specs.Prelude.{◌≡◌, ◌<◌, ℕ, Ok, Some, map};
 ghost use Rattle.std.specs.List.Sorted.{IsPermutation, IsStrictlySortedBy};
+ghost use Rattle.check_objects.specs.Configuration.{Configuration, IsSetup, number_of, name_of, object_count};
 ghost use Rattle.check_objects.specs.Draft.{Drafts};
 ghost use Rattle.check_objects.specs.Fault.{is_faultless, key_of};
-ghost use Rattle.check_objects.specs.Numbering.{body_of, object_of, hosts_in_order, services_in_order, text_order, pair_order};
+ghost use Rattle.check_objects.specs.Numbering.{body_of, object_of, hosts_in_order, services_in_order};
+ghost use Rattle.check_objects.specs.Name.{text_order, pair_order};
 
 /// What the numbers of a setup are worth, for every document without a fault: the hosts in order are
 /// all hosts of the document (`hosts`), and their names ascend by their bytes (`names_ascend`); the
@@ -19,4 +21,11 @@ pub fn numbers_follow_names()
         (services_in_order d.services) }
     ensures pairs_ascend { (d : Drafts) → is_faultless d ≡ Ok tt
         → IsStrictlySortedBy pair_order (map (λ e. e.0) (services_in_order d.services)) }
+{}
+
+/// In every setup the full name of an object leads back to it: `setup.number(setup.name(n))` is
+/// `Some(n)` for the number n of an object, so no two objects have the same full name.
+pub fn names_lead_back()
+    ensures { (c : Configuration) → (n : ℕ) → IsSetup c → n < object_count c
+        → number_of c (name_of c n) ≡ Some n }
 {}

@@ -1,6 +1,7 @@
 use Rattle.std.proofs.Common.{◌∙◌, map, is_some, refl, ap}
 use Rattle.check_objects.specs.Drafted.{host}
-use Rattle.check_objects.specs.Numbering.{text_order, body_of}
+use Rattle.check_objects.specs.Numbering.{body_of}
+use Rattle.check_objects.specs.Name.{text_order}
 use Rattle.check_objects.specs.Text.{text}
 use Rattle.check_objects.proofs.FaultLemmas.{dropped_as}
 use Rattle.check_objects.proofs.NumberingLemmas.{placed_next, one_more}

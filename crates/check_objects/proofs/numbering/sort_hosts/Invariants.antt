@@ -1,6 +1,7 @@
 use Rattle.std.proofs.Common.{◌≡◌, ◌≤◌, map, drop}
 use Rattle.std.specs.BTreeMap.{btree_map_len}
-use Rattle.check_objects.specs.Numbering.{hosts_in_order, placed, text_order, body_of}
+use Rattle.check_objects.specs.Numbering.{hosts_in_order, placed, body_of}
+use Rattle.check_objects.specs.Name.{text_order}
 use Rattle.check_objects.specs.Drafted.{host}
 use Rattle.check_objects.specs.Entries.{sorted_host}
 use Rattle.check_objects.proofs.numbering.sort_hosts.Given as goal

@@ -1,7 +1,8 @@
 use Rattle.std.proofs.Common.{◌∙◌, map, is_some, get_or, refl}
 use Rattle.check_objects.specs.Drafted.{service}
 use Rattle.check_objects.specs.Fault.{key_of}
-use Rattle.check_objects.specs.Numbering.{pair_order, object_of}
+use Rattle.check_objects.specs.Numbering.{object_of}
+use Rattle.check_objects.specs.Name.{pair_order}
 use Rattle.check_objects.proofs.FaultLemmas.{dropped_at, no_service}
 use Rattle.check_objects.proofs.NumberingLemmas.{placed_next, one_more}
 use Rattle.check_objects.proofs.numbering.sort_services.Goals as goal

@@ -1,7 +1,8 @@
 use Rattle.std.proofs.Common.{◌≡◌, ◌≤◌, map, drop}
 use Rattle.std.specs.BTreeMap.{btree_map_len}
 use Rattle.check_objects.specs.Fault.{key_of}
-use Rattle.check_objects.specs.Numbering.{services_in_order, placed, pair_order, object_of}
+use Rattle.check_objects.specs.Numbering.{services_in_order, placed, object_of}
+use Rattle.check_objects.specs.Name.{pair_order}
 use Rattle.check_objects.specs.Drafted.{service}
 use Rattle.check_objects.specs.Entries.{sorted_service}
 use Rattle.check_objects.proofs.numbering.sort_services.Given as goal
