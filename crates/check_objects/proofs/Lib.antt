@@ -6,6 +6,7 @@ pub mod NumberingLemmas
 pub mod SetupLemmas
 pub mod GetterLemmas
 pub mod DepthLemmas
+pub mod LoopLemmas
 pub mod ClosingLemmas
 pub mod DependentLemmas
 pub mod DependencyLemmas

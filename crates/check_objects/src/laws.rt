@@ -1,7 +1,9 @@
 //! Laws of the definitions, each the contract of a function without parameters and code.
-ghost use Rattle.std.specs.Prelude.{◌≡◌, ◌<◌, ℕ, Ok, Some, map};
+ghost use Rattle.std.specs.Prelude.{◌≡◌, ◌<◌, ℕ, List, Ok, Some, map, length, true};
 ghost use Rattle.std.specs.List.Sorted.{IsPermutation, IsStrictlySortedBy};
 ghost use Rattle.check_objects.specs.Configuration.{Configuration, IsSetup, number_of, name_of, object_count};
+ghost use Rattle.check_objects.specs.Closing.{are_within};
+ghost use Rattle.check_objects.specs.Depth.{has_cycle, LeadsBack, IsCyclic};
 ghost use Rattle.check_objects.specs.Draft.{Drafts};
 ghost use Rattle.check_objects.specs.Fault.{is_faultless, key_of};
 ghost use Rattle.check_objects.specs.Numbering.{body_of, object_of, hosts_in_order, services_in_order};
@@ -28,4 +30,14 @@ pub fn numbers_follow_names()
 pub fn names_lead_back()
     ensures { (c : Configuration) → (n : ℕ) → IsSetup c → n < object_count c
         → number_of c (name_of c n) ≡ Some n }
+{}
+
+/// What a cycle is: among links that all lead to objects there is one exactly where some object is
+/// reached from itself by one link or more. `back` finds the object of a cycle; `cycle` says that an
+/// object that leads back to itself makes one, wherever the other links lead.
+pub fn cycles_lead_back()
+    ensures back { (links : List (List ℕ)) → are_within (length links) links ≡ true
+        → has_cycle links ≡ true → IsCyclic links }
+    ensures cycle { (links : List (List ℕ)) → (object : ℕ) → object < length links
+        → LeadsBack links object → has_cycle links ≡ true }
 {}
