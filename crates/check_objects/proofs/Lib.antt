@@ -14,3 +14,5 @@ pub mod NumberLaws
 pub mod CycleLemmas
 pub mod NameLemmas
 pub mod NumberedLemmas
+pub mod BucketLemmas
+pub mod LinkLemmas

@@ -1,6 +1,6 @@
 -- Full names lead to numbers and back: names that ascend are different, and a service's name has a semicolon.
 use Rattle.std.proofs.Common.{◌≡◌, ℕ, zero, suc, get_or, ◌+◌, ◌-◌, ◌<◌, ◌==◌, ◌&&◌, ◌||◌, not, Bool, true, false, List, [], ◌∷◌, ◌++◌, map, take, drop, length, Some, None, option_map, bytes_eq, refl, sym, ap, subst, ◌∙◌, Less, inl, inr, arith}
-use Rattle.std.specs.Prelude.{nat_lt, unwrap_or, slice_get}
+use Rattle.std.specs.Prelude.{nat_lt, unwrap_or, slice_get, All}
 use Rattle.std.specs.List.{AllByRecursion, list_any, list_all, position}
 use Rattle.std.specs.List.Sorted.{IsPermutation, IsStrictlySortedBy}
 use Rattle.std.proofs.lemmas.Bool.{cases_lt}
@@ -148,10 +148,21 @@ name_of_service c j s at =
     (slice_get-back (map named_host c.hosts) (map named_service c.services) n j (omega (arith, length-map c.hosts named_host))
     ∙ slice_get-map named_service c.services j ∙ ap (option_map named_service) at)
 
-good_hosts : (c : Configuration) → IsSetup c → list_all (λ h. is_host_name h.name) c.hosts ≡ true
+-- what makes the names of a configuration different
+pub record HasNames (c : Configuration) : Type 0 where
+  pub host_names : list_all (λ h. is_name h.name) c.hosts ≡ true
+  pub full_names : All (λ s. s.name ≡ full_name (pair_of c s)) c.services
+  pub hosts_ascend : IsStrictlySortedBy text_order (map (λ h. h.name) c.hosts)
+  pub services_ascend : IsStrictlySortedBy pair_order (map (pair_of c) c.services)
+  pub hosted : list_all (λ s. nat_lt s.host (length c.hosts)) c.services ≡ true
+
+pub names_of_setup : (c : Configuration) → IsSetup c → HasNames c
+names_of_setup c is = record { host_names = is.host_names; full_names = is.full_names; hosts_ascend = is.hosts_ascend; services_ascend = is.services_ascend; hosted = is.hosted }
+
+good_hosts : (c : Configuration) → HasNames c → list_all (λ h. is_host_name h.name) c.hosts ≡ true
 good_hosts c is = list_all-from_AllPass (λ h. is_host_name h.name) c.hosts (λ k d below. parted_name (get_or c.hosts k d).name (AllPass-from_list_all (λ h. is_name h.name) c.hosts is.host_names k d below))
 
-module _ (c : Configuration) (is : IsSetup c) where
+module _ (c : Configuration) (is : HasNames c) where
   host_number : (n : ℕ) → n < host_count c → number_of c (name_of c n) ≡ Some n
   host_number n below =
       let i = item_at c.hosts n below in

@@ -34,7 +34,7 @@ use Rattle.check_objects.specs.Numbering.{placed, number_in, dependencies_among,
 use Rattle.check_objects.specs.Name.{is_name, is_name_byte, text_order, pair_order}
 use Rattle.check_objects.proofs.ListLemmas.{list_all-map, list_any-map}
 use Rattle.check_objects.proofs.NumberLaws.{hosts_all, services_all, hosts_ascend, services_ascend}
-use Rattle.check_objects.proofs.NameLemmas.{found, all_moved}
+use Rattle.check_objects.proofs.NameLemmas.{HasNames, found, all_moved}
 use Rattle.check_objects.proofs.NumberedLemmas.{AreAlike, host_names_are, pairs_are, full_names_are, known_in_order, full_name_in_order, parents_counted, listed_few, host_end, service_end, ends_alike, both_hold, alike_among}
 use Rattle.check_objects.proofs.DependencyLemmas.{dependents_below, masters_below, masters_within_lists, length-dependency_lists, list_of_object}
 
@@ -215,6 +215,7 @@ pub record IsFaultless (ds : Drafts) : Type 0 where
   pub few_dependencies : length ds.service_dependencies + length ds.host_dependencies ≤ 16384
   pub described : list_all (λ s. is_name s.description) ds.services ≡ true
   pub named : list_all (λ h. is_name h.name) ds.hosts ≡ true
+  pub parented : list_all (λ h. list_all (is_known (names_of ds.hosts)) h.parents) ds.hosts ≡ true
   pub known : list_all (λ s. is_known (names_of ds.hosts) s.host) ds.services ≡ true
   pub service_ends : have_known_ends (full_names ds.services) ds.service_dependencies ≡ true
   pub host_ends : have_known_ends (names_of ds.hosts) ds.host_dependencies ≡ true
@@ -275,6 +276,7 @@ faultless ds e =
       few_dependencies = few_dependencies_by _ (length ds.service_dependencies + length ds.host_dependencies) (Ok tt) refl refl (rest_ok (few_objects ds.hosts ds.services) dependencies tt counted);
       described = all_by_position (λ s. is_name s.description) ds.services (nowhere (λ i. errors.BadName (service_at i)) _ (rest_ok (good_host_names ds.hosts) (λ _. good_descriptions ds.services) tt named));
       named = all_by_position (λ h. is_name h.name) ds.hosts (nowhere (λ i. errors.BadName (host_at i)) _ (first_ok (good_host_names ds.hosts) (λ _. good_descriptions ds.services) tt named));
+      parented = all_by_position (λ h. list_all (is_known names) h.parents) ds.hosts (nowhere (λ i. errors.UnknownHost (host_at i)) _ (first_ok (known_parents names ds.hosts) (λ _. known_hosts names ds.services >>= λ _. both_ends ds names) tt links));
       known = all_by_position (λ s. is_known names s.host) ds.services (nowhere (λ i. errors.UnknownHost (service_at i)) _ known);
       service_ends = ends_ok part.ServiceDependencies (full_names ds.services) ds.service_dependencies (first_ok services (λ _. hosts) tt ended);
       host_ends = ends_ok part.HostDependencies names ds.host_dependencies (rest_ok services (λ _. hosts) tt ended);
@@ -486,6 +488,22 @@ same_sorts_of ds e =
     subst (AllByRecursion (AreAlike n)) (sym (map-append (numbered_dependency objects) ds.service_dependencies ds.host_dependencies))
     (both_hold (AreAlike n) (map (numbered_dependency objects) ds.service_dependencies) (map (numbered_dependency objects) ds.host_dependencies) services hosts)
 
+-- what tells the names of a document without a fault apart
+pub names_of_document : (ds : Drafts) → is_faultless ds ≡ Ok tt → HasNames (configuration ds)
+names_of_document ds e =
+    let c = configuration ds in
+    let hs = hosts_in_order ds.hosts in
+    let ns = names_in_order ds.hosts in
+    let h = placed_few text_order (λ h. h.name) body_of [] ds.hosts in
+    let some : 0 < length ds.hosts → 0 < length ns = λ x. let y = placed_some text_order (λ h. h.name) body_of [] ds.hosts (omega (arith, x)) in omega (arith, y, length-map hs (λ h. h.0)) in
+    record {
+      host_names = list_all-map (λ x. is_name x.name) (numbered_host ns) hs ∙ named_in_order ds e;
+      full_names = All-from_recursion (λ x. x.name ≡ full_name (pair_of c x)) c.services (full_names_are c ns hs refl (services_in_order ds.services) (services_known ds e));
+      hosts_ascend = subst (IsStrictlySortedBy text_order) (sym (host_names_are ns hs)) (hosts_ascend ds);
+      services_ascend = subst (IsStrictlySortedBy pair_order) (sym (pairs_are c ns hs refl (services_in_order ds.services) (services_known ds e))) (services_ascend ds);
+      hosted = hosted_by ds.hosts ds.services (faultless ds e).known ns (length (map (numbered_host ns) hs)) (names_length hs) some;
+    }
+
 -- what a document without a fault gives is a setup
 pub configuration_is_setup : (ds : Drafts) → is_faultless ds ≡ Ok tt → has_cycle (masters_of (configuration ds)) ≡ false → has_cycle (parents_by_host (configuration ds)) ≡ false → IsSetup (configuration ds)
 configuration_is_setup ds e acyclic no_parent_cycle =
@@ -496,20 +514,18 @@ configuration_is_setup ds e acyclic no_parent_cycle =
     let ns = names_in_order ds.hosts in
     let h = placed_few text_order (λ h. h.name) body_of [] ds.hosts in
     let s = placed_few pair_order key_of (λ s. object_of s.check) [] ds.services in
-    let some : 0 < length ds.hosts → 0 < length ns = λ x. let y = placed_some text_order (λ h. h.name) body_of [] ds.hosts (omega (arith, x)) in omega (arith, y, length-map hs (λ h. h.0)) in
+    let names = names_of_document ds e in
     record {
       few = omega (arith, f.few, h, s, length-map hs (numbered_host ns), length-map (services_in_order ds.services) (numbered_service ns));
       few_parents = subst (λ n. n ≤ 16384) (sym (parents_counted ds.hosts (λ h. object_of h.check) hs ns (hosts_all ds e))) (at_most _ 16384 f.few_parents);
       few_dependencies =
           let all = map (numbered_dependency (objects_of (numbered ds))) (all_dependencies ds) in
           omega (arith, f.few_dependencies, listed_few (length (objects_of (numbered ds))) all, length-map (all_dependencies ds) (numbered_dependency (objects_of (numbered ds))), length-append ds.service_dependencies ds.host_dependencies);
-      host_names = list_all-map (λ x. is_name x.name) (numbered_host ns) hs ∙ named_in_order ds e;
+      host_names = names.host_names;
       descriptions = list_all-map (λ x. is_name x.description) (numbered_service ns) (services_in_order ds.services) ∙ described_in_order ds e;
-      full_names =
-          let c = configuration ds in
-          All-from_recursion (λ x. x.name ≡ full_name (pair_of c x)) c.services (full_names_are c ns hs refl (services_in_order ds.services) (services_known ds e));
-      hosts_ascend = subst (IsStrictlySortedBy text_order) (sym (host_names_are ns hs)) (hosts_ascend ds);
-      services_ascend = subst (IsStrictlySortedBy pair_order) (sym (pairs_are (configuration ds) ns hs refl (services_in_order ds.services) (services_known ds e))) (services_ascend ds);
+      full_names = names.full_names;
+      hosts_ascend = names.hosts_ascend;
+      services_ascend = names.services_ascend;
       same_sorts = λ n below.
           let c = configuration ds in
           let all = map (numbered_dependency (objects_of (numbered ds))) (all_dependencies ds) in
@@ -517,7 +533,7 @@ configuration_is_setup ds e acyclic no_parent_cycle =
           (All-from_recursion (λ d. IsSameSort c d.master n) (dependencies_among all n) (alike_among (host_count c) n all (same_sorts_of ds e)));
       no_parent_cycle = no_parent_cycle;
       linked = linked_by hs;
-      hosted = hosted_by ds.hosts ds.services f.known ns (length (map (numbered_host ns) hs)) (names_length hs) some;
+      hosted = names.hosted;
       listed = lists.listed;
       mastered = lists.mastered;
       acyclic = acyclic;

@@ -8,6 +8,7 @@ pub mod Criteria
 pub mod Draft
 pub mod Fault
 pub mod Numbering
+pub mod Links
 pub mod Depth
 pub mod Closing
 pub mod Setup
