@@ -10,9 +10,13 @@ pub mod LoopLemmas
 pub mod ClosingLemmas
 pub mod DependentLemmas
 pub mod DependencyLemmas
+pub mod Placed
+pub mod RepeatLemmas
+pub mod RankLemmas
 pub mod NumberLaws
 pub mod CycleLemmas
 pub mod NameLemmas
+pub mod CountLaws
 pub mod NumberedLemmas
 pub mod BucketLemmas
 pub mod LinkLemmas

@@ -1,25 +1,22 @@
 -- The links of a document without a fault, by number and back by name.
-use Rattle.std.proofs.Common.{◌≡◌, ℕ, ◌+◌, ◌<◌, ◌==◌, ◌&&◌, ◌||◌, Bool, true, false, cond, List, [], ◌∷◌, ◌++◌, map, length, Option, Some, option_map, bytes_eq, refl, sym, ap, subst, ◌∙◌, Ok, arith}
-use Rattle.std.specs.Prelude.{nat_lt, unwrap_or, slice_get}
-use Rattle.std.specs.List.{list_any, list_all, filter, flat_map, range_with_len, position}
+use Rattle.std.proofs.Common.{◌≡◌, ℕ, ◌<◌, ◌==◌, ◌&&◌, ◌||◌, Bool, true, false, cond, List, [], ◌∷◌, map, option_map, bytes_eq, refl, sym, ap, subst, ◌∙◌, Ok, arith}
+use Rattle.std.specs.Prelude.{nat_lt, unwrap_or}
+use Rattle.std.specs.List.{list_any, list_all, filter}
 use Rattle.std.specs.List.Sorted.{IsPermutation}
 use Rattle.std.proofs.lemmas.Bool.{eqb-true, eq-eqb}
-use Rattle.std.proofs.lemmas.Bool.Decides.{nat_tests}
 use Rattle.std.proofs.lemmas.List.Folds.{list_any-append, list_all-append}
 use Rattle.std.proofs.lemmas.List.Sorted.{IsPermutation-map}
 use Rattle.std.proofs.lemmas.Slice.Eq.{bytes_eq-Decides}
-use Rattle.check_objects.specs.declared.dependency.Dependency.{Dependency}
-use Rattle.check_objects.specs.declared.object.Object.{Object}
-use Rattle.check_objects.specs.Configuration.{Configuration, Named, named_host, named_service, objects_of, object_count, number_of, name_of, dependencies_of}
+use Rattle.check_objects.specs.Configuration.{Configuration, named_host, named_service, objects_of, object_count, number_of, name_of}
 use Rattle.check_objects.specs.Draft.{Drafts, HostDraft, DependencyDraft}
 use Rattle.check_objects.specs.Fault.{is_faultless, is_known, names_of, full_names}
 use Rattle.check_objects.specs.Links.{named_parents, named_dependency, named_dependencies, all_named_dependencies}
-use Rattle.check_objects.specs.Numbering.{number_in, numbered_host, numbered_service, numbered_dependency, all_dependencies, dependencies_among, body_of, object_of, hosts_in_order, services_in_order, names_in_order, numbered, configuration}
+use Rattle.check_objects.specs.Numbering.{number_in, numbered_host, numbered_dependency, all_dependencies, dependencies_among, body_of, object_of, hosts_in_order, services_in_order, names_in_order, configuration}
 use Rattle.check_objects.proofs.ListLemmas.{list_any-map, list_all-map}
-use Rattle.check_objects.proofs.BucketLemmas.{bucket, buckets, in_buckets, joined_same}
-use Rattle.check_objects.proofs.DepthLemmas.{and_first, and_second, and_both, or_second, all_weaker}
+use Rattle.check_objects.proofs.BucketLemmas.{bucket, in_buckets, joined_same}
+use Rattle.check_objects.proofs.DepthLemmas.{and_first, and_second, and_both, or_second}
 use Rattle.check_objects.proofs.DependencyLemmas.{list_of_object}
-use Rattle.check_objects.proofs.NameLemmas.{HasNames, found, same_text, name_leads_back, all_moved}
+use Rattle.check_objects.proofs.NameLemmas.{HasNames, found, name_leads_back, all_moved}
 use Rattle.check_objects.proofs.NumberLaws.{hosts_all, services_all}
 use Rattle.check_objects.proofs.NumberedLemmas.{HostEntry, host_names_are, host_named, known_in_order, full_name_in_order}
 use Rattle.check_objects.proofs.NumberingLemmas.{map_twice}

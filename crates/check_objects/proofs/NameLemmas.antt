@@ -25,10 +25,10 @@ neither : (a b : Bool) → (a || b) ≡ false → (a ≡ false) × (b ≡ false)
 neither true b e = cc
 neither false b e = (refl, e)
 
-one_found : {A : Type 0} (p : A → Bool) (x : A) → p x ≡ true → position p (x ∷ []) ≡ Some 0
+pub one_found : {A : Type 0} (p : A → Bool) (x : A) → p x ≡ true → position p (x ∷ []) ≡ Some 0
 one_found p x e = rw e refl
 
-one_missed : {A : Type 0} (p : A → Bool) (x : A) → p x ≡ false → position p (x ∷ []) ≡ None
+pub one_missed : {A : Type 0} (p : A → Bool) (x : A) → p x ≡ false → position p (x ∷ []) ≡ None
 one_missed p x e = rw e refl
 
 -- where nothing passes, there is no place

@@ -16,7 +16,7 @@ use Rattle.check_objects.specs.Configuration.{Configuration, Host, Service, Name
 use Rattle.check_objects.specs.Draft.{HostDraft, ServiceDraft, DependencyDraft}
 use Rattle.check_objects.specs.Fault.{is_known, names_of, key_of, full_names}
 use Rattle.check_objects.specs.Numbering.{number_in, numbered_host, numbered_service, numbered_dependency, dependencies_among, dependency_lists, is_host_name}
-use Rattle.check_objects.proofs.ListLemmas.{list_any-map, position-map}
+use Rattle.check_objects.proofs.ListLemmas.{list_any-map, position-map, sum_by-map}
 use Rattle.check_objects.proofs.GetterLemmas.{position-front, position-back}
 use Rattle.check_objects.proofs.NumberingLemmas.{map_twice}
 use Rattle.check_objects.proofs.DepthLemmas.{and_first, and_second}
@@ -76,10 +76,6 @@ module _ (services : List ServiceDraft) (body : ServiceDraft → Object) (ss : L
       ∙ sym (list_any-map (bytes_eq name) (λ s. full_name (key_of s)) services) ∙ known
 
 -- ---- counts
-
-pub sum_by-map : {A B : Type 0} (f : B → ℕ) (g : A → B) (xs : List A) → sum_by f (map g xs) ≡ sum_by (λ x. f (g x)) xs
-sum_by-map f g [] = refl
-sum_by-map f g (x ∷ xs) = sum_by-cons f (g x) (map g xs) ∙ ap (λ n. f (g x) + n) (sum_by-map f g xs) ∙ sym (sum_by-cons (λ y. f (g y)) x xs)
 
 -- as many parents by number as by name
 pub parents_counted : (hosts : List HostDraft) (object : HostDraft → Object) (hs : List HostEntry) (ns : List (List ℕ)) → IsPermutation (map (λ h. (h.name, (object h, h.parents))) hosts) hs

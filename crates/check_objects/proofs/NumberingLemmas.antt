@@ -16,8 +16,9 @@ use Rattle.check_objects.specs.declared.object.Object.{Object}
 use Rattle.check_objects.specs.Entries.{sorted_host, description_in}
 use Rattle.check_objects.proofs.ListLemmas.{list_any-map}
 use Rattle.check_objects.specs.Configuration.{full_name}
-use Rattle.check_objects.specs.Numbering.{placed, is_host_name}
+use Rattle.check_objects.specs.Numbering.{is_host_name}
 use Rattle.check_objects.specs.Name.{text_order, pair_order}
+use Rattle.check_objects.proofs.Placed.{placed}
 
 map_match : {A B : Type 0} (f : A → B) (o : Ordering) (a b c : List A) → map f (match_ordering o a b c) ≡ match_ordering o (map f a) (map f b) (map f c)
 map_match f Less a b c = refl

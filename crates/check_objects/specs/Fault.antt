@@ -1,6 +1,6 @@
 -- The tests after the shape, each over the whole document, in the order in which they are made.
-use Rattle.std.specs.Prelude.{ℕ, ◌+◌, ◌&&◌, ◌||◌, Bool, true, not, List, [], ◌∷◌, ◌++◌, length, map, sum_by, position, Option, Some, None, Result, Ok, Err, bytes_eq, nat_lt, nat_le, if◌then◌else◌}
-use Rattle.std.specs.List.{list_any, list_all}
+use Rattle.std.specs.Prelude.{ℕ, ◌+◌, ◌&&◌, ◌||◌, Bool, true, not, List, length, map, sum_by, position, Option, Result, Ok, Err, bytes_eq, nat_lt, nat_le, if◌then◌else◌, false, take, slice_get, option_map, unwrap_or}
+use Rattle.std.specs.List.{list_any, list_all, range_with_len}
 use Rattle.check_objects.specs.declared.draft.CheckDraft.{CheckDraft}
 use Rattle.check_objects.specs.declared.error.LoadError.{LoadError}
 use Rattle.check_objects.specs.declared.error.LoadError.TheVariants as errors
@@ -49,14 +49,13 @@ good_names hosts services = good_host_names hosts >>= λ _. good_descriptions se
 
 -- ---- repeats
 
--- the first key, counted from i on, that is the same as one before it
-abbrev pub repeat_after : {K : Type 0} → (K → K → Bool) → List K → ℕ → List K → Option ℕ
-repeat_after same before i [] = None
-repeat_after same before i (key ∷ keys) = if list_any (same key) before then Some i else repeat_after same (before ++ key ∷ []) (i + 1) keys
+-- whether the key at this place stands before it too
+abbrev pub stands_before : {K : Type 0} → (K → K → Bool) → List K → ℕ → Bool
+stands_before same keys i = unwrap_or (option_map (λ key. list_any (same key) (take i keys)) (slice_get keys i)) false
 
--- the first key that is the same as an earlier one
+-- the least place whose key stands before it
 abbrev pub first_repeat : {K : Type 0} → (K → K → Bool) → List K → Option ℕ
-first_repeat same keys = repeat_after same [] 0 keys
+first_repeat same keys = position (stands_before same keys) (range_with_len 0 (length keys))
 
 abbrev pub names_of : List HostDraft → List (List ℕ)
 names_of hosts = map (λ h. h.name) hosts

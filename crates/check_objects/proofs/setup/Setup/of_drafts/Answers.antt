@@ -1,4 +1,4 @@
-use Rattle.std.proofs.Common.{◌≡◌, ◌≤◌, ◌++◌, sym, ap, subst, ◌∙◌, length, map, true, false, Ok, arith, rules}
+use Rattle.std.proofs.Common.{◌≡◌, ◌≤◌, ◌++◌, sym, ap, subst, ◌∙◌, bytes_eq, length, map, true, false, Ok, arith, rules}
 use Rattle.std.proofs.lemmas.List.{length-map}
 use Rattle.std.specs.Prelude.{nat_lt}
 use Rattle.std.specs.List.{list_all}
@@ -10,9 +10,17 @@ use Rattle.check_objects.specs.Numbering.{configuration, numbered, numbered_host
 use Rattle.check_objects.specs.Setup.{no_parent_cycle, without_cycles}
 use Rattle.check_objects.proofs.CycleLemmas.{fails_later, cyclic_parents, no_cycle_of, acyclic_setup, cyclic_dependencies}
 use Rattle.check_objects.proofs.DepthLemmas.{order_has_no_cycle}
+use Rattle.check_objects.specs.Fault.{first_repeat, names_of, same_key, key_of}
+use Rattle.check_objects.proofs.NumberLaws.{once}
 use Rattle.check_objects.proofs.ListLemmas.{list_all-map}
 use Rattle.check_objects.proofs.SetupLemmas.{few_hosts, few_names, parted, configuration_is_setup, few_numbered, dependents_within, has_lists, few_lists, masters_within, few_host_entries, hosts_are_linked}
 use Rattle.check_objects.proofs.setup.Setup.of_drafts.Goals as goal
+
+pub sort_hosts-requires-clause-distinct : goal.sort_hosts-requires-clause-distinct
+sort_hosts-requires-clause-distinct c = ap (λ l. first_repeat bytes_eq (names_of (map host l))) c.deref.ensures.value ∙ (once (drafts c.args.document.now) c.requires.faultless).0
+
+pub sort_services-requires-clause-distinct : goal.sort_services-requires-clause-distinct
+sort_services-requires-clause-distinct c = ap (λ l. first_repeat same_key (map key_of (map service l))) c.deref-2.ensures.value ∙ (once (drafts c.args.document.now) c.requires.faultless).1
 
 pub index_hosts-requires : goal.index_hosts-requires
 index_hosts-requires c = few_names c.in_ok-names.names.keys _ _ c.in_ok-names.ensures.names (c.in_ok-hosts.ensures.order ∙ ap (λ l. hosts_in_order (map host l)) c.deref.ensures.value) (few_hosts (drafts c.args.document.now) c.requires.faultless)
