@@ -11,7 +11,7 @@ use Rattle.check_objects.specs.declared.draft.HostDraft.{HostDraft}
 use Rattle.check_objects.specs.declared.draft.ServiceDraft.{ServiceDraft}
 use Rattle.check_objects.specs.declared.error.LoadError.{LoadError}
 use Rattle.check_objects.specs.LoadError.{refused_at}
-use Rattle.check_objects.specs.Fault.{repeat_after, is_known, known_ends}
+use Rattle.check_objects.specs.Fault.{is_known, known_ends}
 use Rattle.check_objects.specs.declared.error.LoadError.TheVariants as errors
 use Rattle.check_objects.specs.declared.place.Part.{Part}
 use Rattle.check_objects.specs.Draft as spec
@@ -21,6 +21,7 @@ use Rattle.std.proofs.lemmas.Slice.Eq.{bytes_eq-Decides}
 use Rattle.check_objects.specs.Drafted.{host, texts}
 use Rattle.check_objects.specs.Text.{text}
 use Rattle.check_objects.proofs.ListLemmas.{list_any-map, position-map, position-same}
+use Rattle.check_objects.proofs.Placed.{repeat_after}
 
 pub refused_some : (fault : ℕ → LoadError) (o : Option ℕ) (i : ℕ) → Some i ≡ o → refused_at fault o ≡ Err (fault i)
 refused_some fault o i e = ap (refused_at fault) (sym e)

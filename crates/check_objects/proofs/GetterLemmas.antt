@@ -19,12 +19,12 @@ use Rattle.check_objects.proofs.ListLemmas.{position-map, list_all-map}
 
 -- ---- two lists, one behind the other
 
-slice_get-front : {A : Type 0} (xs ys : List A) (i : ℕ) (x : A) → slice_get xs i ≡ Some x → slice_get (xs ++ ys) i ≡ Some x
+pub slice_get-front : {A : Type 0} (xs ys : List A) (i : ℕ) (x : A) → slice_get xs i ≡ Some x → slice_get (xs ++ ys) i ≡ Some x
 slice_get-front [] ys i x e = cc
 slice_get-front (z ∷ xs) ys zero x e = e
 slice_get-front (z ∷ xs) ys (suc i) x e = slice_get-front xs ys i x e
 
-slice_get-back : {A : Type 0} (xs ys : List A) (i j : ℕ) → i ≡ length xs + j → slice_get (xs ++ ys) i ≡ slice_get ys j
+pub slice_get-back : {A : Type 0} (xs ys : List A) (i j : ℕ) → i ≡ length xs + j → slice_get (xs ++ ys) i ≡ slice_get ys j
 slice_get-back [] ys i j e = ap (slice_get ys) (let h : i ≡ j = omega arith in h)
 slice_get-back (z ∷ xs) ys zero j e = absurd (omega arith)
 slice_get-back (z ∷ xs) ys (suc i) j e = slice_get-back xs ys i j (omega arith)

@@ -6,7 +6,17 @@ pub mod NumberingLemmas
 pub mod SetupLemmas
 pub mod GetterLemmas
 pub mod DepthLemmas
+pub mod LoopLemmas
 pub mod ClosingLemmas
 pub mod DependentLemmas
 pub mod DependencyLemmas
+pub mod Placed
+pub mod RepeatLemmas
+pub mod RankLemmas
 pub mod NumberLaws
+pub mod CycleLemmas
+pub mod NameLemmas
+pub mod CountLaws
+pub mod NumberedLemmas
+pub mod BucketLemmas
+pub mod LinkLemmas

@@ -11,11 +11,15 @@ use Rattle.std.proofs.lemmas.List.Sorted.{IsPermutation-refl, IsPermutation-sym,
 use Rattle.std.proofs.lemmas.Map.Text.{is_eq-slice_cmp}
 use Rattle.check_objects.specs.declared.error.LoadError.{LoadError}
 use Rattle.check_objects.specs.declared.error.LoadError.TheVariants as errors
-use Rattle.check_objects.specs.Draft.{Drafts}
-use Rattle.check_objects.specs.Fault.{is_faultless, few_items, good_names, host_names, names_of, first_repeat, repeat_after, same_key, key_of, no_repeated_services, known_links, good_ranges}
+use Rattle.check_objects.specs.Draft.{Drafts, HostDraft, ServiceDraft}
+use Rattle.check_objects.specs.Fault.{is_faultless, few_items, good_names, host_names, names_of, first_repeat, same_key, key_of, no_repeated_services, known_links, good_ranges}
 use Rattle.check_objects.specs.LoadError.{◌>>=◌, refused_at}
-use Rattle.check_objects.specs.Numbering.{placed, text_order, pair_order, body_of, object_of, hosts_in_order, services_in_order}
+use Rattle.check_objects.specs.Numbering.{body_of, object_of, hosts_in_order, services_in_order}
+use Rattle.check_objects.specs.Name.{text_order, pair_order}
 use Rattle.check_objects.specs.Place.{host_at, service_at}
+use Rattle.check_objects.proofs.RankLemmas.{ascending_is_in_order, in_order_all}
+use Rattle.check_objects.proofs.RepeatLemmas.{first_repeat_is}
+use Rattle.check_objects.proofs.Placed.{placed, repeat_after}
 
 either_false : (a b : Bool) → (a || b) ≡ false → (a ≡ false) × (b ≡ false)
 either_false true b e = cc
@@ -162,7 +166,7 @@ named_once_by fault (Some i) x f y e = cc
 abbrev pub after_names : Drafts → List (List ℕ) → Result (Unit {0}) LoadError
 after_names d names = no_repeated_services d.services >>= λ _. (known_links names d >>= λ _. good_ranges d.options d.hosts d.services)
 
-once : (d : Drafts) → is_faultless d ≡ Ok tt → (first_repeat bytes_eq (names_of d.hosts) ≡ None) × (first_repeat same_key (map key_of d.services) ≡ None)
+pub once : (d : Drafts) → is_faultless d ≡ Ok tt → (first_repeat bytes_eq (names_of d.hosts) ≡ None) × (first_repeat same_key (map key_of d.services) ≡ None)
 unfolding is_faultless
 once d e =
     let after_counts = rest_of (few_items d) (λ _. good_names d.hosts d.services >>= λ _. (host_names d.hosts >>= after_names d)) tt e in
@@ -170,16 +174,45 @@ once d e =
     let hosts = named_once_by (λ i. errors.Duplicate (host_at i)) (first_repeat bytes_eq (names_of d.hosts)) (names_of d.hosts) (after_names d) tt named in
     (hosts.0, not_refused (λ i. errors.Duplicate (service_at i)) (first_repeat same_key (map key_of d.services)) (first_of (no_repeated_services d.services) (λ _. known_links (names_of d.hosts) d >>= λ _. good_ranges d.options d.hosts d.services) tt hosts.1))
 
+-- the hosts put in one after another, where no name comes twice
+pub hosts_placed : (hosts : List HostDraft) → first_repeat bytes_eq (names_of hosts) ≡ None → placed text_order (λ h. h.name) body_of [] hosts ≡ hosts_in_order hosts
+unfolding IsStrictlySortedBy
+hosts_placed hosts apart =
+    ascending_is_in_order text_order texts_total (λ h. h.name) body_of hosts (placed text_order (λ h. h.name) body_of [] hosts)
+    (placed_all text_order texts_total bytes_eq texts_agree (λ h. h.name) body_of [] [] 0 hosts (λ q. refl) (sym (first_repeat_is bytes_eq (names_of hosts)) ∙ apart))
+    (placed_ascending text_order texts_total (λ h. h.name) body_of [] hosts tt)
+
+-- the services put in one after another, where no pair comes twice
+pub services_placed : (services : List ServiceDraft) → first_repeat same_key (map key_of services) ≡ None → placed pair_order key_of (λ s. object_of s.check) [] services ≡ services_in_order services
+unfolding IsStrictlySortedBy
+services_placed services apart =
+    ascending_is_in_order pair_order pairs_total key_of (λ s. object_of s.check) services (placed pair_order key_of (λ s. object_of s.check) [] services)
+    (placed_all pair_order pairs_total same_key pairs_agree key_of (λ s. object_of s.check) [] [] 0 services (λ q. refl) (sym (first_repeat_is same_key (map key_of services)) ∙ apart))
+    (placed_ascending pair_order pairs_total key_of (λ s. object_of s.check) [] services tt)
+
+pub every_host : (hosts : List HostDraft) → IsPermutation (map (λ h. (h.name, body_of h)) hosts) (hosts_in_order hosts)
+every_host hosts = in_order_all text_order texts_total (λ h. h.name) body_of hosts
+
+pub every_service : (services : List ServiceDraft) → IsPermutation (map (λ s. (key_of s, object_of s.check)) services) (services_in_order services)
+every_service services = in_order_all pair_order pairs_total key_of (λ s. object_of s.check) services
+
+pub apart_hosts_ascend : (hosts : List HostDraft) → first_repeat bytes_eq (names_of hosts) ≡ None → IsStrictlySortedBy text_order (map (λ e. e.0) (hosts_in_order hosts))
+unfolding IsStrictlySortedBy
+apart_hosts_ascend hosts apart = subst (λ l. IsStrictlySortedBy text_order (map (λ e. e.0) l)) (hosts_placed hosts apart) (placed_ascending text_order texts_total (λ h. h.name) body_of [] hosts tt)
+
+pub apart_services_ascend : (services : List ServiceDraft) → first_repeat same_key (map key_of services) ≡ None → IsStrictlySortedBy pair_order (map (λ e. e.0) (services_in_order services))
+unfolding IsStrictlySortedBy
+apart_services_ascend services apart =
+    subst (λ l. IsStrictlySortedBy pair_order (map (λ e. e.0) l)) (services_placed services apart) (placed_ascending pair_order pairs_total key_of (λ s. object_of s.check) [] services tt)
+
 pub hosts_all : (d : Drafts) → is_faultless d ≡ Ok tt → IsPermutation (map (λ h. (h.name, body_of h)) d.hosts) (hosts_in_order d.hosts)
-hosts_all d e = placed_all text_order texts_total bytes_eq texts_agree (λ h. h.name) body_of [] [] 0 d.hosts (λ q. refl) (once d e).0
+hosts_all d e = every_host d.hosts
 
 pub services_all : (d : Drafts) → is_faultless d ≡ Ok tt → IsPermutation (map (λ s. (key_of s, object_of s.check)) d.services) (services_in_order d.services)
-services_all d e = placed_all pair_order pairs_total same_key pairs_agree key_of (λ s. object_of s.check) [] [] 0 d.services (λ q. refl) (once d e).1
+services_all d e = every_service d.services
 
-pub hosts_ascend : (d : Drafts) → IsStrictlySortedBy text_order (map (λ e. e.0) (hosts_in_order d.hosts))
-unfolding IsStrictlySortedBy
-hosts_ascend d = placed_ascending text_order texts_total (λ h. h.name) body_of [] d.hosts tt
+pub hosts_ascend : (d : Drafts) → is_faultless d ≡ Ok tt → IsStrictlySortedBy text_order (map (λ e. e.0) (hosts_in_order d.hosts))
+hosts_ascend d e = apart_hosts_ascend d.hosts (once d e).0
 
-pub services_ascend : (d : Drafts) → IsStrictlySortedBy pair_order (map (λ e. e.0) (services_in_order d.services))
-unfolding IsStrictlySortedBy
-services_ascend d = placed_ascending pair_order pairs_total key_of (λ s. object_of s.check) [] d.services tt
+pub services_ascend : (d : Drafts) → is_faultless d ≡ Ok tt → IsStrictlySortedBy pair_order (map (λ e. e.0) (services_in_order d.services))
+services_ascend d e = apart_services_ascend d.services (once d e).1

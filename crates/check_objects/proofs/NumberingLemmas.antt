@@ -13,10 +13,12 @@ use Rattle.std.specs.BTreeMap.{insert_entry}
 use Rattle.std.specs.Ordering.{match_ordering, ordering_reverse, ordering_then}
 use Rattle.serde_json.specs.declared.value.Value.{Value}
 use Rattle.check_objects.specs.declared.object.Object.{Object}
-use Rattle.check_objects.specs.Entries.{sorted_host}
+use Rattle.check_objects.specs.Entries.{sorted_host, description_in}
 use Rattle.check_objects.proofs.ListLemmas.{list_any-map}
 use Rattle.check_objects.specs.Configuration.{full_name}
-use Rattle.check_objects.specs.Numbering.{placed, text_order, pair_order, is_host_name}
+use Rattle.check_objects.specs.Numbering.{is_host_name}
+use Rattle.check_objects.specs.Name.{text_order, pair_order}
+use Rattle.check_objects.proofs.Placed.{placed}
 
 map_match : {A B : Type 0} (f : A → B) (o : Ordering) (a b c : List A) → map f (match_ordering o a b c) ≡ match_ordering o (map f a) (map f b) (map f c)
 map_match f Less a b c = refl
@@ -79,6 +81,25 @@ both_true : (a b : Bool) → (a && b) ≡ true → (a ≡ true) × (b ≡ true)
 both_true true b e = (refl, e)
 both_true false b e = cc
 
+not_true : (b : Bool) → not b ≡ true → b ≡ false
+not_true true e = cc
+not_true false e = refl
+
+at_end : {E : Type 0} (good : E → Bool) (done : List E) (e : E) (more : List E) → list_all good (done ++ e ∷ more) ≡ true → good e ≡ true
+at_end good [] e more h = (both_true (good e) (list_all good more) h).0
+at_end good (x ∷ done) e more h = at_end good done e more (both_true (good x) (list_all good (done ++ e ∷ more)) h).1
+
+-- what is true of all is true of the next
+pub good_next : {E Y : Type 0} (one : E → Y) (good : E → Bool) (all rest more : List E) (made : List Y) (e : E) → Built one all rest made → rest ≡ e ∷ more → list_all good all ≡ true → good e ≡ true
+good_next one good all rest more made e b r h = at_end good b.done e more (ap (list_all good) (sym (b.whole ∙ ap (λ l. b.done ++ l) r)) ∙ h)
+
+-- a full name's description stands behind its first semicolon
+pub description_behind : (host description : List ℕ) → is_host_name host ≡ true → description_in (full_name (host, description)) ≡ description
+description_behind [] description h = refl
+description_behind (b ∷ host) description h =
+    let other : (b == 59) ≡ false = not_true (b == 59) (both_true (not (b == 59)) (is_host_name host) h).0 in
+    rw other (description_behind host description (both_true (not (b == 59)) (is_host_name host) h).1)
+
 pub all_good : {E : Type 0} (xs : List E) → list_all (λ x. true) xs ≡ true
 all_good [] = refl
 all_good (x ∷ xs) = all_good xs
@@ -123,10 +144,6 @@ pairs_by Less second a b e f g = rw (f refl) refl
 pairs_by Equal second true b e f g = g e
 pairs_by Equal second false b e f g = refl
 pairs_by Greater second a b e f g = cc
-
-not_true : (b : Bool) → not b ≡ true → b ≡ false
-not_true true e = cc
-not_true false e = refl
 
 not_semicolon : (y : ℕ) → not (y == 59) ≡ true → (59 == y) ≡ false
 not_semicolon y e = let f : (y == 59) ≡ false = not_true (y == 59) e in grind (arith, nat_tests, f)

@@ -1,12 +1,12 @@
 -- What a document without a fault gives: few objects, links to hosts, and full names in two parts.
-use Rattle.std.proofs.Common.{◌≡◌, ℕ, suc, ◌+◌, ◌<◌, ◌≤◌, ◌==◌, ◌&&◌, ◌||◌, not, Bool, true, false, cond, List, [], ◌∷◌, map, length, Bor, Option, Some, None, bytes_eq, refl, sym, ap, ◌∙◌, Result, Ok, Err, inl, inr, Ordering, Less, Equal, Greater, arith}
-use Rattle.std.specs.Prelude.{nat_lt, nat_le, unwrap_or}
-use Rattle.std.specs.BTreeMap.{insert_entry}
-use Rattle.std.specs.List.{list_any, list_all, position, position_or_len, prefix_len}
-use Rattle.std.specs.Ordering.{match_ordering}
+use Rattle.std.proofs.Common.{◌≡◌, ℕ, suc, ◌+◌, ◌<◌, ◌≤◌, ◌==◌, ◌&&◌, ◌||◌, not, Bool, true, false, cond, List, [], ◌∷◌, map, length, Bor, Option, Some, None, bytes_eq, refl, sym, ap, subst, ◌∙◌, Result, Ok, Err, inl, inr, arith}
+use Rattle.std.specs.Prelude.{nat_lt, nat_le, unwrap_or, All}
+use Rattle.std.specs.List.{AllByRecursion, list_any, list_all, position, position_or_len, prefix_len}
+use Rattle.std.specs.List.Sorted.{IsStrictlySortedBy}
 use Rattle.std.proofs.lemmas.Bool.{cases_lt}
 use Rattle.std.proofs.lemmas.Bool.Decides.{nat_tests}
-use Rattle.std.proofs.lemmas.List.{length-map, length-append}
+use Rattle.std.proofs.lemmas.List.{length-map, length-append, map-append}
+use Rattle.std.proofs.lemmas.List.Elements.{All-from_recursion}
 use Rattle.std.proofs.lemmas.List.Folds.{list_all-append}
 use Rattle.std.proofs.lemmas.Slice.Eq.{bytes_eq-Decides}
 use Rattle.check_objects.specs.declared.place.Part.{Part}
@@ -20,17 +20,22 @@ use Rattle.check_objects.specs.declared.options.InterleaveFactor.{InterleaveFact
 use Rattle.check_objects.specs.declared.options.InterleaveFactor.TheVariants as factor
 use Rattle.check_objects.specs.declared.options.Options.{Options}
 use Rattle.check_objects.specs.declared.object.Object.{Object}
-use Rattle.check_objects.specs.Configuration.{Configuration, Host, IsSetup, IsWithin, IsDelayInRange, IsFactorInRange, is_object_in_range, named_host, named_service, objects_of, object_count, masters_in, masters_of, full_name}
+use Rattle.check_objects.specs.Configuration.{Configuration, Host, IsSetup, IsWithin, IsDelayInRange, IsFactorInRange, is_object_in_range, named_host, named_service, objects_of, object_count, masters_in, masters_of, parents_by_host, host_count, full_name, pair_of, IsSameSort}
 use Rattle.check_objects.specs.Depth.{has_cycle}
 use Rattle.check_objects.specs.Closing.{are_within}
 use Rattle.check_objects.specs.Drafted.{texts}
 use Rattle.check_objects.specs.Draft.{Drafts, HostDraft, ServiceDraft, DependencyDraft}
-use Rattle.check_objects.specs.Fault.{is_faultless, few_items, few_dependencies, full_names, known_ends, known_links, is_name, is_name_byte, is_known, names_of, few_objects, has_few_parents, key_of, good_names, good_host_names, good_descriptions, host_names, first_repeat, no_repeated_services, known_parents, known_hosts, good_ranges, good_host_ranges, good_options, good_service_ranges, is_in_range, is_within, is_delay_in_range, is_factor_in_range, are_options_in_range}
+use Rattle.check_objects.specs.Fault.{is_faultless, few_items, few_dependencies, full_names, known_ends, known_links, is_known, names_of, few_objects, has_few_parents, key_of, good_names, good_host_names, good_descriptions, host_names, first_repeat, no_repeated_services, known_parents, known_hosts, good_ranges, good_host_ranges, good_options, good_service_ranges, is_in_range, is_within, is_delay_in_range, is_factor_in_range, are_options_in_range}
 use Rattle.check_objects.specs.LoadError.{◌>>=◌, refused_at}
 use Rattle.check_objects.specs.Place.{host_at, service_at, item_of_part}
-use Rattle.check_objects.specs.Numbering.{placed, number_in, numbered_host, numbered_service, hosts_in_order, services_in_order, names_in_order, numbered, configuration, numbered_dependency, all_dependencies, is_host_name, object_of, body_of, text_order, pair_order}
-use Rattle.check_objects.proofs.ListLemmas.{list_all-map}
-use Rattle.check_objects.proofs.DependencyLemmas.{dependents_below, masters_below, masters_within_lists, length-dependency_lists}
+use Rattle.check_objects.specs.Numbering.{number_in, dependencies_among, numbered_host, numbered_service, hosts_in_order, services_in_order, names_in_order, numbered, configuration, numbered_dependency, all_dependencies, is_host_name, object_of, body_of}
+use Rattle.check_objects.specs.Name.{is_name, is_name_byte, text_order, pair_order}
+use Rattle.check_objects.proofs.ListLemmas.{list_all-map, list_any-map}
+use Rattle.check_objects.proofs.NumberLaws.{hosts_all, services_all, hosts_ascend, services_ascend}
+use Rattle.check_objects.proofs.NameLemmas.{HasNames, found, all_moved}
+use Rattle.check_objects.proofs.NumberedLemmas.{AreAlike, host_names_are, pairs_are, full_names_are, known_in_order, full_name_in_order, parents_counted, listed_few, host_end, service_end, ends_alike, both_hold, alike_among}
+use Rattle.check_objects.proofs.DependencyLemmas.{dependents_below, masters_below, masters_within_lists, length-dependency_lists, list_of_object}
+use Rattle.std.proofs.lemmas.List.Sorted.{length_permutation}
 
 -- ---- nothing was refused
 
@@ -104,66 +109,6 @@ known_good q name (other ∷ names) g e =
     let b = both_true (q other) (list_all q names) g in
     known_by q name other names (bytes_eq name other) refl b.0 e (known_good q name names b.1)
 
--- ---- lists in order
-
-module _ {K V A : Type 0} (order : K → K → Ordering) (key : A → K) (value : A → V) where
-  match_length : (o : Ordering) (a b c : List (K × V)) (low high : ℕ) → (low ≤ length a) × (length a ≤ high) → (low ≤ length b) × (length b ≤ high) → (low ≤ length c) × (length c ≤ high)
-      → (low ≤ length (match_ordering o a b c)) × (length (match_ordering o a b c) ≤ high)
-  match_length Less a b c low high x y z = x
-  match_length Equal a b c low high x y z = y
-  match_length Greater a b c low high x y z = z
-
-  -- one more, unless its key was there
-  inserted_length : (es : List (K × V)) (k : K) (v : V) → (1 ≤ length (insert_entry order es k v)) × (length (insert_entry order es k v) ≤ 1 + length es)
-  inserted_length [] k v = (omega arith, omega arith)
-  inserted_length (e ∷ es) k v =
-      let more = inserted_length es k v in
-      match_length (order k e.0) ((k, v) ∷ e ∷ es) ((e.0, v) ∷ es) (e ∷ insert_entry order es k v) 1 (1 + suc (length es)) (omega arith, omega arith) (omega arith, omega arith) (omega arith, omega (arith, more.1))
-
-  pub placed_few : (done : List (K × V)) (xs : List A) → length (placed order key value done xs) ≤ length done + length xs
-  placed_few done [] = omega arith
-  placed_few done (x ∷ xs) =
-      let more = placed_few (insert_entry order done (key x) (value x)) xs in
-      let one = inserted_length done (key x) (value x) in
-      omega (arith, more, one.1)
-
-  pub placed_some : (done : List (K × V)) (xs : List A) → 0 < length done + length xs → 0 < length (placed order key value done xs)
-  placed_some done [] h = omega arith
-  placed_some done (x ∷ xs) h =
-      let one = inserted_length done (key x) (value x) in
-      placed_some (insert_entry order done (key x) (value x)) xs (omega (arith, one.0))
-
-  match_good : (p : K × V → Bool) (o : Ordering) (a b c : List (K × V)) → list_all p a ≡ true → list_all p b ≡ true → list_all p c ≡ true → list_all p (match_ordering o a b c) ≡ true
-  match_good p Less a b c x y z = x
-  match_good p Equal a b c x y z = y
-  match_good p Greater a b c x y z = z
-
-  inserted_good : (p : K → Bool) (es : List (K × V)) (k : K) (v : V) → p k ≡ true → list_all (λ e. p e.0) es ≡ true → list_all (λ e. p e.0) (insert_entry order es k v) ≡ true
-  inserted_good p [] k v g h = rw g refl
-  inserted_good p (e ∷ es) k v g h =
-      let b = both_true (p e.0) (list_all (λ x. p x.0) es) h in
-      match_good (λ x. p x.0) (order k e.0) _ _ _ (rw (g, b.0, b.1) refl) (rw (b.0, b.1) refl) (rw (b.0, inserted_good p es k v g b.1) refl)
-
-  -- what is true of each key is true of each key in order
-  pub placed_good : (p : K → Bool) (done : List (K × V)) (xs : List A) → list_all (λ e. p e.0) done ≡ true → list_all (λ x. p (key x)) xs ≡ true → list_all (λ e. p e.0) (placed order key value done xs) ≡ true
-  placed_good p done [] d h = d
-  placed_good p done (x ∷ xs) d h =
-      let b = both_true (p (key x)) (list_all (λ y. p (key y)) xs) h in
-      placed_good p (insert_entry order done (key x) (value x)) xs (inserted_good p done (key x) (value x) b.0 d) b.1
-
-  inserted_value : (q : V → Bool) (es : List (K × V)) (k : K) (v : V) → q v ≡ true → list_all (λ e. q e.1) es ≡ true → list_all (λ e. q e.1) (insert_entry order es k v) ≡ true
-  inserted_value q [] k v g h = rw g refl
-  inserted_value q (e ∷ es) k v g h =
-      let b = both_true (q e.1) (list_all (λ x. q x.1) es) h in
-      match_good (λ x. q x.1) (order k e.0) _ _ _ (rw (g, b.0, b.1) refl) (rw (g, b.1) refl) (rw (b.0, inserted_value q es k v g b.1) refl)
-
-  -- what is true of each value is true of each value in order
-  pub placed_values : (q : V → Bool) (done : List (K × V)) (xs : List A) → list_all (λ e. q e.1) done ≡ true → list_all (λ x. q (value x)) xs ≡ true → list_all (λ e. q e.1) (placed order key value done xs) ≡ true
-  placed_values q done [] d h = d
-  placed_values q done (x ∷ xs) d h =
-      let b = both_true (q (value x)) (list_all (λ y. q (value y)) xs) h in
-      placed_values q (insert_entry order done (key x) (value x)) xs (inserted_value q done (key x) (value x) b.0 d) b.1
-
 -- ---- numbers
 
 number_by : (b : Bool) (i n : ℕ) → nat_lt i n ≡ b → 0 < n → nat_lt (unwrap_or (cond b (Some i) None) 0) n ≡ true
@@ -192,6 +137,10 @@ linked_by : (hs : List (List ℕ × (Object × List (List ℕ)))) → list_all (
 linked_by [] = refl
 linked_by (x ∷ hs) = hosts_linked (map (λ y. y.0) (x ∷ hs)) _ (names_length (x ∷ hs)) (omega arith) (x ∷ hs)
 
+-- the parents of the hosts of a document are hosts
+pub hosts_are_linked : (ds : Drafts) → list_all (λ h. list_all (λ p. nat_lt p (length (numbered ds).hosts)) h.parents) (numbered ds).hosts ≡ true
+hosts_are_linked ds = linked_by (hosts_in_order ds.hosts)
+
 -- ---- a document without a fault
 
 -- the dependents and masters of these dependencies have one of these names
@@ -201,7 +150,11 @@ have_known_ends names ds = list_all (λ d. is_known names d.dependent && is_know
 -- what the tests say of a document that passed them
 pub record IsFaultless (ds : Drafts) : Type 0 where
   pub few : length ds.hosts + length ds.services ≤ 4096
+  pub few_parents : has_few_parents ds.hosts ≡ true
+  pub few_dependencies : length ds.service_dependencies + length ds.host_dependencies ≤ 16384
+  pub described : list_all (λ s. is_name s.description) ds.services ≡ true
   pub named : list_all (λ h. is_name h.name) ds.hosts ≡ true
+  pub parented : list_all (λ h. list_all (is_known (names_of ds.hosts)) h.parents) ds.hosts ≡ true
   pub known : list_all (λ s. is_known (names_of ds.hosts) s.host) ds.services ≡ true
   pub service_ends : have_known_ends (full_names ds.services) ds.service_dependencies ≡ true
   pub host_ends : have_known_ends (names_of ds.hosts) ds.host_dependencies ≡ true
@@ -210,6 +163,15 @@ pub record IsFaultless (ds : Drafts) : Type 0 where
 few_by : (a b : Bool) (n : ℕ) (y : Result (Unit {0}) LoadError) → y ≡ Ok tt → nat_lt 4096 n ≡ a → cond (a || b) (Err errors.TooMany) (Ok tt) ≡ y → n ≤ 4096
 few_by true b n y o e h = cc
 few_by false b n y o e h = grind (arith, nat_tests, e)
+
+few_parents_by : (a b : Bool) (y : Result (Unit {0}) LoadError) → y ≡ Ok tt → cond (a || not b) (Err errors.TooMany) (Ok tt) ≡ y → b ≡ true
+few_parents_by true b y o h = cc
+few_parents_by false true y o h = refl
+few_parents_by false false y o h = cc
+
+few_dependencies_by : (a : Bool) (n : ℕ) (y : Result (Unit {0}) LoadError) → y ≡ Ok tt → nat_lt 16384 n ≡ a → cond a (Err errors.TooMany) (Ok tt) ≡ y → n ≤ 16384
+few_dependencies_by true n y o e h = cc
+few_dependencies_by false n y o e h = grind (arith, nat_tests, e)
 
 names_ok : {A B : Type 0} (r : Result (Unit {0}) LoadError) (x : A) (f : A → Result B LoadError) (y : B) → ((r >>= λ _. Ok x) >>= f) ≡ Ok y → f x ≡ Ok y
 names_ok (Ok u) x f y e = e
@@ -245,10 +207,15 @@ faultless ds e =
     let ended = rest_ok (known_hosts names ds.services) (λ _. both_ends ds names) tt hosted in
     let services = known_ends part.ServiceDependencies (full_names ds.services) ds.service_dependencies in
     let hosts = known_ends part.HostDependencies names ds.host_dependencies in
+    let dependencies = λ (u : Unit {0}). few_dependencies ds.service_dependencies ds.host_dependencies in
     record {
       few = few_by (nat_lt 4096 (length ds.hosts + length ds.services)) (not (has_few_parents ds.hosts)) (length ds.hosts + length ds.services) (Ok tt) refl refl
-          (first_ok (few_objects ds.hosts ds.services) (λ _. few_dependencies ds.service_dependencies ds.host_dependencies) tt counted);
+          (first_ok (few_objects ds.hosts ds.services) dependencies tt counted);
+      few_parents = few_parents_by (nat_lt 4096 (length ds.hosts + length ds.services)) (has_few_parents ds.hosts) (Ok tt) refl (first_ok (few_objects ds.hosts ds.services) dependencies tt counted);
+      few_dependencies = few_dependencies_by _ (length ds.service_dependencies + length ds.host_dependencies) (Ok tt) refl refl (rest_ok (few_objects ds.hosts ds.services) dependencies tt counted);
+      described = all_by_position (λ s. is_name s.description) ds.services (nowhere (λ i. errors.BadName (service_at i)) _ (rest_ok (good_host_names ds.hosts) (λ _. good_descriptions ds.services) tt named));
       named = all_by_position (λ h. is_name h.name) ds.hosts (nowhere (λ i. errors.BadName (host_at i)) _ (first_ok (good_host_names ds.hosts) (λ _. good_descriptions ds.services) tt named));
+      parented = all_by_position (λ h. list_all (is_known names) h.parents) ds.hosts (nowhere (λ i. errors.UnknownHost (host_at i)) _ (first_ok (known_parents names ds.hosts) (λ _. known_hosts names ds.services >>= λ _. both_ends ds names) tt links));
       known = all_by_position (λ s. is_known names s.host) ds.services (nowhere (λ i. errors.UnknownHost (service_at i)) _ known);
       service_ends = ends_ok part.ServiceDependencies (full_names ds.services) ds.service_dependencies (first_ok services (λ _. hosts) tt ended);
       host_ends = ends_ok part.HostDependencies names ds.host_dependencies (rest_ok services (λ _. hosts) tt ended);
@@ -263,13 +230,25 @@ parted_from ds f =
     all_weaker (λ s. is_known (names_of ds.hosts) s.host) (λ s. is_host_name s.host) (λ s e. known_good is_host_name s.host (names_of ds.hosts) names e) ds.services f.known
 
 pub parted : (ds : Drafts) → is_faultless ds ≡ Ok tt → list_all (λ e. is_host_name e.0.0) (services_in_order ds.services) ≡ true
-parted ds e = placed_good pair_order key_of (λ s. object_of s.check) (λ k. is_host_name k.0) [] ds.services refl (parted_from ds (faultless ds e))
+parted ds e =
+    all_moved (λ x. is_host_name x.0.0) (map (λ s. (key_of s, object_of s.check)) ds.services) (services_in_order ds.services) (services_all ds e)
+    (list_all-map (λ x. is_host_name x.0.0) (λ (s : ServiceDraft). (key_of s, object_of s.check)) ds.services ∙ parted_from ds (faultless ds e))
+
+-- as many hosts and services in order as in the document
+hosts_counted : (ds : Drafts) → is_faultless ds ≡ Ok tt → length (hosts_in_order ds.hosts) ≡ length ds.hosts
+hosts_counted ds e = length_permutation (map (λ h. (h.name, body_of h)) ds.hosts) (hosts_in_order ds.hosts) (hosts_all ds e) ∙ length-map ds.hosts (λ (h : HostDraft). (h.name, body_of h))
+
+services_counted : (ds : Drafts) → is_faultless ds ≡ Ok tt → length (services_in_order ds.services) ≡ length ds.services
+services_counted ds e =
+    length_permutation (map (λ s. (key_of s, object_of s.check)) ds.services) (services_in_order ds.services) (services_all ds e) ∙ length-map ds.services (λ (s : ServiceDraft). (key_of s, object_of s.check))
 
 pub few_hosts : (ds : Drafts) → is_faultless ds ≡ Ok tt → length (hosts_in_order ds.hosts) ≤ 4096
 few_hosts ds e =
     let f = faultless ds e in
-    let h = placed_few text_order (λ h. h.name) body_of [] ds.hosts in
-    omega (arith, f.few, h)
+    omega (arith, f.few, hosts_counted ds e)
+
+pub few_host_entries : (ds : Drafts) → is_faultless ds ≡ Ok tt → length (numbered ds).hosts ≤ 4096
+few_host_entries ds e = omega (arith, few_hosts ds e, length-map (hosts_in_order ds.hosts) (numbered_host (names_in_order ds.hosts)))
 
 hosted_by : (hosts : List HostDraft) (services : List ServiceDraft) → list_all (λ s. is_known (names_of hosts) s.host) services ≡ true → (ns : List (List ℕ)) (n : ℕ) → n ≡ length ns → (0 < length hosts → 0 < length ns)
     → list_all (λ s. nat_lt s.host n) (map (numbered_service ns) (services_in_order services)) ≡ true
@@ -330,14 +309,16 @@ good_options_in_range options hosts services e =
     options_in_range options (options_by (are_options_in_range options) _ (Ok tt) refl (first_ok (good_options options) (λ _. good_host_ranges hosts >>= λ _. good_service_ranges services) tt e))
 
 -- and so are the numbers of every object
-pub objects_in_range : (ds : Drafts) → good_ranges ds.options ds.hosts ds.services ≡ Ok tt → list_all (λ o. is_object_in_range o.object) (objects_of (configuration ds)) ≡ true
-objects_in_range ds e =
+pub objects_in_range : (ds : Drafts) → is_faultless ds ≡ Ok tt → good_ranges ds.options ds.hosts ds.services ≡ Ok tt → list_all (λ o. is_object_in_range o.object) (objects_of (configuration ds)) ≡ true
+objects_in_range ds faults e =
     let after_options = rest_ok (good_options ds.options) (λ _. good_host_ranges ds.hosts >>= λ _. good_service_ranges ds.services) tt e in
     let hosts : list_all (λ h. is_in_range h.check) ds.hosts ≡ true = all_by_position (λ h. is_in_range h.check) ds.hosts (nowhere (λ i. errors.Range (host_at i)) _ (first_ok (good_host_ranges ds.hosts) (λ _. good_service_ranges ds.services) tt after_options)) in
     let services : list_all (λ s. is_in_range s.check) ds.services ≡ true = all_by_position (λ s. is_in_range s.check) ds.services (nowhere (λ i. errors.Range (service_at i)) _ (rest_ok (good_host_ranges ds.hosts) (λ _. good_service_ranges ds.services) tt after_options)) in
     let ns = names_in_order ds.hosts in
-    let hosts_placed = placed_values text_order (λ h. h.name) body_of (λ v. is_object_in_range v.0) [] ds.hosts refl hosts in
-    let services_placed = placed_values pair_order key_of (λ s. object_of s.check) is_object_in_range [] ds.services refl services in
+    let hosts_placed = all_moved (λ x. is_object_in_range x.1.0) (map (λ h. (h.name, body_of h)) ds.hosts) (hosts_in_order ds.hosts) (hosts_all ds faults)
+    (list_all-map (λ x. is_object_in_range x.1.0) (λ (h : HostDraft). (h.name, body_of h)) ds.hosts ∙ hosts) in
+    let services_placed = all_moved (λ x. is_object_in_range x.1) (map (λ s. (key_of s, object_of s.check)) ds.services) (services_in_order ds.services) (services_all ds faults)
+    (list_all-map (λ x. is_object_in_range x.1) (λ (s : ServiceDraft). (key_of s, object_of s.check)) ds.services ∙ services) in
     let hosts_numbered : list_all (λ o. is_object_in_range o.object) (map named_host (map (numbered_host ns) (hosts_in_order ds.hosts))) ≡ true =
     list_all-map (λ o. is_object_in_range o.object) named_host (map (numbered_host ns) (hosts_in_order ds.hosts)) ∙ list_all-map (λ h. is_object_in_range h.object) (numbered_host ns) (hosts_in_order ds.hosts) ∙ hosts_placed in
     let services_numbered : list_all (λ o. is_object_in_range o.object) (map named_service (map (numbered_service ns) (services_in_order ds.services))) ≡ true =
@@ -353,16 +334,17 @@ count_of c hosts services h s = omega (arith, h, s, length-append (map named_hos
 pub few_in_all : (c : Configuration) → length c.hosts + length c.services ≤ 4096 → object_count c ≤ 4096
 few_in_all c h = omega (arith, h, count_of c (length c.hosts) (length c.services) refl refl)
 
-numbered_few : (ds : Drafts) → IsFaultless ds → length (numbered ds).hosts + length (numbered ds).services ≤ 4096
-numbered_few ds f =
+numbered_few : (ds : Drafts) → is_faultless ds ≡ Ok tt → length (numbered ds).hosts + length (numbered ds).services ≤ 4096
+numbered_few ds e =
     let hs = hosts_in_order ds.hosts in
     let ns = names_in_order ds.hosts in
-    let h = placed_few text_order (λ h. h.name) body_of [] ds.hosts in
-    let s = placed_few pair_order key_of (λ s. object_of s.check) [] ds.services in
+    let f = faultless ds e in
+    let h = hosts_counted ds e in
+    let s = services_counted ds e in
     omega (arith, f.few, h, s, length-map hs (numbered_host ns), length-map (services_in_order ds.services) (numbered_service ns))
 
 pub few_numbered : (ds : Drafts) → is_faultless ds ≡ Ok tt → object_count (numbered ds) ≤ 4096
-few_numbered ds e = few_in_all (numbered ds) (numbered_few ds (faultless ds e))
+few_numbered ds e = few_in_all (numbered ds) (numbered_few ds e)
 
 some_name : (names : List (List ℕ)) (ds : List DependencyDraft) → have_known_ends names ds ≡ true → 0 < length ds → 0 < length names
 some_name names [] k h = absurd (omega arith)
@@ -370,8 +352,9 @@ some_name [] (d ∷ ds) k h = cc
 some_name (n ∷ names) (d ∷ ds) k h = omega arith
 
 -- where there is a dependency, there is an object
-some_object : (ds : Drafts) → IsFaultless ds → 0 < length (all_dependencies ds) → 0 < object_count (numbered ds)
-some_object ds f h =
+some_object : (ds : Drafts) → is_faultless ds ≡ Ok tt → 0 < length (all_dependencies ds) → 0 < object_count (numbered ds)
+some_object ds e h =
+    let f = faultless ds e in
     let ns = names_in_order ds.hosts in
     let count = count_of (numbered ds) (length (numbered ds).hosts) (length (numbered ds).services) refl refl in
     let hosts = length-map (hosts_in_order ds.hosts) (numbered_host ns) in
@@ -379,16 +362,14 @@ some_object ds f h =
     let parts = length-append ds.service_dependencies ds.host_dependencies in
     elim (cases_lt 0 (length ds.service_dependencies)) [
       | inl l ↦ let n = some_name (full_names ds.services) ds.service_dependencies f.service_ends l in
-          let p = placed_some pair_order key_of (λ s. object_of s.check) [] ds.services (omega (arith, n, length-map ds.services (λ s. full_name (key_of s)))) in
-          omega (arith, count, services, p)
+          omega (arith, count, services, n, length-map ds.services (λ s. full_name (key_of s)), services_counted ds e)
       | inr l ↦ let n = some_name (names_of ds.hosts) ds.host_dependencies f.host_ends (omega (arith, l, h, parts)) in
-          let p = placed_some text_order (λ h. h.name) body_of [] ds.hosts (omega (arith, n, length-map ds.hosts (λ h. h.name))) in
-          omega (arith, count, hosts, p)
+          omega (arith, count, hosts, n, length-map ds.hosts (λ h. h.name), hosts_counted ds e)
     ]
 
 -- the dependents are objects
 pub dependents_within : (ds : Drafts) → is_faultless ds ≡ Ok tt → list_all (λ d. nat_lt d.0 (object_count (numbered ds))) (map (numbered_dependency (objects_of (numbered ds))) (all_dependencies ds)) ≡ true
-dependents_within ds e = dependents_below (objects_of (numbered ds)) (all_dependencies ds) (some_object ds (faultless ds e))
+dependents_within ds e = dependents_below (objects_of (numbered ds)) (all_dependencies ds) (some_object ds e)
 
 -- what is true of the lists of dependencies before their order is made
 pub record HasLists (c : Configuration) : Type 0 where
@@ -416,21 +397,92 @@ module _ {L : Type 0} (items : L → List Dependency) (lists : List L) (c : Conf
   pub masters_within : are_within (length lists) (map masters_in (map items lists)) ≡ true
   masters_within = ap (λ n. are_within n (map masters_in (map items lists))) one_each ∙ ap (λ l. are_within (object_count c) (map masters_in l)) are ∙ has.mastered
 
+-- ---- names, in order
+
+services_known : (ds : Drafts) → is_faultless ds ≡ Ok tt → list_all (λ e. is_known (names_in_order ds.hosts) e.0.0) (services_in_order ds.services) ≡ true
+services_known ds e =
+    let agree : (λ (s : ServiceDraft). is_known (names_of ds.hosts) s.host) ≡ (λ s. is_known (names_in_order ds.hosts) s.host) = λ i s. known_in_order ds.hosts body_of (hosts_in_order ds.hosts) (hosts_all ds e) s.host i in
+    all_moved (λ x. is_known (names_in_order ds.hosts) x.0.0) (map (λ s. (key_of s, object_of s.check)) ds.services) (services_in_order ds.services) (services_all ds e)
+    (list_all-map (λ x. is_known (names_in_order ds.hosts) x.0.0) (λ (s : ServiceDraft). (key_of s, object_of s.check)) ds.services ∙ ap (λ f. list_all f ds.services) (sym agree) ∙ (faultless ds e).known)
+
+named_in_order : (ds : Drafts) → is_faultless ds ≡ Ok tt → list_all (λ x. is_name x.0) (hosts_in_order ds.hosts) ≡ true
+named_in_order ds e =
+    all_moved (λ x. is_name x.0) (map (λ h. (h.name, body_of h)) ds.hosts) (hosts_in_order ds.hosts) (hosts_all ds e) (list_all-map (λ x. is_name x.0) (λ (h : HostDraft). (h.name, body_of h)) ds.hosts ∙ (faultless ds e).named)
+
+described_in_order : (ds : Drafts) → is_faultless ds ≡ Ok tt → list_all (λ x. is_name x.0.1) (services_in_order ds.services) ≡ true
+described_in_order ds e =
+    all_moved (λ x. is_name x.0.1) (map (λ s. (key_of s, object_of s.check)) ds.services) (services_in_order ds.services) (services_all ds e)
+    (list_all-map (λ x. is_name x.0.1) (λ (s : ServiceDraft). (key_of s, object_of s.check)) ds.services ∙ (faultless ds e).described)
+
+parted_hosts : (ds : Drafts) → is_faultless ds ≡ Ok tt → list_all (λ h. is_host_name h.name) (configuration ds).hosts ≡ true
+parted_hosts ds e =
+    list_all-map (λ h. is_host_name h.name) (numbered_host (names_in_order ds.hosts)) (hosts_in_order ds.hosts)
+    ∙ all_weaker (λ x. is_name x.0) (λ x. is_host_name x.0) (λ x h. name_is_host_name x.0 h) (hosts_in_order ds.hosts) (named_in_order ds e)
+
+-- both ends of every dependency are of one sort
+same_sorts_of : (ds : Drafts) → is_faultless ds ≡ Ok tt → AllByRecursion (AreAlike (host_count (configuration ds))) (map (numbered_dependency (objects_of (numbered ds))) (all_dependencies ds))
+same_sorts_of ds e =
+    let c = configuration ds in
+    let f = faultless ds e in
+    let objects = objects_of (numbered ds) in
+    let n = host_count c in
+    let hs = hosts_in_order ds.hosts in
+    let ns = names_in_order ds.hosts in
+    let services = ends_alike objects (full_names ds.services) n false (λ name known.
+    let at = found (λ (s : ServiceDraft). bytes_eq name (full_name (key_of s))) ds.services (sym (list_any-map (bytes_eq name) (λ s. full_name (key_of s)) ds.services) ∙ known) in
+    service_end c name (key_of at.item) ((bytes_eq-Decides name (full_name (key_of at.item))).0 at.passes) (parted_hosts ds e) (full_name_in_order ds.services (λ s. object_of s.check) (services_in_order ds.services) (services_all ds e) ns name known))
+    ds.service_dependencies f.service_ends in
+    let hosts = ends_alike objects (names_of ds.hosts) n true (λ name known.
+    host_end c name (ap (λ l. is_known l name) (host_names_are ns hs) ∙ sym (known_in_order ds.hosts body_of hs (hosts_all ds e) name) ∙ known))
+    ds.host_dependencies f.host_ends in
+    subst (AllByRecursion (AreAlike n)) (sym (map-append (numbered_dependency objects) ds.service_dependencies ds.host_dependencies))
+    (both_hold (AreAlike n) (map (numbered_dependency objects) ds.service_dependencies) (map (numbered_dependency objects) ds.host_dependencies) services hosts)
+
+-- what tells the names of a document without a fault apart
+pub names_of_document : (ds : Drafts) → is_faultless ds ≡ Ok tt → HasNames (configuration ds)
+names_of_document ds e =
+    let c = configuration ds in
+    let hs = hosts_in_order ds.hosts in
+    let ns = names_in_order ds.hosts in
+    let some : 0 < length ds.hosts → 0 < length ns = λ x. omega (arith, x, hosts_counted ds e, length-map hs (λ h. h.0)) in
+    record {
+      host_names = list_all-map (λ x. is_name x.name) (numbered_host ns) hs ∙ named_in_order ds e;
+      full_names = All-from_recursion (λ x. x.name ≡ full_name (pair_of c x)) c.services (full_names_are c ns hs refl (services_in_order ds.services) (services_known ds e));
+      hosts_ascend = subst (IsStrictlySortedBy text_order) (sym (host_names_are ns hs)) (hosts_ascend ds e);
+      services_ascend = subst (IsStrictlySortedBy pair_order) (sym (pairs_are c ns hs refl (services_in_order ds.services) (services_known ds e))) (services_ascend ds e);
+      hosted = hosted_by ds.hosts ds.services (faultless ds e).known ns (length (map (numbered_host ns) hs)) (names_length hs) some;
+    }
+
 -- what a document without a fault gives is a setup
-pub configuration_is_setup : (ds : Drafts) → is_faultless ds ≡ Ok tt → has_cycle (masters_of (configuration ds)) ≡ false → IsSetup (configuration ds)
-configuration_is_setup ds e acyclic =
+pub configuration_is_setup : (ds : Drafts) → is_faultless ds ≡ Ok tt → has_cycle (masters_of (configuration ds)) ≡ false → has_cycle (parents_by_host (configuration ds)) ≡ false → IsSetup (configuration ds)
+configuration_is_setup ds e acyclic no_parent_cycle =
     let lists = has_lists ds e in
     let f = faultless ds e in
     let o = good_options_in_range ds.options ds.hosts ds.services f.ranged in
     let hs = hosts_in_order ds.hosts in
     let ns = names_in_order ds.hosts in
-    let h = placed_few text_order (λ h. h.name) body_of [] ds.hosts in
-    let s = placed_few pair_order key_of (λ s. object_of s.check) [] ds.services in
-    let some : 0 < length ds.hosts → 0 < length ns = λ x. let y = placed_some text_order (λ h. h.name) body_of [] ds.hosts (omega (arith, x)) in omega (arith, y, length-map hs (λ h. h.0)) in
+    let h = hosts_counted ds e in
+    let s = services_counted ds e in
+    let names = names_of_document ds e in
     record {
       few = omega (arith, f.few, h, s, length-map hs (numbered_host ns), length-map (services_in_order ds.services) (numbered_service ns));
+      few_parents = subst (λ n. n ≤ 16384) (sym (parents_counted ds.hosts (λ h. object_of h.check) hs ns (hosts_all ds e))) (at_most _ 16384 f.few_parents);
+      few_dependencies =
+          let all = map (numbered_dependency (objects_of (numbered ds))) (all_dependencies ds) in
+          omega (arith, f.few_dependencies, listed_few (length (objects_of (numbered ds))) all, length-map (all_dependencies ds) (numbered_dependency (objects_of (numbered ds))), length-append ds.service_dependencies ds.host_dependencies);
+      host_names = names.host_names;
+      descriptions = list_all-map (λ x. is_name x.description) (numbered_service ns) (services_in_order ds.services) ∙ described_in_order ds e;
+      full_names = names.full_names;
+      hosts_ascend = names.hosts_ascend;
+      services_ascend = names.services_ascend;
+      same_sorts = λ n below.
+          let c = configuration ds in
+          let all = map (numbered_dependency (objects_of (numbered ds))) (all_dependencies ds) in
+          subst (All (λ d. IsSameSort c d.master n)) (sym (list_of_object (length (objects_of (numbered ds))) n all below))
+          (All-from_recursion (λ d. IsSameSort c d.master n) (dependencies_among all n) (alike_among (host_count c) n all (same_sorts_of ds e)));
+      no_parent_cycle = no_parent_cycle;
       linked = linked_by hs;
-      hosted = hosted_by ds.hosts ds.services f.known ns (length (map (numbered_host ns) hs)) (names_length hs) some;
+      hosted = names.hosted;
       listed = lists.listed;
       mastered = lists.mastered;
       acyclic = acyclic;
@@ -442,7 +494,7 @@ configuration_is_setup ds e acyclic =
       host_delay = o.host_delay;
       host_spread = o.host_spread;
       concurrent_checks = o.concurrent_checks;
-      ranges = objects_in_range ds f.ranged;
+      ranges = objects_in_range ds e f.ranged;
     }
 
 -- the names of few hosts are few

@@ -1,6 +1,7 @@
 -- A setup as contracts see it: its options, its hosts and its services, in the order of their numbers.
-use Rattle.std.specs.Prelude.{◌≡◌, ℕ, ◌+◌, ◌-◌, ◌≤◌, ◌&&◌, Bool, true, nat_le, List, [], ◌∷◌, ◌++◌, length, map, position, bytes_eq, slice_get, slice_index_or, option_map, unwrap_or, nat_lt, Option, None, false, if◌then◌else◌}
+use Rattle.std.specs.Prelude.{◌≡◌, ℕ, ◌+◌, ◌-◌, ◌<◌, ◌≤◌, ◌&&◌, Bool, true, nat_le, List, [], ◌∷◌, ◌++◌, length, map, position, bytes_eq, slice_get, slice_index_or, sum_by, All, option_map, unwrap_or, nat_lt, Option, None, false, if◌then◌else◌}
 use Rattle.std.specs.List.{list_all}
+use Rattle.std.specs.List.Sorted.{IsStrictlySortedBy}
 use Rattle.check_objects.specs.declared.dependency.Dependency.{Dependency}
 use Rattle.check_objects.specs.declared.object.Object.{Object}
 use Rattle.check_objects.specs.declared.options.DelayMethod.{DelayMethod}
@@ -10,6 +11,7 @@ use Rattle.check_objects.specs.declared.options.InterleaveFactor.TheVariants as 
 use Rattle.check_objects.specs.declared.options.Options.{Options}
 use Rattle.check_objects.specs.Closing.{are_within}
 use Rattle.check_objects.specs.Depth.{has_cycle}
+use Rattle.check_objects.specs.Name.{is_name, text_order, pair_order}
 
 -- an object and its full name
 pub record Named : Type 0 where
@@ -25,6 +27,7 @@ pub record Host : Type 0 where
 pub record Service : Type 0 where
   -- its full name: the host's name, a semicolon and the description
   pub name : List ℕ
+  pub description : List ℕ
   pub object : Object
   -- the number of its host
   pub host : ℕ
@@ -96,6 +99,18 @@ masters_of c = map masters_in c.dependencies
 abbrev pub is_object_in_range : Object → Bool
 is_object_in_range o = nat_le o.check_interval 525600 && nat_le o.retry_interval 525600 && nat_le 1 o.max_check_attempts && nat_le o.max_check_attempts 255
 
+-- the parents of each host, by number
+abbrev pub parents_by_host : Configuration → List (List ℕ)
+parents_by_host c = map (λ h. h.parents) c.hosts
+
+-- what a service is known by: the name of its host, and its description
+abbrev pub pair_of : Configuration → Service → List ℕ × List ℕ
+pair_of c s = (name_of c s.host, s.description)
+
+-- the two numbers are both of hosts, or both of services
+abbrev pub IsSameSort : Configuration → ℕ → ℕ → Type 0
+IsSameSort c m n = nat_lt m (host_count c) ≡ nat_lt n (host_count c)
+
 -- the number is within these limits
 abbrev pub IsWithin : ℕ → ℕ → ℕ → Type 0
 IsWithin low high n = (low ≤ n) × (n ≤ high)
@@ -110,17 +125,27 @@ abbrev pub IsFactorInRange : InterleaveFactor → Type 0
 IsFactorInRange factor.Smart = Unit {0}
 IsFactorInRange (factor.Fixed n) = IsWithin 1 4096 n
 
--- What is true of every setup: it has at most 4,096 objects, its parents and its services' hosts are hosts, its
--- dependencies are on its objects and none of them is on itself through one or more, and its numbers are within their
--- limits.
+-- What is true of every setup: it has at most 4,096 objects, 16,384 parents and 16,384 dependencies. Its hosts have names
+-- and its services descriptions, and both ascend, so that no two objects have the same full name. Its parents and its
+-- services' hosts are hosts, its dependencies are between objects of one sort, no object depends on itself and no host is
+-- its own parent, through one link or more, and its numbers are within their limits.
 pub record IsSetup (c : Configuration) : Type 0 where
   pub few : length c.hosts + length c.services ≤ 4096
+  pub few_parents : sum_by (λ h. length h.parents) c.hosts ≤ 16384
+  pub few_dependencies : sum_by (λ ds. length ds) c.dependencies ≤ 16384
+  pub host_names : list_all (λ h. is_name h.name) c.hosts ≡ true
+  pub descriptions : list_all (λ s. is_name s.description) c.services ≡ true
+  pub full_names : All (λ s. s.name ≡ full_name (pair_of c s)) c.services
+  pub hosts_ascend : IsStrictlySortedBy text_order (map (λ h. h.name) c.hosts)
+  pub services_ascend : IsStrictlySortedBy pair_order (map (pair_of c) c.services)
   pub linked : list_all (λ h. list_all (λ p. nat_lt p (length c.hosts)) h.parents) c.hosts ≡ true
   pub hosted : list_all (λ s. nat_lt s.host (length c.hosts)) c.services ≡ true
   -- one list of dependencies for each object
   pub listed : length c.dependencies ≡ object_count c
   pub mastered : are_within (object_count c) (masters_of c) ≡ true
+  pub same_sorts : (n : ℕ) → n < object_count c → All (λ d. IsSameSort c d.master n) (dependencies_of c n)
   pub acyclic : has_cycle (masters_of c) ≡ false
+  pub no_parent_cycle : has_cycle (parents_by_host c) ≡ false
   pub interval_length : c.options.interval_length ≤ 86400
   pub some_interval_length : 1 ≤ c.options.interval_length
   pub service_delay : IsDelayInRange c.options.service_inter_check_delay_method

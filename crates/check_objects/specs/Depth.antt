@@ -22,6 +22,19 @@ any_below p (suc n) = any_below p n || p n
 unfoldable pub has_cycle : List (List ℕ) → Bool
 has_cycle links = any_below (λ object. deep links object (length links)) (length links)
 
+-- so many links lead from the one object to the other
+abbrev pub leads : List (List ℕ) → ℕ → ℕ → ℕ → Bool
+leads links zero object other = object == other
+leads links (suc k) object other = list_any (λ link. leads links k link other) (links_of links object)
+
+-- the object is reached from itself by one link or more
+abbrev pub LeadsBack : List (List ℕ) → ℕ → Type 0
+LeadsBack links object = (k : ℕ) × (leads links (suc k) object object ≡ true)
+
+-- some object is reached from itself by one link or more
+abbrev pub IsCyclic : List (List ℕ) → Type 0
+IsCyclic links = (object : ℕ) × (object < length links) × LeadsBack links object
+
 -- whether the object is among these
 abbrev pub is_among : List ℕ → ℕ → Bool
 is_among objects object = list_any (λ other. other == object) objects

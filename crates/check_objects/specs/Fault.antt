@@ -1,6 +1,6 @@
 -- The tests after the shape, each over the whole document, in the order in which they are made.
-use Rattle.std.specs.Prelude.{ℕ, ◌+◌, ◌&&◌, ◌||◌, ◌==◌, Bool, true, not, List, [], ◌∷◌, ◌++◌, length, map, sum_by, position, Option, Some, None, Result, Ok, Err, bytes_eq, nat_lt, nat_le, if◌then◌else◌}
-use Rattle.std.specs.List.{list_any, list_all}
+use Rattle.std.specs.Prelude.{ℕ, ◌+◌, ◌&&◌, ◌||◌, Bool, true, not, List, length, map, sum_by, position, Option, Result, Ok, Err, bytes_eq, nat_lt, nat_le, if◌then◌else◌, false, take, slice_get, option_map, unwrap_or}
+use Rattle.std.specs.List.{list_any, list_all, range_with_len}
 use Rattle.check_objects.specs.declared.draft.CheckDraft.{CheckDraft}
 use Rattle.check_objects.specs.declared.error.LoadError.{LoadError}
 use Rattle.check_objects.specs.declared.error.LoadError.TheVariants as errors
@@ -13,6 +13,7 @@ use Rattle.check_objects.specs.LoadError.{◌>>=◌, refused_at}
 use Rattle.check_objects.specs.declared.place.Part.{Part}
 use Rattle.check_objects.specs.declared.place.Part.TheVariants as part
 use Rattle.check_objects.specs.Configuration.{full_name}
+use Rattle.check_objects.specs.Name.{is_name}
 use Rattle.check_objects.specs.Place.{the_options, host_at, service_at, item_of_part}
 use Rattle.check_objects.specs.Draft.{HostDraft, ServiceDraft, DependencyDraft, Drafts}
 
@@ -35,14 +36,6 @@ few_items drafts = few_objects drafts.hosts drafts.services >>= λ _. few_depend
 
 -- ---- names
 
--- no control byte, and no semicolon, which parts a host's name from a description
-abbrev pub is_name_byte : ℕ → Bool
-is_name_byte b = nat_le 32 b && not (b == 127) && not (b == 59)
-
--- 1 to 255 bytes, each of which a name may have
-abbrev pub is_name : List ℕ → Bool
-is_name name = nat_le 1 (length name) && nat_le (length name) 255 && list_all is_name_byte name
-
 -- every host has a name that is one; else the first that hasn't
 abbrev pub good_host_names : List HostDraft → Result (Unit {0}) LoadError
 good_host_names hosts = refused_at (λ i. errors.BadName (host_at i)) (position (λ h. not (is_name h.name)) hosts)
@@ -56,14 +49,13 @@ good_names hosts services = good_host_names hosts >>= λ _. good_descriptions se
 
 -- ---- repeats
 
--- the first key, counted from i on, that is the same as one before it
-abbrev pub repeat_after : {K : Type 0} → (K → K → Bool) → List K → ℕ → List K → Option ℕ
-repeat_after same before i [] = None
-repeat_after same before i (key ∷ keys) = if list_any (same key) before then Some i else repeat_after same (before ++ key ∷ []) (i + 1) keys
+-- whether the key at this place stands before it too
+abbrev pub stands_before : {K : Type 0} → (K → K → Bool) → List K → ℕ → Bool
+stands_before same keys i = unwrap_or (option_map (λ key. list_any (same key) (take i keys)) (slice_get keys i)) false
 
--- the first key that is the same as an earlier one
+-- the least place whose key stands before it
 abbrev pub first_repeat : {K : Type 0} → (K → K → Bool) → List K → Option ℕ
-first_repeat same keys = repeat_after same [] 0 keys
+first_repeat same keys = position (stands_before same keys) (range_with_len 0 (length keys))
 
 abbrev pub names_of : List HostDraft → List (List ℕ)
 names_of hosts = map (λ h. h.name) hosts

@@ -1,5 +1,6 @@
 pub mod Place
 pub mod LoadError
+pub mod Name
 pub mod Configuration
 pub mod Tree
 pub mod Text
@@ -7,6 +8,7 @@ pub mod Criteria
 pub mod Draft
 pub mod Fault
 pub mod Numbering
+pub mod Links
 pub mod Depth
 pub mod Closing
 pub mod Setup

@@ -1,35 +1,29 @@
 -- The numbers of objects: hosts in the order of their names' bytes, then services in the order of their hosts' names and then of their descriptions.
-use Rattle.std.specs.Prelude.{ℕ, ◌==◌, Bool, not, List, [], ◌∷◌, ◌++◌, map, position, bytes_eq, unwrap_or, length}
-use Rattle.std.specs.List.{list_all, filter, range_with_len}
+use Rattle.std.specs.Prelude.{ℕ, ◌==◌, Bool, not, List, [], ◌++◌, map, position, bytes_eq, unwrap_or, length}
+use Rattle.std.specs.List.{list_all, count_by, filter, flat_map, range_with_len}
 use Rattle.std.specs.declared.cmp.Ordering.{Ordering}
-use Rattle.std.specs.BTreeMap.{insert_entry}
-use Rattle.std.specs.Ordering.{nat_cmp, ordering_then}
-use Rattle.std.specs.Cmp.Lexicographic.{slice_cmp}
+use Rattle.std.specs.Ordering.{is_lt}
 use Rattle.check_objects.specs.declared.dependency.Dependency.{Dependency}
 use Rattle.check_objects.specs.declared.draft.CheckDraft.{CheckDraft}
 use Rattle.check_objects.specs.declared.object.Object.{Object}
 use Rattle.check_objects.specs.Configuration.{Named, Host, Service, Configuration, objects_of, number_among, full_name}
 use Rattle.check_objects.specs.Draft.{HostDraft, ServiceDraft, DependencyDraft, Drafts}
 use Rattle.check_objects.specs.Fault.{key_of}
+use Rattle.check_objects.specs.Name.{text_order, pair_order}
 
 -- ---- the order
 
--- texts by their bytes
-abbrev pub text_order : List ℕ → List ℕ → Ordering
-text_order a b = slice_cmp nat_cmp a b
+-- how many of these keys are smaller
+abbrev pub smaller_among : {K : Type 0} → (K → K → Ordering) → List K → K → ℕ
+smaller_among order keys key = count_by (λ k. is_lt (order k key)) keys
 
--- pairs of texts by the first, and by the second where the first are equal
-abbrev pub pair_order : List ℕ × List ℕ → List ℕ × List ℕ → Ordering
-pair_order p q = ordering_then (text_order p.0 q.0) (text_order p.1 q.1)
+-- the items with this place, each its value behind its key: so many keys are smaller
+abbrev pub at_place : {K V A : Type 0} → (K → K → Ordering) → (A → K) → (A → V) → List A → ℕ → List (K × V)
+at_place order key value xs n = map (λ x. (key x, value x)) (filter (λ x. smaller_among order (map key xs) (key x) == n) xs)
 
--- the items one after another, the value of each put behind its key, in its place among those before it
-abbrev pub placed : {K V A : Type 0} → (K → K → Ordering) → (A → K) → (A → V) → List (K × V) → List A → List (K × V)
-placed order key value done [] = done
-placed order key value done (x ∷ xs) = placed order key value (insert_entry order done (key x) (value x)) xs
-
--- The values of items in the order of their keys, each behind its key. `numbers_follow_names` says what that is worth: all of them, ascending.
+-- The items by their places. `numbers_follow_names` says what that is worth: all of them, ascending where no two keys are equal.
 abbrev pub in_order : {K V A : Type 0} → (K → K → Ordering) → (A → K) → (A → V) → List A → List (K × V)
-in_order order key value xs = placed order key value [] xs
+in_order order key value xs = flat_map (at_place order key value xs) (range_with_len 0 (length xs))
 
 abbrev pub object_of : CheckDraft → Object
 object_of c = record { check_interval = c.check_interval; retry_interval = c.retry_interval; max_check_attempts = c.max_check_attempts; enabled = c.enabled }
@@ -62,7 +56,7 @@ is_host_name name = list_all (λ b. not (b == 59)) name
 
 -- a service, its host by number
 abbrev pub numbered_service : List (List ℕ) → (List ℕ × List ℕ) × Object → Service
-numbered_service names s = record { name = full_name s.0; object = s.1; host = number_in names s.0.0 }
+numbered_service names s = record { name = full_name s.0; description = s.0.1; object = s.1; host = number_in names s.0.0 }
 
 -- the names of hosts in order
 abbrev pub names_in_order : List HostDraft → List (List ℕ)

@@ -3,7 +3,7 @@ use Rattle.std.specs.Prelude.{ℕ, List, length, map, Result, Ok, Err, ok_or, na
 use Rattle.serde_json.specs.Data.{Data}
 use Rattle.check_objects.specs.declared.error.LoadError.{LoadError}
 use Rattle.check_objects.specs.declared.error.LoadError.TheVariants as errors
-use Rattle.check_objects.specs.Configuration.{Configuration, masters_of}
+use Rattle.check_objects.specs.Configuration.{Configuration, Host, masters_of, parents_by_host}
 use Rattle.check_objects.specs.Depth.{has_cycle}
 use Rattle.check_objects.specs.LoadError.{◌>>=◌}
 use Rattle.check_objects.specs.Tree.{tree_of}
@@ -15,13 +15,21 @@ use Rattle.check_objects.specs.Numbering.{configuration}
 abbrev pub without_dependency_cycle : Configuration → Result Configuration LoadError
 without_dependency_cycle c = if has_cycle (masters_of c) then Err errors.DependencyCycle else Ok c
 
+-- no host is its own parent through one parent or more
+abbrev pub no_parent_cycle : List Host → Result (Unit {0}) LoadError
+no_parent_cycle hosts = if has_cycle (map (λ h. h.parents) hosts) then Err errors.ParentCycle else Ok tt
+
 -- the setup, unless some host is its own parent through one parent or more
 abbrev pub without_parent_cycle : Configuration → Result Configuration LoadError
-without_parent_cycle c = if has_cycle (map (λ h. h.parents) c.hosts) then Err errors.ParentCycle else Ok c
+without_parent_cycle c = if has_cycle (parents_by_host c) then Err errors.ParentCycle else Ok c
+
+-- The setup, unless it has a cycle. One of dependencies is told before one of parents.
+abbrev pub without_cycles : Configuration → Result Configuration LoadError
+without_cycles c = without_dependency_cycle c >>= without_parent_cycle
 
 -- the setup of a tree
 unfoldable pub setup_of_tree : Data → Result Configuration LoadError
-setup_of_tree d = drafts_of d >>= λ drafts. (is_faultless drafts >>= λ _. (without_dependency_cycle (configuration drafts) >>= without_parent_cycle))
+setup_of_tree d = drafts_of d >>= λ drafts. (is_faultless drafts >>= λ _. without_cycles (configuration drafts))
 
 -- the setup of a document's bytes
 unfoldable pub setup_of : List ℕ → Result Configuration LoadError

@@ -3,7 +3,8 @@
 ghost use Rattle.std.specs.Prelude.{◌≡◌, ◌≤◌, ◌+◌, ◌&&◌, ℕ, List, string_bytes, IfOk, IsOkUnless, map, length, not, position, IfNone, OnOk, IsTrue, All};
 ghost use Rattle.std.specs.List.{list_all};
 ghost use Rattle.check_objects.specs.LoadError.{Gives};
-ghost use Rattle.check_objects.specs.Fault.{few_objects, has_few_parents, good_names, good_host_names, good_descriptions, host_names, no_repeated_services, known_parents, known_hosts, full_names, known_ends, known_links, few_dependencies, few_items, good_ranges, good_options, good_host_ranges, good_service_ranges, is_faultless, is_name_byte, is_name, is_known, is_in_range, is_within, is_delay_in_range, is_factor_in_range, are_options_in_range};
+ghost use Rattle.check_objects.specs.Fault.{few_objects, has_few_parents, good_names, good_host_names, good_descriptions, host_names, no_repeated_services, known_parents, known_hosts, full_names, known_ends, known_links, few_dependencies, few_items, good_ranges, good_options, good_host_ranges, good_service_ranges, is_faultless, is_known, is_in_range, is_within, is_delay_in_range, is_factor_in_range, are_options_in_range};
+ghost use Rattle.check_objects.specs.Name.{is_name_byte, is_name};
 ghost use Rattle.check_objects.specs.Drafted.{host, service, dependency, drafts, texts, HasFewAttempts};
 ghost use Rattle.check_objects.specs.Text.{text};
 

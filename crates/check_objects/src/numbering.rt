@@ -1,10 +1,11 @@
 //! The numbers of objects: hosts in the order of their names' bytes, then services in the order of
 //! their hosts' names and then of their descriptions; and the links between them by number.
-ghost use Rattle.std.specs.Prelude.{◌≡◌, ◌≤◌, ◌<◌, length, map, bytes_eq, IfOk, OnOk, IsOkUnless, All, true, false, [], ◌∷◌, ◌++◌, bytes_eq, string_bytes};
+ghost use Rattle.std.specs.Prelude.{◌≡◌, ◌≤◌, ◌<◌, length, map, bytes_eq, IfOk, OnOk, IsOkUnless, All, None, true, false, [], ◌∷◌, ◌++◌, bytes_eq, string_bytes};
 ghost use Rattle.std.specs.BTreeMap.{btree_map_len};
 ghost use Rattle.std.specs.List.{list_all, list_any};
 ghost use Rattle.check_objects.specs.Numbering.{hosts_in_order, services_in_order, number_in, numbered_host, numbered_service, object_of, is_host_name};
 ghost use Rattle.check_objects.specs.Configuration.{full_name, number_among};
+ghost use Rattle.check_objects.specs.Fault.{first_repeat, names_of, key_of, same_key};
 ghost use Rattle.check_objects.specs.Drafted.{host, service, texts, HasFewAttempts};
 ghost use Rattle.check_objects.specs.Entries.{objects_in, host_entry, service_entry, sorted_host, sorted_service};
 ghost use Rattle.check_objects.specs.Text.{text};
@@ -36,12 +37,14 @@ pub(crate) struct Service {
     pub(crate) host: u32,
 }
 
-/// The hosts in the order of their names' bytes: of each the object, and its parents' names.
+/// The hosts, whose names are distinct, in the order of their names' bytes: of each the object, and
+/// its parents' names.
 pub(crate) fn sort_hosts<'v>(
     alloc: Global,
     drafts: &[HostDraft<'v>],
 ) -> Result<BTreeMap<&'v str, (Object, &'v [Value])>, LoadError>
-    requires { All (λ h. HasFewAttempts h.check) drafts.now }
+    requires attempts { All (λ h. HasFewAttempts h.check) drafts.now }
+    requires distinct { first_repeat bytes_eq (names_of (map host drafts.now)) ≡ None }
     ensures order { IfOk result (λ m.
         map sorted_host m.entries ≡ hosts_in_order (map host drafts.now)) }
     ensures few { IfOk result (λ m. btree_map_len m ≤ length drafts.now) }
@@ -54,12 +57,14 @@ pub(crate) fn sort_hosts<'v>(
     Ok(sorted)
 }
 
-/// The services in the order of their hosts' names and then of their descriptions.
+/// The services, no two of which have both the same host and the same description, in the order of
+/// their hosts' names and then of their descriptions.
 pub(crate) fn sort_services<'v>(
     alloc: Global,
     drafts: &[ServiceDraft<'v>],
 ) -> Result<BTreeMap<(&'v str, &'v str), Object>, LoadError>
-    requires { All (λ s. HasFewAttempts s.check) drafts.now }
+    requires attempts { All (λ s. HasFewAttempts s.check) drafts.now }
+    requires distinct { first_repeat same_key (map key_of (map service drafts.now)) ≡ None }
     ensures order { IfOk result (λ m.
         map sorted_service m.entries ≡ services_in_order (map service drafts.now)) }
     ensures few { IfOk result (λ m. btree_map_len m ≤ length drafts.now) }

@@ -1,9 +1,10 @@
 //! The setup: the objects that are checked, with their names and numbers, and their links.
-ghost use Rattle.std.specs.Prelude.{◌≡◌, ◌<◌, ◌≤◌, length, map, Ok, option_map, slice_get, Some, IfSome, IfOk, IsOkUnless, Err, ◌==◌, All};
+ghost use Rattle.std.specs.Prelude.{◌≡◌, ◌<◌, ◌≤◌, length, map, Ok, option_map, slice_get, Some, IfSome, IfOk, IsOkUnless, Err, ◌==◌, All, nat_lt, true};
+ghost use Rattle.std.specs.List.{list_all};
 ghost use Rattle.check_objects.specs.Configuration.{object_count, host_count, objects_of, number_of, name_of, host_of, parents_of, dependencies_of, masters_of, IsSetup};
 ghost use Rattle.check_objects.specs.Depth.{IsOrder};
 ghost use Rattle.check_objects.specs.Numbering.{configuration};
-ghost use Rattle.check_objects.specs.Setup.{setup_of, without_dependency_cycle, without_parent_cycle};
+ghost use Rattle.check_objects.specs.Setup.{setup_of, without_cycles, no_parent_cycle};
 ghost use Rattle.check_objects.specs.Fault.{is_faultless};
 ghost use Rattle.check_objects.specs.Drafted.{HasFewAttempts};
 ghost use Rattle.check_objects.specs.Entries.{host_entry};
@@ -72,18 +73,17 @@ impl Setup {
         let tree = read_tree(alloc, bytes)?;
         let drafts = Drafts::read(alloc, &tree)?;
         drafts.test(alloc)?;
-        let setup = Setup::of_drafts(alloc, &drafts)?;
-        setup.without_parent_cycle(alloc)
+        Setup::of_drafts(alloc, &drafts)
     }
 
     /// The setup of drafts without a fault, unless some object depends on itself through one
-    /// dependency or more.
+    /// dependency or more, or some host is its own parent through one parent or more.
     fn of_drafts(alloc: Global, document: &Drafts<'_>) -> Result<Setup, LoadError>
         requires faultless { is_faultless (drafts document.now) ≡ Ok tt }
         requires hosts { All (λ h. HasFewAttempts h.check) document.now.hosts.items }
         requires services { All (λ s. HasFewAttempts s.check) document.now.services.items }
         ensures { Gives (λ s. s) result
-            (without_dependency_cycle (configuration (drafts document.now))) }
+            (without_cycles (configuration (drafts document.now))) }
     {
         let hosts = sort_hosts(alloc, &document.hosts)?;
         let services = sort_services(alloc, &document.services)?;
@@ -92,31 +92,24 @@ impl Setup {
         let services = index_services(alloc, services, &names)?;
         let dependencies = list_dependencies(alloc, document, &hosts, &services)?;
         match order_by_masters(alloc, &dependencies)? {
-            Some(order) => Ok(Setup {
-                options: document.options,
-                hosts,
-                services,
-                dependencies,
-                order,
-            }),
+            Some(order) => {
+                test_parent_cycle(alloc, &hosts)?;
+                Ok(Setup {
+                    options: document.options,
+                    hosts,
+                    services,
+                    dependencies,
+                    order,
+                })
+            }
             None => Err(LoadError::DependencyCycle),
         }
     }
 
-    /// The setup, unless some host is its own parent through one parent or more.
-    fn without_parent_cycle(self, alloc: Global) -> Result<Setup, LoadError>
-        ensures { Gives (λ s. s) result (without_parent_cycle self) }
-    {
-        let links = parent_links(alloc, &self.hosts)?;
-        match order_by_links(alloc, &links)? {
-            Some(_) => Ok(self),
-            None => Err(LoadError::ParentCycle),
-        }
-    }
-
     /// How many objects there are, 0 to 4,096. A caller learns here besides what is true of every
-    /// setup: its parents and its services' hosts are hosts, its dependencies are on its objects and
-    /// none of them leads back to its dependent, and its numbers are within their limits.
+    /// setup: its names are good and ascend, its parents and its services' hosts are hosts, its
+    /// dependencies are between objects of one sort, neither they nor the parents lead back to where
+    /// they began, and its counts and numbers are within their limits.
     pub fn len(&self) -> usize
         ensures count { result ≡ object_count self.now }
         ensures few { result ≤ 4096 }
@@ -228,6 +221,20 @@ impl Setup {
         ensures { IsOrder (masters_of self.now) result.now }
     {
         &self.order
+    }
+}
+
+/// Whether no host is its own parent, through one parent or more.
+fn test_parent_cycle(alloc: Global, hosts: &IndexMap<String, Host>) -> Result<(), LoadError>
+    requires few { length hosts.now.entries ≤ 4096 }
+    requires linked { list_all (λ h. list_all (λ p. nat_lt p (length hosts.now.entries)) h.parents)
+        (map host_entry hosts.now.entries) ≡ true }
+    ensures { Gives (λ u. u) result (no_parent_cycle (map host_entry hosts.now.entries)) }
+{
+    let links = parent_links(alloc, hosts)?;
+    match order_by_links(alloc, &links)? {
+        Some(_) => Ok(()),
+        None => Err(LoadError::ParentCycle),
     }
 }
 

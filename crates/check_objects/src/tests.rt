@@ -745,10 +745,77 @@ fn counts_objects_and_bytes(rt: HostRuntime) -> Result<(), Fail> {
     Ok(())
 }
 
-/// The laws have no code; a call of one shows that there is something to call.
+/// An empty document, and spaces up to this many bytes.
+fn padded(alloc: Global, length: usize) -> Result<Vec<u8>, AllocError> {
+    let mut bytes = Vec::with_capacity(alloc, length)?;
+    bytes.extend_from_slice(b"{}")?;
+    bytes.resize(length, b' ')?;
+    Ok(bytes)
+}
+
+#[test]
+fn reads_long_documents(rt: HostRuntime) -> Result<(), Fail> {
+    for length in [2, 1_000_001, 16_777_216] {
+        let document = padded(rt.alloc(), length)?;
+        match Setup::read(rt.alloc(), document.as_slice()) {
+            Ok(setup) => assert!(rt; setup.is_empty(), "{length}"),
+            Err(_) => panic!(rt; "the document of {length} bytes was refused"),
+        }
+    }
+    Ok(())
+}
+
+/// As many hosts as there may be, with long names: more than a million bytes that say something.
+#[test]
+fn reads_many_long_names(rt: HostRuntime) -> Result<(), Fail> {
+    let alloc = rt.alloc();
+    let mut list = String::from_str(alloc, "[")?;
+    let mut prefix = String::new(alloc);
+    for _letter in 0..240 {
+        prefix.push_str("h")?;
+    }
+    for number in 0..4096 {
+        if number > 0 {
+            list.push_str(",")?;
+        }
+        let host = format!(in alloc; "{{\"name\":\"{prefix}{number}\",\"max_check_attempts\":3}}")?;
+        list.push_str(host.as_str())?;
+    }
+    list.push_str("]")?;
+    let document = with_hosts(alloc, list.as_str())?;
+    assert!(rt; document.len() > 1_000_000);
+    prefix.push_str("4095")?;
+    match Setup::read(alloc, document.as_bytes()) {
+        Ok(setup) => {
+            assert_eq!(rt; setup.len(), 4096);
+            assert!(rt; setup.number(prefix.as_str()).is_some());
+        }
+        Err(_) => panic!(rt; "the document was refused"),
+    }
+    Ok(())
+}
+
+#[test]
+fn tells_a_cycle_of_dependencies_before_one_of_parents(rt: HostRuntime) -> Result<(), Fail> {
+    let parents =
+        r#"{"hosts":[{"name":"a","parents":["b"],"max_check_attempts":3},{"name":"b","parents":["a"],"max_check_attempts":3}]"#;
+    let both = format!(in rt.alloc();
+        "{parents},\"host_dependencies\":[{{\"dependent\":\"a\",\"master\":\"a\",\"criteria\":\"d\"}}]}}"
+    )?;
+    refuses(&rt, rt.alloc(), both.as_str(), LoadError::DependencyCycle);
+    let one = format!(in rt.alloc(); "{parents}}}")?;
+    refuses(&rt, rt.alloc(), one.as_str(), LoadError::ParentCycle);
+    Ok(())
+}
+
+/// The laws have no code; a call of each shows that there is something to call.
 #[test]
 fn laws_are_there() {
     crate::laws::numbers_follow_names();
+    crate::laws::numbers_are_counts();
+    crate::laws::names_lead_back();
+    crate::laws::cycles_lead_back();
+    crate::laws::links_are_kept();
 }
 
 /// With an allocation refused, the answer is want of memory or the ample one.

@@ -1,4 +1,4 @@
-use Rattle.std.proofs.Common.{sym, ap, ◌∙◌, Ok, Err, map, bytes_eq, refl}
+use Rattle.std.proofs.Common.{sym, ap, ◌∙◌, Ok, Err, map, bytes_eq, refl, rules}
 use Rattle.std.specs.List.{list_any}
 use Rattle.check_objects.specs.declared.error.LoadError.TheVariants as errors
 use Rattle.check_objects.specs.Fault.{names_of}
@@ -6,7 +6,11 @@ use Rattle.check_objects.specs.Drafted.{host}
 use Rattle.check_objects.specs.LoadError.{◌>>=◌, refused_at}
 use Rattle.check_objects.specs.Place.{host_at}
 use Rattle.check_objects.proofs.FaultLemmas.{dropped_as, repeat_here, repeat_later, keys_later, was_known, was_new, one_key_more}
+use Rattle.check_objects.proofs.RepeatLemmas.{first_repeat_is}
 use Rattle.check_objects.proofs.fault.distinct_names.Goals as goal
+
+pub loop-index-init : goal.loop-index-init
+loop-index-init c = record { repeat = first_repeat_is bytes_eq (names_of (map host c.args.hosts.now)) ∙ search rules; names = search rules }
 
 pub returns-then-not-branch : goal.returns-then-not-branch
 returns-then-not-branch c =

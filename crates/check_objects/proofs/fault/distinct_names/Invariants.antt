@@ -1,7 +1,8 @@
 use Rattle.std.proofs.Common.{◌≡◌, ◌++◌, map, drop, bytes_eq}
-use Rattle.check_objects.specs.Fault.{first_repeat, repeat_after, names_of}
+use Rattle.check_objects.specs.Fault.{first_repeat, names_of}
 use Rattle.check_objects.specs.Drafted.{host, texts}
 use Rattle.check_objects.proofs.fault.distinct_names.Given as goal
+use Rattle.check_objects.proofs.Placed.{repeat_after}
 
 abbrev pub invariant-loop-index : goal.invariant-loop-index
 invariant-loop-index l = record {

@@ -1,5 +1,5 @@
 use Rattle.std.proofs.Common.{sym, ap, ◌∙◌, not, Err}
-use Rattle.check_objects.specs.Fault.{is_name}
+use Rattle.check_objects.specs.Name.{is_name}
 use Rattle.check_objects.specs.declared.error.LoadError.TheVariants as errors
 use Rattle.check_objects.specs.Place.{host_at}
 use Rattle.check_objects.specs.Drafted.{host}

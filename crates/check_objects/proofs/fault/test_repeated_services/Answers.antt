@@ -1,4 +1,4 @@
-use Rattle.std.proofs.Common.{sym, ap, ◌∙◌, Err, get_or, map, bytes_eq, ◌&&◌, refl}
+use Rattle.std.proofs.Common.{sym, ap, ◌∙◌, Err, get_or, map, bytes_eq, ◌&&◌, refl, rules}
 use Rattle.std.specs.List.{list_any}
 use Rattle.check_objects.specs.declared.error.LoadError.TheVariants as errors
 use Rattle.check_objects.specs.Fault.{key_of, same_key}
@@ -6,7 +6,11 @@ use Rattle.check_objects.specs.Drafted.{service}
 use Rattle.check_objects.specs.LoadError.{refused_at}
 use Rattle.check_objects.specs.Place.{service_at}
 use Rattle.check_objects.proofs.FaultLemmas.{no_service, dropped_at, repeat_here, repeat_later, was_known, was_new, one_key_more}
+use Rattle.check_objects.proofs.RepeatLemmas.{first_repeat_is}
 use Rattle.check_objects.proofs.fault.test_repeated_services.Goals as goal
+
+pub loop-index-init : goal.loop-index-init
+loop-index-init c = first_repeat_is same_key (map key_of (map service c.args.services.now)) ∙ search rules
 
 pub returns-then-not-branch : goal.returns-then-not-branch
 returns-then-not-branch c =

@@ -1,7 +1,8 @@
 use Rattle.std.proofs.Common.{◌≡◌, map, drop}
-use Rattle.check_objects.specs.Fault.{first_repeat, repeat_after, key_of, same_key}
+use Rattle.check_objects.specs.Fault.{first_repeat, key_of, same_key}
 use Rattle.check_objects.specs.Drafted.{service}
 use Rattle.check_objects.proofs.fault.test_repeated_services.Given as goal
+use Rattle.check_objects.proofs.Placed.{repeat_after}
 
 abbrev pub invariant-loop-index : goal.invariant-loop-index
 invariant-loop-index l =

@@ -2,7 +2,8 @@ use Rattle.std.proofs.Common.{sym, ap, ◌∙◌, bytes_eq, string_bytes, refl, 
 use Rattle.std.specs.List.{list_any}
 use Rattle.check_objects.specs.Drafted.{texts}
 use Rattle.check_objects.specs.Entries.{host_entry, sorted_host}
-use Rattle.check_objects.specs.Numbering.{numbered_host, text_order}
+use Rattle.check_objects.specs.Numbering.{numbered_host}
+use Rattle.check_objects.specs.Name.{text_order}
 use Rattle.check_objects.proofs.ListLemmas.{list_any-map}
 use Rattle.check_objects.proofs.NumberingLemmas.{built_seen, built_all, new_among, map_twice, all_good, texts_apart}
 use Rattle.check_objects.proofs.numbering.index_hosts.Goals as goal

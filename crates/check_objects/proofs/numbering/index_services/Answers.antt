@@ -1,11 +1,12 @@
 use Rattle.std.proofs.Common.{sym, ap, ◌∙◌, bytes_eq, string_bytes, refl}
 use Rattle.std.specs.List.{list_any}
 use Rattle.check_objects.specs.Drafted.{texts}
-use Rattle.check_objects.specs.Entries.{service_entry, sorted_service}
+use Rattle.check_objects.specs.Entries.{service_entry, sorted_service, description_in}
 use Rattle.check_objects.specs.Configuration.{full_name}
-use Rattle.check_objects.specs.Numbering.{numbered_service, pair_order, is_host_name}
+use Rattle.check_objects.specs.Numbering.{numbered_service, is_host_name}
+use Rattle.check_objects.specs.Name.{pair_order}
 use Rattle.check_objects.proofs.ListLemmas.{list_any-map}
-use Rattle.check_objects.proofs.NumberingLemmas.{built_seen, built_all, new_among, map_twice, names_apart}
+use Rattle.check_objects.proofs.NumberingLemmas.{built_seen, built_all, new_among, map_twice, names_apart, good_next, description_behind}
 use Rattle.check_objects.proofs.numbering.index_services.Goals as goal
 
 pub append-requires : goal.append-requires
@@ -16,8 +17,10 @@ append-requires c =
 
 pub loop-host-preserved : goal.loop-host-preserved
 loop-host-preserved c =
+    let parted = good_next _ (λ x. is_host_name x.0.0.now) c.args.sorted.entries c.loop-host.host-iterator c.next.new.self _ ((c.in-Some.host, c.in-Some.description), c.in-Some.object) c.loop-host.invariant c.in-Some.ensures.steps c.requires.parted in
+    let description = ap description_in c.in_ok-name.ensures.name ∙ description_behind c.in-Some.host.now c.in-Some.description.now parted in
     built_seen (λ x. numbered_service (texts c.args.names.now.keys) (sorted_service x)) service_entry c.args.sorted.entries c.loop-host.host-iterator c.next.new.self c.loop-host.services.entries c.append.new.map.entries (c.in_ok-name.name, record { object = c.in-Some.object; host = c.number_of-host.result }) ((c.in-Some.host, c.in-Some.description), c.in-Some.object) c.loop-host.invariant c.in-Some.ensures.steps c.in_ok-append.ensures.last
-    (λ i. record { name = c.in_ok-name.ensures.name i; object = c.in-Some.object; host = c.number_of-host.ensures i })
+    (λ i. record { name = c.in_ok-name.ensures.name i; description = description i; object = c.in-Some.object; host = c.number_of-host.ensures i })
 
 pub returns-clause-services : goal.returns-clause-services
 returns-clause-services c =

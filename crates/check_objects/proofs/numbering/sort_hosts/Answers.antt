@@ -1,9 +1,14 @@
-use Rattle.std.proofs.Common.{◌∙◌, map, is_some, refl, ap}
+use Rattle.std.proofs.Common.{◌∙◌, map, is_some, refl, ap, sym, arith}
+use Rattle.std.proofs.lemmas.List.{drop_all}
 use Rattle.check_objects.specs.Drafted.{host}
-use Rattle.check_objects.specs.Numbering.{text_order, body_of}
+use Rattle.check_objects.specs.Numbering.{body_of}
+use Rattle.check_objects.specs.Name.{text_order}
 use Rattle.check_objects.specs.Text.{text}
 use Rattle.check_objects.proofs.FaultLemmas.{dropped_as}
 use Rattle.check_objects.proofs.NumberingLemmas.{placed_next, one_more}
+use Rattle.check_objects.specs.Entries.{sorted_host}
+use Rattle.check_objects.proofs.NumberLaws.{hosts_placed}
+use Rattle.check_objects.proofs.Placed.{placed}
 use Rattle.check_objects.proofs.numbering.sort_hosts.Goals as goal
 
 pub loop-draft-preserved : goal.loop-draft-preserved
@@ -17,3 +22,10 @@ loop-draft-preserved c =
           (dropped_as ds i draft c.loop-draft-test.true c.draft-item.is) c.in_ok-insert.ensures.entries refl (ap (λ o. (o, map text draft.parents.now)) c.object.ensures);
       few = one_more (is_some c.in_ok-insert.field-0) _ _ _ c.in_ok-insert.ensures.len c.loop-draft.invariant.few;
     }
+
+pub returns-clause-order : goal.returns-clause-order
+returns-clause-order c =
+    let ds = c.args.drafts.now in
+    let i = c.loop-draft.draft-index in
+    sym (c.loop-draft.invariant.order ∙ ap (λ l. placed text_order (λ h. h.name) body_of (map sorted_host c.loop-draft.sorted.entries) (map host l)) (drop_all i ds (omega arith)))
+    ∙ hosts_placed (map host ds) c.requires.distinct

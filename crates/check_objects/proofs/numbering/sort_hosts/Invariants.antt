@@ -1,12 +1,14 @@
-use Rattle.std.proofs.Common.{◌≡◌, ◌≤◌, map, drop}
+use Rattle.std.proofs.Common.{◌≡◌, ◌≤◌, [], map, drop}
 use Rattle.std.specs.BTreeMap.{btree_map_len}
-use Rattle.check_objects.specs.Numbering.{hosts_in_order, placed, text_order, body_of}
+use Rattle.check_objects.specs.Numbering.{body_of}
+use Rattle.check_objects.specs.Name.{text_order}
 use Rattle.check_objects.specs.Drafted.{host}
 use Rattle.check_objects.specs.Entries.{sorted_host}
 use Rattle.check_objects.proofs.numbering.sort_hosts.Given as goal
+use Rattle.check_objects.proofs.Placed.{placed}
 
 abbrev pub invariant-loop-draft : goal.invariant-loop-draft
 invariant-loop-draft l = record {
-  order : hosts_in_order (map host l.drafts) ≡ placed text_order (λ h. h.name) body_of (map sorted_host l.sorted.entries) (map host (drop l.draft-index l.drafts));
+  order : placed text_order (λ h. h.name) body_of [] (map host l.drafts) ≡ placed text_order (λ h. h.name) body_of (map sorted_host l.sorted.entries) (map host (drop l.draft-index l.drafts));
   few : btree_map_len l.sorted ≤ l.draft-index;
 }

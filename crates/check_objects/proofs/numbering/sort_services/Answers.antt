@@ -1,9 +1,14 @@
-use Rattle.std.proofs.Common.{◌∙◌, map, is_some, get_or, refl}
+use Rattle.std.proofs.Common.{◌∙◌, map, is_some, get_or, refl, sym, ap, arith}
+use Rattle.std.proofs.lemmas.List.{drop_all}
 use Rattle.check_objects.specs.Drafted.{service}
 use Rattle.check_objects.specs.Fault.{key_of}
-use Rattle.check_objects.specs.Numbering.{pair_order, object_of}
+use Rattle.check_objects.specs.Numbering.{object_of}
+use Rattle.check_objects.specs.Name.{pair_order}
 use Rattle.check_objects.proofs.FaultLemmas.{dropped_at, no_service}
 use Rattle.check_objects.proofs.NumberingLemmas.{placed_next, one_more}
+use Rattle.check_objects.specs.Entries.{sorted_service}
+use Rattle.check_objects.proofs.NumberLaws.{services_placed}
+use Rattle.check_objects.proofs.Placed.{placed}
 use Rattle.check_objects.proofs.numbering.sort_services.Goals as goal
 
 pub loop-draft-preserved : goal.loop-draft-preserved
@@ -17,3 +22,10 @@ loop-draft-preserved c =
           (dropped_at ds i no_service c.loop-draft-test.true) c.in_ok-insert.ensures.entries refl c.object.ensures;
       few = one_more (is_some c.in_ok-insert.field-0) _ _ _ c.in_ok-insert.ensures.len c.loop-draft.invariant.few;
     }
+
+pub returns-clause-order : goal.returns-clause-order
+returns-clause-order c =
+    let ds = c.args.drafts.now in
+    let i = c.loop-draft.draft-index in
+    sym (c.loop-draft.invariant.order ∙ ap (λ l. placed pair_order key_of (λ s. object_of s.check) (map sorted_service c.loop-draft.sorted.entries) (map service l)) (drop_all i ds (omega arith)))
+    ∙ services_placed (map service ds) c.requires.distinct

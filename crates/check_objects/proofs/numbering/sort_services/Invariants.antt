@@ -1,13 +1,15 @@
-use Rattle.std.proofs.Common.{◌≡◌, ◌≤◌, map, drop}
+use Rattle.std.proofs.Common.{◌≡◌, ◌≤◌, [], map, drop}
 use Rattle.std.specs.BTreeMap.{btree_map_len}
 use Rattle.check_objects.specs.Fault.{key_of}
-use Rattle.check_objects.specs.Numbering.{services_in_order, placed, pair_order, object_of}
+use Rattle.check_objects.specs.Numbering.{object_of}
+use Rattle.check_objects.specs.Name.{pair_order}
 use Rattle.check_objects.specs.Drafted.{service}
 use Rattle.check_objects.specs.Entries.{sorted_service}
 use Rattle.check_objects.proofs.numbering.sort_services.Given as goal
+use Rattle.check_objects.proofs.Placed.{placed}
 
 abbrev pub invariant-loop-draft : goal.invariant-loop-draft
 invariant-loop-draft l = record {
-  order : services_in_order (map service l.drafts) ≡ placed pair_order key_of (λ s. object_of s.check) (map sorted_service l.sorted.entries) (map service (drop l.draft-index l.drafts));
+  order : placed pair_order key_of (λ s. object_of s.check) [] (map service l.drafts) ≡ placed pair_order key_of (λ s. object_of s.check) (map sorted_service l.sorted.entries) (map service (drop l.draft-index l.drafts));
   few : btree_map_len l.sorted ≤ l.draft-index;
 }

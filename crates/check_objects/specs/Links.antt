@@ -1,0 +1,22 @@
+-- The links of a setup with their ends' names in place of numbers.
+use Rattle.std.specs.Prelude.{ℕ, List, map}
+use Rattle.std.specs.List.{flat_map, range_with_len}
+use Rattle.check_objects.specs.declared.dependency.Dependency.{Dependency}
+use Rattle.check_objects.specs.Configuration.{Configuration, Host, name_of, object_count, dependencies_of}
+use Rattle.check_objects.specs.Draft.{DependencyDraft}
+
+-- a host's name, and the names of its parents
+abbrev pub named_parents : Configuration → Host → List ℕ × List (List ℕ)
+named_parents c h = (h.name, map (name_of c) h.parents)
+
+-- a dependency of the object with this number
+abbrev pub named_dependency : Configuration → ℕ → Dependency → DependencyDraft
+named_dependency c n d = record { dependent = name_of c n; master = name_of c d.master; criteria = d.criteria; inherits = d.inherits }
+
+-- the dependencies of the object with this number
+abbrev pub named_dependencies : Configuration → ℕ → List DependencyDraft
+named_dependencies c n = map (named_dependency c n) (dependencies_of c n)
+
+-- those of all objects together
+abbrev pub all_named_dependencies : Configuration → List DependencyDraft
+all_named_dependencies c = flat_map (named_dependencies c) (range_with_len 0 (object_count c))
