@@ -30,15 +30,21 @@ times_in_time [] os h = refl
 times_in_time (first ∷ times) [] h = refl
 times_in_time (first ∷ times) (o ∷ os) h = both_and _ _ (both_and (is_time first) true (first_in_time first (h 0 None (omega arith))) refl) (times_in_time times os (λ k d l. h (suc k) d (omega arith)))
 
-standings_opening : (setup : Configuration) (k : ℕ) (os : List Named) → IsSetup setup → (n : ℕ) (t : Standing) → slice_get (map (λ p. pending_standing (is_host setup p.0)) (enumerate_from k os)) n ≡ Some t → IsStandingOf setup (k + n) t
-standings_opening setup k [] h n t e = cc
-standings_opening setup k (o ∷ os) h zero t e =
+-- the standing at a place of the opening is pending
+pub pending_at : (setup : Configuration) (k : ℕ) (os : List Named) (n : ℕ) (t : Standing) → slice_get (map (λ p. pending_standing (is_host setup p.0)) (enumerate_from k os)) n ≡ Some t → pending_standing (is_host setup (k + n)) ≡ t
+pending_at setup k [] n t e = cc
+pending_at setup k (o ∷ os) zero t e =
     let same : pending_standing (is_host setup k) ≡ t = cc in
     let here : k ≡ k + 0 = omega arith in
-    subst (λ j. IsStandingOf setup j t) here (subst (λ x. IsStandingOf setup k x) same (record { lawful = pending_is_lawful (is_host setup k) _ (some_attempts setup k h); sort = pending_sort (is_host setup k) }))
-standings_opening setup k (o ∷ os) h (suc n) t e =
+    subst (λ j. pending_standing (is_host setup j) ≡ t) here same
+pending_at setup k (o ∷ os) (suc n) t e =
     let here : k + 1 + n ≡ k + suc n = omega arith in
-    subst (λ j. IsStandingOf setup j t) here (standings_opening setup (k + 1) os h n t e)
+    subst (λ j. pending_standing (is_host setup j) ≡ t) here (pending_at setup (k + 1) os n t e)
+
+standings_opening : (setup : Configuration) (k : ℕ) (os : List Named) → IsSetup setup → (n : ℕ) (t : Standing) → slice_get (map (λ p. pending_standing (is_host setup p.0)) (enumerate_from k os)) n ≡ Some t → IsStandingOf setup (k + n) t
+standings_opening setup k os h n t e =
+    subst (λ x. IsStandingOf setup (k + n) x) (pending_at setup k os n t e)
+    (record { lawful = pending_is_lawful (is_host setup (k + n)) _ (some_attempts setup (k + n) h); sort = pending_sort (is_host setup (k + n)); until_checked = λ never. refl })
 
 pub length-objects_at : (setup : Configuration) (times : List (Option ℕ)) → length times ≡ object_count setup → length (objects_at setup times) ≡ object_count setup
 length-objects_at setup times e =

@@ -1,5 +1,5 @@
 -- Laws of reports: the standing and the next time that a result gives are within their limits.
-use Rattle.std.proofs.Common.{◌≡◌, ℕ, zero, suc, ◌+◌, ◌-◌, ◌*◌, ◌<◌, ◌≤◌, ◌^◌, Bool, true, false, ◌==◌, cond, List, [], ◌∷◌, length, get_or, Option, Some, None, Ok, option_map, refl, sym, ap, subst, ◌∙◌, arith, IfSome}
+use Rattle.std.proofs.Common.{◌≡◌, ℕ, zero, suc, ◌+◌, ◌-◌, ◌*◌, ◌<◌, ◌≤◌, ◌^◌, Bool, true, false, not, ◌==◌, cond, List, [], ◌∷◌, length, get_or, Option, Some, None, Ok, option_map, refl, sym, ap, subst, ◌∙◌, arith, IfSome}
 use Rattle.std.specs.Prelude.{nat_lt, option_and_then, slice_get, unwrap_or}
 use Rattle.std.specs.Option.{option_map_or}
 use Rattle.std.proofs.Math.Nat.{mul-le-mul_left}
@@ -14,7 +14,7 @@ use Rattle.check_rules.specs.declared.state.State as rules
 use Rattle.check_rules.specs.declared.state.State.TheVariants as state
 use Rattle.check_rules.specs.declared.standing.Standing.{Standing}
 use Rattle.check_rules.specs.State.{is_host_state, service_state_of}
-use Rattle.check_rules.specs.Standing.{is_up, is_soft_problem}
+use Rattle.check_rules.specs.Standing.{is_down, is_soft_problem}
 use Rattle.check_rules.specs.Reachability.{host_state_of, is_problem_of_host, is_cut_off}
 use Rattle.check_rules.specs.Verdict.{verdict_on}
 use Rattle.check_rules.proofs.VerdictLaws.{verdict_is_lawful}
@@ -105,10 +105,12 @@ judged_is_standing_by : (setup : Configuration) (standings : List Standing) (n :
 judged_is_standing_by setup standings n c None h l e b = record {
   lawful = verdict_is_lawful (standing_at standings n) (host_state_of setup standings n c) (max_attempts_of setup n) true (some_attempts setup n h) b.lawful;
   sort = host_sort setup standings n c ∙ sym (is_host-none setup n l e);
+  until_checked = λ never. cc;
 }
 judged_is_standing_by setup standings n c (Some host) h l e b = record {
-  lawful = verdict_is_lawful (standing_at standings n) (service_state_of c) (max_attempts_of setup n) (is_up (standing_at standings host)) (some_attempts setup n h) b.lawful;
+  lawful = verdict_is_lawful (standing_at standings n) (service_state_of c) (max_attempts_of setup n) (not (is_down (standing_at standings host))) (some_attempts setup n h) b.lawful;
   sort = service_sort c ∙ sym (is_host-some setup n host e);
+  until_checked = λ never. cc;
 }
 
 -- an object can have the standing that a result gives it
@@ -271,5 +273,5 @@ pub judged_when_host : (setup : Configuration) (standings : List Standing) (n : 
 judged_when_host setup standings n c before max found made e b m f v = v ∙ (λ i. verdict_on (sym b i) (f i) (m i) true) ∙ sym (ap (λ h. judged_by h setup standings n c) e)
 
 pub judged_when_service : (setup : Configuration) (standings : List Standing) (n host : ℕ) (c : Code) (before : Standing) (max : ℕ) (found : rules.State) (up : Bool) (made : Standing) → host_of setup n ≡ Some host → standing_at standings n ≡ before
-    → max ≡ max_attempts_of setup n → found ≡ service_state_of c → up ≡ is_up (standing_at standings host) → made ≡ verdict_on before found max up → made ≡ judged setup standings n c
+    → max ≡ max_attempts_of setup n → found ≡ service_state_of c → up ≡ not (is_down (standing_at standings host)) → made ≡ verdict_on before found max up → made ≡ judged setup standings n c
 judged_when_service setup standings n host c before max found up made e b m f u v = v ∙ (λ i. verdict_on (sym b i) (f i) (m i) (u i)) ∙ sym (ap (λ h. judged_by h setup standings n c) e)

@@ -1,5 +1,5 @@
 -- The state of a scheduler as contracts see it, and the state that it opens with.
-use Rattle.std.specs.Prelude.{ℕ, ◌^◌, ◌<◌, ◌≤◌, ◌≡◌, ◌&&◌, ◌||◌, ◌==◌, Bool, true, List, length, map, zip, drop, count_by, Option, Some, None, is_some, option_map, option_and_then, slice_get, nat_le, nat_lt, unwrap_or}
+use Rattle.std.specs.Prelude.{ℕ, ◌^◌, ◌<◌, ◌≤◌, ◌≡◌, ◌&&◌, ◌||◌, ◌==◌, Bool, true, false, List, length, map, zip, drop, count_by, Option, Some, None, is_some, option_map, option_and_then, slice_get, nat_le, nat_lt, unwrap_or}
 use Rattle.std.specs.List.{list_all, enumerate_from}
 use Rattle.std.specs.Option.{option_map_or}
 use Rattle.check_objects.specs.Configuration.{Configuration, objects_of, object_count, host_count, IsSetup}
@@ -99,11 +99,16 @@ is_moment (Some run) = nat_le run.start (2 ^ 60)
 abbrev pub is_in_time : ObjectState → Bool
 is_in_time o = is_time o.next && is_moment o.run
 
+-- the object with this number, where it was never checked, stands as pending
+abbrev pub IsPendingUntilChecked : Configuration → ℕ → Standing → Type 0
+IsPendingUntilChecked setup number standing = standing.checked ≡ false → standing ≡ pending_standing (is_host setup number)
+
 -- the object with this number can have this standing: it is lawful for the object's maximum of
--- attempts, and its state is one of hosts where the object is a host
+-- attempts, its state is one of hosts where the object is a host, and until it is checked it is pending
 pub record IsStandingOf (setup : Configuration) (number : ℕ) (standing : Standing) : Type 0 where
   pub lawful : is_lawful standing (max_attempts_of setup number) ≡ true
   pub sort : is_host_state standing.state ≡ is_host setup number
+  pub until_checked : IsPendingUntilChecked setup number standing
 
 -- what is true of every state that a scheduler can be in
 pub record IsState (s : State) : Type 0 where

@@ -1,11 +1,13 @@
 //! Laws of the definitions, each the contract of a function without parameters and code.
 
-ghost use Rattle.std.specs.Prelude.{ℕ, ◌≡◌, ◌+◌, true, false, List, ◌∷◌, ◌++◌};
+ghost use Rattle.std.specs.Prelude.{ℕ, ◌≡◌, ◌+◌, true, false, List, ◌∷◌, ◌++◌, Some, slice_get};
 ghost use Rattle.ticket_steps.specs.declared.kept.Entry.{Entry};
 ghost use Rattle.ticket_steps.specs.History.{IsLegal};
 ghost use Rattle.check_objects.specs.Configuration.{Configuration};
+ghost use Rattle.check_rules.specs.declared.standing.Standing.{Standing};
+ghost use Rattle.check_rules.specs.Standing.{pending_standing};
 ghost use Rattle.check_sched.specs.declared.call.Call.{Call};
-ghost use Rattle.check_sched.specs.State.{IsWithinLimit, opening};
+ghost use Rattle.check_sched.specs.State.{IsWithinLimit, is_host, opening};
 ghost use Rattle.check_sched.specs.Step.{after, step};
 ghost use Rattle.check_sched.specs.BookState.{book_opening, book_step};
 ghost use Rattle.check_sched.specs.Runs.{begins, runs_begun, runs_under};
@@ -16,6 +18,15 @@ ghost use Rattle.check_sched.specs.declared.call.Reply.{Reply};
 pub fn limit()
     ensures { (setup : Configuration) → (start : ℕ) → (calls : List Call)
         → IsWithinLimit (after (opening setup start) calls) }
+{}
+
+/// Whatever calls are made, one after another, of a scheduler that was opened: an object that was never
+/// checked stands as [`pending`](check_rules::pending).
+pub fn never_checked()
+    ensures { (setup : Configuration) → (start : ℕ) → (calls : List Call) → (object : ℕ)
+        → (standing : Standing)
+        → slice_get (after (opening setup start) calls).standings object ≡ Some standing
+        → standing.checked ≡ false → standing ≡ pending_standing (is_host setup object) }
 {}
 
 /// In every legal history of a scheduler that was opened: no object is taken while it runs, by the
