@@ -11,8 +11,7 @@ use Rattle.check_objects.specs.Configuration.{Configuration, Named, objects_of, 
 use Rattle.check_rules.specs.declared.standing.Standing.{Standing}
 use Rattle.check_rules.specs.Standing.{pending_standing}
 use Rattle.check_rules.proofs.VerdictLaws.{pending_is_lawful, pending_sort}
-use Rattle.check_sched.specs.declared.object_state.ObjectState.{ObjectState}
-use Rattle.check_sched.specs.ObjectState.{opening_object}
+use Rattle.check_sched.specs.Scheduling.{Scheduling, opening_object}
 use Rattle.check_spread.specs.Spread.{initial_times}
 use Rattle.check_sched.specs.State.{State, IsState, IsStandingOf, IsWithinLimit, is_host, is_in_time, is_time, objects_at, opening, opening_objects, opening_standings}
 use Rattle.check_sched.proofs.CandidateLaws.{both_and}
@@ -74,7 +73,7 @@ opening_is_state setup start valid count within = record {
 }
 
 -- the same of what the code opens with, by the times that it was given
-pub opened_is_state : (setup : Configuration) (start : ℕ) (times seen : List (Option ℕ)) (objects : List ObjectState) (standings : List Standing)
+pub opened_is_state : (setup : Configuration) (start : ℕ) (times seen : List (Option ℕ)) (objects : List Scheduling) (standings : List Standing)
     → IsSetup setup → times ≡ initial_times setup start → length times ≡ object_count setup → All (λ first. IfSome first (λ time. time < 2 ^ 61)) times
     → seen ≡ times → objects ≡ objects_at setup seen → standings ≡ opening_standings setup
     → let s : State = record { setup = setup; start = start; objects = objects; standings = standings; runs = 0 } in IsState s
@@ -88,7 +87,7 @@ opened_is_state setup start times seen objects standings valid made count within
 pub one_more : {X : Type 0} (n : ℕ) (all was more : List X) (x : X) → more ≡ was ++ x ∷ [] → was ≡ take n all → take n all ++ x ∷ [] ≡ take (n + 1) all → more ≡ take (n + 1) all
 one_more n all was more x e f g = e ∙ ap (λ xs. xs ++ x ∷ []) f ∙ g
 
-object_at : (n : ℕ) (times : List (Option ℕ)) (os : List Named) (o : Object) (first : Option ℕ) (d : ObjectState) → n < length times → option_map (λ x. x.object) (slice_get os n) ≡ Some o → first ≡ get_or times n None
+object_at : (n : ℕ) (times : List (Option ℕ)) (os : List Named) (o : Object) (first : Option ℕ) (d : Scheduling) → n < length times → option_map (λ x. x.object) (slice_get os n) ≡ Some o → first ≡ get_or times n None
     → get_or (map (λ p. opening_object p.0 p.1.object.enabled) (zip times os)) n d ≡ opening_object first o.enabled
 object_at n [] os o first d l e f = absurd (omega arith)
 object_at n (time ∷ times) [] o first d l e f = cc
@@ -98,7 +97,7 @@ object_at zero (time ∷ times) (x ∷ os) o first d l e f =
 object_at (suc n) (time ∷ times) (x ∷ os) o first d l e f = object_at n times os o first d (omega arith) e f
 
 -- one object more of a scheduler that is being opened
-pub object_seen : (setup : Configuration) (times : List (Option ℕ)) (n : ℕ) (o : Object) (first : Option ℕ) (made : ObjectState) → length times ≡ object_count setup → n < length times → option_map (λ x. x.object) (slice_get (objects_of setup) n) ≡ Some o → first ≡ get_or times n None → made ≡ opening_object first o.enabled
+pub object_seen : (setup : Configuration) (times : List (Option ℕ)) (n : ℕ) (o : Object) (first : Option ℕ) (made : Scheduling) → length times ≡ object_count setup → n < length times → option_map (λ x. x.object) (slice_get (objects_of setup) n) ≡ Some o → first ≡ get_or times n None → made ≡ opening_object first o.enabled
     → take n (objects_at setup times) ++ made ∷ [] ≡ take (n + 1) (objects_at setup times)
 object_seen setup times n o first made c l e f m =
     let less : n < length (objects_at setup times) = let k = length-objects_at setup times c in omega (arith, l, k) in

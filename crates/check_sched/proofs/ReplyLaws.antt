@@ -10,9 +10,7 @@ use Rattle.check_sched.specs.declared.call.Reply.{Reply}
 use Rattle.check_sched.specs.declared.call.Reply.TheVariants as reply
 use Rattle.check_sched.specs.declared.call.Refusal.{Refusal}
 use Rattle.check_sched.specs.declared.call.Refusal.TheVariants as refusal
-use Rattle.check_sched.specs.declared.object_state.ObjectState.{ObjectState}
-use Rattle.check_sched.specs.declared.object_state.Run.{Run}
-use Rattle.check_sched.specs.ObjectState.{run_under}
+use Rattle.check_sched.specs.Scheduling.{Scheduling, OpenRun, run_under}
 use Rattle.check_sched.specs.State.{State}
 use Rattle.check_sched.specs.Step.{◌>>=◌, report_taken, settled, step}
 use Rattle.check_sched.specs.BookState.{BookState, book_step}
@@ -63,7 +61,7 @@ AsMany s a = length a.0.objects ≡ length s.objects
 pub step_objects : (s : State) (c : Call) → length (step s c).0.objects ≡ length s.objects
 step_objects s (call.Take now) =
     take_cases (AsMany s) now s (λ why. refl)
-    (λ c m e. length-update_at c.number _ s.objects) (λ c m q e. length-update_at c.number _ s.objects) (λ e. refl)
+    (λ c m e. length-update_at c.1 _ s.objects) (λ c m q e. length-update_at c.1 _ s.objects) (λ e. refl)
 step_objects s (call.Report n run c) = report_cases (AsMany s) n run c s (λ why. refl) (λ o r e f. length-update_at n _ s.objects)
 step_objects s (call.Abandon n run now) = abandon_cases (AsMany s) n run now s (λ why. refl) (λ o e m. length-update_at n _ s.objects)
 step_objects s (call.Reschedule n time forced) = reschedule_cases (AsMany s) n time forced s (λ why. refl) (λ m. length-update_at n _ s.objects)
@@ -86,27 +84,27 @@ pub taken_there : (s : State) (now object run : ℕ) → reply.Taken object run 
 taken_there s now object run =
     take_cases (λ a. reply.Taken object run ≡ a.1 → object < length s.objects) now s
     (λ why e. cc) (λ c m f e. cc)
-    (λ c m q f e. let same : c.number ≡ object = cc in let there = eligible_there now s c f in omega (arith, there, same))
+    (λ c m q f e. let same : c.1 ≡ object = cc in let there = eligible_there now s c f in omega (arith, there, same))
     (λ f e. waiting_cases (λ w. reply.Taken object run ≡ w → object < length s.objects) now s (λ g. cc) (λ g. cc) e)
 
 -- the answer to a report, by the run that the result is for, and by the object
-abbrev run_answer : State → ℕ → Code → ObjectState → Result Run Refusal → Result (State × Reply) Refusal
+abbrev run_answer : State → ℕ → Code → Scheduling → Result OpenRun Refusal → Result (State × Reply) Refusal
 run_answer s n code o test = test >>= λ r. Ok (report_taken n r.start code o s)
 
-abbrev object_answer : State → ℕ → ℕ → Code → Result ObjectState Refusal → Result (State × Reply) Refusal
+abbrev object_answer : State → ℕ → ℕ → Code → Result Scheduling Refusal → Result (State × Reply) Refusal
 object_answer s n run code test = test >>= λ o. run_answer s n code o (run_under run o.run)
 
-under_by : (s : State) (n : ℕ) (code : Code) (o : ObjectState) (x : Run) (same : Bool)
+under_by : (s : State) (n : ℕ) (code : Code) (o : Scheduling) (x : OpenRun) (same : Bool)
     → IsReportReply (settled s (run_answer s n code o (cond same (Ok x) (Err refusal.WrongRun)))).1
 under_by s n code o x true = tt
 under_by s n code o x false = tt
 
-run_by : (s : State) (n run : ℕ) (code : Code) (o : ObjectState) (running : Option Run)
+run_by : (s : State) (n run : ℕ) (code : Code) (o : Scheduling) (running : Option OpenRun)
     → IsReportReply (settled s (run_answer s n code o (run_under run running))).1
 run_by s n run code o None = tt
 run_by s n run code o (Some x) = under_by s n code o x (x.number == run)
 
-found_by : (s : State) (n run : ℕ) (code : Code) (found : Option ObjectState) → slice_get s.objects n ≡ found → n < length s.objects
+found_by : (s : State) (n run : ℕ) (code : Code) (found : Option Scheduling) → slice_get s.objects n ≡ found → n < length s.objects
     → IsReportReply (settled s (object_answer s n run code (ok_or found refusal.UnknownObject))).1
 found_by s n run code None e there = let past = none_there s.objects n e in absurd (omega (arith, past, there))
 found_by s n run code (Some o) e there = run_by s n run code o o.run

@@ -20,13 +20,11 @@ use Rattle.check_rules.specs.Verdict.{verdict_on}
 use Rattle.check_rules.proofs.VerdictLaws.{verdict_is_lawful}
 use Rattle.check_objects.specs.Configuration.{parents_of}
 use Rattle.check_rules.specs.Standing.{pending_standing}
-use Rattle.check_sched.specs.declared.object_state.ObjectState.{ObjectState}
-use Rattle.check_sched.specs.declared.object_state.Run.{Run}
+use Rattle.check_sched.specs.Scheduling.{Scheduling, OpenRun, ended, run_under}
 use Rattle.check_sched.specs.declared.call.Reply.{Reply}
 use Rattle.check_sched.specs.declared.call.Reply.TheVariants as reply
 use Rattle.check_sched.specs.declared.call.Refusal.{Refusal}
 use Rattle.check_sched.specs.declared.call.Call.TheVariants as call
-use Rattle.check_sched.specs.ObjectState.{ended, run_under}
 use Rattle.check_sched.specs.State.{State, IsState, IsStandingOf, is_host, is_time, is_moment, is_in_time, max_attempts_of, standing_at}
 use Rattle.check_sched.specs.Step.{known, report_taken, reported, standing_reply, step}
 use Rattle.check_sched.proofs.AnswerLaws.{by_test, known_is, under_is}
@@ -185,14 +183,14 @@ pub standing_of_state : (s : State) (n : ℕ) → IsState s → n < object_count
 standing_of_state s n is_state h = standing_by s n (slice_get s.standings n) is_state h refl
 
 -- a run began at 2^60 at the latest
-pub start_of_state : (s : State) (n : ℕ) (o : ObjectState) (r : Run) → IsState s → slice_get s.objects n ≡ Some o → o.run ≡ Some r → r.start ≤ 2 ^ 60
+pub start_of_state : (s : State) (n : ℕ) (o : Scheduling) (r : OpenRun) → IsState s → slice_get s.objects n ≡ Some o → o.run ≡ Some r → r.start ≤ 2 ^ 60
 start_of_state s n o r is_state e f =
     let both = and_both (is_time o.next) (is_moment o.run) (all_at_place is_in_time s.objects n o is_state.times e) in
     let moment : is_moment (Some r) ≡ true = ap is_moment (sym f) ∙ both.1 in
     grind (arith, nat_tests, moment)
 
 -- a next time is at most 2^61
-pub next_of_state : (s : State) (n : ℕ) (o : ObjectState) → IsState s → slice_get s.objects n ≡ Some o → is_time o.next ≡ true
+pub next_of_state : (s : State) (n : ℕ) (o : Scheduling) → IsState s → slice_get s.objects n ≡ Some o → is_time o.next ≡ true
 next_of_state s n o is_state e = (and_both (is_time o.next) (is_moment o.run) (all_at_place is_in_time s.objects n o is_state.times e)).0
 
 -- a report leaves the state one that a scheduler can be in
@@ -208,12 +206,12 @@ reported_is_state n standing next s is_state t new = record {
 }
 
 -- what a report makes of the standing and the next time is within the limits
-pub report_standing : (n : ℕ) (c : Code) (o : ObjectState) (s : State) → IsState s → slice_get s.objects n ≡ Some o → IsStandingOf s.setup n (judged s.setup s.standings n c)
+pub report_standing : (n : ℕ) (c : Code) (o : Scheduling) (s : State) → IsState s → slice_get s.objects n ≡ Some o → IsStandingOf s.setup n (judged s.setup s.standings n c)
 report_standing n c o s is_state e =
     let within : n < object_count s.setup = let l = slice_get_within s.objects n o e in omega (arith, l, is_state.one_each) in
     judged_is_standing s.setup s.standings n c is_state.valid_setup within (standing_of_state s n is_state within)
 
-pub report_next : (n : ℕ) (c : Code) (o : ObjectState) (r : Run) (s : State) → IsState s → slice_get s.objects n ≡ Some o → o.run ≡ Some r → is_time (next_after s.setup n (judged s.setup s.standings n c) r.start o.next) ≡ true
+pub report_next : (n : ℕ) (c : Code) (o : Scheduling) (r : OpenRun) (s : State) → IsState s → slice_get s.objects n ≡ Some o → o.run ≡ Some r → is_time (next_after s.setup n (judged s.setup s.standings n c) r.start o.next) ≡ true
 report_next n c o r s is_state e f = next_in_time s.setup n (judged s.setup s.standings n c) r.start o.next is_state.valid_setup (start_of_state s n o r is_state e f) (next_of_state s n o is_state e)
 
 -- a time that passes the test is at most 2^61
@@ -226,7 +224,7 @@ is_time_reads (Some time) e = grind (arith, nat_tests, e)
 -- what is true of a Report is what is true of each of its answers
 pub report_cases : (P : State × Reply → Type 0) (n run : ℕ) (c : Code) (s : State)
     → ((why : Refusal) → P (s, reply.Refused why))
-    → ((o : ObjectState) (r : Run) → slice_get s.objects n ≡ Some o → o.run ≡ Some r → P (report_taken n r.start c o s))
+    → ((o : Scheduling) (r : OpenRun) → slice_get s.objects n ≡ Some o → o.run ≡ Some r → P (report_taken n r.start c o s))
     → P (step s (call.Report n run c))
 report_cases P n run c s refused take =
     by_test P s (known n s) _ refused
@@ -234,7 +232,7 @@ report_cases P n run c s refused take =
     (λ r f. take o r (known_is n s o e) (under_is run o.run r f)))
 
 -- what a Report answers, by the standing and the next time that it makes
-pub report_answers : (n run : ℕ) (c : Code) (s : State) (o : ObjectState) (r : Run) (standing : Standing) (next : Option ℕ) → known n s ≡ Ok o → run_under run o.run ≡ Ok r
+pub report_answers : (n run : ℕ) (c : Code) (s : State) (o : Scheduling) (r : OpenRun) (standing : Standing) (next : Option ℕ) → known n s ≡ Ok o → run_under run o.run ≡ Ok r
     → standing ≡ judged s.setup s.standings n c → next ≡ next_after s.setup n standing r.start o.next
     → step s (call.Report n run c) ≡ (reported n standing next s, standing_reply n standing next s)
 report_answers n run c s o r standing next e f j k =
