@@ -1,6 +1,6 @@
 -- Laws of replies: which replies a call can have in a history.
-use Rattle.std.proofs.Common.{◌≡◌, ℕ, ◌<◌, Bool, true, false, ◌==◌, cond, List, [], ◌∷◌, ◌++◌, length, Option, Some, None, Result, Ok, Err, refl, sym, subst, ◌∙◌, arith}
-use Rattle.std.specs.Prelude.{⊤, ok_or, slice_get}
+use Rattle.std.proofs.Common.{◌≡◌, ℕ, ◌<◌, ◌^◌, Bool, true, false, ◌==◌, cond, List, [], ◌∷◌, ◌++◌, length, Option, Some, None, Result, Ok, Err, refl, sym, subst, ◌∙◌, arith}
+use Rattle.std.specs.Prelude.{nat_lt, ok_or, slice_get}
 use Rattle.ticket_steps.specs.declared.kept.Entry.{Entry}
 use Rattle.ticket_steps.specs.History.{entry, replay, IsLegal}
 use Rattle.check_rules.specs.declared.state.Code.{Code}
@@ -11,45 +11,18 @@ use Rattle.check_sched.specs.declared.call.Reply.TheVariants as reply
 use Rattle.check_sched.specs.declared.call.Refusal.{Refusal}
 use Rattle.check_sched.specs.declared.call.Refusal.TheVariants as refusal
 use Rattle.check_sched.specs.Scheduling.{Scheduling, OpenRun, run_under}
+use Rattle.check_sched.specs.Candidate.{Candidate}
+use Rattle.check_sched.specs.Order.{least}
 use Rattle.check_sched.specs.State.{State}
-use Rattle.check_sched.specs.Step.{◌>>=◌, report_taken, settled, step}
+use Rattle.check_sched.specs.Step.{◌>>=◌, eligible, report_taken, settled, step, take_least}
 use Rattle.check_sched.specs.BookState.{BookState, book_step}
+pub use Rattle.check_sched.specs.Reply.{IsReportRefusal, IsReportReply, IsTakeRefusal, IsTakeReply}
 use Rattle.check_sched.proofs.EligibleLaws.{waiting_cases}
 use Rattle.check_sched.proofs.OperatorLaws.{abandon_cases, enable_cases, reschedule_cases, status_cases}
 use Rattle.check_sched.proofs.ReportLaws.{report_cases}
 use Rattle.check_sched.proofs.RunLaws.{book_is_legal, eligible_there, legal_back, legal_front}
-use Rattle.check_sched.proofs.TakeLaws.{take_cases}
+use Rattle.check_sched.proofs.TakeLaws.{take_by, take_cases}
 use Rattle.check_sched.proofs.UpdateLaws.{length-update_at, none_there}
-
--- a reply that a take can have
-abbrev pub IsTakeReply : Reply → Type 0
-IsTakeReply (reply.Taken object run) = ⊤
-IsTakeReply (reply.PutOff object until) = ⊤
-IsTakeReply (reply.Idle next) = ⊤
-IsTakeReply reply.AtLimit = ⊤
-IsTakeReply (reply.Standing standing changed next) = ⊥
-IsTakeReply (reply.Freed next) = ⊥
-IsTakeReply reply.Done = ⊥
-IsTakeReply (reply.Refused why) = ⊤
-
--- a reason to refuse the report of an object that is there
-abbrev pub IsReportRefusal : Refusal → Type 0
-IsReportRefusal refusal.UnknownObject = ⊥
-IsReportRefusal refusal.TimeRange = ⊥
-IsReportRefusal refusal.RunsSpent = ⊥
-IsReportRefusal refusal.NotRunning = ⊤
-IsReportRefusal refusal.WrongRun = ⊤
-
--- a reply that the report of an object that is there can have
-abbrev pub IsReportReply : Reply → Type 0
-IsReportReply (reply.Taken object run) = ⊥
-IsReportReply (reply.PutOff object until) = ⊥
-IsReportReply (reply.Idle next) = ⊥
-IsReportReply reply.AtLimit = ⊥
-IsReportReply (reply.Standing standing changed next) = ⊤
-IsReportReply (reply.Freed next) = ⊥
-IsReportReply reply.Done = ⊥
-IsReportReply (reply.Refused why) = IsReportRefusal why
 
 -- ---- how many objects there are
 
@@ -75,9 +48,24 @@ replay_objects s (e ∷ h) = replay_objects (step s e.call).0 h ∙ step_objects
 
 -- ---- one call
 
+-- the two tests of a take
+abbrev range_test : Bool → Result (Unit {0}) Refusal
+range_test late = cond late (Err refusal.TimeRange) (Ok tt)
+
+abbrev left_test : Bool → Result (Unit {0}) Refusal
+left_test left = cond left (Ok tt) (Err refusal.RunsSpent)
+
+turn_reply : (s : State) (now : ℕ) (found : Option Candidate) → IsTakeReply (take_least now s found).1
+turn_reply s now found = take_by (λ a. IsTakeReply a.1) now s found (λ c e. tt) (λ c e. tt) (λ e. waiting_cases IsTakeReply now s tt tt)
+
+take_tests : (s : State) (now : ℕ) (late left : Bool) → IsTakeReply (settled s (range_test late >>= λ _. (left_test left >>= λ _. Ok (take_least now s (least (eligible now s)))))).1
+take_tests s now true left = tt
+take_tests s now false true = turn_reply s now (least (eligible now s))
+take_tests s now false false = tt
+
 -- a take has a take's reply
 pub step_take : (s : State) (now : ℕ) → IsTakeReply (step s (call.Take now)).1
-step_take s now = take_cases (λ a. IsTakeReply a.1) now s (λ why. tt) (λ c m e. tt) (λ c m q e. tt) (λ e. waiting_cases IsTakeReply now s tt tt)
+step_take s now = take_tests s now (nat_lt (2 ^ 60) now) (nat_lt s.runs (2 ^ 60))
 
 -- what is taken is one of the objects
 pub taken_there : (s : State) (now object run : ℕ) → reply.Taken object run ≡ (step s (call.Take now)).1 → object < length s.objects

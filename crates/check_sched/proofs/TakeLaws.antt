@@ -30,7 +30,7 @@ turn_by : (P : State × Reply → Type 0) (now n : ℕ) (s : State) (held : Bool
 turn_by P now n s true e off on = off e
 turn_by P now n s false e off on = on e
 
-take_by : (P : State × Reply → Type 0) (now : ℕ) (s : State) (found : Option Candidate)
+pub take_by : (P : State × Reply → Type 0) (now : ℕ) (s : State) (found : Option Candidate)
     → ((c : Candidate) → found ≡ Some c → P (put_off now c.1 s, reply.PutOff c.1 (put_off_until s.setup c.1 now)))
     → ((c : Candidate) → found ≡ Some c → P (taken now c.1 s, reply.Taken c.1 (s.runs + 1)))
     → (found ≡ None → P (s, waiting_reply now s))

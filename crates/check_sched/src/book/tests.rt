@@ -7,7 +7,7 @@
 ghost use Rattle.std.specs.Prelude.{◌≡◌, [], IfOk};
 ghost use Rattle.check_sched.specs.Books.{entries_of, refused_of};
 
-use crate::laws::{limit, never_checked, runs_once};
+use crate::laws::{limit, never_checked, replies, runs_once};
 use crate::{Book, Call, Reply};
 use check_objects::{LoadError, Setup};
 use std::alloc::Global;
@@ -113,5 +113,6 @@ fn a_history_keeps_what_was_answered(rt: HostRuntime) -> Result<(), Fail> {
 fn the_laws_can_be_called(_rt: HostRuntime) {
     limit();
     never_checked();
+    replies();
     runs_once();
 }
