@@ -49,7 +49,8 @@ unfolding has_cycle
 no_chain links n h l = below_by (λ o. deep links o (length links)) (length links) h n l
 
 -- no chain of as many masters as there are objects begins at an object
-short : (c : Configuration) (n : ℕ) → has_cycle (masters_of c) ≡ false → length c.dependencies ≡ object_count c → n < object_count c → deep (masters_of c) n (object_count c) ≡ false
+short : (c : Configuration) (n : ℕ) → has_cycle (masters_of c) ≡ false → length c.dependencies ≡ object_count c → n < object_count c
+    → deep (masters_of c) n (object_count c) ≡ false
 short c n acyclic listed h =
     let size : length (masters_of c) ≡ object_count c = length-map c.dependencies masters_in ∙ listed in
     rw (← size) (no_chain (masters_of c) n acyclic (omega (arith, size, h)))
@@ -77,14 +78,16 @@ past : (c : Configuration) (n : ℕ) → length c.dependencies ≡ object_count 
 past c n listed h = none_past c.dependencies n (omega (arith, listed, h))
 
 -- An object is blocked exactly where some dependency of it fails.
-pub blocked_where : (c : Configuration) (standings : List Standing) → has_cycle (masters_of c) ≡ false → length c.dependencies ≡ object_count c → (n : ℕ) → is_blocked c standings n ≡ list_any (fails (is_blocked c standings) c standings) (dependencies_of c n)
+pub blocked_where : (c : Configuration) (standings : List Standing) → has_cycle (masters_of c) ≡ false → length c.dependencies ≡ object_count c
+    → (n : ℕ) → is_blocked c standings n ≡ list_any (fails (is_blocked c standings) c standings) (dependencies_of c n)
 blocked_where c standings acyclic listed n = elim (cases_lt n (object_count c)) [
   | inl h ↦ sym (deep_enough c standings (object_count c) n (short c n acyclic listed h))
   | inr g ↦ let none = past c n listed g in sym (unblocked c standings n none) ∙ sym (ap (list_any (fails (is_blocked c standings) c standings)) none)
 ]
 
 -- what answers by its own answers for the masters, answers as the definition does where no chain of k masters begins
-alone_within : (c : Configuration) (standings : List Standing) (b : ℕ → Bool) → ((n : ℕ) → b n ≡ list_any (fails b c standings) (dependencies_of c n)) → (k n : ℕ) → deep (masters_of c) n k ≡ false → b n ≡ is_blocked_within k c standings n
+alone_within : (c : Configuration) (standings : List Standing) (b : ℕ → Bool) → ((n : ℕ) → b n ≡ list_any (fails b c standings) (dependencies_of c n))
+    → (k n : ℕ) → deep (masters_of c) n k ≡ false → b n ≡ is_blocked_within k c standings n
 alone_within c standings b is zero n h = cc
 alone_within c standings b is (suc k) n h =
     is n
@@ -92,7 +95,8 @@ alone_within c standings b is (suc k) n h =
     (λ d e. ap (λ x. is_met c standings d || (d.inherits && x)) (alone_within c standings b is k d.master e))
     (dependencies_of c n) (rw (← masters_at c n) h)
 
-pub alone : (c : Configuration) (standings : List Standing) (b : ℕ → Bool) → has_cycle (masters_of c) ≡ false → length c.dependencies ≡ object_count c → ((n : ℕ) → b n ≡ list_any (fails b c standings) (dependencies_of c n)) → (n : ℕ) → b n ≡ is_blocked c standings n
+pub alone : (c : Configuration) (standings : List Standing) (b : ℕ → Bool) → has_cycle (masters_of c) ≡ false → length c.dependencies ≡ object_count c
+    → ((n : ℕ) → b n ≡ list_any (fails b c standings) (dependencies_of c n)) → (n : ℕ) → b n ≡ is_blocked c standings n
 alone c standings b acyclic listed is n = elim (cases_lt n (object_count c)) [
   | inl h ↦ alone_within c standings b is (object_count c) n (short c n acyclic listed h)
   | inr g ↦ let none = past c n listed g in is n ∙ ap (list_any (fails b c standings)) none ∙ unblocked c standings n none

@@ -30,7 +30,8 @@ times_in_time (first ∷ times) [] h = refl
 times_in_time (first ∷ times) (o ∷ os) h = both_and _ _ (both_and (is_time first) true (first_in_time first (h 0 None (omega arith))) refl) (times_in_time times os (λ k d l. h (suc k) d (omega arith)))
 
 -- the standing at a place of the opening is pending
-pub pending_at : (setup : Configuration) (k : ℕ) (os : List Named) (n : ℕ) (t : Standing) → slice_get (map (λ p. pending_standing (is_host setup p.0)) (enumerate_from k os)) n ≡ Some t → pending_standing (is_host setup (k + n)) ≡ t
+pub pending_at : (setup : Configuration) (k : ℕ) (os : List Named) (n : ℕ) (t : Standing)
+    → slice_get (map (λ p. pending_standing (is_host setup p.0)) (enumerate_from k os)) n ≡ Some t → pending_standing (is_host setup (k + n)) ≡ t
 pending_at setup k [] n t e = cc
 pending_at setup k (o ∷ os) zero t e =
     let same : pending_standing (is_host setup k) ≡ t = cc in
@@ -40,7 +41,8 @@ pending_at setup k (o ∷ os) (suc n) t e =
     let here : k + 1 + n ≡ k + suc n = omega arith in
     subst (λ j. pending_standing (is_host setup j) ≡ t) here (pending_at setup (k + 1) os n t e)
 
-standings_opening : (setup : Configuration) (k : ℕ) (os : List Named) → IsSetup setup → (n : ℕ) (t : Standing) → slice_get (map (λ p. pending_standing (is_host setup p.0)) (enumerate_from k os)) n ≡ Some t → IsStandingOf setup (k + n) t
+standings_opening : (setup : Configuration) (k : ℕ) (os : List Named) → IsSetup setup → (n : ℕ) (t : Standing)
+    → slice_get (map (λ p. pending_standing (is_host setup p.0)) (enumerate_from k os)) n ≡ Some t → IsStandingOf setup (k + n) t
 standings_opening setup k os h n t e =
     subst (λ x. IsStandingOf setup (k + n) x) (pending_at setup k os n t e)
     (record { lawful = pending_is_lawful (is_host setup (k + n)) _ (some_attempts setup (k + n) h); sort = pending_sort (is_host setup (k + n)); until_checked = λ never. refl })

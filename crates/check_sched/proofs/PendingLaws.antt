@@ -21,7 +21,8 @@ use Rattle.check_sched.proofs.UpdateLaws.{each-update_at}
 abbrev pub ArePending : State → Type 0
 ArePending s = (n : ℕ) (t : Standing) → slice_get s.standings n ≡ Some t → IsPendingUntilChecked s.setup n t
 
-judged_is_checked_by : (setup : Configuration) (standings : List Standing) (n : ℕ) (c : Code) (host : Option ℕ) → (judged_by host setup standings n c).checked ≡ true
+judged_is_checked_by : (setup : Configuration) (standings : List Standing) (n : ℕ) (c : Code) (host : Option ℕ)
+    → (judged_by host setup standings n c).checked ≡ true
 judged_is_checked_by setup standings n c None = refl
 judged_is_checked_by setup standings n c (Some host) = refl
 
@@ -34,7 +35,8 @@ step_pending : (s : State) (c : Call) → ArePending s → ArePending (step s c)
 step_pending s (call.Take now) was = take_cases (λ a. ArePending a.0) now s (λ why. was) (λ c m e. was) (λ c m r e. was) (λ e. was)
 step_pending s (call.Report n run c) was =
     report_cases (λ a. ArePending a.0) n run c s (λ why. was)
-    (λ o r e f. each-update_at (IsPendingUntilChecked s.setup) n (judged s.setup s.standings n c) s.standings was (λ never. let made = judged_is_checked s.setup s.standings n c in cc))
+    (λ o r e f. each-update_at (IsPendingUntilChecked s.setup) n (judged s.setup s.standings n c) s.standings was
+    (λ never. let made = judged_is_checked s.setup s.standings n c in cc))
 step_pending s (call.Abandon n run now) was = abandon_cases (λ a. ArePending a.0) n run now s (λ why. was) (λ o e m. was)
 step_pending s (call.Reschedule n time forced) was = reschedule_cases (λ a. ArePending a.0) n time forced s (λ why. was) (λ m. was)
 step_pending s (call.Enable n on) was = enable_cases (λ a. ArePending a.0) n on s (λ why. was) was
@@ -50,5 +52,8 @@ opening_pending setup start n t e never =
     sym (pending_at setup 0 (objects_of setup) n t e) ∙ ap (λ j. pending_standing (is_host setup j)) z
 
 -- Whatever calls are made of a scheduler that was opened, an object that was never checked stands as pending.
-pub opened_pending : (setup : Configuration) (start : ℕ) (calls : List Call) (n : ℕ) (t : Standing) → slice_get (after (opening setup start) calls).standings n ≡ Some t → IsPendingUntilChecked setup n t
-opened_pending setup start calls n t e = subst (λ c. IsPendingUntilChecked c n t) (after_setup (opening setup start) calls) (after_pending (opening setup start) calls (opening_pending setup start) n t e)
+pub opened_pending : (setup : Configuration) (start : ℕ) (calls : List Call) (n : ℕ) (t : Standing)
+    → slice_get (after (opening setup start) calls).standings n ≡ Some t → IsPendingUntilChecked setup n t
+opened_pending setup start calls n t e =
+    subst (λ c. IsPendingUntilChecked c n t) (after_setup (opening setup start) calls)
+    (after_pending (opening setup start) calls (opening_pending setup start) n t e)

@@ -58,7 +58,8 @@ left_test left = cond left (Ok tt) (Err refusal.RunsSpent)
 turn_reply : (s : State) (now : ℕ) (found : Option Candidate) → IsTakeReply (take_least now s found).1
 turn_reply s now found = take_by (λ a. IsTakeReply a.1) now s found (λ c e. tt) (λ c e. tt) (λ e. waiting_cases IsTakeReply now s tt tt)
 
-take_tests : (s : State) (now : ℕ) (late left : Bool) → IsTakeReply (settled s (range_test late >>= λ _. (left_test left >>= λ _. Ok (take_least now s (least (eligible now s)))))).1
+take_tests : (s : State) (now : ℕ) (late left : Bool)
+    → IsTakeReply (settled s (range_test late >>= λ _. (left_test left >>= λ _. Ok (take_least now s (least (eligible now s)))))).1
 take_tests s now true left = tt
 take_tests s now false true = turn_reply s now (least (eligible now s))
 take_tests s now false false = tt

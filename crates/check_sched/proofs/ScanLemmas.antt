@@ -18,7 +18,8 @@ abbrev pub earlier_of : Option Candidate → Candidate → Candidate
 earlier_of None next = next
 earlier_of (Some so_far) next = cond (nat_le so_far.0 next.0) so_far next
 
-pub earlier_is : (least_so_far : Option Candidate) (next made : Candidate) → MatchOption least_so_far (made ≡ next) (λ so_far. made ≡ cond (nat_le so_far.0 next.0) so_far next) → made ≡ earlier_of least_so_far next
+pub earlier_is : (least_so_far : Option Candidate) (next made : Candidate)
+    → MatchOption least_so_far (made ≡ next) (λ so_far. made ≡ cond (nat_le so_far.0 next.0) so_far next) → made ≡ earlier_of least_so_far next
 earlier_is None next made h = h
 earlier_is (Some so_far) next made h = h
 

@@ -16,7 +16,8 @@ use Rattle.check_sched.specs.State.{standing_at, max_attempts_of}
 -- ("Host Checks", "State Types"; that the host's current state counts is our own profile.)
 abbrev pub judged_by : Option ℕ → Configuration → List Standing → ℕ → Code → Standing
 judged_by None setup standings number code = verdict_on (standing_at standings number) (host_state_of setup standings number code) (max_attempts_of setup number) true
-judged_by (Some host) setup standings number code = verdict_on (standing_at standings number) (service_state_of code) (max_attempts_of setup number) (not (is_down (standing_at standings host)))
+judged_by (Some host) setup standings number code =
+    verdict_on (standing_at standings number) (service_state_of code) (max_attempts_of setup number) (not (is_down (standing_at standings host)))
 
 abbrev pub judged : Configuration → List Standing → ℕ → Code → Standing
 judged setup standings number code = judged_by (host_of setup number) setup standings number code

@@ -336,7 +336,8 @@ impl Sched {
         self.start
     }
 
-    /// What is known of the object with this number: its state, kind and attempt.
+    /// What is known of the object with this number: its state, kind and attempt. One that was never
+    /// checked stands as [`pending`].
     pub fn standing(&self, number: u32) -> Standing
         requires { number < object_count self.now.setup }
         ensures value { result ≡ standing_at self.now.standings number }
