@@ -1,5 +1,5 @@
 -- Dependencies followed from master to master: where no object depends on itself, the number of objects is deep enough.
-use Rattle.std.proofs.Common.{◌≡◌, ℕ, zero, suc, ◌<◌, ◌&&◌, ◌||◌, Bool, true, false, List, [], ◌∷◌, length, refl, sym, ap, ◌∙◌, arith, inl, inr}
+use Rattle.std.proofs.Common.{◌≡◌, ℕ, zero, suc, ◌<◌, ◌≤◌, ◌&&◌, ◌||◌, Bool, true, false, List, [], ◌∷◌, get_or, length, refl, sym, ap, ◌∙◌, arith, inl, inr}
 use Rattle.std.specs.List.{list_any}
 use Rattle.std.proofs.lemmas.Bool.{cases_lt}
 use Rattle.std.proofs.lemmas.List.{length-map}
@@ -8,7 +8,7 @@ use Rattle.check_objects.specs.declared.dependency.Dependency.{Dependency}
 use Rattle.check_objects.specs.Configuration.{Configuration, dependencies_of, masters_in, masters_of, object_count, IsSetup}
 use Rattle.check_objects.specs.Depth.{links_of, deep, any_below, has_cycle}
 use Rattle.check_rules.specs.declared.standing.Standing.{Standing}
-use Rattle.check_rules.specs.Dependencies.{is_met, is_blocked_within, is_blocked}
+use Rattle.check_rules.specs.Dependencies.{fails, is_met, is_blocked_within, is_blocked}
 
 -- the masters of an object are those of its dependencies
 pub masters_at : (c : Configuration) (n : ℕ) → links_of (masters_of c) n ≡ masters_in (dependencies_of c n)
@@ -48,13 +48,17 @@ no_chain : (links : List (List ℕ)) (n : ℕ) → has_cycle links ≡ false →
 unfolding has_cycle
 no_chain links n h l = below_by (λ o. deep links o (length links)) (length links) h n l
 
+-- no chain of as many masters as there are objects begins at an object
+short : (c : Configuration) (n : ℕ) → has_cycle (masters_of c) ≡ false → length c.dependencies ≡ object_count c → n < object_count c
+    → deep (masters_of c) n (object_count c) ≡ false
+short c n acyclic listed h =
+    let size : length (masters_of c) ≡ object_count c = length-map c.dependencies masters_in ∙ listed in
+    rw (← size) (no_chain (masters_of c) n acyclic (omega (arith, size, h)))
+
 -- An object is blocked where a master of it is in one of its criteria, or a dependency of it inherits and its master is
 -- blocked.
 pub blocked_by_masters : (c : Configuration) (standings : List Standing) (n : ℕ) → IsSetup c → n < object_count c → is_blocked c standings n ≡ list_any (λ d. is_met c standings d || (d.inherits && is_blocked c standings d.master)) (dependencies_of c n)
-blocked_by_masters c standings n is h =
-    let size : length (masters_of c) ≡ object_count c = length-map c.dependencies masters_in ∙ is.listed in
-    let none : deep (masters_of c) n (object_count c) ≡ false = rw (← size) (no_chain (masters_of c) n is.acyclic (omega (arith, size, h))) in
-    sym (deep_enough c standings (object_count c) n none)
+blocked_by_masters c standings n is h = sym (deep_enough c standings (object_count c) n (short c n is.acyclic is.listed h))
 
 unblocked_within : (k : ℕ) (c : Configuration) (standings : List Standing) (n : ℕ) → dependencies_of c n ≡ [] → is_blocked_within k c standings n ≡ false
 unblocked_within zero c standings n e = refl
@@ -63,3 +67,37 @@ unblocked_within (suc k) c standings n e = rw e refl
 -- an object without dependencies isn't blocked
 pub unblocked : (c : Configuration) (standings : List Standing) (n : ℕ) → dependencies_of c n ≡ [] → false ≡ is_blocked c standings n
 unblocked c standings n e = sym (unblocked_within (object_count c) c standings n e)
+
+none_past : {X : Type 0} (ds : List (List X)) (n : ℕ) → length ds ≤ n → get_or ds n [] ≡ []
+none_past [] n h = refl
+none_past (d ∷ ds) zero h = absurd (omega arith)
+none_past (d ∷ ds) (suc n) h = none_past ds n (omega arith)
+
+-- a number past the objects has no dependencies
+past : (c : Configuration) (n : ℕ) → length c.dependencies ≡ object_count c → object_count c ≤ n → dependencies_of c n ≡ []
+past c n listed h = none_past c.dependencies n (omega (arith, listed, h))
+
+-- An object is blocked exactly where some dependency of it fails.
+pub blocked_where : (c : Configuration) (standings : List Standing) → has_cycle (masters_of c) ≡ false → length c.dependencies ≡ object_count c
+    → (n : ℕ) → is_blocked c standings n ≡ list_any (fails (is_blocked c standings) c standings) (dependencies_of c n)
+blocked_where c standings acyclic listed n = elim (cases_lt n (object_count c)) [
+  | inl h ↦ sym (deep_enough c standings (object_count c) n (short c n acyclic listed h))
+  | inr g ↦ let none = past c n listed g in sym (unblocked c standings n none) ∙ sym (ap (list_any (fails (is_blocked c standings) c standings)) none)
+]
+
+-- what answers by its own answers for the masters, answers as the definition does where no chain of k masters begins
+alone_within : (c : Configuration) (standings : List Standing) (b : ℕ → Bool) → ((n : ℕ) → b n ≡ list_any (fails b c standings) (dependencies_of c n))
+    → (k n : ℕ) → deep (masters_of c) n k ≡ false → b n ≡ is_blocked_within k c standings n
+alone_within c standings b is zero n h = cc
+alone_within c standings b is (suc k) n h =
+    is n
+    ∙ any_same (masters_of c) k (fails b c standings) (fails (is_blocked_within k c standings) c standings)
+    (λ d e. ap (λ x. is_met c standings d || (d.inherits && x)) (alone_within c standings b is k d.master e))
+    (dependencies_of c n) (rw (← masters_at c n) h)
+
+pub alone : (c : Configuration) (standings : List Standing) (b : ℕ → Bool) → has_cycle (masters_of c) ≡ false → length c.dependencies ≡ object_count c
+    → ((n : ℕ) → b n ≡ list_any (fails b c standings) (dependencies_of c n)) → (n : ℕ) → b n ≡ is_blocked c standings n
+alone c standings b acyclic listed is n = elim (cases_lt n (object_count c)) [
+  | inl h ↦ alone_within c standings b is (object_count c) n (short c n acyclic listed h)
+  | inr g ↦ let none = past c n listed g in is n ∙ ap (list_any (fails b c standings)) none ∙ unblocked c standings n none
+]

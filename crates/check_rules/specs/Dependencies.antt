@@ -32,13 +32,18 @@ meets reads_soft c s = if s.checked then is_criterion c (state_read reads_soft s
 abbrev pub is_met : Configuration → List Standing → Dependency → Bool
 is_met setup standings d = option_map_or (meets setup.options.soft_state_dependencies d.criteria) (slice_get standings d.master) false
 
+-- Whether a dependency fails, by which objects are blocked: its master is in one of its criteria, or
+-- it inherits and its master is blocked.
+abbrev pub fails : (ℕ → Bool) → Configuration → List Standing → Dependency → Bool
+fails blocked setup standings d = is_met setup standings d || (d.inherits && blocked d.master)
+
 -- Whether some dependency of the object fails, where inherited ones are followed through so many
 -- masters: a dependency fails where its master is in one of its criteria, or where it inherits and
 -- some dependency of its master fails.
 abbrev pub is_blocked_within : ℕ → Configuration → List Standing → ℕ → Bool
 is_blocked_within zero setup standings n = false
 is_blocked_within (suc k) setup standings n =
-    list_any (λ d. is_met setup standings d || (d.inherits && is_blocked_within k setup standings d.master)) (dependencies_of setup n)
+    list_any (fails (is_blocked_within k setup standings) setup standings) (dependencies_of setup n)
 
 -- Whether some dependency of the object fails. No chain of masters is longer than there are
 -- objects, since none comes twice.

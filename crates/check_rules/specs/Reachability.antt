@@ -8,7 +8,7 @@ use Rattle.check_rules.specs.declared.state.Code.TheVariants as code
 use Rattle.check_rules.specs.declared.state.State.{State}
 use Rattle.check_rules.specs.declared.state.State.TheVariants as state
 use Rattle.check_rules.specs.declared.standing.Standing.{Standing}
-use Rattle.check_rules.specs.Standing.{is_up}
+use Rattle.check_rules.specs.Standing.{is_down}
 
 -- Whether a return code is a problem of a host: 2 and 3 are, and 1 where hosts are checked
 -- aggressively. ("Host Checks".)
@@ -18,9 +18,9 @@ is_problem_of_host is_aggressive code.Warning = is_aggressive
 is_problem_of_host is_aggressive code.Critical = true
 is_problem_of_host is_aggressive code.Unknown = true
 
--- whether the host with this number is DOWN or UNREACHABLE now
+-- whether the host with this number was checked and is DOWN or UNREACHABLE now
 abbrev pub is_down_at : List Standing → ℕ → Bool
-is_down_at standings number = option_map_or (λ s. not (is_up s)) (slice_get standings number) false
+is_down_at standings number = option_map_or is_down (slice_get standings number) false
 
 -- A host is cut off where it has parents and each of them is DOWN or UNREACHABLE. ("Determining
 -- Status and Reachability of Network Hosts".)

@@ -1,12 +1,12 @@
 -- What is known of an object.
-use Rattle.std.specs.Prelude.{ℕ, Bool, true, false, not, ◌&&◌, ◌||◌, ◌==◌, nat_lt, nat_le, if◌then◌else◌}
+use Rattle.std.specs.Prelude.{ℕ, Bool, true, false, not, ◌&&◌, ◌==◌, nat_lt, nat_le, if◌then◌else◌}
 use Rattle.check_rules.specs.declared.state.State.{State}
 use Rattle.check_rules.specs.declared.standing.Kind.{Kind}
 use Rattle.check_rules.specs.declared.standing.Kind.TheVariants as kind
 use Rattle.check_rules.specs.declared.standing.Phase.{Phase}
 use Rattle.check_rules.specs.declared.standing.Phase.TheVariants as phase
 use Rattle.check_rules.specs.declared.standing.Standing.{Standing}
-use Rattle.check_rules.specs.State.{is_problem, is_host_state, fine_state}
+use Rattle.check_rules.specs.State.{is_problem, is_host_state, is_down_state, fine_state}
 
 -- a host or a service that was never checked (our own profile)
 abbrev pub pending_standing : Bool → Standing
@@ -16,10 +16,10 @@ pending_standing is_host = record { checked = false; state = fine_state is_host;
 abbrev pub as_checked : Standing → Standing
 as_checked s = if s.checked then s else pending_standing (is_host_state s.state)
 
--- Whether an object is up, or a service OK: it has no problem, or was never checked. (That one
--- never checked counts as up is our own profile.)
-abbrev pub is_up : Standing → Bool
-is_up s = not s.checked || not (is_problem s.state)
+-- Whether a host is down: it was checked, and its state is DOWN or UNREACHABLE; whatever else is known
+-- of an object, it isn't. (That one never checked counts as up is our own profile.)
+abbrev pub is_down : Standing → Bool
+is_down s = s.checked && is_down_state s.state
 
 -- The phase of a problem, by its kind.
 abbrev pub problem_phase : Kind → Phase

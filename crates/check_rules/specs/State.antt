@@ -25,6 +25,17 @@ is_problem state.Up = false
 is_problem state.Down = true
 is_problem state.Unreachable = true
 
+-- Whether a state is that of a host that is down: DOWN and UNREACHABLE are. ("Determining Status and
+-- Reachability of Network Hosts".)
+abbrev pub is_down_state : State → Bool
+is_down_state state.Ok = false
+is_down_state state.Warning = false
+is_down_state state.Critical = false
+is_down_state state.Unknown = false
+is_down_state state.Up = false
+is_down_state state.Down = true
+is_down_state state.Unreachable = true
+
 -- UP for a host, OK for a service
 abbrev pub fine_state : Bool → State
 fine_state is_host = if is_host then state.Up else state.Ok

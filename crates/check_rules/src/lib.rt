@@ -11,9 +11,10 @@
 //!
 //! The modules: `state` has return codes and states, `standing` what is known of an object,
 //! `verdicts` the verdict on a result, `reachability` the state of a host by its parents,
-//! `dependencies` whether a dependency holds a check back.
+//! `dependencies` whether a dependency holds a check back, `laws` what it is worth.
 
 mod dependencies;
+pub mod laws;
 mod reachability;
 mod standing;
 mod state;

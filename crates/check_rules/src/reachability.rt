@@ -17,8 +17,8 @@ use check_objects::Setup;
 /// `use_aggressive_host_checking` is on and UP where it is off. (Manual: "Host Checks".) A host
 /// with a problem is UNREACHABLE where it has parents and each of them is DOWN or UNREACHABLE, and
 /// DOWN otherwise. (Manual: "Determining Status and Reachability of Network Hosts".) Parents are
-/// judged by their current state, soft or hard; one that was never checked counts as UP. (Our own
-/// profile.)
+/// judged by their current state, soft or hard; one that was never checked counts as UP, whatever
+/// state it stands at. (Our own profile.)
 pub fn host_state(setup: &Setup, standings: &[Standing], number: u32, code: Code) -> State
     requires host { number < host_count setup.now }
     requires one_each { length standings.now ≡ object_count setup.now }
@@ -59,12 +59,12 @@ fn are_down(parents: &[u32], standings: &[Standing]) -> bool
     parents.iter().all(|parent| is_down_at(standings, *parent))
 }
 
-/// Whether the host with this number is down or unreachable.
+/// Whether the host with this number was checked and is down or unreachable.
 fn is_down_at(standings: &[Standing], number: u32) -> bool
     ensures { result ≡ is_down_at standings.now number }
 {
     match standings.get(number as usize) {
-        Some(standing) => !standing.is_up(),
+        Some(standing) => standing.is_down(),
         None => false,
     }
 }

@@ -1,7 +1,7 @@
 //! What is known of an object: its state, the kind of that state, the attempt.
 
 ghost use Rattle.std.specs.Prelude.{◌≡◌};
-ghost use Rattle.check_rules.specs.Standing.{as_checked, is_lawful, is_soft_problem, is_up, pending_standing, phase_of};
+ghost use Rattle.check_rules.specs.Standing.{as_checked, is_down, is_lawful, is_soft_problem, pending_standing, phase_of};
 
 use crate::state::State;
 
@@ -38,12 +38,12 @@ pub(crate) enum Phase {
 }
 
 impl Standing {
-    /// Whether the host is up, or the service OK: it has no problem, or it was never checked. (That
-    /// one never checked counts as up is our own profile.)
-    pub fn is_up(self) -> bool
-        ensures { result ≡ is_up self }
+    /// Whether the host is down: it was checked, and its state is DOWN or UNREACHABLE. Nothing else
+    /// counts as down. (That a host never checked counts as up is our own profile.)
+    pub fn is_down(self) -> bool
+        ensures { result ≡ is_down self }
     {
-        !self.checked || !self.state.is_problem()
+        self.checked && self.state.is_down()
     }
 
     /// Whether the object is a soft problem, which is being retried.

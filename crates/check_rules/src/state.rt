@@ -28,7 +28,7 @@ pub enum State {
 
 impl State {
     ghost use Rattle.std.specs.Prelude.{◌≡◌};
-    ghost use Rattle.check_rules.specs.State.{fine_state, is_host_state, is_problem};
+    ghost use Rattle.check_rules.specs.State.{fine_state, is_down_state, is_host_state, is_problem};
 
     /// Whether this is a state of hosts, and not one of services.
     pub fn is_host(self) -> bool
@@ -42,6 +42,13 @@ impl State {
         ensures { result ≡ is_problem self }
     {
         !matches!(self, State::Ok | State::Up)
+    }
+
+    /// Whether this is the state of a host that is down: `Down` or `Unreachable`.
+    pub(crate) fn is_down(self) -> bool
+        ensures { result ≡ is_down_state self }
+    {
+        matches!(self, State::Down | State::Unreachable)
     }
 
     /// `Up` for a host, `Ok` for a service.

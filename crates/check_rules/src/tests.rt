@@ -1,6 +1,7 @@
 //! The rules on outside values: the cases of Nagios Core 4.4.6's own test suite (`test_checks.c`)
 //! in which our table says what Nagios does, and worked examples of our own profile.
 
+use crate::laws::blocked_where_a_dependency_fails;
 use crate::{
     Code, Kind, Standing, State, blocked, host_state, lawful, pending, service_state, verdict,
 };
@@ -222,7 +223,8 @@ const THREE_HOSTS: &[u8] =
     br#"{"options":{"host_inter_check_delay_method":"n"},"hosts":[{"name":"a","max_check_attempts":3},{"name":"b","parents":["a"],"max_check_attempts":3},{"name":"c","parents":["a","b"],"max_check_attempts":3}]}"#;
 
 /// The states of hosts by their parents', and the cases of Nagios's suite with code 1 and with two
-/// parents that are down.
+/// parents that are down. One that was never checked counts as up, also where its state is DOWN, and
+/// so does one with a state that no host has.
 #[test]
 fn hosts_and_parents(rt: HostRuntime) -> Result<(), Fail> {
     use State::{Down, Unreachable, Up};
@@ -231,6 +233,11 @@ fn hosts_and_parents(rt: HostRuntime) -> Result<(), Fail> {
     let soft = standing(Down, Kind::Soft, 1, Up);
     let cut_off = standing(Unreachable, Kind::Soft, 1, Up);
     let recovering = standing(Up, Kind::Soft, 2, Down);
+    let never_checked = Standing {
+        checked: false,
+        ..down
+    };
+    let of_a_service = standing(State::Critical, Kind::Hard, 3, State::Critical);
     let setup = Setup::read(rt.alloc(), THREE_HOSTS)?;
     assert!(rt; setup.len() == 3 && setup.hosts() == 3);
     for (standings, number, code, want) in [
@@ -244,6 +251,9 @@ fn hosts_and_parents(rt: HostRuntime) -> Result<(), Fail> {
         ([down, cut_off, up], 2, Code::Unknown, Unreachable),
         ([down, up, up], 2, Code::Critical, Down),
         ([down, down, up], 2, Code::Ok, Up),
+        ([never_checked, up, up], 1, Code::Critical, Down),
+        ([down, never_checked, up], 2, Code::Critical, Down),
+        ([of_a_service, up, up], 1, Code::Critical, Down),
     ] {
         assert!(rt; number < 3);
         assert_eq!(rt;
@@ -306,4 +316,10 @@ fn a_dependency_that_does_not_inherit(rt: HostRuntime) -> Result<(), Fail> {
     assert!(rt; is_blocked(&rt, &chain, pending(false), 2));
     assert!(rt; !is_blocked(&rt, &chain, pending(false), 3));
     Ok(())
+}
+
+/// The law has no parameters.
+#[test]
+fn the_law_can_be_called(_rt: HostRuntime) {
+    blocked_where_a_dependency_fails();
 }

@@ -3,13 +3,11 @@
 use Rattle.std.proofs.Common.{◌≡◌, ℕ, ◌<◌, ◌≤◌, ◌^◌, Bool, true, false, ◌==◌, cond, Option, Some, None, Result, Ok, Err, refl, ap, arith}
 use Rattle.std.specs.Prelude.{nat_lt, ok_or, slice_get}
 use Rattle.std.proofs.lemmas.Bool.Decides.{nat_tests}
-use Rattle.check_sched.specs.declared.object_state.ObjectState.{ObjectState}
-use Rattle.check_sched.specs.declared.object_state.Run.{Run}
+use Rattle.check_sched.specs.Scheduling.{Scheduling, OpenRun, run_under}
 use Rattle.check_sched.specs.declared.call.Reply.{Reply}
 use Rattle.check_sched.specs.declared.call.Reply.TheVariants as reply
 use Rattle.check_sched.specs.declared.call.Refusal.{Refusal}
 use Rattle.check_sched.specs.declared.call.Refusal.TheVariants as refusal
-use Rattle.check_sched.specs.ObjectState.{run_under}
 use Rattle.check_sched.specs.State.{State}
 use Rattle.check_sched.specs.Step.{◌>>=◌, known, run_left, settled, within_range}
 
@@ -21,12 +19,12 @@ by_test P s (Err why) more refused passed = refused why
 
 -- ---- what a passed test tells
 
-known_by : (found : Option ObjectState) (o : ObjectState) → ok_or found refusal.UnknownObject ≡ Ok o → found ≡ Some o
+known_by : (found : Option Scheduling) (o : Scheduling) → ok_or found refusal.UnknownObject ≡ Ok o → found ≡ Some o
 known_by None o e = cc
 known_by (Some x) o e = let same : x ≡ o = cc in ap Some same
 
 -- the object is there
-pub known_is : (n : ℕ) (s : State) (o : ObjectState) → known n s ≡ Ok o → slice_get s.objects n ≡ Some o
+pub known_is : (n : ℕ) (s : State) (o : Scheduling) → known n s ≡ Ok o → slice_get s.objects n ≡ Some o
 known_is n s o e = known_by (slice_get s.objects n) o e
 
 range_by : (moment : ℕ) (u : Unit {0}) (late : Bool) → nat_lt (2 ^ 60) moment ≡ late → cond late (Err refusal.TimeRange) (Ok tt) ≡ Ok u → moment ≤ 2 ^ 60
@@ -45,11 +43,11 @@ left_by s u false l e = cc
 pub left_is : (s : State) (u : Unit {0}) → run_left s ≡ Ok u → s.runs < 2 ^ 60
 left_is s u e = left_by s u (nat_lt s.runs (2 ^ 60)) refl e
 
-under_by : (number : ℕ) (x r : Run) (same : Bool) → cond same (Ok x) (Err refusal.WrongRun) ≡ Ok r → x ≡ r
+under_by : (number : ℕ) (x r : OpenRun) (same : Bool) → cond same (Ok x) (Err refusal.WrongRun) ≡ Ok r → x ≡ r
 under_by number x r true e = cc
 under_by number x r false e = cc
 
 -- the object is being checked
-pub under_is : (number : ℕ) (running : Option Run) (r : Run) → run_under number running ≡ Ok r → running ≡ Some r
+pub under_is : (number : ℕ) (running : Option OpenRun) (r : OpenRun) → run_under number running ≡ Ok r → running ≡ Some r
 under_is number None r e = cc
 under_is number (Some x) r e = ap Some (under_by number x r (x.number == number) e)

@@ -4,10 +4,9 @@ use Rattle.std.specs.Prelude.{nat_lt, nat_le, find, filter}
 use Rattle.std.specs.List.{list_any, list_all, filter_map, enumerate_from, cons_option}
 use Rattle.std.proofs.lemmas.Bool.Decides.{nat_tests}
 use Rattle.std.proofs.lemmas.List.Folds.{list_any-append}
-use Rattle.check_sched.specs.declared.object_state.ObjectState.{ObjectState}
-use Rattle.check_sched.specs.declared.candidate.Candidate.{Candidate}
-use Rattle.check_sched.specs.ObjectState.{candidate_time}
-use Rattle.check_sched.specs.Candidate.{candidate, candidates_among, due_among, is_before, least}
+use Rattle.check_sched.specs.Scheduling.{Scheduling, candidate_time}
+use Rattle.check_sched.specs.Candidate.{Candidate, candidate, candidates_among, due_among}
+use Rattle.check_sched.specs.Order.{is_before, least}
 use Rattle.check_sched.specs.State.{is_time, is_moment, is_in_time}
 
 -- ---- tests
@@ -25,19 +24,19 @@ or_true false b e = e
 
 -- whether two candidates are the same
 abbrev pub is_same : Candidate → Candidate → Bool
-is_same c d = c.time == d.time && c.number == d.number
+is_same c d = c.0 == d.0 && c.1 == d.1
 
 -- no other comes before c
 abbrev pub is_no_later : Candidate → Candidate → Bool
 is_no_later c d = not (is_before d c)
 
-no_later_reads : (c d : Candidate) → is_no_later c d ≡ true → (c.time ≤ d.time) × (c.time ≡ d.time → c.number ≤ d.number)
+no_later_reads : (c d : Candidate) → is_no_later c d ≡ true → (c.0 ≤ d.0) × (c.0 ≡ d.0 → c.1 ≤ d.1)
 no_later_reads c d e = (grind (arith, nat_tests, e), λ s. grind (arith, nat_tests, e, s))
 
-pub no_later_holds : (c d : Candidate) → c.time ≤ d.time → (c.time ≡ d.time → c.number ≤ d.number) → is_no_later c d ≡ true
+pub no_later_holds : (c d : Candidate) → c.0 ≤ d.0 → (c.0 ≡ d.0 → c.1 ≤ d.1) → is_no_later c d ≡ true
 no_later_holds c d l s = grind (arith, nat_tests, l, s)
 
-pub no_later_time : (c d : Candidate) → is_no_later c d ≡ true → c.time ≤ d.time
+pub no_later_time : (c d : Candidate) → is_no_later c d ≡ true → c.0 ≤ d.0
 no_later_time c d e = (no_later_reads c d e).0
 
 pub is_same_itself : (c : Candidate) → is_same c c ≡ true
@@ -45,9 +44,9 @@ is_same_itself c = grind (arith, nat_tests)
 
 pub same_is : (c d : Candidate) → is_same c d ≡ true → c ≡ d
 same_is c d e =
-    let a : c.time ≡ d.time = grind (arith, nat_tests, e) in
-    let b : c.number ≡ d.number = grind (arith, nat_tests, e) in
-    λ i. record { time = a i; number = b i }
+    let a : c.0 ≡ d.0 = grind (arith, nat_tests, e) in
+    let b : c.1 ≡ d.1 = grind (arith, nat_tests, e) in
+    λ i. (a i, b i)
 
 no_later_chain : (c d e : Candidate) → is_no_later c d ≡ true → is_no_later d e ≡ true → is_no_later c e ≡ true
 no_later_chain c d e g h =
@@ -55,8 +54,8 @@ no_later_chain c d e g h =
     let b = no_later_reads d e h in
     no_later_holds c e (omega (arith, a.0, b.0))
     (λ s.
-    let x : c.time ≡ d.time = omega (arith, a.0, b.0) in
-    let y : d.time ≡ e.time = omega (arith, a.0, b.0) in
+    let x : c.0 ≡ d.0 = omega (arith, a.0, b.0) in
+    let y : d.0 ≡ e.0 = omega (arith, a.0, b.0) in
     omega (arith, a.1 x, b.1 y))
 
 -- ---- lists of candidates
@@ -120,9 +119,9 @@ agree : (p d : Candidate) → is_no_later p d ≡ true → is_no_later d p ≡ t
 agree p d a b =
     let l = no_later_reads p d a in
     let m = no_later_reads d p b in
-    let x : d.time ≡ p.time = omega (arith, l.0, m.0) in
-    let y : d.number ≡ p.number = omega (arith, l.1 (sym x), m.1 x) in
-    λ i. record { time = x i; number = y i }
+    let x : d.0 ≡ p.0 = omega (arith, l.0, m.0) in
+    let y : d.1 ≡ p.1 = omega (arith, l.1 (sym x), m.1 x) in
+    λ i. (x i, y i)
 
 not_first_by : (p d : Candidate) (cs ds : List Candidate) (b : Bool) → is_same p d ≡ b → list_all (is_no_later d) cs ≡ false → IsLeast p cs → (b || list_any (is_same p) ds) ≡ true → list_any (is_same p) ds ≡ true
 not_first_by p d cs ds true q s h m = let e = ap (λ x. list_all (is_no_later x) cs) (same_is p d q) in let f = h.first in cc
@@ -195,23 +194,23 @@ all_at_least f c cs e h =
 -- a candidate, where its time has come
 abbrev pub if_due : ℕ → Option Candidate → Option Candidate
 if_due now None = None
-if_due now (Some c) = cond (nat_le c.time now) (Some c) None
+if_due now (Some c) = cond (nat_le c.0 now) (Some c) None
 
-late_by : (now : ℕ) (c d : Candidate) → now < c.time → is_no_later c d ≡ true → not (nat_le d.time now) ≡ true
+late_by : (now : ℕ) (c d : Candidate) → now < c.0 → is_no_later c d ≡ true → not (nat_le d.0 now) ≡ true
 late_by now c d l e = let t = no_later_time c d e in grind (arith, nat_tests, l, t)
 
-found_due_by : (now : ℕ) (c : Candidate) (cs : List Candidate) (b : Bool) → nat_le c.time now ≡ b → IsLeast c cs → FoundLeast (cond b (Some c) None) (due_among now cs)
+found_due_by : (now : ℕ) (c : Candidate) (cs : List Candidate) (b : Bool) → nat_le c.0 now ≡ b → IsLeast c cs → FoundLeast (cond b (Some c) None) (due_among now cs)
 found_due_by now c cs true s h = record {
-  among = any_filtered c (λ d. nat_le d.time now) cs s h.among;
-  first = all_filtered (is_no_later c) (λ d. nat_le d.time now) cs h.first;
+  among = any_filtered c (λ d. nat_le d.0 now) cs s h.among;
+  first = all_filtered (is_no_later c) (λ d. nat_le d.0 now) cs h.first;
 }
 found_due_by now c cs false s h =
-    let l : now < c.time = grind (arith, nat_tests, s) in
-    none_filtered (λ d. nat_le d.time now) cs (all_weaker (is_no_later c) (λ d. not (nat_le d.time now)) cs (λ d e. late_by now c d l e) h.first)
+    let l : now < c.0 = grind (arith, nat_tests, s) in
+    none_filtered (λ d. nat_le d.0 now) cs (all_weaker (is_no_later c) (λ d. not (nat_le d.0 now)) cs (λ d e. late_by now c d l e) h.first)
 
 found_due : (now : ℕ) (first : Option Candidate) (cs : List Candidate) → FoundLeast first cs → FoundLeast (if_due now first) (due_among now cs)
 found_due now None cs e = rw e refl
-found_due now (Some c) cs h = found_due_by now c cs (nat_le c.time now) refl h
+found_due now (Some c) cs h = found_due_by now c cs (nat_le c.0 now) refl h
 
 -- The least of all that wait is the least of those that are due, where it is due; else none is.
 pub least_due : (now : ℕ) (cs : List Candidate) → if_due now (least cs) ≡ least (due_among now cs)
@@ -219,27 +218,27 @@ least_due now cs = least_found (if_due now (least cs)) (due_among now cs) (found
 
 -- ---- candidates and objects
 
-within_by : (k n : ℕ) (t : Option ℕ) (cs : List Candidate) → k < n → list_all (λ c. nat_lt c.number n) cs ≡ true → list_all (λ c. nat_lt c.number n) (cons_option (option_map (λ time. record { time = time; number = k }) t) cs) ≡ true
+within_by : (k n : ℕ) (t : Option ℕ) (cs : List Candidate) → k < n → list_all (λ c. nat_lt c.1 n) cs ≡ true → list_all (λ c. nat_lt c.1 n) (cons_option (option_map (λ time. (time, k)) t) cs) ≡ true
 within_by k n None cs l e = e
 within_by k n (Some t) cs l e = both_and (nat_lt k n) _ (grind (arith, nat_tests, l)) e
 
-within_from : (k n : ℕ) (objects : List ObjectState) → k + length objects ≤ n → list_all (λ c. nat_lt c.number n) (filter_map (λ p. candidate p.0 p.1) (enumerate_from k objects)) ≡ true
+within_from : (k n : ℕ) (objects : List Scheduling) → k + length objects ≤ n → list_all (λ c. nat_lt c.1 n) (filter_map (λ p. candidate p.0 p.1) (enumerate_from k objects)) ≡ true
 within_from k n [] l = refl
 within_from k n (o ∷ objects) l = within_by k n (candidate_time o) _ (omega arith) (within_from (k + 1) n objects (omega arith))
 
 -- each candidate is one of the objects
-pub candidates_within : (objects : List ObjectState) → list_all (λ c. nat_lt c.number (length objects)) (candidates_among objects) ≡ true
+pub candidates_within : (objects : List Scheduling) → list_all (λ c. nat_lt c.1 (length objects)) (candidates_among objects) ≡ true
 candidates_within objects = within_from 0 (length objects) objects (omega arith)
 
 time_by : (b : Bool) (next : Option ℕ) → is_time next ≡ true → is_time (cond b next None) ≡ true
 time_by true next e = e
 time_by false next e = refl
 
-times_by : (k : ℕ) (t : Option ℕ) (cs : List Candidate) → is_time t ≡ true → list_all (λ c. nat_le c.time (2 ^ 61)) cs ≡ true → list_all (λ c. nat_le c.time (2 ^ 61)) (cons_option (option_map (λ time. record { time = time; number = k }) t) cs) ≡ true
+times_by : (k : ℕ) (t : Option ℕ) (cs : List Candidate) → is_time t ≡ true → list_all (λ c. nat_le c.0 (2 ^ 61)) cs ≡ true → list_all (λ c. nat_le c.0 (2 ^ 61)) (cons_option (option_map (λ time. (time, k)) t) cs) ≡ true
 times_by k None cs l e = e
 times_by k (Some t) cs l e = both_and (nat_le t (2 ^ 61)) _ l e
 
-times_from : (k : ℕ) (objects : List ObjectState) → list_all is_in_time objects ≡ true → list_all (λ c. nat_le c.time (2 ^ 61)) (filter_map (λ p. candidate p.0 p.1) (enumerate_from k objects)) ≡ true
+times_from : (k : ℕ) (objects : List Scheduling) → list_all is_in_time objects ≡ true → list_all (λ c. nat_le c.0 (2 ^ 61)) (filter_map (λ p. candidate p.0 p.1) (enumerate_from k objects)) ≡ true
 times_from k [] e = refl
 times_from k (o ∷ objects) e =
     let both = and_both (is_in_time o) (list_all is_in_time objects) e in
@@ -247,5 +246,5 @@ times_from k (o ∷ objects) e =
     times_by k (candidate_time o) _ (time_by _ o.next here.0) (times_from (k + 1) objects both.1)
 
 -- where no next time is past the limit, no candidate's is
-pub candidates_times : (objects : List ObjectState) → list_all is_in_time objects ≡ true → list_all (λ c. nat_le c.time (2 ^ 61)) (candidates_among objects) ≡ true
+pub candidates_times : (objects : List Scheduling) → list_all is_in_time objects ≡ true → list_all (λ c. nat_le c.0 (2 ^ 61)) (candidates_among objects) ≡ true
 candidates_times objects e = times_from 0 objects e

@@ -4,12 +4,11 @@ use Rattle.std.specs.Prelude.{filter, nat_le, nat_lt}
 use Rattle.std.specs.List.{list_all, list_any, filter_map, enumerate_from, cons_option}
 use Rattle.std.proofs.lemmas.Bool.Decides.{nat_tests}
 use Rattle.check_objects.specs.Configuration.{Configuration, host_count}
-use Rattle.check_sched.specs.declared.object_state.ObjectState.{ObjectState}
-use Rattle.check_sched.specs.declared.candidate.Candidate.{Candidate}
+use Rattle.check_sched.specs.Scheduling.{Scheduling, candidate_time}
+use Rattle.check_sched.specs.Candidate.{Candidate, candidate, candidates_among, due_among}
+use Rattle.check_sched.specs.Order.{least}
 use Rattle.check_sched.specs.declared.call.Reply.{Reply}
 use Rattle.check_sched.specs.declared.call.Reply.TheVariants as reply
-use Rattle.check_sched.specs.ObjectState.{candidate_time}
-use Rattle.check_sched.specs.Candidate.{candidate, candidates_among, due_among, least}
 use Rattle.check_sched.specs.State.{State, has_room, is_host}
 use Rattle.check_sched.specs.Step.{candidates, due, eligible, is_open, waiting_reply}
 use Rattle.check_sched.proofs.CandidateLaws.{FoundLeast, IsLeast, all_at_least, any_filtered, both_and, if_due, is_same, least_due, least_is_found, none_filtered, same_is}
@@ -53,44 +52,44 @@ or_right false = refl
 -- ---- the candidates among the first objects
 
 -- the candidates among objects that stand by number from k on
-abbrev numbered : ℕ → List ObjectState → List Candidate
+abbrev numbered : ℕ → List Scheduling → List Candidate
 numbered k objects = filter_map (λ p. candidate p.0 p.1) (enumerate_from k objects)
 
-past_by : (k n : ℕ) (t : Option ℕ) (cs : List Candidate) → n ≤ k → list_all (λ c. not (nat_lt c.number n)) cs ≡ true → list_all (λ c. not (nat_lt c.number n)) (cons_option (option_map (λ time. record { time = time; number = k }) t) cs) ≡ true
+past_by : (k n : ℕ) (t : Option ℕ) (cs : List Candidate) → n ≤ k → list_all (λ c. not (nat_lt c.1 n)) cs ≡ true → list_all (λ c. not (nat_lt c.1 n)) (cons_option (option_map (λ time. (time, k)) t) cs) ≡ true
 past_by k n None cs l e = e
 past_by k n (Some t) cs l e = both_and (not (nat_lt k n)) _ (grind (arith, nat_tests, l)) e
 
-numbered_past : (k n : ℕ) (objects : List ObjectState) → n ≤ k → list_all (λ c. not (nat_lt c.number n)) (numbered k objects) ≡ true
+numbered_past : (k n : ℕ) (objects : List Scheduling) → n ≤ k → list_all (λ c. not (nat_lt c.1 n)) (numbered k objects) ≡ true
 numbered_past k n [] l = refl
 numbered_past k n (o ∷ objects) l = past_by k n (candidate_time o) _ l (numbered_past (k + 1) n objects (omega arith))
 
-first_by : (k n : ℕ) (t : Option ℕ) (cs ds : List Candidate) → k < n → cs ≡ filter (λ c. nat_lt c.number n) ds
-    → cons_option (option_map (λ time. record { time = time; number = k }) t) cs ≡ filter (λ c. nat_lt c.number n) (cons_option (option_map (λ time. record { time = time; number = k }) t) ds)
+first_by : (k n : ℕ) (t : Option ℕ) (cs ds : List Candidate) → k < n → cs ≡ filter (λ c. nat_lt c.1 n) ds
+    → cons_option (option_map (λ time. (time, k)) t) cs ≡ filter (λ c. nat_lt c.1 n) (cons_option (option_map (λ time. (time, k)) t) ds)
 first_by k n None cs ds l e = e
-first_by k n (Some t) cs ds l e = let here : nat_lt k n ≡ true = grind (arith, nat_tests, l) in rw here (ap (λ l. record { time = t; number = k } ∷ l) e)
+first_by k n (Some t) cs ds l e = let here : nat_lt k n ≡ true = grind (arith, nat_tests, l) in rw here (ap (λ l. (t, k) ∷ l) e)
 
-numbered_first : (k m n : ℕ) (objects : List ObjectState) → k + m ≡ n → numbered k (take m objects) ≡ filter (λ c. nat_lt c.number n) (numbered k objects)
-numbered_first k zero n objects e = sym (none_filtered (λ c. nat_lt c.number n) (numbered k objects) (numbered_past k n objects (omega arith)))
+numbered_first : (k m n : ℕ) (objects : List Scheduling) → k + m ≡ n → numbered k (take m objects) ≡ filter (λ c. nat_lt c.1 n) (numbered k objects)
+numbered_first k zero n objects e = sym (none_filtered (λ c. nat_lt c.1 n) (numbered k objects) (numbered_past k n objects (omega arith)))
 numbered_first k (suc m) n [] e = refl
 numbered_first k (suc m) n (o ∷ objects) e = first_by k n (candidate_time o) _ _ (omega arith) (numbered_first (k + 1) m n objects (omega arith))
 
 -- ---- those whose check may begin
 
-open_by : (now : ℕ) (setup : Configuration) (objects : List ObjectState) (room : Bool)
-    → filter (λ c. is_host setup c.number || room) (due_among now (candidates_among objects)) ≡ due_among now (candidates_among (cond room objects (take (host_count setup) objects)))
-open_by now setup objects true = filter_every (λ c. is_host setup c.number || true) (due_among now (candidates_among objects)) (λ c. or_right (is_host setup c.number))
+open_by : (now : ℕ) (setup : Configuration) (objects : List Scheduling) (room : Bool)
+    → filter (λ c. is_host setup c.1 || room) (due_among now (candidates_among objects)) ≡ due_among now (candidates_among (cond room objects (take (host_count setup) objects)))
+open_by now setup objects true = filter_every (λ c. is_host setup c.1 || true) (due_among now (candidates_among objects)) (λ c. or_right (is_host setup c.1))
 open_by now setup objects false =
-    ap (λ p. filter p (due_among now (candidates_among objects))) (λ i c. or_false (is_host setup c.number) i)
-    ∙ filter_swap (λ c. is_host setup c.number) (λ c. nat_le c.time now) (candidates_among objects)
+    ap (λ p. filter p (due_among now (candidates_among objects))) (λ i c. or_false (is_host setup c.1) i)
+    ∙ filter_swap (λ c. is_host setup c.1) (λ c. nat_le c.0 now) (candidates_among objects)
     ∙ ap (due_among now) (sym (numbered_first 0 (host_count setup) (host_count setup) objects (omega arith)))
 
 -- they are the due among all objects, or among the hosts, by whether there is room
 pub eligible_is : (now : ℕ) (s : State) (room : Bool) → has_room s ≡ room → eligible now s ≡ due_among now (candidates_among (cond room s.objects (take (host_count s.setup) s.objects)))
-eligible_is now s room e = ap (λ b. filter (λ c. is_host s.setup c.number || b) (due_among now (candidates_among s.objects))) e ∙ open_by now s.setup s.objects room
+eligible_is now s room e = ap (λ b. filter (λ c. is_host s.setup c.1 || b) (due_among now (candidates_among s.objects))) e ∙ open_by now s.setup s.objects room
 
 -- the check of the one that is chosen may begin
-pub eligible_open : (now : ℕ) (s : State) (c : Candidate) → least (eligible now s) ≡ Some c → is_open s c.number ≡ true
-eligible_open now s c e = all_at_least (λ x. is_open s x.number) c (eligible now s) e (filtered_pass (λ x. is_open s x.number) (due now s))
+pub eligible_open : (now : ℕ) (s : State) (c : Candidate) → least (eligible now s) ≡ Some c → is_open s c.1 ≡ true
+eligible_open now s c e = all_at_least (λ x. is_open s x.1) c (eligible now s) e (filtered_pass (λ x. is_open s x.1) (due now s))
 
 -- ---- the reply where none may begin
 
@@ -99,8 +98,8 @@ waiting_by P true next limit idle = limit
 waiting_by P false next limit idle = idle
 
 -- it is one of two
-pub waiting_cases : (P : Reply → Type 0) (now : ℕ) (s : State) → P reply.AtLimit → P (reply.Idle (option_map (λ c. c.time) (least (candidates s)))) → P (waiting_reply now s)
-waiting_cases P now s limit idle = waiting_by P (list_any (λ c. not (is_host s.setup c.number)) (due now s)) _ limit idle
+pub waiting_cases : (P : Reply → Type 0) (now : ℕ) (s : State) → P reply.AtLimit → P (reply.Idle (option_map (λ c. c.0) (least (candidates s)))) → P (waiting_reply now s)
+waiting_cases P now s limit idle = waiting_by P (list_any (λ c. not (is_host s.setup c.1)) (due now s)) _ limit idle
 
 any_same_by : (p : Candidate → Bool) (c d : Candidate) (cs : List Candidate) (b : Bool) → is_same c d ≡ b → p c ≡ true → (b || list_any (is_same c) cs) ≡ true → (list_any (is_same c) cs ≡ true → list_any p cs ≡ true) → (p d || list_any p cs) ≡ true
 any_same_by p c d cs true e h m more = let here : p d ≡ true = subst (λ x. p x ≡ true) (same_is c d e) h in rw here refl
@@ -117,53 +116,53 @@ least_some : (c : Candidate) (cs : List Candidate) → least cs ≡ Some c → I
 least_some c cs e = subst (λ first. FoundLeast first cs) e (least_is_found cs)
 
 -- the least of all that wait, where it is due, is the least of the due
-due_least : (now : ℕ) (s : State) (c : Candidate) → least (candidates s) ≡ Some c → c.time ≤ now → least (due now s) ≡ Some c
+due_least : (now : ℕ) (s : State) (c : Candidate) → least (candidates s) ≡ Some c → c.0 ≤ now → least (due now s) ≡ Some c
 due_least now s c e l =
-    let is_due : nat_le c.time now ≡ true = grind (arith, nat_tests, l) in
+    let is_due : nat_le c.0 now ≡ true = grind (arith, nat_tests, l) in
     sym (least_due now (candidates s)) ∙ ap (if_due now) e ∙ ap (λ b. cond b (Some c) None) is_due
 
-closed_by : (now : ℕ) (s : State) (c : Candidate) (host : Bool) → is_host s.setup c.number ≡ host → eligible now s ≡ [] → list_any (is_same c) (due now s) ≡ true → host ≡ false
+closed_by : (now : ℕ) (s : State) (c : Candidate) (host : Bool) → is_host s.setup c.1 ≡ host → eligible now s ≡ [] → list_any (is_same c) (due now s) ≡ true → host ≡ false
 closed_by now s c false e none m = refl
 closed_by now s c true e none m =
-    let here : is_open s c.number ≡ true = rw e refl in
-    let among : list_any (is_same c) (eligible now s) ≡ true = any_filtered c (λ x. is_open s x.number) (due now s) here m in
+    let here : is_open s c.1 ≡ true = rw e refl in
+    let among : list_any (is_same c) (eligible now s) ≡ true = any_filtered c (λ x. is_open s x.1) (due now s) here m in
     let empty : list_any (is_same c) (eligible now s) ≡ false = ap (list_any (is_same c)) none in
     cc
 
 -- none may begin, and the least of all that wait is due: it is a service, and the limit is reached
-pub waiting_at_limit : (now : ℕ) (s : State) (c : Candidate) → least (eligible now s) ≡ None → least (candidates s) ≡ Some c → c.time ≤ now → waiting_reply now s ≡ reply.AtLimit
+pub waiting_at_limit : (now : ℕ) (s : State) (c : Candidate) → least (eligible now s) ≡ None → least (candidates s) ≡ Some c → c.0 ≤ now → waiting_reply now s ≡ reply.AtLimit
 waiting_at_limit now s c none e l =
     let among = (least_some c (due now s) (due_least now s c e l)).among in
-    let service : is_host s.setup c.number ≡ false = closed_by now s c (is_host s.setup c.number) refl (least_none (eligible now s) none) among in
-    let here : not (is_host s.setup c.number) ≡ true = ap not service in
-    ap (λ b. cond b reply.AtLimit (reply.Idle (option_map (λ x. x.time) (least (candidates s))))) (any_same (λ x. not (is_host s.setup x.number)) c (due now s) here among)
+    let service : is_host s.setup c.1 ≡ false = closed_by now s c (is_host s.setup c.1) refl (least_none (eligible now s) none) among in
+    let here : not (is_host s.setup c.1) ≡ true = ap not service in
+    ap (λ b. cond b reply.AtLimit (reply.Idle (option_map (λ x. x.0) (least (candidates s))))) (any_same (λ x. not (is_host s.setup x.1)) c (due now s) here among)
 
-none_due : (now : ℕ) (s : State) → least (due now s) ≡ None → waiting_reply now s ≡ reply.Idle (option_map (λ x. x.time) (least (candidates s)))
-none_due now s e = ap (λ l. cond (list_any (λ c. not (is_host s.setup c.number)) l) reply.AtLimit (reply.Idle (option_map (λ x. x.time) (least (candidates s))))) (least_none (due now s) e)
+none_due : (now : ℕ) (s : State) → least (due now s) ≡ None → waiting_reply now s ≡ reply.Idle (option_map (λ x. x.0) (least (candidates s)))
+none_due now s e = ap (λ l. cond (list_any (λ c. not (is_host s.setup c.1)) l) reply.AtLimit (reply.Idle (option_map (λ x. x.0) (least (candidates s))))) (least_none (due now s) e)
 
 -- the least of all that wait isn't due, and so none is
-pub waiting_early : (now : ℕ) (s : State) (c : Candidate) → least (candidates s) ≡ Some c → now < c.time → waiting_reply now s ≡ reply.Idle (Some c.time)
+pub waiting_early : (now : ℕ) (s : State) (c : Candidate) → least (candidates s) ≡ Some c → now < c.0 → waiting_reply now s ≡ reply.Idle (Some c.0)
 waiting_early now s c e l =
-    let is_late : nat_le c.time now ≡ false = grind (arith, nat_tests, l) in
+    let is_late : nat_le c.0 now ≡ false = grind (arith, nat_tests, l) in
     let none : least (due now s) ≡ None = sym (least_due now (candidates s)) ∙ ap (if_due now) e ∙ ap (λ b. cond b (Some c) None) is_late in
-    none_due now s none ∙ ap (λ f. reply.Idle (option_map (λ x. x.time) f)) e
+    none_due now s none ∙ ap (λ f. reply.Idle (option_map (λ x. x.0) f)) e
 
 -- none waits
 pub waiting_none : (now : ℕ) (s : State) → least (candidates s) ≡ None → waiting_reply now s ≡ reply.Idle None
 waiting_none now s e =
     let none : least (due now s) ≡ None = sym (least_due now (candidates s)) ∙ ap (if_due now) e in
-    none_due now s none ∙ ap (λ f. reply.Idle (option_map (λ x. x.time) f)) e
+    none_due now s none ∙ ap (λ f. reply.Idle (option_map (λ x. x.0) f)) e
 
 -- ---- the least of the due, by the least of all
 
-pub least_when_due : (now : ℕ) (cs : List Candidate) (c : Candidate) → Some c ≡ least cs → c.time ≤ now → Some c ≡ least (due_among now cs)
+pub least_when_due : (now : ℕ) (cs : List Candidate) (c : Candidate) → Some c ≡ least cs → c.0 ≤ now → Some c ≡ least (due_among now cs)
 least_when_due now cs c e l =
-    let is_due : nat_le c.time now ≡ true = grind (arith, nat_tests, l) in
+    let is_due : nat_le c.0 now ≡ true = grind (arith, nat_tests, l) in
     sym (ap (λ b. cond b (Some c) None) is_due) ∙ ap (if_due now) e ∙ least_due now cs
 
-pub least_when_early : (now : ℕ) (cs : List Candidate) (c : Candidate) → Some c ≡ least cs → now < c.time → None ≡ least (due_among now cs)
+pub least_when_early : (now : ℕ) (cs : List Candidate) (c : Candidate) → Some c ≡ least cs → now < c.0 → None ≡ least (due_among now cs)
 least_when_early now cs c e l =
-    let is_late : nat_le c.time now ≡ false = grind (arith, nat_tests, l) in
+    let is_late : nat_le c.0 now ≡ false = grind (arith, nat_tests, l) in
     sym (ap (λ b. cond b (Some c) None) is_late) ∙ ap (if_due now) e ∙ least_due now cs
 
 pub least_when_none : (now : ℕ) (cs : List Candidate) → None ≡ least cs → None ≡ least (due_among now cs)

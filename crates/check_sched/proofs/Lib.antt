@@ -5,6 +5,7 @@ pub mod EligibleLaws
 pub mod LimitLaws
 pub mod OpeningLaws
 pub mod OperatorLaws
+pub mod PendingLaws
 pub mod ReplyLaws
 pub mod ReportLaws
 pub mod RunLaws

@@ -11,8 +11,7 @@ use Rattle.check_objects.specs.Configuration.{Configuration, Named, objects_of, 
 use Rattle.check_rules.specs.declared.standing.Standing.{Standing}
 use Rattle.check_rules.specs.Standing.{pending_standing}
 use Rattle.check_rules.proofs.VerdictLaws.{pending_is_lawful, pending_sort}
-use Rattle.check_sched.specs.declared.object_state.ObjectState.{ObjectState}
-use Rattle.check_sched.specs.ObjectState.{opening_object}
+use Rattle.check_sched.specs.Scheduling.{Scheduling, opening_object}
 use Rattle.check_spread.specs.Spread.{initial_times}
 use Rattle.check_sched.specs.State.{State, IsState, IsStandingOf, IsWithinLimit, is_host, is_in_time, is_time, objects_at, opening, opening_objects, opening_standings}
 use Rattle.check_sched.proofs.CandidateLaws.{both_and}
@@ -30,15 +29,23 @@ times_in_time [] os h = refl
 times_in_time (first ∷ times) [] h = refl
 times_in_time (first ∷ times) (o ∷ os) h = both_and _ _ (both_and (is_time first) true (first_in_time first (h 0 None (omega arith))) refl) (times_in_time times os (λ k d l. h (suc k) d (omega arith)))
 
-standings_opening : (setup : Configuration) (k : ℕ) (os : List Named) → IsSetup setup → (n : ℕ) (t : Standing) → slice_get (map (λ p. pending_standing (is_host setup p.0)) (enumerate_from k os)) n ≡ Some t → IsStandingOf setup (k + n) t
-standings_opening setup k [] h n t e = cc
-standings_opening setup k (o ∷ os) h zero t e =
+-- the standing at a place of the opening is pending
+pub pending_at : (setup : Configuration) (k : ℕ) (os : List Named) (n : ℕ) (t : Standing)
+    → slice_get (map (λ p. pending_standing (is_host setup p.0)) (enumerate_from k os)) n ≡ Some t → pending_standing (is_host setup (k + n)) ≡ t
+pending_at setup k [] n t e = cc
+pending_at setup k (o ∷ os) zero t e =
     let same : pending_standing (is_host setup k) ≡ t = cc in
     let here : k ≡ k + 0 = omega arith in
-    subst (λ j. IsStandingOf setup j t) here (subst (λ x. IsStandingOf setup k x) same (record { lawful = pending_is_lawful (is_host setup k) _ (some_attempts setup k h); sort = pending_sort (is_host setup k) }))
-standings_opening setup k (o ∷ os) h (suc n) t e =
+    subst (λ j. pending_standing (is_host setup j) ≡ t) here same
+pending_at setup k (o ∷ os) (suc n) t e =
     let here : k + 1 + n ≡ k + suc n = omega arith in
-    subst (λ j. IsStandingOf setup j t) here (standings_opening setup (k + 1) os h n t e)
+    subst (λ j. pending_standing (is_host setup j) ≡ t) here (pending_at setup (k + 1) os n t e)
+
+standings_opening : (setup : Configuration) (k : ℕ) (os : List Named) → IsSetup setup → (n : ℕ) (t : Standing)
+    → slice_get (map (λ p. pending_standing (is_host setup p.0)) (enumerate_from k os)) n ≡ Some t → IsStandingOf setup (k + n) t
+standings_opening setup k os h n t e =
+    subst (λ x. IsStandingOf setup (k + n) x) (pending_at setup k os n t e)
+    (record { lawful = pending_is_lawful (is_host setup (k + n)) _ (some_attempts setup (k + n) h); sort = pending_sort (is_host setup (k + n)); until_checked = λ never. refl })
 
 pub length-objects_at : (setup : Configuration) (times : List (Option ℕ)) → length times ≡ object_count setup → length (objects_at setup times) ≡ object_count setup
 length-objects_at setup times e =
@@ -68,7 +75,7 @@ opening_is_state setup start valid count within = record {
 }
 
 -- the same of what the code opens with, by the times that it was given
-pub opened_is_state : (setup : Configuration) (start : ℕ) (times seen : List (Option ℕ)) (objects : List ObjectState) (standings : List Standing)
+pub opened_is_state : (setup : Configuration) (start : ℕ) (times seen : List (Option ℕ)) (objects : List Scheduling) (standings : List Standing)
     → IsSetup setup → times ≡ initial_times setup start → length times ≡ object_count setup → All (λ first. IfSome first (λ time. time < 2 ^ 61)) times
     → seen ≡ times → objects ≡ objects_at setup seen → standings ≡ opening_standings setup
     → let s : State = record { setup = setup; start = start; objects = objects; standings = standings; runs = 0 } in IsState s
@@ -82,7 +89,7 @@ opened_is_state setup start times seen objects standings valid made count within
 pub one_more : {X : Type 0} (n : ℕ) (all was more : List X) (x : X) → more ≡ was ++ x ∷ [] → was ≡ take n all → take n all ++ x ∷ [] ≡ take (n + 1) all → more ≡ take (n + 1) all
 one_more n all was more x e f g = e ∙ ap (λ xs. xs ++ x ∷ []) f ∙ g
 
-object_at : (n : ℕ) (times : List (Option ℕ)) (os : List Named) (o : Object) (first : Option ℕ) (d : ObjectState) → n < length times → option_map (λ x. x.object) (slice_get os n) ≡ Some o → first ≡ get_or times n None
+object_at : (n : ℕ) (times : List (Option ℕ)) (os : List Named) (o : Object) (first : Option ℕ) (d : Scheduling) → n < length times → option_map (λ x. x.object) (slice_get os n) ≡ Some o → first ≡ get_or times n None
     → get_or (map (λ p. opening_object p.0 p.1.object.enabled) (zip times os)) n d ≡ opening_object first o.enabled
 object_at n [] os o first d l e f = absurd (omega arith)
 object_at n (time ∷ times) [] o first d l e f = cc
@@ -92,7 +99,7 @@ object_at zero (time ∷ times) (x ∷ os) o first d l e f =
 object_at (suc n) (time ∷ times) (x ∷ os) o first d l e f = object_at n times os o first d (omega arith) e f
 
 -- one object more of a scheduler that is being opened
-pub object_seen : (setup : Configuration) (times : List (Option ℕ)) (n : ℕ) (o : Object) (first : Option ℕ) (made : ObjectState) → length times ≡ object_count setup → n < length times → option_map (λ x. x.object) (slice_get (objects_of setup) n) ≡ Some o → first ≡ get_or times n None → made ≡ opening_object first o.enabled
+pub object_seen : (setup : Configuration) (times : List (Option ℕ)) (n : ℕ) (o : Object) (first : Option ℕ) (made : Scheduling) → length times ≡ object_count setup → n < length times → option_map (λ x. x.object) (slice_get (objects_of setup) n) ≡ Some o → first ≡ get_or times n None → made ≡ opening_object first o.enabled
     → take n (objects_at setup times) ++ made ∷ [] ≡ take (n + 1) (objects_at setup times)
 object_seen setup times n o first made c l e f m =
     let less : n < length (objects_at setup times) = let k = length-objects_at setup times c in omega (arith, l, k) in

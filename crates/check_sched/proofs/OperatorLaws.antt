@@ -2,13 +2,11 @@
 use Rattle.std.proofs.Common.{◌≡◌, ℕ, ◌<◌, ◌≤◌, ◌^◌, Bool, true, false, Option, Some, None, Ok, length, get_or, set, refl, ap, ◌∙◌, arith}
 use Rattle.std.specs.Prelude.{slice_get, unwrap_or}
 use Rattle.std.proofs.lemmas.Bool.Decides.{nat_tests}
-use Rattle.check_sched.specs.declared.object_state.ObjectState.{ObjectState}
-use Rattle.check_sched.specs.declared.object_state.Run.{Run}
+use Rattle.check_sched.specs.Scheduling.{Scheduling, OpenRun, ended, enabled_as, freed_time, rescheduled, run_under}
 use Rattle.check_sched.specs.declared.call.Call.TheVariants as call
 use Rattle.check_sched.specs.declared.call.Reply.{Reply}
 use Rattle.check_sched.specs.declared.call.Reply.TheVariants as reply
 use Rattle.check_sched.specs.declared.call.Refusal.{Refusal}
-use Rattle.check_sched.specs.ObjectState.{ended, enabled_as, freed_time, rescheduled, run_under}
 use Rattle.check_sched.specs.State.{State, IsState, is_in_time, is_moment, is_time, standing_at}
 use Rattle.check_sched.specs.Step.{known, step, with_object, within_range}
 use Rattle.check_sched.proofs.AnswerLaws.{by_test, known_is, range_is}
@@ -22,7 +20,7 @@ use Rattle.std.proofs.lemmas.Option.{slice_get_within}
 
 pub abandon_cases : (P : State × Reply → Type 0) (n run now : ℕ) (s : State)
     → ((why : Refusal) → P (s, reply.Refused why))
-    → ((o : ObjectState) → slice_get s.objects n ≡ Some o → now ≤ 2 ^ 60 → P (with_object n (ended (Some (freed_time now o))) s, reply.Freed (freed_time now o)))
+    → ((o : Scheduling) → slice_get s.objects n ≡ Some o → now ≤ 2 ^ 60 → P (with_object n (ended (Some (freed_time now o))) s, reply.Freed (freed_time now o)))
     → P (step s (call.Abandon n run now))
 abandon_cases P n run now s refused free =
     by_test P s (known n s) _ refused
@@ -47,14 +45,14 @@ enable_cases P n on s refused done = by_test P s (known n s) _ refused (λ o e. 
 
 pub status_cases : (P : State × Reply → Type 0) (n : ℕ) (s : State)
     → ((why : Refusal) → P (s, reply.Refused why))
-    → ((o : ObjectState) → slice_get s.objects n ≡ Some o → P (s, reply.Standing (standing_at s.standings n) false o.next))
+    → ((o : Scheduling) → slice_get s.objects n ≡ Some o → P (s, reply.Standing (standing_at s.standings n) false o.next))
     → P (step s (call.Status n))
 status_cases P n s refused tell = by_test P s (known n s) _ refused (λ o e. tell o (known_is n s o e))
 
 -- ---- the limits
 
 -- one object changed, within its limits, leaves the state one that a scheduler can be in
-pub with_object_is_state : (n : ℕ) (f : ObjectState → ObjectState) (s : State) → IsState s → ((o : ObjectState) → is_in_time o ≡ true → is_in_time (f o) ≡ true) → BeginsNone f → IsState (with_object n f s)
+pub with_object_is_state : (n : ℕ) (f : Scheduling → Scheduling) (s : State) → IsState s → ((o : Scheduling) → is_in_time o ≡ true → is_in_time (f o) ≡ true) → BeginsNone f → IsState (with_object n f s)
 with_object_is_state n f s is_state h none = record {
   valid_setup = is_state.valid_setup;
   one_each = length-update_at n f s.objects ∙ is_state.one_each;
@@ -73,33 +71,33 @@ freed_by now None m e = moment_is_time now m
 freed_by now (Some time) m e = e
 
 -- the time of the check after a run that was given up is at most 2^61
-pub freed_in_time : (now n : ℕ) (o : ObjectState) (s : State) → IsState s → slice_get s.objects n ≡ Some o → now ≤ 2 ^ 60 → is_time (Some (freed_time now o)) ≡ true
+pub freed_in_time : (now n : ℕ) (o : Scheduling) (s : State) → IsState s → slice_get s.objects n ≡ Some o → now ≤ 2 ^ 60 → is_time (Some (freed_time now o)) ≡ true
 freed_in_time now n o s is_state e m = freed_by now o.next m (next_of_state s n o is_state e)
 
-pub ended_in_time : (next : Option ℕ) (o : ObjectState) → is_time next ≡ true → is_in_time (ended next o) ≡ true
+pub ended_in_time : (next : Option ℕ) (o : Scheduling) → is_time next ≡ true → is_in_time (ended next o) ≡ true
 ended_in_time next o e = both_and (is_time next) true e refl
 
-pub rescheduled_in_time : (time : ℕ) (forced : Bool) (o : ObjectState) → time ≤ 2 ^ 60 → is_in_time o ≡ true → is_in_time (rescheduled time forced o) ≡ true
+pub rescheduled_in_time : (time : ℕ) (forced : Bool) (o : Scheduling) → time ≤ 2 ^ 60 → is_in_time o ≡ true → is_in_time (rescheduled time forced o) ≡ true
 rescheduled_in_time time forced o m e = both_and (is_time (Some time)) (is_moment o.run) (moment_is_time time m) (and_both (is_time o.next) (is_moment o.run) e).1
 
 -- ---- what the code leaves and answers
 
 -- the state that a write to one object leaves
-pub written : (n : ℕ) (f : ObjectState → ObjectState) (s : State) (o new : ObjectState) → n < length s.objects → o ≡ get_or s.objects n o → new ≡ f o
+pub written : (n : ℕ) (f : Scheduling → Scheduling) (s : State) (o new : Scheduling) → n < length s.objects → o ≡ get_or s.objects n o → new ≡ f o
     → let left : State = record { setup = s.setup; start = s.start; objects = set s.objects n new; standings = s.standings; runs = s.runs } in left ≡ with_object n f s
 written n f s o new h e g i = record { setup = s.setup; start = s.start; objects = set_is_update n f s.objects o new h (g ∙ ap f e) i; standings = s.standings; runs = s.runs }
 
 -- an object that was found is one of the objects
-pub known_within : (n : ℕ) (s : State) (o : ObjectState) → known n s ≡ Ok o → n < length s.objects
+pub known_within : (n : ℕ) (s : State) (o : Scheduling) → known n s ≡ Ok o → n < length s.objects
 known_within n s o e = slice_get_within s.objects n o (known_is n s o e)
 
-pub abandon_answers : (n run now : ℕ) (s : State) (o : ObjectState) (u : Unit {0}) (r : Run) → known n s ≡ Ok o → within_range now ≡ Ok u → run_under run o.run ≡ Ok r
+pub abandon_answers : (n run now : ℕ) (s : State) (o : Scheduling) (u : Unit {0}) (r : OpenRun) → known n s ≡ Ok o → within_range now ≡ Ok u → run_under run o.run ≡ Ok r
     → step s (call.Abandon n run now) ≡ (with_object n (ended (Some (freed_time now o))) s, reply.Freed (freed_time now o))
 abandon_answers n run now s o u r e f g = rw (e, f, g) refl
 
-pub reschedule_answers : (n time : ℕ) (forced : Bool) (s : State) (o : ObjectState) (u : Unit {0}) → known n s ≡ Ok o → within_range time ≡ Ok u
+pub reschedule_answers : (n time : ℕ) (forced : Bool) (s : State) (o : Scheduling) (u : Unit {0}) → known n s ≡ Ok o → within_range time ≡ Ok u
     → step s (call.Reschedule n time forced) ≡ (with_object n (rescheduled time forced) s, reply.Done)
 reschedule_answers n time forced s o u e f = rw (e, f) refl
 
-pub enable_answers : (n : ℕ) (on : Bool) (s : State) (o : ObjectState) → known n s ≡ Ok o → step s (call.Enable n on) ≡ (with_object n (enabled_as on) s, reply.Done)
+pub enable_answers : (n : ℕ) (on : Bool) (s : State) (o : Scheduling) → known n s ≡ Ok o → step s (call.Enable n on) ≡ (with_object n (enabled_as on) s, reply.Done)
 enable_answers n on s o e = rw e refl

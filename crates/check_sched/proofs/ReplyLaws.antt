@@ -1,6 +1,6 @@
 -- Laws of replies: which replies a call can have in a history.
-use Rattle.std.proofs.Common.{◌≡◌, ℕ, ◌<◌, Bool, true, false, ◌==◌, cond, List, [], ◌∷◌, ◌++◌, length, Option, Some, None, Result, Ok, Err, refl, sym, subst, ◌∙◌, arith}
-use Rattle.std.specs.Prelude.{⊤, ok_or, slice_get}
+use Rattle.std.proofs.Common.{◌≡◌, ℕ, ◌<◌, ◌^◌, Bool, true, false, ◌==◌, cond, List, [], ◌∷◌, ◌++◌, length, Option, Some, None, Result, Ok, Err, refl, sym, subst, ◌∙◌, arith}
+use Rattle.std.specs.Prelude.{nat_lt, ok_or, slice_get}
 use Rattle.ticket_steps.specs.declared.kept.Entry.{Entry}
 use Rattle.ticket_steps.specs.History.{entry, replay, IsLegal}
 use Rattle.check_rules.specs.declared.state.Code.{Code}
@@ -10,48 +10,19 @@ use Rattle.check_sched.specs.declared.call.Reply.{Reply}
 use Rattle.check_sched.specs.declared.call.Reply.TheVariants as reply
 use Rattle.check_sched.specs.declared.call.Refusal.{Refusal}
 use Rattle.check_sched.specs.declared.call.Refusal.TheVariants as refusal
-use Rattle.check_sched.specs.declared.object_state.ObjectState.{ObjectState}
-use Rattle.check_sched.specs.declared.object_state.Run.{Run}
-use Rattle.check_sched.specs.ObjectState.{run_under}
+use Rattle.check_sched.specs.Scheduling.{Scheduling, OpenRun, run_under}
+use Rattle.check_sched.specs.Candidate.{Candidate}
+use Rattle.check_sched.specs.Order.{least}
 use Rattle.check_sched.specs.State.{State}
-use Rattle.check_sched.specs.Step.{◌>>=◌, report_taken, settled, step}
+use Rattle.check_sched.specs.Step.{◌>>=◌, eligible, report_taken, settled, step, take_least}
 use Rattle.check_sched.specs.BookState.{BookState, book_step}
+pub use Rattle.check_sched.specs.Reply.{IsReportRefusal, IsReportReply, IsTakeRefusal, IsTakeReply}
 use Rattle.check_sched.proofs.EligibleLaws.{waiting_cases}
 use Rattle.check_sched.proofs.OperatorLaws.{abandon_cases, enable_cases, reschedule_cases, status_cases}
 use Rattle.check_sched.proofs.ReportLaws.{report_cases}
 use Rattle.check_sched.proofs.RunLaws.{book_is_legal, eligible_there, legal_back, legal_front}
-use Rattle.check_sched.proofs.TakeLaws.{take_cases}
+use Rattle.check_sched.proofs.TakeLaws.{take_by, take_cases}
 use Rattle.check_sched.proofs.UpdateLaws.{length-update_at, none_there}
-
--- a reply that a take can have
-abbrev pub IsTakeReply : Reply → Type 0
-IsTakeReply (reply.Taken object run) = ⊤
-IsTakeReply (reply.PutOff object until) = ⊤
-IsTakeReply (reply.Idle next) = ⊤
-IsTakeReply reply.AtLimit = ⊤
-IsTakeReply (reply.Standing standing changed next) = ⊥
-IsTakeReply (reply.Freed next) = ⊥
-IsTakeReply reply.Done = ⊥
-IsTakeReply (reply.Refused why) = ⊤
-
--- a reason to refuse the report of an object that is there
-abbrev pub IsReportRefusal : Refusal → Type 0
-IsReportRefusal refusal.UnknownObject = ⊥
-IsReportRefusal refusal.TimeRange = ⊥
-IsReportRefusal refusal.RunsSpent = ⊥
-IsReportRefusal refusal.NotRunning = ⊤
-IsReportRefusal refusal.WrongRun = ⊤
-
--- a reply that the report of an object that is there can have
-abbrev pub IsReportReply : Reply → Type 0
-IsReportReply (reply.Taken object run) = ⊥
-IsReportReply (reply.PutOff object until) = ⊥
-IsReportReply (reply.Idle next) = ⊥
-IsReportReply reply.AtLimit = ⊥
-IsReportReply (reply.Standing standing changed next) = ⊤
-IsReportReply (reply.Freed next) = ⊥
-IsReportReply reply.Done = ⊥
-IsReportReply (reply.Refused why) = IsReportRefusal why
 
 -- ---- how many objects there are
 
@@ -63,7 +34,7 @@ AsMany s a = length a.0.objects ≡ length s.objects
 pub step_objects : (s : State) (c : Call) → length (step s c).0.objects ≡ length s.objects
 step_objects s (call.Take now) =
     take_cases (AsMany s) now s (λ why. refl)
-    (λ c m e. length-update_at c.number _ s.objects) (λ c m q e. length-update_at c.number _ s.objects) (λ e. refl)
+    (λ c m e. length-update_at c.1 _ s.objects) (λ c m q e. length-update_at c.1 _ s.objects) (λ e. refl)
 step_objects s (call.Report n run c) = report_cases (AsMany s) n run c s (λ why. refl) (λ o r e f. length-update_at n _ s.objects)
 step_objects s (call.Abandon n run now) = abandon_cases (AsMany s) n run now s (λ why. refl) (λ o e m. length-update_at n _ s.objects)
 step_objects s (call.Reschedule n time forced) = reschedule_cases (AsMany s) n time forced s (λ why. refl) (λ m. length-update_at n _ s.objects)
@@ -77,36 +48,52 @@ replay_objects s (e ∷ h) = replay_objects (step s e.call).0 h ∙ step_objects
 
 -- ---- one call
 
+-- the two tests of a take
+abbrev range_test : Bool → Result (Unit {0}) Refusal
+range_test late = cond late (Err refusal.TimeRange) (Ok tt)
+
+abbrev left_test : Bool → Result (Unit {0}) Refusal
+left_test left = cond left (Ok tt) (Err refusal.RunsSpent)
+
+turn_reply : (s : State) (now : ℕ) (found : Option Candidate) → IsTakeReply (take_least now s found).1
+turn_reply s now found = take_by (λ a. IsTakeReply a.1) now s found (λ c e. tt) (λ c e. tt) (λ e. waiting_cases IsTakeReply now s tt tt)
+
+take_tests : (s : State) (now : ℕ) (late left : Bool)
+    → IsTakeReply (settled s (range_test late >>= λ _. (left_test left >>= λ _. Ok (take_least now s (least (eligible now s)))))).1
+take_tests s now true left = tt
+take_tests s now false true = turn_reply s now (least (eligible now s))
+take_tests s now false false = tt
+
 -- a take has a take's reply
 pub step_take : (s : State) (now : ℕ) → IsTakeReply (step s (call.Take now)).1
-step_take s now = take_cases (λ a. IsTakeReply a.1) now s (λ why. tt) (λ c m e. tt) (λ c m q e. tt) (λ e. waiting_cases IsTakeReply now s tt tt)
+step_take s now = take_tests s now (nat_lt (2 ^ 60) now) (nat_lt s.runs (2 ^ 60))
 
 -- what is taken is one of the objects
 pub taken_there : (s : State) (now object run : ℕ) → reply.Taken object run ≡ (step s (call.Take now)).1 → object < length s.objects
 taken_there s now object run =
     take_cases (λ a. reply.Taken object run ≡ a.1 → object < length s.objects) now s
     (λ why e. cc) (λ c m f e. cc)
-    (λ c m q f e. let same : c.number ≡ object = cc in let there = eligible_there now s c f in omega (arith, there, same))
+    (λ c m q f e. let same : c.1 ≡ object = cc in let there = eligible_there now s c f in omega (arith, there, same))
     (λ f e. waiting_cases (λ w. reply.Taken object run ≡ w → object < length s.objects) now s (λ g. cc) (λ g. cc) e)
 
 -- the answer to a report, by the run that the result is for, and by the object
-abbrev run_answer : State → ℕ → Code → ObjectState → Result Run Refusal → Result (State × Reply) Refusal
+abbrev run_answer : State → ℕ → Code → Scheduling → Result OpenRun Refusal → Result (State × Reply) Refusal
 run_answer s n code o test = test >>= λ r. Ok (report_taken n r.start code o s)
 
-abbrev object_answer : State → ℕ → ℕ → Code → Result ObjectState Refusal → Result (State × Reply) Refusal
+abbrev object_answer : State → ℕ → ℕ → Code → Result Scheduling Refusal → Result (State × Reply) Refusal
 object_answer s n run code test = test >>= λ o. run_answer s n code o (run_under run o.run)
 
-under_by : (s : State) (n : ℕ) (code : Code) (o : ObjectState) (x : Run) (same : Bool)
+under_by : (s : State) (n : ℕ) (code : Code) (o : Scheduling) (x : OpenRun) (same : Bool)
     → IsReportReply (settled s (run_answer s n code o (cond same (Ok x) (Err refusal.WrongRun)))).1
 under_by s n code o x true = tt
 under_by s n code o x false = tt
 
-run_by : (s : State) (n run : ℕ) (code : Code) (o : ObjectState) (running : Option Run)
+run_by : (s : State) (n run : ℕ) (code : Code) (o : Scheduling) (running : Option OpenRun)
     → IsReportReply (settled s (run_answer s n code o (run_under run running))).1
 run_by s n run code o None = tt
 run_by s n run code o (Some x) = under_by s n code o x (x.number == run)
 
-found_by : (s : State) (n run : ℕ) (code : Code) (found : Option ObjectState) → slice_get s.objects n ≡ found → n < length s.objects
+found_by : (s : State) (n run : ℕ) (code : Code) (found : Option Scheduling) → slice_get s.objects n ≡ found → n < length s.objects
     → IsReportReply (settled s (object_answer s n run code (ok_or found refusal.UnknownObject))).1
 found_by s n run code None e there = let past = none_there s.objects n e in absurd (omega (arith, past, there))
 found_by s n run code (Some o) e there = run_by s n run code o o.run

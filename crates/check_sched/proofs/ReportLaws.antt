@@ -1,5 +1,5 @@
 -- Laws of reports: the standing and the next time that a result gives are within their limits.
-use Rattle.std.proofs.Common.{◌≡◌, ℕ, zero, suc, ◌+◌, ◌-◌, ◌*◌, ◌<◌, ◌≤◌, ◌^◌, Bool, true, false, ◌==◌, cond, List, [], ◌∷◌, length, get_or, Option, Some, None, Ok, option_map, refl, sym, ap, subst, ◌∙◌, arith, IfSome}
+use Rattle.std.proofs.Common.{◌≡◌, ℕ, zero, suc, ◌+◌, ◌-◌, ◌*◌, ◌<◌, ◌≤◌, ◌^◌, Bool, true, false, not, ◌==◌, cond, List, [], ◌∷◌, length, get_or, Option, Some, None, Ok, option_map, refl, sym, ap, subst, ◌∙◌, arith, IfSome}
 use Rattle.std.specs.Prelude.{nat_lt, option_and_then, slice_get, unwrap_or}
 use Rattle.std.specs.Option.{option_map_or}
 use Rattle.std.proofs.Math.Nat.{mul-le-mul_left}
@@ -14,19 +14,17 @@ use Rattle.check_rules.specs.declared.state.State as rules
 use Rattle.check_rules.specs.declared.state.State.TheVariants as state
 use Rattle.check_rules.specs.declared.standing.Standing.{Standing}
 use Rattle.check_rules.specs.State.{is_host_state, service_state_of}
-use Rattle.check_rules.specs.Standing.{is_up, is_soft_problem}
+use Rattle.check_rules.specs.Standing.{is_down, is_soft_problem}
 use Rattle.check_rules.specs.Reachability.{host_state_of, is_problem_of_host, is_cut_off}
 use Rattle.check_rules.specs.Verdict.{verdict_on}
 use Rattle.check_rules.proofs.VerdictLaws.{verdict_is_lawful}
 use Rattle.check_objects.specs.Configuration.{parents_of}
 use Rattle.check_rules.specs.Standing.{pending_standing}
-use Rattle.check_sched.specs.declared.object_state.ObjectState.{ObjectState}
-use Rattle.check_sched.specs.declared.object_state.Run.{Run}
+use Rattle.check_sched.specs.Scheduling.{Scheduling, OpenRun, ended, run_under}
 use Rattle.check_sched.specs.declared.call.Reply.{Reply}
 use Rattle.check_sched.specs.declared.call.Reply.TheVariants as reply
 use Rattle.check_sched.specs.declared.call.Refusal.{Refusal}
 use Rattle.check_sched.specs.declared.call.Call.TheVariants as call
-use Rattle.check_sched.specs.ObjectState.{ended, run_under}
 use Rattle.check_sched.specs.State.{State, IsState, IsStandingOf, is_host, is_time, is_moment, is_in_time, max_attempts_of, standing_at}
 use Rattle.check_sched.specs.Step.{known, report_taken, reported, standing_reply, step}
 use Rattle.check_sched.proofs.AnswerLaws.{by_test, known_is, under_is}
@@ -105,10 +103,12 @@ judged_is_standing_by : (setup : Configuration) (standings : List Standing) (n :
 judged_is_standing_by setup standings n c None h l e b = record {
   lawful = verdict_is_lawful (standing_at standings n) (host_state_of setup standings n c) (max_attempts_of setup n) true (some_attempts setup n h) b.lawful;
   sort = host_sort setup standings n c ∙ sym (is_host-none setup n l e);
+  until_checked = λ never. cc;
 }
 judged_is_standing_by setup standings n c (Some host) h l e b = record {
-  lawful = verdict_is_lawful (standing_at standings n) (service_state_of c) (max_attempts_of setup n) (is_up (standing_at standings host)) (some_attempts setup n h) b.lawful;
+  lawful = verdict_is_lawful (standing_at standings n) (service_state_of c) (max_attempts_of setup n) (not (is_down (standing_at standings host))) (some_attempts setup n h) b.lawful;
   sort = service_sort c ∙ sym (is_host-some setup n host e);
+  until_checked = λ never. cc;
 }
 
 -- an object can have the standing that a result gives it
@@ -183,14 +183,14 @@ pub standing_of_state : (s : State) (n : ℕ) → IsState s → n < object_count
 standing_of_state s n is_state h = standing_by s n (slice_get s.standings n) is_state h refl
 
 -- a run began at 2^60 at the latest
-pub start_of_state : (s : State) (n : ℕ) (o : ObjectState) (r : Run) → IsState s → slice_get s.objects n ≡ Some o → o.run ≡ Some r → r.start ≤ 2 ^ 60
+pub start_of_state : (s : State) (n : ℕ) (o : Scheduling) (r : OpenRun) → IsState s → slice_get s.objects n ≡ Some o → o.run ≡ Some r → r.start ≤ 2 ^ 60
 start_of_state s n o r is_state e f =
     let both = and_both (is_time o.next) (is_moment o.run) (all_at_place is_in_time s.objects n o is_state.times e) in
     let moment : is_moment (Some r) ≡ true = ap is_moment (sym f) ∙ both.1 in
     grind (arith, nat_tests, moment)
 
 -- a next time is at most 2^61
-pub next_of_state : (s : State) (n : ℕ) (o : ObjectState) → IsState s → slice_get s.objects n ≡ Some o → is_time o.next ≡ true
+pub next_of_state : (s : State) (n : ℕ) (o : Scheduling) → IsState s → slice_get s.objects n ≡ Some o → is_time o.next ≡ true
 next_of_state s n o is_state e = (and_both (is_time o.next) (is_moment o.run) (all_at_place is_in_time s.objects n o is_state.times e)).0
 
 -- a report leaves the state one that a scheduler can be in
@@ -206,12 +206,12 @@ reported_is_state n standing next s is_state t new = record {
 }
 
 -- what a report makes of the standing and the next time is within the limits
-pub report_standing : (n : ℕ) (c : Code) (o : ObjectState) (s : State) → IsState s → slice_get s.objects n ≡ Some o → IsStandingOf s.setup n (judged s.setup s.standings n c)
+pub report_standing : (n : ℕ) (c : Code) (o : Scheduling) (s : State) → IsState s → slice_get s.objects n ≡ Some o → IsStandingOf s.setup n (judged s.setup s.standings n c)
 report_standing n c o s is_state e =
     let within : n < object_count s.setup = let l = slice_get_within s.objects n o e in omega (arith, l, is_state.one_each) in
     judged_is_standing s.setup s.standings n c is_state.valid_setup within (standing_of_state s n is_state within)
 
-pub report_next : (n : ℕ) (c : Code) (o : ObjectState) (r : Run) (s : State) → IsState s → slice_get s.objects n ≡ Some o → o.run ≡ Some r → is_time (next_after s.setup n (judged s.setup s.standings n c) r.start o.next) ≡ true
+pub report_next : (n : ℕ) (c : Code) (o : Scheduling) (r : OpenRun) (s : State) → IsState s → slice_get s.objects n ≡ Some o → o.run ≡ Some r → is_time (next_after s.setup n (judged s.setup s.standings n c) r.start o.next) ≡ true
 report_next n c o r s is_state e f = next_in_time s.setup n (judged s.setup s.standings n c) r.start o.next is_state.valid_setup (start_of_state s n o r is_state e f) (next_of_state s n o is_state e)
 
 -- a time that passes the test is at most 2^61
@@ -224,7 +224,7 @@ is_time_reads (Some time) e = grind (arith, nat_tests, e)
 -- what is true of a Report is what is true of each of its answers
 pub report_cases : (P : State × Reply → Type 0) (n run : ℕ) (c : Code) (s : State)
     → ((why : Refusal) → P (s, reply.Refused why))
-    → ((o : ObjectState) (r : Run) → slice_get s.objects n ≡ Some o → o.run ≡ Some r → P (report_taken n r.start c o s))
+    → ((o : Scheduling) (r : OpenRun) → slice_get s.objects n ≡ Some o → o.run ≡ Some r → P (report_taken n r.start c o s))
     → P (step s (call.Report n run c))
 report_cases P n run c s refused take =
     by_test P s (known n s) _ refused
@@ -232,7 +232,7 @@ report_cases P n run c s refused take =
     (λ r f. take o r (known_is n s o e) (under_is run o.run r f)))
 
 -- what a Report answers, by the standing and the next time that it makes
-pub report_answers : (n run : ℕ) (c : Code) (s : State) (o : ObjectState) (r : Run) (standing : Standing) (next : Option ℕ) → known n s ≡ Ok o → run_under run o.run ≡ Ok r
+pub report_answers : (n run : ℕ) (c : Code) (s : State) (o : Scheduling) (r : OpenRun) (standing : Standing) (next : Option ℕ) → known n s ≡ Ok o → run_under run o.run ≡ Ok r
     → standing ≡ judged s.setup s.standings n c → next ≡ next_after s.setup n standing r.start o.next
     → step s (call.Report n run c) ≡ (reported n standing next s, standing_reply n standing next s)
 report_answers n run c s o r standing next e f j k =
@@ -271,5 +271,5 @@ pub judged_when_host : (setup : Configuration) (standings : List Standing) (n : 
 judged_when_host setup standings n c before max found made e b m f v = v ∙ (λ i. verdict_on (sym b i) (f i) (m i) true) ∙ sym (ap (λ h. judged_by h setup standings n c) e)
 
 pub judged_when_service : (setup : Configuration) (standings : List Standing) (n host : ℕ) (c : Code) (before : Standing) (max : ℕ) (found : rules.State) (up : Bool) (made : Standing) → host_of setup n ≡ Some host → standing_at standings n ≡ before
-    → max ≡ max_attempts_of setup n → found ≡ service_state_of c → up ≡ is_up (standing_at standings host) → made ≡ verdict_on before found max up → made ≡ judged setup standings n c
+    → max ≡ max_attempts_of setup n → found ≡ service_state_of c → up ≡ not (is_down (standing_at standings host)) → made ≡ verdict_on before found max up → made ≡ judged setup standings n c
 judged_when_service setup standings n host c before max found up made e b m f u v = v ∙ (λ i. verdict_on (sym b i) (f i) (m i) (u i)) ∙ sym (ap (λ h. judged_by h setup standings n c) e)

@@ -12,11 +12,9 @@ use Rattle.check_sched.specs.declared.call.Call.TheVariants as call
 use Rattle.check_sched.specs.declared.call.Reply.{Reply}
 use Rattle.check_sched.specs.declared.call.Reply.TheVariants as reply
 use Rattle.check_sched.specs.declared.call.Refusal.TheVariants as refusal
-use Rattle.check_sched.specs.declared.candidate.Candidate.{Candidate}
-use Rattle.check_sched.specs.declared.object_state.ObjectState.{ObjectState}
-use Rattle.check_sched.specs.declared.object_state.Run.{Run}
-use Rattle.check_sched.specs.ObjectState.{candidate_time, run_under, running_from}
-use Rattle.check_sched.specs.Candidate.{candidate, candidates_among, least}
+use Rattle.check_sched.specs.Candidate.{Candidate, candidate, candidates_among}
+use Rattle.check_sched.specs.Order.{least}
+use Rattle.check_sched.specs.Scheduling.{Scheduling, OpenRun, candidate_time, run_under, running_from}
 use Rattle.check_sched.specs.State.{State, is_host}
 use Rattle.check_sched.specs.Step.{candidates, due, eligible, is_open, known, step, taken, update_at, waiting_reply, within_range}
 use Rattle.check_sched.specs.BookState.{book_step}
@@ -29,11 +27,11 @@ use Rattle.check_sched.proofs.TakeLaws.{take_cases}
 
 -- ---- the run of one object
 
-abbrev run_in : ℕ → List ObjectState → Option ℕ
+abbrev run_in : ℕ → List Scheduling → Option ℕ
 run_in o xs = option_map (λ r. r.number) (option_and_then (λ x. x.run) (slice_get xs o))
 
 -- another object that changes leaves it
-run_apart : (n o : ℕ) (f : ObjectState → ObjectState) (xs : List ObjectState) → n ≢ o → run_in o (update_at n f xs) ≡ run_in o xs
+run_apart : (n o : ℕ) (f : Scheduling → Scheduling) (xs : List Scheduling) → n ≢ o → run_in o (update_at n f xs) ≡ run_in o xs
 run_apart n o f [] h = refl
 run_apart zero zero f (x ∷ xs) h = absurd (h refl)
 run_apart zero (suc o) f (x ∷ xs) h = refl
@@ -41,7 +39,7 @@ run_apart (suc n) zero f (x ∷ xs) h = refl
 run_apart (suc n) (suc o) f (x ∷ xs) h = run_apart n o f xs (λ e. h (ap suc e))
 
 -- so does a change that leaves the run
-run_kept : (n o : ℕ) (f : ObjectState → ObjectState) (xs : List ObjectState) → ((x : ObjectState) → (f x).run ≡ x.run) → run_in o (update_at n f xs) ≡ run_in o xs
+run_kept : (n o : ℕ) (f : Scheduling → Scheduling) (xs : List Scheduling) → ((x : Scheduling) → (f x).run ≡ x.run) → run_in o (update_at n f xs) ≡ run_in o xs
 run_kept n o f [] h = refl
 run_kept zero zero f (x ∷ xs) h = ap (option_map (λ r. r.number)) (h x)
 run_kept zero (suc o) f (x ∷ xs) h = refl
@@ -49,14 +47,14 @@ run_kept (suc n) zero f (x ∷ xs) h = refl
 run_kept (suc n) (suc o) f (x ∷ xs) h = run_kept n o f xs h
 
 -- an object whose check begins runs
-run_begun : (n : ℕ) (r : Run) (xs : List ObjectState) → n < length xs → run_in n (update_at n (running_from r) xs) ≡ Some r.number
+run_begun : (n : ℕ) (r : OpenRun) (xs : List Scheduling) → n < length xs → run_in n (update_at n (running_from r) xs) ≡ Some r.number
 run_begun n r [] h = absurd (omega arith)
 run_begun zero r (x ∷ xs) h = refl
 run_begun (suc n) r (x ∷ xs) h = run_begun n r xs (omega arith)
 
 -- ---- what waits doesn't run
 
-none_number : (r : Option Run) → is_none r ≡ true → is_none (option_map (λ x. x.number) r) ≡ true
+none_number : (r : Option OpenRun) → is_none r ≡ true → is_none (option_map (λ x. x.number) r) ≡ true
 none_number None h = refl
 none_number (Some x) h = h
 
@@ -64,14 +62,14 @@ waits_by : (free may : Bool) (next : Option ℕ) (t : ℕ) → cond (free && may
 waits_by true may next t e = refl
 waits_by false may next t e = cc
 
-waits_free : (x : ObjectState) (t : ℕ) → candidate_time x ≡ Some t → is_none x.run ≡ true
+waits_free : (x : Scheduling) (t : ℕ) → candidate_time x ≡ Some t → is_none x.run ≡ true
 waits_free x t e = waits_by (is_none x.run) (x.enabled || x.forced) x.next t e
 
-free_by : (test : ℕ → Bool) (k : ℕ) (t : Option ℕ) (cs : List Candidate) → ((time : ℕ) → t ≡ Some time → test k ≡ true) → list_all (λ c. test c.number) cs ≡ true → list_all (λ c. test c.number) (cons_option (option_map (λ time. record { time = time; number = k }) t) cs) ≡ true
+free_by : (test : ℕ → Bool) (k : ℕ) (t : Option ℕ) (cs : List Candidate) → ((time : ℕ) → t ≡ Some time → test k ≡ true) → list_all (λ c. test c.1) cs ≡ true → list_all (λ c. test c.1) (cons_option (option_map (λ time. (time, k)) t) cs) ≡ true
 free_by test k None cs f h = h
 free_by test k (Some t) cs f h = both_and (test k) _ (f t refl) h
 
-free_from : (test : ℕ → Bool) (k : ℕ) (xs : List ObjectState) → ((i : ℕ) → i < length xs → is_none (run_in i xs) ≡ true → test (k + i) ≡ true) → list_all (λ c. test c.number) (filter_map (λ p. candidate p.0 p.1) (enumerate_from k xs)) ≡ true
+free_from : (test : ℕ → Bool) (k : ℕ) (xs : List Scheduling) → ((i : ℕ) → i < length xs → is_none (run_in i xs) ≡ true → test (k + i) ≡ true) → list_all (λ c. test c.1) (filter_map (λ p. candidate p.0 p.1) (enumerate_from k xs)) ≡ true
 free_from test k [] f = refl
 free_from test k (x ∷ xs) f =
     free_by test k (candidate_time x) _
@@ -79,21 +77,21 @@ free_from test k (x ∷ xs) f =
     (free_from test (k + 1) xs (λ i l h. let there = f (suc i) (omega arith) h in let at : k + suc i ≡ k + 1 + i = omega arith in rw at at there))
 
 -- whatever waits for its check isn't being checked
-pub waiting_free : (xs : List ObjectState) → list_all (λ c. is_none (run_in c.number xs)) (candidates_among xs) ≡ true
+pub waiting_free : (xs : List Scheduling) → list_all (λ c. is_none (run_in c.1 xs)) (candidates_among xs) ≡ true
 waiting_free xs = free_from (λ n. is_none (run_in n xs)) 0 xs (λ i l h. let at : 0 + i ≡ i = omega arith in rw at h)
 
 -- neither is what may be checked now
-pub eligible_free : (now : ℕ) (s : State) (c : Candidate) → least (eligible now s) ≡ Some c → is_none (run_in c.number s.objects) ≡ true
+pub eligible_free : (now : ℕ) (s : State) (c : Candidate) → least (eligible now s) ≡ Some c → is_none (run_in c.1 s.objects) ≡ true
 eligible_free now s c e =
-    all_at_least (λ x. is_none (run_in x.number s.objects)) c (eligible now s) e
-    (all_filtered (λ x. is_none (run_in x.number s.objects)) (λ x. is_open s x.number) (due now s)
-    (all_filtered (λ x. is_none (run_in x.number s.objects)) (λ x. nat_le x.time now) (candidates s) (waiting_free s.objects)))
+    all_at_least (λ x. is_none (run_in x.1 s.objects)) c (eligible now s) e
+    (all_filtered (λ x. is_none (run_in x.1 s.objects)) (λ x. is_open s x.1) (due now s)
+    (all_filtered (λ x. is_none (run_in x.1 s.objects)) (λ x. nat_le x.0 now) (candidates s) (waiting_free s.objects)))
 
-pub eligible_there : (now : ℕ) (s : State) (c : Candidate) → least (eligible now s) ≡ Some c → c.number < length s.objects
+pub eligible_there : (now : ℕ) (s : State) (c : Candidate) → least (eligible now s) ≡ Some c → c.1 < length s.objects
 eligible_there now s c e =
-    let within = all_at_least (λ x. nat_lt x.number (length s.objects)) c (eligible now s) e
-    (all_filtered (λ x. nat_lt x.number (length s.objects)) (λ x. is_open s x.number) (due now s)
-    (all_filtered (λ x. nat_lt x.number (length s.objects)) (λ x. nat_le x.time now) (candidates s) (candidates_within s.objects))) in
+    let within = all_at_least (λ x. nat_lt x.1 (length s.objects)) c (eligible now s) e
+    (all_filtered (λ x. nat_lt x.1 (length s.objects)) (λ x. is_open s x.1) (due now s)
+    (all_filtered (λ x. nat_lt x.1 (length s.objects)) (λ x. nat_le x.0 now) (candidates s) (candidates_within s.objects))) in
     grind (arith, nat_tests, within)
 
 -- ---- one call
@@ -102,23 +100,23 @@ none_some : (x : Option ℕ) (r : ℕ) → is_none x ≡ true → x ≡ Some r �
 none_some None r f e = cc
 none_some (Some x) r f e = cc
 
-under_number_by : (number : ℕ) (x q : Run) (b : Bool) → (x.number == number) ≡ b → cond b (Ok x) (Err refusal.WrongRun) ≡ Ok q → q.number ≡ number
+under_number_by : (number : ℕ) (x q : OpenRun) (b : Bool) → (x.number == number) ≡ b → cond b (Ok x) (Err refusal.WrongRun) ≡ Ok q → q.number ≡ number
 under_number_by number x q true h e = let same : x ≡ q = cc in ap (λ r. r.number) (sym same) ∙ eqb-true x.number number h
 under_number_by number x q false h e = cc
 
-under_number : (number : ℕ) (running : Option Run) (q : Run) → run_under number running ≡ Ok q → q.number ≡ number
+under_number : (number : ℕ) (running : Option OpenRun) (q : OpenRun) → run_under number running ≡ Ok q → q.number ≡ number
 under_number number None q e = cc
 under_number number (Some x) q e = under_number_by number x q (x.number == number) refl e
 
 -- the run that a passed test names is the object's
-run_named : (s : State) (n run : ℕ) (x : ObjectState) (q : Run) → slice_get s.objects n ≡ Some x → run_under run x.run ≡ Ok q → run_in n s.objects ≡ Some run
+run_named : (s : State) (n run : ℕ) (x : Scheduling) (q : OpenRun) → slice_get s.objects n ≡ Some x → run_under run x.run ≡ Ok q → run_in n s.objects ≡ Some run
 run_named s n run x q there under = rw (there, under_is run x.run q under) (ap Some (under_number run x.run q under))
 
 some_same : (x : Option ℕ) (a b : ℕ) → x ≡ Some a → x ≡ Some b → a ≡ b
 some_same x a b e f = let same : Some a ≡ Some b = sym e ∙ f in cc
 
 -- a run that isn't the one that ends goes on
-run_goes_on : (s : State) (n run o r : ℕ) (f : ObjectState → ObjectState) (x : ObjectState) (q : Run) → slice_get s.objects n ≡ Some x → run_under run x.run ≡ Ok q → run_in o s.objects ≡ Some r → (n == o && (run == r)) ≡ false → run_in o (update_at n f s.objects) ≡ Some r
+run_goes_on : (s : State) (n run o r : ℕ) (f : Scheduling → Scheduling) (x : Scheduling) (q : OpenRun) → slice_get s.objects n ≡ Some x → run_under run x.run ≡ Ok q → run_in o s.objects ≡ Some r → (n == o && (run == r)) ≡ false → run_in o (update_at n f s.objects) ≡ Some r
 run_goes_on s n run o r f x q there under h e = elim (cases_eq n o) [
   | inl same ↦
       let named : run_in o s.objects ≡ Some run = rw (← same) (run_named s n run x q there under) in
@@ -133,8 +131,8 @@ step_keeps_run : (s : State) (c : Call) (o r : ℕ) → run_in o s.objects ≡ S
 step_keeps_run s (call.Take now) o r h =
     take_cases (λ a. ends_by o r (call.Take now) a.1 ≡ false → run_in o a.0.objects ≡ Some r) now s
     (λ why e. h)
-    (λ c m f e. run_kept c.number o _ s.objects (λ x. refl) ∙ h)
-    (λ c m q f e. run_apart c.number o _ s.objects (λ same. none_some (run_in c.number s.objects) r (eligible_free now s c f) (ap (λ k. run_in k s.objects) same ∙ h)) ∙ h)
+    (λ c m f e. run_kept c.1 o _ s.objects (λ x. refl) ∙ h)
+    (λ c m q f e. run_apart c.1 o _ s.objects (λ same. none_some (run_in c.1 s.objects) r (eligible_free now s c f) (ap (λ k. run_in k s.objects) same ∙ h)) ∙ h)
     (λ f e. h)
 step_keeps_run s (call.Report n run c) o r h =
     by_test (λ a. ends_by o r (call.Report n run c) a.1 ≡ false → run_in o a.0.objects ≡ Some r) s (known n s) _ (λ why e. h)
@@ -163,13 +161,13 @@ and_right : (a b : Bool) → (a && b) ≡ true → b ≡ true
 and_right true b h = h
 and_right false b h = cc
 
-taken_begins : (now : ℕ) (s : State) (c : Candidate) (o r : ℕ) → least (eligible now s) ≡ Some c → (c.number == o && ((s.runs + 1) == r)) ≡ true → IsBegun o r s (taken now c.number s)
+taken_begins : (now : ℕ) (s : State) (c : Candidate) (o r : ℕ) → least (eligible now s) ≡ Some c → (c.1 == o && ((s.runs + 1) == r)) ≡ true → IsBegun o r s (taken now c.1 s)
 taken_begins now s c o r f e =
-    let here : c.number ≡ o = eqb-true c.number o (and_left (c.number == o) _ e) in
-    let number : s.runs + 1 ≡ r = eqb-true (s.runs + 1) r (and_right (c.number == o) _ e) in
+    let here : c.1 ≡ o = eqb-true c.1 o (and_left (c.1 == o) _ e) in
+    let number : s.runs + 1 ≡ r = eqb-true (s.runs + 1) r (and_right (c.1 == o) _ e) in
     record {
       free = rw (← here) (eligible_free now s c f);
-      running = rw (← here, ← number) (run_begun c.number (record { number = s.runs + 1; start = now }) s.objects (eligible_there now s c f));
+      running = rw (← here, ← number) (run_begun c.1 (record { number = s.runs + 1; start = now }) s.objects (eligible_there now s c f));
       next = sym number;
     }
 
@@ -179,7 +177,7 @@ waiting_by true s next o r e = cc
 waiting_by false s next o r e = cc
 
 waiting_begins : (now : ℕ) (s : State) (o r : ℕ) → begins_by o r (waiting_reply now s) ≡ true → IsBegun o r s s
-waiting_begins now s o r e = waiting_by (list_any (λ c. not (is_host s.setup c.number)) (due now s)) s (option_map (λ c. c.time) (least (candidates s))) o r e
+waiting_begins now s o r e = waiting_by (list_any (λ c. not (is_host s.setup c.1)) (due now s)) s (option_map (λ c. c.0) (least (candidates s))) o r e
 
 step_begins : (s : State) (c : Call) (o r : ℕ) → begins_by o r (step s c).1 ≡ true → IsBegun o r s (step s c).0
 step_begins s (call.Take now) o r =
@@ -214,7 +212,7 @@ waiting_runs_by true s next = none_more s
 waiting_runs_by false s next = none_more s
 
 waiting_runs : (now : ℕ) (s : State) → s.runs ≡ s.runs + cond (takes_by (waiting_reply now s)) 1 0
-waiting_runs now s = waiting_runs_by (list_any (λ c. not (is_host s.setup c.number)) (due now s)) s (option_map (λ c. c.time) (least (candidates s)))
+waiting_runs now s = waiting_runs_by (list_any (λ c. not (is_host s.setup c.1)) (due now s)) s (option_map (λ c. c.0) (least (candidates s)))
 
 -- a run goes on through a history that doesn't end it
 keeps_running : (s : State) (h : List (Entry Call Reply)) (o r : ℕ) → IsLegal step s h → run_in o s.objects ≡ Some r → list_any (ends o r) h ≡ false → run_in o (replay step s h).objects ≡ Some r

@@ -5,7 +5,7 @@ use Rattle.check_sched.specs.declared.call.Call.TheVariants as call
 use Rattle.check_sched.specs.declared.call.Refusal.{Refusal}
 use Rattle.check_sched.specs.declared.call.Reply.{Reply}
 use Rattle.check_sched.specs.declared.call.Reply.TheVariants as reply
-use Rattle.check_sched.specs.ObjectState.{ended, enabled_as, freed_time, rescheduled}
+use Rattle.check_sched.specs.Scheduling.{ended, enabled_as, freed_time, rescheduled}
 use Rattle.check_sched.specs.State.{State, IsState, IsWithinLimit}
 use Rattle.check_sched.proofs.LimitLaws.{limit_kept, limit_taken}
 use Rattle.check_sched.specs.Report.{put_off_until}
@@ -53,8 +53,8 @@ refusal_is_answer s is_state why = record { named = tt; times = tt; is_state = i
 pub step_is_answer : (s : State) (c : Call) → IsState s → IsAnswer s (step s c)
 step_is_answer s (call.Take now) is_state =
     take_cases (IsAnswer s) now s (refusal_is_answer s is_state)
-    (λ c m e. record { named = eligible_within now s c is_state e; times = is_time_reads (put_off_until s.setup c.number now) (put_off_in_time s.setup c.number now is_state.valid_setup m); is_state = put_off_is_state now c.number s is_state m })
-    (λ c m r e. record { named = eligible_within now s c is_state e; times = tt; is_state = taken_is_state now c.number s is_state m r (eligible_open now s c e) })
+    (λ c m e. record { named = eligible_within now s c is_state e; times = is_time_reads (put_off_until s.setup c.1 now) (put_off_in_time s.setup c.1 now is_state.valid_setup m); is_state = put_off_is_state now c.1 s is_state m })
+    (λ c m r e. record { named = eligible_within now s c is_state e; times = tt; is_state = taken_is_state now c.1 s is_state m r (eligible_open now s c e) })
     (λ e. record { named = waiting_cases (NamesObjectOf s.setup) now s tt tt; times = waiting_cases (TellsTimesUpTo (2 ^ 61)) now s tt (least_time s is_state); is_state = is_state })
 step_is_answer s (call.Report n run c) is_state =
     report_cases (IsAnswer s) n run c s (refusal_is_answer s is_state)
@@ -82,7 +82,7 @@ step_is_answer s (call.Status n) is_state =
 
 -- no call passes the limit
 pub step_limit : (s : State) (c : Call) → IsWithinLimit s → IsWithinLimit (step s c).0
-step_limit s (call.Take now) within = take_cases (λ a. IsWithinLimit a.0) now s (λ why. within) (λ c m e. limit_kept c.number _ s (λ o b. b) within) (λ c m r e. limit_taken now c.number s (eligible_open now s c e) within) (λ e. within)
+step_limit s (call.Take now) within = take_cases (λ a. IsWithinLimit a.0) now s (λ why. within) (λ c m e. limit_kept c.1 _ s (λ o b. b) within) (λ c m r e. limit_taken now c.1 s (eligible_open now s c e) within) (λ e. within)
 step_limit s (call.Report n run c) within = report_cases (λ a. IsWithinLimit a.0) n run c s (λ why. within) (λ o r e f. limit_kept n (ended _) s (λ x b. cc) within)
 step_limit s (call.Abandon n run now) within = abandon_cases (λ a. IsWithinLimit a.0) n run now s (λ why. within) (λ o e m. limit_kept n (ended (Some (freed_time now o))) s (λ x b. cc) within)
 step_limit s (call.Reschedule n time forced) within = reschedule_cases (λ a. IsWithinLimit a.0) n time forced s (λ why. within) (λ m. limit_kept n (rescheduled time forced) s (λ x b. b) within)

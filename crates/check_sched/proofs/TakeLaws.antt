@@ -3,14 +3,13 @@ use Rattle.std.proofs.Common.{◌≡◌, ℕ, ◌+◌, ◌<◌, ◌≤◌, ◌^�
 use Rattle.std.specs.Prelude.{nat_lt, nat_le}
 use Rattle.std.proofs.lemmas.Bool.Decides.{nat_tests}
 use Rattle.check_objects.specs.Configuration.{object_count}
-use Rattle.check_sched.specs.declared.object_state.ObjectState.{ObjectState}
-use Rattle.check_sched.specs.declared.candidate.Candidate.{Candidate}
+use Rattle.check_sched.specs.Scheduling.{Scheduling, put_off_to, running_from}
+use Rattle.check_sched.specs.Candidate.{Candidate}
+use Rattle.check_sched.specs.Order.{least}
 use Rattle.check_sched.specs.declared.call.Reply.{Reply}
 use Rattle.check_sched.specs.declared.call.Reply.TheVariants as reply
 use Rattle.check_sched.specs.declared.call.Refusal.{Refusal}
 use Rattle.check_sched.specs.declared.call.Call.TheVariants as call
-use Rattle.check_sched.specs.ObjectState.{put_off_to, running_from}
-use Rattle.check_sched.specs.Candidate.{least}
 use Rattle.check_sched.specs.State.{State, IsState, is_in_time, is_moment, is_time}
 use Rattle.check_sched.proofs.OperatorLaws.{with_object_is_state}
 use Rattle.check_sched.proofs.ReportLaws.{put_off_in_time}
@@ -31,19 +30,19 @@ turn_by : (P : State × Reply → Type 0) (now n : ℕ) (s : State) (held : Bool
 turn_by P now n s true e off on = off e
 turn_by P now n s false e off on = on e
 
-take_by : (P : State × Reply → Type 0) (now : ℕ) (s : State) (found : Option Candidate)
-    → ((c : Candidate) → found ≡ Some c → P (put_off now c.number s, reply.PutOff c.number (put_off_until s.setup c.number now)))
-    → ((c : Candidate) → found ≡ Some c → P (taken now c.number s, reply.Taken c.number (s.runs + 1)))
+pub take_by : (P : State × Reply → Type 0) (now : ℕ) (s : State) (found : Option Candidate)
+    → ((c : Candidate) → found ≡ Some c → P (put_off now c.1 s, reply.PutOff c.1 (put_off_until s.setup c.1 now)))
+    → ((c : Candidate) → found ≡ Some c → P (taken now c.1 s, reply.Taken c.1 (s.runs + 1)))
     → (found ≡ None → P (s, waiting_reply now s))
     → P (take_least now s found)
-take_by P now s (Some c) off take wait = turn_by P now c.number s (is_held_back s c.number) refl (λ e. off c refl) (λ e. take c refl)
+take_by P now s (Some c) off take wait = turn_by P now c.1 s (is_held_back s c.1) refl (λ e. off c refl) (λ e. take c refl)
 take_by P now s None off take wait = wait refl
 
 -- what is true of a Take is what is true of each of its answers
 pub take_cases : (P : State × Reply → Type 0) (now : ℕ) (s : State)
     → ((why : Refusal) → P (s, reply.Refused why))
-    → ((c : Candidate) → now ≤ 2 ^ 60 → least (eligible now s) ≡ Some c → P (put_off now c.number s, reply.PutOff c.number (put_off_until s.setup c.number now)))
-    → ((c : Candidate) → now ≤ 2 ^ 60 → s.runs < 2 ^ 60 → least (eligible now s) ≡ Some c → P (taken now c.number s, reply.Taken c.number (s.runs + 1)))
+    → ((c : Candidate) → now ≤ 2 ^ 60 → least (eligible now s) ≡ Some c → P (put_off now c.1 s, reply.PutOff c.1 (put_off_until s.setup c.1 now)))
+    → ((c : Candidate) → now ≤ 2 ^ 60 → s.runs < 2 ^ 60 → least (eligible now s) ≡ Some c → P (taken now c.1 s, reply.Taken c.1 (s.runs + 1)))
     → (least (eligible now s) ≡ None → P (s, waiting_reply now s))
     → P (step s (call.Take now))
 take_cases P now s refused off take wait =
@@ -54,32 +53,32 @@ take_cases P now s refused off take wait =
 -- ---- the limits
 
 -- what may be checked now is one of the objects
-pub eligible_within : (now : ℕ) (s : State) (c : Candidate) → IsState s → least (eligible now s) ≡ Some c → c.number < object_count s.setup
+pub eligible_within : (now : ℕ) (s : State) (c : Candidate) → IsState s → least (eligible now s) ≡ Some c → c.1 < object_count s.setup
 eligible_within now s c is_state e =
-    let within = all_at_least (λ x. nat_lt x.number (length s.objects)) c (eligible now s) e
-    (all_filtered (λ x. nat_lt x.number (length s.objects)) (λ x. is_open s x.number) (due now s)
-    (all_filtered (λ x. nat_lt x.number (length s.objects)) (λ x. nat_le x.time now) (candidates s) (candidates_within s.objects))) in
-    let less : c.number < length s.objects = grind (arith, nat_tests, within) in
+    let within = all_at_least (λ x. nat_lt x.1 (length s.objects)) c (eligible now s) e
+    (all_filtered (λ x. nat_lt x.1 (length s.objects)) (λ x. is_open s x.1) (due now s)
+    (all_filtered (λ x. nat_lt x.1 (length s.objects)) (λ x. nat_le x.0 now) (candidates s) (candidates_within s.objects))) in
+    let less : c.1 < length s.objects = grind (arith, nat_tests, within) in
     omega (arith, less, is_state.one_each)
 
 -- the same of what was found, if anything was
-pub found_within : (now : ℕ) (s : State) (found : Option Candidate) → IsState s → found ≡ least (eligible now s) → IfSome found (λ c. c.number < object_count s.setup)
+pub found_within : (now : ℕ) (s : State) (found : Option Candidate) → IsState s → found ≡ least (eligible now s) → IfSome found (λ c. c.1 < object_count s.setup)
 found_within now s None is_state e = tt
 found_within now s (Some c) is_state e = eligible_within now s c is_state (sym e)
 
 -- and its check may begin
-pub found_open : (now : ℕ) (s : State) (found : Option Candidate) → found ≡ least (eligible now s) → IfSome found (λ c. is_open s c.number ≡ true)
+pub found_open : (now : ℕ) (s : State) (found : Option Candidate) → found ≡ least (eligible now s) → IfSome found (λ c. is_open s c.1 ≡ true)
 found_open now s None e = tt
 found_open now s (Some c) e = eligible_open now s c (sym e)
 
-least_time_by : (s : State) (found : Option Candidate) → IsState s → least (candidates s) ≡ found → IfSome (option_map (λ c. c.time) found) (λ time. time ≤ 2 ^ 61)
+least_time_by : (s : State) (found : Option Candidate) → IsState s → least (candidates s) ≡ found → IfSome (option_map (λ c. c.0) found) (λ time. time ≤ 2 ^ 61)
 least_time_by s None is_state e = tt
 least_time_by s (Some c) is_state e =
-    let in_time = all_at_least (λ x. nat_le x.time (2 ^ 61)) c (candidates s) e (candidates_times s.objects is_state.times) in
+    let in_time = all_at_least (λ x. nat_le x.0 (2 ^ 61)) c (candidates s) e (candidates_times s.objects is_state.times) in
     grind (arith, nat_tests, in_time)
 
 -- the least time of all that wait is at most 2^61
-pub least_time : (s : State) → IsState s → IfSome (option_map (λ c. c.time) (least (candidates s))) (λ time. time ≤ 2 ^ 61)
+pub least_time : (s : State) → IsState s → IfSome (option_map (λ c. c.0) (least (candidates s))) (λ time. time ≤ 2 ^ 61)
 least_time s is_state = least_time_by s (least (candidates s)) is_state refl
 
 -- an object whose check begins leaves the state one that a scheduler can be in
@@ -106,7 +105,7 @@ put_off_is_state now n s is_state m =
 -- ---- what the code leaves
 
 -- the state that the write to an object leaves whose check begins
-pub taken_left : (now n : ℕ) (s : State) (o new : ObjectState) → n < length s.objects → o ≡ get_or s.objects n o → new ≡ running_from (record { number = s.runs + 1; start = now }) o
+pub taken_left : (now n : ℕ) (s : State) (o new : Scheduling) → n < length s.objects → o ≡ get_or s.objects n o → new ≡ running_from (record { number = s.runs + 1; start = now }) o
     → let left : State = record { setup = s.setup; start = s.start; objects = set s.objects n new; standings = s.standings; runs = s.runs + 1 } in left ≡ taken now n s
 taken_left now n s o new h e g i = record {
   setup = s.setup;

@@ -1,4 +1,5 @@
-pub mod ObjectState
+pub mod Scheduling
+pub mod Order
 pub mod Candidate
 pub mod State
 pub mod Reply

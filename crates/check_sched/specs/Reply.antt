@@ -2,6 +2,7 @@
 use Rattle.std.specs.Prelude.{ℕ, ◌<◌, ◌≤◌, ⊤, IfSome, Result, Ok, Err}
 use Rattle.check_objects.specs.Configuration.{Configuration, object_count}
 use Rattle.check_sched.specs.declared.call.Refusal.{Refusal}
+use Rattle.check_sched.specs.declared.call.Refusal.TheVariants as refusal
 use Rattle.check_sched.specs.declared.call.Reply.{Reply}
 use Rattle.check_sched.specs.declared.call.Reply.TheVariants as reply
 
@@ -42,3 +43,41 @@ TellsTimesUpTo last (reply.Standing standing changed next) = IfSome next (λ tim
 TellsTimesUpTo last (reply.Freed next) = next ≤ last
 TellsTimesUpTo last reply.Done = ⊤
 TellsTimesUpTo last (reply.Refused why) = ⊤
+
+-- a reason to refuse a take
+abbrev pub IsTakeRefusal : Refusal → Type 0
+IsTakeRefusal refusal.UnknownObject = ⊥
+IsTakeRefusal refusal.TimeRange = ⊤
+IsTakeRefusal refusal.RunsSpent = ⊤
+IsTakeRefusal refusal.NotRunning = ⊥
+IsTakeRefusal refusal.WrongRun = ⊥
+
+-- a reply that a take can have
+abbrev pub IsTakeReply : Reply → Type 0
+IsTakeReply (reply.Taken object run) = ⊤
+IsTakeReply (reply.PutOff object until) = ⊤
+IsTakeReply (reply.Idle next) = ⊤
+IsTakeReply reply.AtLimit = ⊤
+IsTakeReply (reply.Standing standing changed next) = ⊥
+IsTakeReply (reply.Freed next) = ⊥
+IsTakeReply reply.Done = ⊥
+IsTakeReply (reply.Refused why) = IsTakeRefusal why
+
+-- a reason to refuse the report of an object that is there
+abbrev pub IsReportRefusal : Refusal → Type 0
+IsReportRefusal refusal.UnknownObject = ⊥
+IsReportRefusal refusal.TimeRange = ⊥
+IsReportRefusal refusal.RunsSpent = ⊥
+IsReportRefusal refusal.NotRunning = ⊤
+IsReportRefusal refusal.WrongRun = ⊤
+
+-- a reply that the report of an object that is there can have
+abbrev pub IsReportReply : Reply → Type 0
+IsReportReply (reply.Taken object run) = ⊥
+IsReportReply (reply.PutOff object until) = ⊥
+IsReportReply (reply.Idle next) = ⊥
+IsReportReply reply.AtLimit = ⊥
+IsReportReply (reply.Standing standing changed next) = ⊤
+IsReportReply (reply.Freed next) = ⊥
+IsReportReply reply.Done = ⊥
+IsReportReply (reply.Refused why) = IsReportRefusal why

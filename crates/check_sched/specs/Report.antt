@@ -1,22 +1,23 @@
 -- What the result of a check makes of an object, and to when one is put off.
-use Rattle.std.specs.Prelude.{ℕ, ◌+◌, ◌*◌, ◌==◌, true, List, Option, Some, None, option_and_then, slice_get, if◌then◌else◌}
+use Rattle.std.specs.Prelude.{ℕ, ◌+◌, ◌*◌, ◌==◌, true, not, List, Option, Some, None, option_and_then, slice_get, if◌then◌else◌}
 use Rattle.std.specs.Option.{option_or}
 use Rattle.check_objects.specs.declared.object.Object.{Object}
 use Rattle.check_objects.specs.Configuration.{Configuration, objects_of, host_of}
 use Rattle.check_rules.specs.declared.state.Code.{Code}
 use Rattle.check_rules.specs.declared.standing.Standing.{Standing}
 use Rattle.check_rules.specs.State.{service_state_of}
-use Rattle.check_rules.specs.Standing.{is_up, is_soft_problem}
+use Rattle.check_rules.specs.Standing.{is_down, is_soft_problem}
 use Rattle.check_rules.specs.Reachability.{host_state_of}
 use Rattle.check_rules.specs.Verdict.{verdict_on}
 use Rattle.check_sched.specs.State.{standing_at, max_attempts_of}
 
 -- The standing of an object after the result of its check, by its host, if it is a service. The
--- state of a host goes by its parents, and the verdict on a service by whether its host is up now.
+-- state of a host goes by its parents, and the verdict on a service by whether its host isn't down now.
 -- ("Host Checks", "State Types"; that the host's current state counts is our own profile.)
 abbrev pub judged_by : Option ℕ → Configuration → List Standing → ℕ → Code → Standing
 judged_by None setup standings number code = verdict_on (standing_at standings number) (host_state_of setup standings number code) (max_attempts_of setup number) true
-judged_by (Some host) setup standings number code = verdict_on (standing_at standings number) (service_state_of code) (max_attempts_of setup number) (is_up (standing_at standings host))
+judged_by (Some host) setup standings number code =
+    verdict_on (standing_at standings number) (service_state_of code) (max_attempts_of setup number) (not (is_down (standing_at standings host)))
 
 abbrev pub judged : Configuration → List Standing → ℕ → Code → Standing
 judged setup standings number code = judged_by (host_of setup number) setup standings number code

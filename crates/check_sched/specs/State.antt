@@ -1,14 +1,12 @@
 -- The state of a scheduler as contracts see it, and the state that it opens with.
-use Rattle.std.specs.Prelude.{ℕ, ◌^◌, ◌<◌, ◌≤◌, ◌≡◌, ◌&&◌, ◌||◌, ◌==◌, Bool, true, List, length, map, zip, drop, count_by, Option, Some, None, is_some, option_map, option_and_then, slice_get, nat_le, nat_lt, unwrap_or}
+use Rattle.std.specs.Prelude.{ℕ, ◌^◌, ◌<◌, ◌≤◌, ◌≡◌, ◌&&◌, ◌||◌, ◌==◌, Bool, true, false, List, length, map, zip, drop, count_by, Option, Some, None, is_some, option_map, option_and_then, slice_get, nat_le, nat_lt, unwrap_or}
 use Rattle.std.specs.List.{list_all, enumerate_from}
 use Rattle.std.specs.Option.{option_map_or}
 use Rattle.check_objects.specs.Configuration.{Configuration, objects_of, object_count, host_count, IsSetup}
 use Rattle.check_rules.specs.declared.standing.Standing.{Standing}
 use Rattle.check_rules.specs.State.{is_host_state}
 use Rattle.check_rules.specs.Standing.{pending_standing, is_lawful}
-use Rattle.check_sched.specs.declared.object_state.Run.{Run}
-use Rattle.check_sched.specs.declared.object_state.ObjectState.{ObjectState}
-use Rattle.check_sched.specs.ObjectState.{opening_object}
+use Rattle.check_sched.specs.Scheduling.{OpenRun, Scheduling, opening_object}
 use Rattle.check_spread.specs.Spread.{initial_times}
 
 pub record State : Type 0 where
@@ -16,7 +14,7 @@ pub record State : Type 0 where
   -- the moment at which scheduling started
   pub start : ℕ
   -- the scheduling of each object, by number
-  pub objects : List ObjectState
+  pub objects : List Scheduling
   -- what is known of each object, by number
   pub standings : List Standing
   -- how many runs were handed out
@@ -50,7 +48,7 @@ abbrev pub limit_of : Configuration → ℕ
 limit_of setup = setup.options.max_concurrent_checks
 
 -- the services, in the order of their numbers: hosts have the first numbers
-abbrev pub services_of : State → List ObjectState
+abbrev pub services_of : State → List Scheduling
 services_of s = drop (host_count s.setup) s.objects
 
 -- how many services are being checked, forced checks among them
@@ -68,11 +66,11 @@ IsWithinLimit s = 0 < limit_of s.setup → running_services s ≤ limit_of s.set
 -- ---- the opening
 
 -- objects with the times of their first checks, each enabled as the setup says
-abbrev pub objects_at : Configuration → List (Option ℕ) → List ObjectState
+abbrev pub objects_at : Configuration → List (Option ℕ) → List Scheduling
 objects_at setup times = map (λ p. opening_object p.0 p.1.object.enabled) (zip times (objects_of setup))
 
 -- The first checks are spread over time ("Service and Host Check Scheduling", initial scheduling).
-abbrev pub opening_objects : Configuration → ℕ → List ObjectState
+abbrev pub opening_objects : Configuration → ℕ → List Scheduling
 opening_objects setup start = objects_at setup (initial_times setup start)
 
 -- no object was ever checked
@@ -91,19 +89,24 @@ is_time None = true
 is_time (Some time) = nat_le time (2 ^ 61)
 
 -- a run, if there is one, began at 2^60 milliseconds at the latest
-abbrev pub is_moment : Option Run → Bool
+abbrev pub is_moment : Option OpenRun → Bool
 is_moment None = true
 is_moment (Some run) = nat_le run.start (2 ^ 60)
 
 -- the next time of an object, and the start of its run, are within their limits
-abbrev pub is_in_time : ObjectState → Bool
+abbrev pub is_in_time : Scheduling → Bool
 is_in_time o = is_time o.next && is_moment o.run
 
+-- the object with this number, where it was never checked, stands as pending
+abbrev pub IsPendingUntilChecked : Configuration → ℕ → Standing → Type 0
+IsPendingUntilChecked setup number standing = standing.checked ≡ false → standing ≡ pending_standing (is_host setup number)
+
 -- the object with this number can have this standing: it is lawful for the object's maximum of
--- attempts, and its state is one of hosts where the object is a host
+-- attempts, its state is one of hosts where the object is a host, and until it is checked it is pending
 pub record IsStandingOf (setup : Configuration) (number : ℕ) (standing : Standing) : Type 0 where
   pub lawful : is_lawful standing (max_attempts_of setup number) ≡ true
   pub sort : is_host_state standing.state ≡ is_host setup number
+  pub until_checked : IsPendingUntilChecked setup number standing
 
 -- what is true of every state that a scheduler can be in
 pub record IsState (s : State) : Type 0 where

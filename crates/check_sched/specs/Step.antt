@@ -8,13 +8,12 @@ use Rattle.check_sched.specs.declared.call.Reply.{Reply}
 use Rattle.check_sched.specs.declared.call.Reply.TheVariants as reply
 use Rattle.check_sched.specs.declared.call.Refusal.{Refusal}
 use Rattle.check_sched.specs.declared.call.Refusal.TheVariants as refusal
-use Rattle.check_sched.specs.declared.object_state.ObjectState.{ObjectState}
-use Rattle.check_sched.specs.declared.candidate.Candidate.{Candidate}
+use Rattle.check_sched.specs.Scheduling.{Scheduling, running_from, ended, run_under, freed_time, put_off_to, rescheduled, enabled_as}
+use Rattle.check_sched.specs.Candidate.{Candidate, candidates_among, due_among}
+use Rattle.check_sched.specs.Order.{least}
 use Rattle.check_rules.specs.declared.state.Code.{Code}
 use Rattle.check_rules.specs.declared.standing.Standing.{Standing}
 use Rattle.check_rules.specs.State.{is_another_state}
-use Rattle.check_sched.specs.ObjectState.{running_from, ended, run_under, freed_time, put_off_to, rescheduled, enabled_as}
-use Rattle.check_sched.specs.Candidate.{candidates_among, due_among, least}
 use Rattle.check_sched.specs.State.{State, has_room, is_host, standing_at}
 use Rattle.check_sched.specs.Report.{judged, next_after, put_off_until}
 use Rattle.check_rules.specs.Dependencies.{is_blocked}
@@ -26,7 +25,7 @@ update_at zero f (x ∷ xs) = f x ∷ xs
 update_at (suc number) f (x ∷ xs) = x ∷ update_at number f xs
 
 -- the state with the object of this number changed by f, and all else as it was
-abbrev pub with_object : ℕ → (ObjectState → ObjectState) → State → State
+abbrev pub with_object : ℕ → (Scheduling → Scheduling) → State → State
 with_object number f s = record { setup = s.setup; start = s.start; objects = update_at number f s.objects; standings = s.standings; runs = s.runs }
 
 -- ---- refusals, in the order in which they are tested
@@ -38,7 +37,7 @@ abbrev pub ◌>>=◌ : {A B : Type 0} → Result A Refusal → (A → Result B R
 (Err why) >>= f = Err why
 
 -- an object that isn't there is refused
-abbrev pub known : ℕ → State → Result ObjectState Refusal
+abbrev pub known : ℕ → State → Result Scheduling Refusal
 known number s = ok_or (slice_get s.objects number) refusal.UnknownObject
 
 -- a moment above 2^60 is refused
@@ -68,7 +67,7 @@ is_open s number = is_host s.setup number || has_room s
 
 -- those of the due whose check may begin
 abbrev pub eligible : ℕ → State → List Candidate
-eligible now s = filter (λ c. is_open s c.number) (due now s)
+eligible now s = filter (λ c. is_open s c.1) (due now s)
 
 -- the object's check begins under the next run number
 abbrev pub taken : ℕ → ℕ → State → State
@@ -83,7 +82,7 @@ taken now number s = record {
 -- The reply where none may be checked: the limit, where some service is due, else the least time of
 -- all that wait.
 abbrev pub waiting_reply : ℕ → State → Reply
-waiting_reply now s = if list_any (λ c. not (is_host s.setup c.number)) (due now s) then reply.AtLimit else reply.Idle (option_map (λ c. c.time) (least (candidates s)))
+waiting_reply now s = if list_any (λ c. not (is_host s.setup c.1)) (due now s) then reply.AtLimit else reply.Idle (option_map (λ c. c.0) (least (candidates s)))
 
 -- whether the next check of the object with this number is forced
 abbrev pub is_forced : State → ℕ → Bool
@@ -108,7 +107,7 @@ take_turn now number s =
 -- It is the turn of the least of those whose check may begin, if there is one. (The order of equal
 -- times is our own profile: the least number.)
 abbrev pub take_least : ℕ → State → Option Candidate → State × Reply
-take_least now s (Some c) = take_turn now c.number s
+take_least now s (Some c) = take_turn now c.1 s
 take_least now s None = (s, waiting_reply now s)
 
 abbrev pub take_answer : ℕ → State → Result (State × Reply) Refusal
@@ -132,7 +131,7 @@ abbrev pub standing_reply : ℕ → Standing → Option ℕ → State → Reply
 standing_reply number standing next s = reply.Standing standing (is_another_state standing.state (standing_at s.standings number).state) next
 
 -- the answer to the result of a run that began at start
-abbrev pub report_taken : ℕ → ℕ → Code → ObjectState → State → State × Reply
+abbrev pub report_taken : ℕ → ℕ → Code → Scheduling → State → State × Reply
 report_taken number start code o s =
     let standing = judged s.setup s.standings number code in
     let next = next_after s.setup number standing start o.next in

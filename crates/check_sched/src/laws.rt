@@ -1,13 +1,19 @@
 //! Laws of the definitions, each the contract of a function without parameters and code.
 
-ghost use Rattle.std.specs.Prelude.{ℕ, ◌≡◌, ◌+◌, true, false, List, ◌∷◌, ◌++◌};
+ghost use Rattle.std.specs.Prelude.{ℕ, ◌≡◌, ◌+◌, true, false, List, ◌∷◌, ◌++◌, [], Some, slice_get};
 ghost use Rattle.ticket_steps.specs.declared.kept.Entry.{Entry};
-ghost use Rattle.ticket_steps.specs.History.{IsLegal};
+ghost use Rattle.ticket_steps.specs.History.{entry, IsLegal};
 ghost use Rattle.check_objects.specs.Configuration.{Configuration};
+ghost use Rattle.check_rules.specs.declared.standing.Standing.{Standing};
+ghost use Rattle.check_rules.specs.Standing.{pending_standing};
+ghost use Rattle.check_rules.specs.declared.state.Code.{Code};
 ghost use Rattle.check_sched.specs.declared.call.Call.{Call};
-ghost use Rattle.check_sched.specs.State.{IsWithinLimit, opening};
+ghost use Rattle.check_sched.specs.declared.call.Call.TheVariants as call;
+ghost use Rattle.check_sched.specs.declared.call.Reply.TheVariants as reply;
+ghost use Rattle.check_sched.specs.State.{IsWithinLimit, is_host, opening};
 ghost use Rattle.check_sched.specs.Step.{after, step};
-ghost use Rattle.check_sched.specs.BookState.{book_opening, book_step};
+ghost use Rattle.check_sched.specs.BookState.{BookState, book_opening, book_step};
+ghost use Rattle.check_sched.specs.Reply.{IsReportReply, IsTakeReply};
 ghost use Rattle.check_sched.specs.Runs.{begins, runs_begun, runs_under};
 ghost use Rattle.check_sched.specs.declared.call.Reply.{Reply};
 
@@ -16,6 +22,15 @@ ghost use Rattle.check_sched.specs.declared.call.Reply.{Reply};
 pub fn limit()
     ensures { (setup : Configuration) → (start : ℕ) → (calls : List Call)
         → IsWithinLimit (after (opening setup start) calls) }
+{}
+
+/// Whatever calls are made, one after another, of a scheduler that was opened: an object that was never
+/// checked stands as [`pending`](check_rules::pending).
+pub fn never_checked()
+    ensures { (setup : Configuration) → (start : ℕ) → (calls : List Call) → (object : ℕ)
+        → (standing : Standing)
+        → slice_get (after (opening setup start) calls).standings object ≡ Some standing
+        → standing.checked ≡ false → standing ≡ pending_standing (is_host setup object) }
 {}
 
 /// In every legal history of a scheduler that was opened: no object is taken while it runs, by the
@@ -35,4 +50,21 @@ pub fn runs_once()
         → (history : List (Entry Call Reply))
         → IsLegal book_step (book_opening setup start room) history
         → IsLegal step (opening setup start) history }
+{}
+
+/// Which replies come in the history of a book, whatever it was opened with. A take is answered with an
+/// object that is taken or put off, or that none is due, or that the limit is reached, or it is refused
+/// for its moment or because no run is left (`take`). The report of an object that was taken before is answered with the object's standing, or
+/// refused because the object isn't being checked, or is under another run (`report`).
+pub fn replies()
+    ensures take { (opened : BookState) → (front : List (Entry Call Reply)) → (pass now : ℕ)
+        → (answer : Reply)
+        → IsLegal book_step opened (front ++ entry pass (call.Take now) answer ∷ [])
+        → IsTakeReply answer }
+    ensures report { (opened : BookState) → (front between : List (Entry Call Reply))
+        → (taker pass now object run : ℕ) → (code : Code) → (answer : Reply)
+        → IsLegal book_step opened
+        (((front ++ entry taker (call.Take now) (reply.Taken object run) ∷ []) ++ between)
+        ++ entry pass (call.Report object run code) answer ∷ [])
+        → IsReportReply answer }
 {}

@@ -1,28 +1,68 @@
 //! What the scheduler keeps of one object between calls.
 
 use crate::call::Refusal;
+use std::marker::Model;
 
 /// A check that was handed out and hasn't come back: its number, and the moment at which it was
 /// handed out, in milliseconds.
-#[derive(Clone, Copy, Debug, PartialEq, Eq)]
+#[derive(Clone, Copy, Debug)]
 pub(crate) struct Run {
     pub(crate) number: u64,
     pub(crate) start: u64,
 }
 
+impl Model for Run {
+    ghost use Rattle.check_sched.specs.Scheduling.{OpenRun};
+
+    ghost Value = { OpenRun };
+
+    ghost view = { λ run. record { number = run.number; start = run.start } };
+
+    ghost inverse = { λ run. record { number = run.number; start = run.start } };
+}
+
+impl Run {
+    ghost use Rattle.std.specs.Prelude.{◌≡◌};
+
+    /// The number under which the check was handed out.
+    pub(crate) fn number(&self) -> u64
+        ensures { result ≡ self.now.number }
+    {
+        self.number
+    }
+
+    /// The moment at which it was handed out.
+    pub(crate) fn start(&self) -> u64
+        ensures { result ≡ self.now.start }
+    {
+        self.start
+    }
+}
+
 /// The scheduling of one object: the time of its next check in milliseconds, the run of the check
 /// that is out, whether its active checks are enabled, and whether its next check is forced.
-#[derive(Clone, Copy, Debug, PartialEq, Eq)]
+/// Contracts see it as a record `Scheduling` of the same.
+#[derive(Clone, Copy, Debug)]
 pub(crate) struct ObjectState {
-    pub(crate) next: Option<u64>,
-    pub(crate) run: Option<Run>,
-    pub(crate) enabled: bool,
-    pub(crate) forced: bool,
+    next: Option<u64>,
+    run: Option<Run>,
+    enabled: bool,
+    forced: bool,
+}
+
+impl Model for ObjectState {
+    ghost use Rattle.check_sched.specs.Scheduling.{Scheduling};
+
+    ghost Value = { Scheduling };
+
+    ghost view = { λ o. record { next = o.next; run = o.run; enabled = o.enabled; forced = o.forced } };
+
+    ghost inverse = { λ o. record { next = o.next; run = o.run; enabled = o.enabled; forced = o.forced } };
 }
 
 impl ObjectState {
-    ghost use Rattle.std.specs.Prelude.{◌≡◌};
-    ghost use Rattle.check_sched.specs.ObjectState.{
+    ghost use Rattle.std.specs.Prelude.{◌≡◌, is_some, option_map};
+    ghost use Rattle.check_sched.specs.Scheduling.{
       candidate_time,
       enabled_as,
       ended,
@@ -45,6 +85,37 @@ impl ObjectState {
             enabled,
             forced: false,
         }
+    }
+
+    /// The time of the next check, if one is set.
+    pub(crate) fn next(&self) -> Option<u64>
+        ensures { result ≡ self.now.next }
+    {
+        self.next
+    }
+
+    /// Whether the object is being checked.
+    pub(crate) fn is_running(&self) -> bool
+        ensures { result ≡ is_some self.now.run }
+    {
+        self.run.is_some()
+    }
+
+    /// The number of the run under which the object is being checked.
+    pub(crate) fn run_number(&self) -> Option<u64>
+        ensures { result ≡ option_map (λ run. run.number) self.now.run }
+    {
+        match self.run {
+            Some(run) => Some(run.number()),
+            None => None,
+        }
+    }
+
+    /// Whether the next check is forced.
+    pub(crate) fn is_forced(&self) -> bool
+        ensures { result ≡ self.now.forced }
+    {
+        self.forced
     }
 
     /// The time for which the object waits: its next time, where it doesn't run and is enabled or
@@ -75,13 +146,14 @@ impl ObjectState {
         self.next = next;
         self.run = None;
     }
+
     /// The run of this number, or why there is none.
     pub(crate) fn run_under(&self, number: u64) -> Result<Run, Refusal>
         ensures { result ≡ run_under number self.now.run }
     {
         match self.run {
             None => Err(Refusal::NotRunning),
-            Some(run) if run.number == number => Ok(run),
+            Some(run) if run.number() == number => Ok(run),
             Some(_) => Err(Refusal::WrongRun),
         }
     }

@@ -29,8 +29,8 @@ pub(crate) fn judged(setup: &Setup, standings: &[Standing], number: u32, code: C
             true,
         ),
         Some(host) => {
-            let host_up = standing_at(standings, host).is_up();
-            verdict(before, service_state(code), max, host_up)
+            let host_down = standing_at(standings, host).is_down();
+            verdict(before, service_state(code), max, !host_down)
         }
     }
 }

@@ -12,7 +12,7 @@ ghost use Rattle.check_sched.specs.State.{
   run_number_of,
   standing_at,
 };
-ghost use Rattle.check_sched.specs.Candidate.{least};
+ghost use Rattle.check_sched.specs.Order.{least};
 ghost use Rattle.check_sched.specs.Step.{
   eligible,
   is_held_back,
@@ -147,13 +147,13 @@ impl Sched {
         if self.runs >= MOST_RUNS {
             return Err(Refusal::RunsSpent);
         }
-        let Some(least) = self.least_eligible(now) else {
+        let Some((_time, number)) = self.least_eligible(now) else {
             return Ok(self.waiting(now));
         };
-        if self.is_held_back(least.number) {
-            Ok(self.put_off(least.number, now))
+        if self.is_held_back(number) {
+            Ok(self.put_off(number, now))
         } else {
-            Ok(self.begin(least.number, now))
+            Ok(self.begin(number, now))
         }
     }
 
@@ -161,8 +161,8 @@ impl Sched {
     /// service more, that is a host.
     fn least_eligible(&self, now: u64) -> Option<Candidate>
         ensures value { result ≡ least (eligible now self.now) }
-        ensures there { IfSome result (λ c. c.number < object_count self.now.setup) }
-        ensures open { IfSome result (λ c. IsTrue (is_open self.now c.number)) }
+        ensures there { IfSome result (λ c. c.1 < object_count self.now.setup) }
+        ensures open { IfSome result (λ c. IsTrue (is_open self.now c.1)) }
     {
         let hosts = self.setup.hosts();
         if self.has_room() {
@@ -188,7 +188,7 @@ impl Sched {
         ensures state { self.new ≡ self.old }
         ensures value { result ≡ is_held_back self.old object }
     {
-        if self.objects[object as usize].forced {
+        if self.objects[object as usize].is_forced() {
             return false;
         }
         blocked(&self.setup, &self.standings, &mut self.marks, object)
@@ -224,7 +224,7 @@ impl Sched {
         self.objects[object as usize].begin_run(run);
         Reply::Taken {
             object,
-            run: run.number,
+            run: self.runs,
         }
     }
 
@@ -235,10 +235,8 @@ impl Sched {
         ensures times { TellsTimesUpTo (2 ^ 61) result }
     {
         match least_candidate(&self.objects) {
-            Some(least) if least.time <= now => Reply::AtLimit,
-            Some(least) => Reply::Idle {
-                next: Some(least.time),
-            },
+            Some((time, _number)) if time <= now => Reply::AtLimit,
+            Some((time, _number)) => Reply::Idle { next: Some(time) },
             None => Reply::Idle { next: None },
         }
     }
@@ -255,7 +253,7 @@ impl Sched {
         let before = self.standings[index];
         let standing = judged(&self.setup, &self.standings, object, code);
         let changed = is_changed(before, standing);
-        let next = next_after(&self.setup, object, standing, running.start, state.next);
+        let next = next_after(&self.setup, object, standing, running.start(), state.next());
         self.objects[index].end_run(next);
         self.standings[index] = standing;
         Ok(Reply::Standing {
@@ -310,7 +308,7 @@ impl Sched {
         Ok(Reply::Standing {
             standing: self.standings[object as usize],
             changed: false,
-            next: state.next,
+            next: state.next(),
         })
     }
 
@@ -338,7 +336,8 @@ impl Sched {
         self.start
     }
 
-    /// What is known of the object with this number: its state, kind and attempt.
+    /// What is known of the object with this number: its state, kind and attempt. One that was never
+    /// checked stands as [`pending`].
     pub fn standing(&self, number: u32) -> Standing
         requires { number < object_count self.now.setup }
         ensures value { result ≡ standing_at self.now.standings number }
@@ -354,7 +353,7 @@ impl Sched {
         ensures value { result ≡ next_of number self.now }
         ensures within { IfSome result (λ time. time ≤ 2 ^ 61) }
     {
-        self.objects[number as usize].next
+        self.objects[number as usize].next()
     }
 
     /// The number of the run under which the object with this number is being checked, or None
@@ -363,7 +362,7 @@ impl Sched {
         requires { number < object_count self.now.setup }
         ensures { result ≡ run_number_of number self.now }
     {
-        self.objects[number as usize].run.map(|run| run.number)
+        self.objects[number as usize].run_number()
     }
 }
 

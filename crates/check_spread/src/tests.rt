@@ -5,6 +5,7 @@ ghost use Rattle.std.specs.Prelude.{◌≤◌, ◌^◌};
 use crate::initial_times;
 use check_objects::{LoadError, Setup};
 use std::alloc::{AllocError, Global};
+use std::process::Abort;
 use std::test::Fail;
 
 /// Two hosts with five services, all at 5 minutes, all smart.
@@ -79,6 +80,26 @@ fn a_disabled_service_leaves_no_gap(rt: HostRuntime) -> Result<(), Fail> {
         assert_eq!(rt; *time, want);
     }
     Ok(())
+}
+
+/// The times of the first checks are those from the start 0, counted from this one.
+fn counts_from(rt: &impl Abort, alloc: Global, start: u64) -> Result<(), Fail>
+    requires { start ≤ 2 ^ 60 }
+{
+    let times = times_of(alloc, FIVE_ON_TWO, start)?;
+    let want = [0, 150_000, 0, 120_000, 240_000, 60_000, 180_000];
+    assert_eq!(rt; times.len(), want.len());
+    for (time, want) in times.iter().zip(want) {
+        assert_eq!(rt; *time, start.checked_add(want));
+    }
+    Ok(())
+}
+
+/// From today's clock in milliseconds, and from the last start.
+#[test]
+fn times_count_from_the_start(rt: HostRuntime) -> Result<(), Fail> {
+    counts_from(&rt, rt.alloc(), 1_800_000_000_000)?;
+    counts_from(&rt, rt.alloc(), 1_152_921_504_606_846_976)
 }
 
 /// A document of 1,000 services at 5 minutes on 150 hosts, all smart.

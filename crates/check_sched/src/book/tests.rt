@@ -1,16 +1,17 @@
 //! What no clause says of the book: that calls below the room succeed, and what comes of a growth
 //! that is refused past it.
 //!
-//! The test also passes where any one request for memory is refused (`rt try --test --fail-alloc N`):
-//! then one call may be counted in place of being made.
+//! The tests but those of ample memory also pass where any one request for memory is refused
+//! (`rt try --test --fail-alloc N`): then one call may be counted in place of being made.
 
 ghost use Rattle.std.specs.Prelude.{◌≡◌, [], IfOk};
 ghost use Rattle.check_sched.specs.Books.{entries_of, refused_of};
 
-use crate::laws::{limit, runs_once};
+use crate::laws::{limit, never_checked, replies, runs_once};
 use crate::{Book, Call, Reply};
 use check_objects::{LoadError, Setup};
 use std::alloc::Global;
+use std::process::Abort;
 use std::test::Fail;
 use ticket_steps::Kept;
 
@@ -26,14 +27,14 @@ fn setup_of(alloc: Global) -> Result<Setup, LoadError> {
     }
 }
 
-/// A book with room for 4 entries. Want of memory hands the setup back, and a second try succeeds.
-fn small_book(alloc: Global) -> Result<Book, Fail>
+/// A book with this room. Want of memory hands the setup back, and a second try succeeds.
+fn book_of(alloc: Global, room: usize) -> Result<Book, Fail>
     ensures { IfOk result (λ book. (entries_of book ≡ []) × (refused_of book ≡ 0)) }
 {
-    match Book::open(alloc, setup_of(alloc)?, 0, 4) {
+    match Book::open(alloc, setup_of(alloc)?, 0, room) {
         Ok(book) => Ok(book),
         Err(setup) => Ok(
-            Book::open(alloc, setup, 0, 4)
+            Book::open(alloc, setup, 0, room)
                 .ok()
                 .ok_or("no memory twice")?,
         ),
@@ -42,7 +43,7 @@ fn small_book(alloc: Global) -> Result<Book, Fail>
 
 #[test]
 fn two_hundred_calls_past_a_room_of_four(rt: HostRuntime) -> Result<(), Fail> {
-    let mut book = small_book(rt.alloc())?;
+    let mut book = book_of(rt.alloc(), 4)?;
     let mut refused_at = None;
     for made in 0..200u64 {
         if book.refused() > 1 {
@@ -65,9 +66,37 @@ fn two_hundred_calls_past_a_room_of_four(rt: HostRuntime) -> Result<(), Fail> {
     Ok(())
 }
 
+/// With ample memory each call is answered and kept, past the room as below it.
+fn all_are_kept(rt: &impl Abort, alloc: Global, room: usize, calls: u64) -> Result<(), Fail> {
+    let mut book = book_of(alloc, room)?;
+    for _made in 0..calls {
+        if book.refused() > 0 {
+            return Err(Fail::from("a call was refused"));
+        }
+        match book.record(7, Call::Status { object: 1 }) {
+            Ok(Reply::Standing { next, .. }) => assert_eq!(rt; next, Some(0)),
+            _ => return Err(Fail::from("another reply")),
+        }
+    }
+    assert_eq!(rt; book.entries().len() as u64, calls);
+    assert_eq!(rt; book.refused(), 0);
+    assert_eq!(rt; book.room(), room);
+    Ok(())
+}
+
+#[test]
+fn two_hundred_calls_are_kept_past_a_room_of_four(rt: HostRuntime) -> Result<(), Fail> {
+    all_are_kept(&rt, rt.alloc(), 4, 200)
+}
+
+#[test]
+fn five_thousand_calls_are_kept_past_a_room_of_a_thousand(rt: HostRuntime) -> Result<(), Fail> {
+    all_are_kept(&rt, rt.alloc(), 1000, 5000)
+}
+
 #[test]
 fn a_history_keeps_what_was_answered(rt: HostRuntime) -> Result<(), Fail> {
-    let mut book = small_book(rt.alloc())?;
+    let mut book = book_of(rt.alloc(), 4)?;
     let taken = book.record(2, Call::Take { now: 0 }).ok();
     assert_eq!(rt; taken, Some(Reply::Taken { object: 1, run: 1 }));
     let [entry] = book.entries() else {
@@ -83,5 +112,7 @@ fn a_history_keeps_what_was_answered(rt: HostRuntime) -> Result<(), Fail> {
 #[test]
 fn the_laws_can_be_called(_rt: HostRuntime) {
     limit();
+    never_checked();
+    replies();
     runs_once();
 }

@@ -1,5 +1,5 @@
-use Rattle.std.proofs.Common.{◌∙◌, ap, sym}
-use Rattle.check_rules.specs.Standing.{is_up}
+use Rattle.std.proofs.Common.{◌∙◌, ap, not, sym}
+use Rattle.check_rules.specs.Standing.{is_down}
 use Rattle.check_sched.proofs.ReportLaws.{is_host-none, is_host-some, judged_when_host, judged_when_service}
 use Rattle.check_sched.proofs.report.judged.Goals as goal
 
@@ -32,5 +32,5 @@ returns-in-None c =
 
 pub returns-in-Some : goal.returns-in-Some
 returns-in-Some c =
-    judged_when_service c.args.setup.now c.args.standings.now c.args.number c.in-Some.host c.args.code c.standing_at-before.result c.max_attempts-max.result c.service_state.result c.is_up-host_up.result c.verdict-in-Some.result
-    (sym c.host_of.ensures.host ∙ c.in-Some.is) (sym c.standing_at-before.ensures) c.max_attempts-max.ensures.value c.service_state.ensures.value (c.is_up-host_up.ensures ∙ ap is_up c.standing_at.ensures) c.verdict-in-Some.ensures.table
+    judged_when_service c.args.setup.now c.args.standings.now c.args.number c.in-Some.host c.args.code c.standing_at-before.result c.max_attempts-max.result c.service_state.result (not c.is_down-host_down.result) c.verdict-in-Some.result
+    (sym c.host_of.ensures.host ∙ c.in-Some.is) (sym c.standing_at-before.ensures) c.max_attempts-max.ensures.value c.service_state.ensures.value (ap not (c.is_down-host_down.ensures ∙ ap is_down c.standing_at.ensures)) c.verdict-in-Some.ensures.table

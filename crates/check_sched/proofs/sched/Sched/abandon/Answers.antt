@@ -1,5 +1,5 @@
 use Rattle.std.proofs.Common.{◌≡◌, Ok, Some, ap, sym, ◌∙◌}
-use Rattle.check_sched.specs.ObjectState.{ended, freed_time}
+use Rattle.check_sched.specs.Scheduling.{ended, freed_time}
 use Rattle.check_sched.specs.Sched.{state_of}
 use Rattle.check_sched.specs.Step.{known, within_range}
 use Rattle.check_sched.proofs.AnswerLaws.{known_is, range_is}

@@ -1,5 +1,5 @@
 use Rattle.std.proofs.Common.{◌≡◌, Ok, ap, sym, ◌∙◌}
-use Rattle.check_sched.specs.ObjectState.{enabled_as}
+use Rattle.check_sched.specs.Scheduling.{enabled_as}
 use Rattle.check_sched.specs.Sched.{state_of}
 use Rattle.check_sched.specs.Step.{known}
 use Rattle.check_sched.proofs.OperatorLaws.{enable_answers, known_within, with_object_is_state, written}

@@ -1,5 +1,6 @@
 use Rattle.std.proofs.Common.{◌≡◌, true, false, take, ap, sym, ◌∙◌}
-use Rattle.check_sched.specs.Candidate.{candidates_among, due_among, least}
+use Rattle.check_sched.specs.Candidate.{candidates_among, due_among}
+use Rattle.check_sched.specs.Order.{least}
 use Rattle.check_sched.specs.State.{has_room}
 use Rattle.check_sched.specs.Sched.{state_of}
 use Rattle.check_sched.specs.Step.{eligible}

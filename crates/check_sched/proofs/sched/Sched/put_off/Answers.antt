@@ -1,6 +1,6 @@
 use Rattle.std.proofs.Common.{◌<◌, ap, arith, length, refl}
 use Rattle.check_objects.specs.Configuration.{object_count}
-use Rattle.check_sched.specs.ObjectState.{put_off_to}
+use Rattle.check_sched.specs.Scheduling.{put_off_to}
 use Rattle.check_sched.specs.Sched.{state_of}
 use Rattle.check_sched.specs.State.{State}
 use Rattle.check_sched.proofs.OperatorLaws.{written}

@@ -2,12 +2,11 @@ use Rattle.std.proofs.Common.{◌≡◌, ◌<◌, ◌∙◌, ap, sym, arith, set
 use Rattle.check_objects.specs.Configuration.{object_count}
 use Rattle.check_rules.specs.declared.standing.Standing.{Standing}
 use Rattle.check_sched.specs.declared.call.Call.TheVariants as call
-use Rattle.check_sched.specs.declared.object_state.ObjectState.{ObjectState}
+use Rattle.check_sched.specs.Scheduling.{Scheduling, ended}
 use Rattle.check_sched.specs.declared.sched.Sched.TheInside.{Inside}
-use Rattle.check_sched.specs.ObjectState.{ended}
 use Rattle.check_sched.specs.State.{IsState, IsStandingOf, State}
 use Rattle.check_sched.specs.Sched.{state_of}
-use Rattle.check_sched.specs.Report.{judged}
+use Rattle.check_sched.specs.Report.{judged, next_after}
 use Rattle.check_sched.specs.Step.{known, reported, standing_reply, step, update_at}
 use Rattle.check_sched.proofs.AnswerLaws.{known_is, under_is}
 use Rattle.check_sched.proofs.OperatorLaws.{known_within}
@@ -16,13 +15,13 @@ use Rattle.check_sched.proofs.UpdateLaws.{set_is_update}
 use Rattle.check_sched.proofs.sched.Sched.report.Goals as goal
 
 -- an object that is known has its places
-object_there : (inside : Inside) (n : ℕ) (o : ObjectState) → known n (state_of inside) ≡ Ok o → n < length inside.objects.items
+object_there : (inside : Inside) (n : ℕ) (o : Scheduling) → known n (state_of inside) ≡ Ok o → n < length inside.objects.items
 object_there inside n o e = known_within n (state_of inside) o e
 
-count_there : (inside : Inside) (n : ℕ) (o : ObjectState) → IsState (state_of inside) → known n (state_of inside) ≡ Ok o → n < object_count inside.setup
+count_there : (inside : Inside) (n : ℕ) (o : Scheduling) → IsState (state_of inside) → known n (state_of inside) ≡ Ok o → n < object_count inside.setup
 count_there inside n o h e = let l = object_there inside n o e in let m = h.one_each in omega (arith, l, m)
 
-standing_there : (inside : Inside) (n : ℕ) (o : ObjectState) → IsState (state_of inside) → known n (state_of inside) ≡ Ok o → n < length inside.standings.items
+standing_there : (inside : Inside) (n : ℕ) (o : Scheduling) → IsState (state_of inside) → known n (state_of inside) ≡ Ok o → n < length inside.standings.items
 standing_there inside n o h e = let l = count_there inside n o h e in let m = h.one_standing_each in omega (arith, l, m)
 
 pub judged-standing-requires-clause-before : goal.judged-standing-requires-clause-before
@@ -40,13 +39,13 @@ pub next_after-next-requires-clause-moment : goal.next_after-next-requires-claus
 next_after-next-requires-clause-moment c =
     let s = state_of c.self.inside in
     let found = ap (known c.args.object) c.self.view_is ∙ sym c.object.ensures ∙ c.in_ok-state.was in
-    start_of_state s c.args.object c.in_ok-state.state c.in_ok-running.running c.self.invariant.state (known_is c.args.object s c.in_ok-state.state found) (under_is c.args.run c.in_ok-state.state.run c.in_ok-running.running (sym c.run_under.ensures ∙ c.in_ok-running.was))
+    rw c.start.ensures (start_of_state s c.args.object c.in_ok-state.state c.in_ok-running.running c.self.invariant.state (known_is c.args.object s c.in_ok-state.state found) (under_is c.args.run c.in_ok-state.state.run c.in_ok-running.running (sym c.run_under.ensures ∙ c.in_ok-running.was)))
 
 pub next_after-next-requires-clause-in_time : goal.next_after-next-requires-clause-in_time
 next_after-next-requires-clause-in_time c =
     let s = state_of c.self.inside in
     let found = ap (known c.args.object) c.self.view_is ∙ sym c.object.ensures ∙ c.in_ok-state.was in
-    is_time_reads c.in_ok-state.state.next (next_of_state s c.args.object c.in_ok-state.state c.self.invariant.state (known_is c.args.object s c.in_ok-state.state found))
+    rw c.next.ensures (is_time_reads c.in_ok-state.state.next (next_of_state s c.args.object c.in_ok-state.state c.self.invariant.state (known_is c.args.object s c.in_ok-state.state found)))
 
 pub index_mut-requires : goal.index_mut-requires
 index_mut-requires c =
@@ -71,7 +70,7 @@ answer c =
     report_answers c.args.object c.args.run c.args.code (state_of c.self.inside) c.in_ok-state.state c.in_ok-running.running c.judged-standing.result c.next_after-next.result
     (found c) (sym c.run_under.ensures ∙ c.in_ok-running.was)
     (c.judged-standing.ensures ∙ ap (λ standings. judged c.self.inside.setup standings c.args.object c.args.code) c.deref.ensures.value)
-    c.next_after-next.ensures.value
+    (c.next_after-next.ensures.value ∙ (λ i. next_after c.self.inside.setup c.args.object c.judged-standing.result (c.start.ensures i) (c.next.ensures i)))
 
 -- the objects and the standings that the writes leave
 objects_left : (c : goal.After-self-2-1) → set c.self.inside.objects.items c.args.object c.end_run.new.self ≡ update_at c.args.object (ended c.next_after-next.result) c.self.inside.objects.items
@@ -80,7 +79,7 @@ objects_left c = set_is_update _ _ _ c.index_mut.result.now _ (object_there c.se
 standings_left : (c : goal.After-self-2-1) → set c.self.inside.standings.items c.args.object c.judged-standing.result ≡ update_at c.args.object (λ (before : Standing). c.judged-standing.result) c.self.inside.standings.items
 standings_left c = set_is_update _ (λ (before : Standing). c.judged-standing.result) _ c.judged-standing.result _ (standing_there c.self.inside c.args.object c.in_ok-state.state c.self.invariant.state (found c)) refl
 
-state_left : (c : goal.After-self-2-1) (objects : List ObjectState) (standings : List Standing)
+state_left : (c : goal.After-self-2-1) (objects : List Scheduling) (standings : List Standing)
     → objects ≡ update_at c.args.object (ended c.next_after-next.result) c.self.inside.objects.items
     → standings ≡ update_at c.args.object (λ (before : Standing). c.judged-standing.result) c.self.inside.standings.items
     → let s : State = record { setup = c.self.inside.setup; start = c.self.inside.start; objects = objects; standings = standings; runs = c.self.inside.runs } in s ≡ reported c.args.object c.judged-standing.result c.next_after-next.result (state_of c.self.inside)

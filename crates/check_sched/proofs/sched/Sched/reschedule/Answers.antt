@@ -1,5 +1,5 @@
 use Rattle.std.proofs.Common.{◌≡◌, Ok, ap, sym, ◌∙◌}
-use Rattle.check_sched.specs.ObjectState.{rescheduled}
+use Rattle.check_sched.specs.Scheduling.{rescheduled}
 use Rattle.check_sched.specs.Sched.{state_of}
 use Rattle.check_sched.specs.Step.{known, within_range}
 use Rattle.check_sched.proofs.AnswerLaws.{range_is}

@@ -2,47 +2,61 @@
 use Rattle.std.specs.Prelude.{ℕ, Bool, false, ◌&&◌, ◌||◌, ◌==◌, Option, Some, None, Result, Ok, Err, is_none, unwrap_or, if◌then◌else◌}
 use Rattle.check_sched.specs.declared.call.Refusal.{Refusal}
 use Rattle.check_sched.specs.declared.call.Refusal.TheVariants as refusal
-use Rattle.check_sched.specs.declared.object_state.ObjectState.{ObjectState}
-use Rattle.check_sched.specs.declared.object_state.Run.{Run}
+
+-- A check that was handed out and hasn't come back: its number, and the moment at which it was handed
+-- out, in milliseconds.
+pub record OpenRun : Type 0 where
+  pub number : ℕ
+  pub start : ℕ
+
+pub record Scheduling : Type 0 where
+  -- the time of the next check in milliseconds, if one is set
+  pub next : Option ℕ
+  -- the check that is out, if one is
+  pub run : Option OpenRun
+  -- whether active checks are enabled
+  pub enabled : Bool
+  -- whether the next check is forced
+  pub forced : Bool
 
 -- An object when scheduling starts: its first check is at this time, if at all, it doesn't run, its
 -- active checks are enabled or not, and nothing is forced. (Our own profile.)
-abbrev pub opening_object : Option ℕ → Bool → ObjectState
+abbrev pub opening_object : Option ℕ → Bool → Scheduling
 opening_object first enabled = record { next = first; run = None; enabled = enabled; forced = false }
 
 -- The time for which an object waits: its next time, where it has one, isn't being checked, and its
 -- active checks are enabled or its next check is forced. ("Service and Host Check Scheduling"; that
 -- a forced check ignores a disabled object is our own profile.)
-abbrev pub candidate_time : ObjectState → Option ℕ
+abbrev pub candidate_time : Scheduling → Option ℕ
 candidate_time o = if is_none o.run && (o.enabled || o.forced) then o.next else None
 
 -- The object is being checked: it runs, has no next time, and isn't forced any more.
-abbrev pub running_from : Run → ObjectState → ObjectState
+abbrev pub running_from : OpenRun → Scheduling → Scheduling
 running_from run o = record { next = None; run = Some run; enabled = o.enabled; forced = false }
 
 -- The object isn't being checked any more, and has its next check at this time, if at all.
-abbrev pub ended : Option ℕ → ObjectState → ObjectState
+abbrev pub ended : Option ℕ → Scheduling → Scheduling
 ended next o = record { next = next; run = None; enabled = o.enabled; forced = o.forced }
 
 -- The run of this number: an object that isn't being checked is refused, and then one that is under
 -- another number.
-abbrev pub run_under : ℕ → Option Run → Result Run Refusal
+abbrev pub run_under : ℕ → Option OpenRun → Result OpenRun Refusal
 run_under number None = Err refusal.NotRunning
 run_under number (Some r) = if r.number == number then Ok r else Err refusal.WrongRun
 
 -- The time of the next check of an object whose run is given up at this moment: one that was set
 -- while it ran stays, and without one the object is due at once. (Our own profile.)
-abbrev pub freed_time : ℕ → ObjectState → ℕ
+abbrev pub freed_time : ℕ → Scheduling → ℕ
 freed_time now o = unwrap_or o.next now
 
 -- The next check is at this time and forced or not, whatever it was before.
-abbrev pub rescheduled : ℕ → Bool → ObjectState → ObjectState
+abbrev pub rescheduled : ℕ → Bool → Scheduling → Scheduling
 rescheduled time forced o = record { next = Some time; run = o.run; enabled = o.enabled; forced = forced }
 
 -- The next check is at this time, if at all; the rest is as it was.
-abbrev pub put_off_to : Option ℕ → ObjectState → ObjectState
+abbrev pub put_off_to : Option ℕ → Scheduling → Scheduling
 put_off_to until o = record { next = until; run = o.run; enabled = o.enabled; forced = o.forced }
 
 -- The active checks are on or off; a next time is as it was.
-abbrev pub enabled_as : Bool → ObjectState → ObjectState
+abbrev pub enabled_as : Bool → Scheduling → Scheduling
 enabled_as on o = record { next = o.next; run = o.run; enabled = on; forced = o.forced }

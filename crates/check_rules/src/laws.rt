@@ -1,0 +1,25 @@
+//! Laws of the definitions, each the contract of a function without parameters and code.
+
+ghost use Rattle.std.specs.Prelude.{ℕ, ◌≡◌, Bool, false, List, length};
+ghost use Rattle.std.specs.List.{list_any};
+ghost use Rattle.check_objects.specs.Configuration.{Configuration, dependencies_of, masters_of, object_count};
+ghost use Rattle.check_objects.specs.Depth.{has_cycle};
+ghost use Rattle.check_rules.specs.Dependencies.{fails, is_blocked};
+ghost use Rattle.check_rules.specs.declared.standing.Standing.{Standing};
+
+/// Which objects are blocked, in a setup whose dependencies have no cycle: exactly those of which some
+/// dependency fails, because its master is in one of its criteria, or because it inherits and its
+/// master is blocked (`blocked`). No other answer fits those words: whatever says of each object
+/// whether some dependency of it fails, by what it says itself of the masters, says the same
+/// (`alone`). (Manual: "Host and Service Dependencies".)
+pub fn blocked_where_a_dependency_fails()
+    ensures blocked { (setup : Configuration) → (standings : List Standing)
+        → has_cycle (masters_of setup) ≡ false → length setup.dependencies ≡ object_count setup
+        → (object : ℕ) → is_blocked setup standings object
+        ≡ list_any (fails (is_blocked setup standings) setup standings) (dependencies_of setup object) }
+    ensures alone { (setup : Configuration) → (standings : List Standing) → (answer : ℕ → Bool)
+        → has_cycle (masters_of setup) ≡ false → length setup.dependencies ≡ object_count setup
+        → ((object : ℕ) → answer object
+        ≡ list_any (fails answer setup standings) (dependencies_of setup object))
+        → (object : ℕ) → answer object ≡ is_blocked setup standings object }
+{}
