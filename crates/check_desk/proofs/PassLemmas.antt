@@ -1,5 +1,11 @@
 -- The passes of a desk, handed out one after another.
-use Rattle.std.proofs.Common.{◌≡◌, ◌≤◌, ℕ, zero, suc, ◌+◌, ◌-◌, ◌*◌, ◌<◌, ◌^◌, List, [], ◌∷◌, ◌++◌, length, true, refl, ap, subst, ◌∙◌, arith, get_or}
+use Rattle.std.proofs.Common.{◌≡◌, ◌≤◌, ℕ, zero, suc, ◌+◌, ◌-◌, ◌*◌, ◌<◌, ◌^◌, List, [], ◌∷◌, ◌++◌, length, Bool, true, false, cond, ◌==◌, refl, sym, ap, subst, ◌∙◌, arith, get_or, eq-eqb}
+use Rattle.std.specs.List.{All}
+use Rattle.std.proofs.lemmas.List.Elements.{All-cons, All-nil}
+use mathlib.Core.Logic.{dite}
+use native.Mathlib.Decide.{dec_le}
+use Rattle.ticket_steps.specs.declared.kept.Entry.{Entry}
+use Rattle.ticket_steps.specs.History.{of}
 use Rattle.ticket_steps.specs.Sums.{counted}
 use Rattle.ticket_lock.specs.Callers.{Caller, caller, keeping, given}
 use Rattle.ticket_lock.specs.Legal.{IsLegalFrom}
@@ -61,6 +67,11 @@ new_at desk n [] i d h l = absurd (omega arith)
 new_at desk n (p ∷ ps) zero d h l = h.0
 new_at desk n (p ∷ ps) (suc i) d h l = new_at desk (n + 1) ps i d h.2 (omega arith)
 
+-- so is the last of them
+pub new_last : (desk : Desk) (n : ℕ) (ps : List Pass) (p : Pass) → AreNewPasses desk n (ps ++ p ∷ []) → IsPassOf desk p
+new_last desk n [] p h = h.0
+new_last desk n (q ∷ ps) p h = new_last desk (n + 1) ps p h.2
+
 -- ---- what each pass is known to have
 
 -- it has made fewer than 2^42 calls
@@ -77,3 +88,21 @@ some_number pass = omega (arith, pass.seat.told.count, pass.seat.told.some_numbe
 
 pub few_numbers : (pass : Pass) → length (pass_of pass).numbers ≤ 1024
 few_numbers pass = omega (arith, pass.seat.told.count, pass.seat.told.few_numbers)
+
+-- ---- histories all of whose numbers were given out
+
+put-nil : (e : Entry Call Reply) (es : List (Entry Call Reply)) (same : Bool) → cond same (e ∷ es) es ≡ [] → (same ≡ false) × (es ≡ [])
+put-nil e es true h = cc
+put-nil e es false h = (refl, h)
+
+-- where no number from n on has an entry, each entry's number is below n
+pub all_below : (n : ℕ) (es : List (Entry Call Reply)) → ((p : ℕ) → n ≤ p → of p es ≡ []) → All (λ e. e.pass < n) es
+all_below n [] none = All-nil (λ e. e.pass < n)
+all_below n (e ∷ es) none = All-cons (λ e. e.pass < n) e es
+    (dite (dec_le n e.pass)
+    (λ le.
+    let other = (put-nil e (of e.pass es) (e.pass == e.pass) (none e.pass le)).0 in
+    let clash : true ≡ false = sym (eq-eqb e.pass e.pass refl) ∙ other in
+    absurd (cc))
+    (λ gt. omega (arith, gt)))
+    (all_below n es (λ p le. (put-nil e (of p es) (e.pass == p) (none p le)).1))

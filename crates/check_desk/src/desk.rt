@@ -1,6 +1,7 @@
 //! The desk and its calls.
 
 ghost use Rattle.std.specs.Prelude.{⊤, ◌≡◌, ◌↔◌, ℕ, ◌+◌, ◌<◌, ◌≤◌, [], length, IsErr, IfOk, IfErr, vec_capacity};
+ghost use Rattle.std.specs.List.{All};
 ghost use Rattle.ticket_steps.specs.History.{of};
 ghost use Rattle.ticket_steps.specs.Books.{book_state, IsLawfulBook};
 ghost use Rattle.ticket_lock.specs.Callers.{Caller, drawn, ended, first_caller, having_seen, joined};
@@ -169,6 +170,7 @@ impl Desk {
     /// `Spent`, and does nothing, exactly where the pass has no call left.
     ///
     /// What this says holds where it returns: nothing is promised of how long it waits.
+    #[tactic(auto, using(crate::proofs::PassLemmas::seen_history))]
     pub fn ask(&self, rt: &impl Wait, pass: Pass, call: Call) -> (Pass, Answer)
         requires { IsPassOf self.now pass }
         ensures desk { IsPassOf self.now result.0 }
@@ -176,9 +178,7 @@ impl Desk {
             (λ reply. HasRecorded call reply (pass_of pass) (pass_of result.0))
             (HasNoMemory (opened_with self.now).room (pass_of pass) (pass_of result.0))
             (((pass_of pass).left ≡ 0) × (result.0 ≡ pass)) }
-        ensures legal { MatchAnswer result.1
-            (λ reply. IsHistoryOf self.now (pass_of result.0).seen)
-            (IsHistoryOf self.now (pass_of result.0).seen) ⊤ }
+        ensures legal { IsHistoryOf self.now (pass_of result.0).seen }
     {
         match self.begin(pass) {
             Ok(turn) => {
@@ -213,10 +213,12 @@ impl Desk {
     /// Puts two passes together: the first goes on, answers for the numbers of both and has made the
     /// calls of both. It has seen the longer history, to which neither's numbers added anything. The
     /// second's calls that are left are given up.
+    #[tactic(auto, using(crate::proofs::PassLemmas::seen_history))]
     pub fn gather(&self, pass: Pass, other: Pass) -> Pass
         requires { IsPassOf self.now pass × IsPassOf self.now other }
         ensures desk { IsPassOf self.now result }
         ensures joined { pass_of result ≡ joined (pass_of pass) (pass_of other) }
+        ensures legal { IsHistoryOf self.now (pass_of result).seen }
         ensures seen { Follows (pass_of pass).numbers (pass_of pass).seen (pass_of result).seen }
         ensures seen_by_other { Follows (pass_of other).numbers (pass_of other).seen
             (pass_of result).seen }
@@ -231,6 +233,7 @@ impl Desk {
     ///
     /// The book's history is what the pass has seen: each caller's calls stand there once, in its
     /// order, and nothing else does.
+    #[tactic(auto, using(crate::proofs::PassLemmas::all_below))]
     pub fn close(self, pass: Pass) -> Result<Book, (Desk, Pass)>
         requires { IsPassOf self pass }
         ensures missing { IsErr result ↔ (length (pass_of pass).numbers < passes_of self) }
@@ -241,6 +244,8 @@ impl Desk {
             length (entries_of book) + refused_of book ≡ (pass_of pass).calls) }
         ensures numbers { IfOk result (λ book. (number : ℕ)
             → passes_of self ≤ number → of number (entries_of book) ≡ []) }
+        ensures made { IfOk result (λ book.
+            All (λ e. e.pass < passes_of self) (entries_of book)) }
         ensures lawful { IfOk result (λ book. IsLawfulBook book_step (opening_of book)
             (book_state (state_of book) (entries_of book) (refused_of book))) }
     {

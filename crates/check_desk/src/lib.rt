@@ -10,9 +10,11 @@
 //! scheduler's at its place, and each caller's calls stand there once, in its order. All of it is our
 //! own profile.
 //!
-//! The modules: `passes` has the passes, turns and holds, `desk` the desk and its calls.
+//! The modules: `passes` has the passes, turns and holds, `desk` the desk and its calls, `laws` what is
+//! so of the history that all callers share.
 
 mod desk;
+pub mod laws;
 mod passes;
 #[cfg(test)]
 mod tests;

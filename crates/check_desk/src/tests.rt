@@ -270,3 +270,22 @@ fn three_passes_out_of_order(rt: HostRuntime) -> Result<(), Fail> {
     }
     Ok(())
 }
+
+/// As many passes as there can be.
+#[test]
+fn a_desk_of_1024_passes(rt: HostRuntime) -> Result<(), Fail> {
+    let (desk, mut passes) = opened(rt.alloc(), 1024)?;
+    assert_eq!(rt; passes.len(), 1024);
+    let Some(last) = passes.pop() else {
+        return Err(Fail::from("no pass"));
+    };
+    assert_eq!(rt; (last.number(), last.gathered()), (1023, 1));
+    assert_eq!(rt; (last.left(), last.calls()), (4_294_967_295, 0));
+    let (last, answer) = desk.ask(&rt, last, Call::Take { now: 0 });
+    assert_eq!(rt; answer, Answer::Reply(Reply::Taken { object: 1, run: 1 }));
+    assert_eq!(rt; (last.left(), last.calls()), (4_294_967_294, 1));
+    match desk.close(last) {
+        Ok(_book) => Err(Fail::from("closed with 1,023 passes missing")),
+        Err((_desk, _pass)) => Ok(()),
+    }
+}

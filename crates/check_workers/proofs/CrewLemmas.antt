@@ -24,7 +24,7 @@ use Rattle.check_workers.specs.declared.crews.CrewError.TheVariants as error
 use Rattle.check_workers.specs.declared.tally.Stop.{Stop}
 use Rattle.check_workers.specs.declared.tally.Stop.TheVariants as stop
 use Rattle.check_workers.specs.declared.tally.Tally.{Tally}
-use Rattle.check_workers.specs.Crews.{AreShiftsOf, AreWorked, HaveLeft, MatchCrewError, IsShiftOf, IsTallied, IsWithin, IsWorked, calls_in, numbers_in, sum_of, tally_of_all}
+use Rattle.check_workers.specs.Crews.{AreShiftsOf, AreWorked, HaveLeft, MatchCrewError, IsShiftOf, IsTallied, IsWithin, IsWorked, calls_counted, calls_in, numbers_in, numbers_of, sum_of, tally_of_all}
 use Rattle.check_workers.specs.Shifts.{IsReason, Open, Round, Shift, open_entries, open_moments, round_entries, shift_entries, shift_moments, stops_of, unanswered}
 use Rattle.check_workers.specs.Tallies.{IsSum, plus, tally_of}
 use Rattle.check_workers.proofs.ShiftLemmas.{rounds_entries, shift_calls, unanswered_count}
@@ -193,6 +193,24 @@ module _ (allows : ℕ → ℕ → ℕ → Code → Type 0) (moments : List ℕ)
       let rest = same_numbers ps ws (rest_worked p ps w ws h) in
       let brought = sum_by-cons (λ q. length (pass_of q).numbers) p ps in
       omega arith
+
+  pub all_numbers : (ps : List Pass) (ws : List (Pass × Tally)) → AreWorked allows moments desk ps ws → flat_map (λ w. (pass_of w.0).numbers) ws ≡ numbers_of ps
+  all_numbers [] [] h = refl
+  all_numbers [] (w ∷ ws) h = absurd (let c = h.count in omega arith)
+  all_numbers (p ∷ ps) [] h = absurd (let c = h.count in omega arith)
+  all_numbers (p ∷ ps) (w ∷ ws) h =
+      flat_map-cons (λ v. (pass_of v.0).numbers) w ws
+      ∙ ap (λ l. l ++ flat_map (λ v. (pass_of v.0).numbers) ws) (first_worked p ps w ws h).worked.made.numbers
+      ∙ ap (λ l. (pass_of p).numbers ++ l) (all_numbers ps ws (rest_worked p ps w ws h))
+      ∙ sym (flat_map-cons (λ q. (pass_of q).numbers) p ps)
+
+  -- the calls of the pass into which they are gathered
+  pub missing_calls : (ps : List Pass) (ws : List (Pass × Tally)) (h : AreWorked allows moments desk ps ws) (calls : ℕ) → calls ≡ sum_by (λ w. (pass_of w.0).calls) ws
+      → calls ≡ calls_in ps + calls_counted (tally_of_all (shifts_from ps ws h))
+  missing_calls ps ws h calls is =
+      let all = sum_calls ps ws h in
+      let counted : calls_counted (sum_of ws) ≡ calls_counted (tally_of_all (shifts_from ps ws h)) = ap (λ t. calls_counted t) (sum_is ps ws h) in
+      omega (arith, is, all, counted)
 
 -- ---- answers
 

@@ -4,7 +4,7 @@ use Rattle.std.specs.Prelude.{flat_map, count_by, true}
 use Rattle.std.proofs.lemmas.List.Concat.{flat_map-cons}
 use Rattle.std.specs.List.{All}
 use Rattle.std.proofs.lemmas.Grind.{flat_map-append}
-use Rattle.std.proofs.lemmas.List.{map-append}
+use Rattle.std.proofs.lemmas.List.{length-map, map-append}
 use Rattle.std.proofs.lemmas.List.Elements.{All-append, All-cons, All-nil}
 use Rattle.std.proofs.lemmas.Option.{none-some}
 use mathlib.Core.List.{IsPrefix}
@@ -80,6 +80,10 @@ working_stopped allows done rest moments now room stop given before mid after t 
         in_order = subst (λ l. IsPrefix (l ++ open_moments h.left_open) moments) (sym w.moments_are) (stopped_in_order now h.left_open done rest moments e h.at);
         all = (λ is. absurd (none-some stop (sym is)));
         none_open = (λ is. absurd (none-some stop (sym is)));
+        early = (λ why is.
+            let rounds : length w.rounds ≡ length done = sym (length-map w.rounds (λ r. r.now)) ∙ ap length w.moments_are in
+            let all = ap length (sym e) ∙ length-append done (now ∷ rest) in
+            omega (arith, rounds, all));
       };
       made = subst (λ k. HasMade (rounds_entries before.own w.rounds ++ open_entries before.own h.left_open) k before after) none
           (made_then (rounds_entries before.own w.rounds) (open_entries before.own h.left_open) 0 (unanswered (Some stop)) before mid after w.made
@@ -104,7 +108,7 @@ working_ended allows moments room before after t w =
     let same = append-nil (map (λ r. r.now) w.rounds) ∙ w.moments_are in
     record {
       number = refl;
-      shift = record { rounds = w.allowed; in_order = ([], append-nil _ ∙ same); all = (λ is. same); none_open = (λ is. refl) };
+      shift = record { rounds = w.allowed; in_order = ([], append-nil _ ∙ same); all = (λ is. same); none_open = (λ is. refl); early = (λ why is. absurd (none-some why is)) };
       made = subst (λ es. HasMade es 0 before after) (sym (append-nil (rounds_entries before.own w.rounds))) w.made;
       reason = tt;
     }

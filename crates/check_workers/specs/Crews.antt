@@ -45,6 +45,10 @@ tally_of_all shifts = tally_of (flat_map shift_entries shifts) (flat_map (λ s. 
 abbrev pub numbers_in : List Pass → ℕ
 numbers_in passes = sum_by (λ pass. length (pass_of pass).numbers) passes
 
+-- the numbers for which they stand
+abbrev pub numbers_of : List Pass → List ℕ
+numbers_of passes = flat_map (λ pass. (pass_of pass).numbers) passes
+
 abbrev pub calls_in : List Pass → ℕ
 calls_in passes = sum_by (λ pass. (pass_of pass).calls) passes
 
@@ -52,6 +56,10 @@ calls_in passes = sum_by (λ pass. (pass_of pass).calls) passes
 abbrev pub HaveLeft : ℕ → List Pass → Type 0
 HaveLeft least [] = ⊤
 HaveLeft least (pass ∷ passes) = (least < (pass_of pass).left) × HaveLeft least passes
+
+-- the calls of the workers that this tally counts
+abbrev pub calls_counted : Tally → ℕ
+calls_counted tally = tally.takes + tally.reports + tally.unanswered
 
 -- the three ways in which a crew gives no book
 abbrev pub MatchCrewError : CrewError → (Desk → Type 0) → (Desk → Pass → Type 0) → (Desk → Type 0) → Type 0

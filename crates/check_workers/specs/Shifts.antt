@@ -89,6 +89,8 @@ pub record IsShift (allows : ℕ → ℕ → ℕ → Code → Type 0) (moments :
   pub in_order : IsPrefix (shift_moments s) moments
   pub all : s.stopped ≡ None → shift_moments s ≡ moments
   pub none_open : s.stopped ≡ None → s.left_open ≡ None
+  -- a worker that stopped early has some moment's work still to do
+  pub early : (why : Stop) → s.stopped ≡ Some why → length s.rounds < length moments
 
 -- how many calls got no answer where the shift ended so
 abbrev pub unanswered : Option Stop → ℕ

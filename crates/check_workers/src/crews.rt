@@ -6,9 +6,9 @@ ghost use Rattle.ticket_steps.specs.History.{of};
 ghost use Rattle.ticket_steps.specs.Books.{book_state, IsLawfulBook};
 ghost use Rattle.check_sched.specs.BookState.{book_step};
 ghost use Rattle.check_sched.specs.Books.{entries_of, opening_of, refused_of, state_of};
-ghost use Rattle.check_desk.specs.Desks.{IsPassOf, opened_with, passes_of};
+ghost use Rattle.check_desk.specs.Desks.{IsHistoryOf, IsPassOf, opened_with, passes_of};
 ghost use Rattle.check_desk.specs.Passes.{pass_of};
-ghost use Rattle.check_workers.specs.Crews.{AreGathered, AreShiftsOf, AreWorked, HaveLeft, IsTallied, IsWorked, MatchCrewError, MatchGathered, calls_in, numbers_in, tally_of_all};
+ghost use Rattle.check_workers.specs.Crews.{AreGathered, AreShiftsOf, AreWorked, HaveLeft, IsTallied, IsWorked, MatchCrewError, MatchGathered, calls_counted, calls_in, numbers_in, numbers_of, tally_of_all};
 ghost use Rattle.check_workers.specs.Shifts.{Shift};
 ghost use Rattle.check_workers.specs.Tallies.{IsSum};
 
@@ -71,9 +71,12 @@ pub fn crew<R: Threads + Wait + Sync, P: Plugin + Sync>(
         (λ back pass. (back ≡ desk) × IsPassOf desk pass
         × (numbers_in passes.items < passes_of desk)
         × (length (pass_of pass).numbers ≡ numbers_in passes.items)
+        × ((pass_of pass).numbers ≡ numbers_of passes.items)
+        × IsHistoryOf desk (pass_of pass).seen
         × ((shifts : List Shift)
         × AreShiftsOf (P.allows plugin.now) moments.now (opened_with desk).room
-        (pass_of pass).seen passes.items shifts))
+        (pass_of pass).seen passes.items shifts
+        × ((pass_of pass).calls ≡ calls_in passes.items + calls_counted (tally_of_all shifts))))
         (λ back. back ≡ desk)) }
 {
     if passes.is_empty() {

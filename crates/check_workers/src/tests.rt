@@ -17,9 +17,11 @@ use check_sched::{Book, Call, Refusal, Reply};
 use std::alloc::Global;
 use std::hint::spin_loop;
 use std::process::Abort;
+use std::sync::Wait;
 use std::sync::atomic::AtomicU64;
 use std::sync::atomic::Ordering::SeqCst;
 use std::test::Fail;
+use std::thread::Threads;
 use ticket_steps::{Entry, Kept};
 
 /// A host that is never due, and its service 1, due at 0, with 3 attempts, 5 minutes and 1 minute.
@@ -301,4 +303,37 @@ fn the_workers_of_a_crew_work_at_the_same_time(rt: HostRuntime) -> Result<(), Fa
     assert_eq!(rt; book.entries().len(), 4);
     assert_eq!(rt; (tally.taken, tally.reported, tally.stops), (2, 2, 0));
     Ok(())
+}
+
+/// A crew of so many workers over two services that come back fine. Whoever takes them, each is
+/// checked once: at the second moment neither is due.
+fn crew_of(
+    rt: &(impl Threads + Wait + Sync + Abort),
+    alloc: Global,
+    workers: u32,
+) -> Result<(), Fail>
+    requires { (0 < workers) × (workers ≤ 64) }
+{
+    let (desk, passes) = opened(alloc, TWO_SERVICES, workers)?;
+    let Ok((book, tally)) = crew(rt, alloc, desk, passes, &AlwaysOk, &[0, 60_000]) else {
+        return Err(Fail::from("no memory for the threads"));
+    };
+    let two_runs = Tally {
+        takes: 2 * workers as u64,
+        taken: 2,
+        idle: 2 * workers as u64 - 2,
+        reports: 2,
+        reported: 2,
+        ..Tally::default()
+    };
+    assert_eq!(rt; tally, two_runs);
+    assert_eq!(rt; book.entries().len(), 2 * workers as usize + 2);
+    assert_eq!(rt; book.refused(), 0);
+    Ok(())
+}
+
+#[test]
+fn crews_of_three_and_of_sixteen(rt: HostRuntime) -> Result<(), Fail> {
+    crew_of(&rt, rt.alloc(), 3)?;
+    crew_of(&rt, rt.alloc(), 16)
 }

@@ -14,7 +14,7 @@ use Rattle.ticket_steps.specs.declared.seats.CoreSeat.{CoreSeat}
 use Rattle.ticket_steps.specs.declared.seats.Phase.TheVariants.{Idle, Waiting, Holding}
 use Rattle.ticket_steps.specs.Books.{BookState, with_entry, with_refusal, IsLawfulBook}
 use Rattle.ticket_steps.specs.CoreStates.{CoreState, core_state, opened}
-use Rattle.ticket_steps.specs.Happenings.{Happening, split, drew, held, recorded, refused, gathered, with_seats, after_leave, Moves}
+use Rattle.ticket_steps.specs.Happenings.{Happening, split, drew, waited, held, recorded, refused, gathered, with_seats, after_leave, Moves}
 use Rattle.ticket_steps.specs.History.{entry, of, IsLegal}
 use Rattle.ticket_steps.specs.Lawful.{IsLawful}
 use Rattle.ticket_steps.specs.Seats.{holds_one, is_there, tickets_of, holders, keeping, given, waiting, holding, ended, gone}
@@ -29,11 +29,11 @@ use Rattle.ticket_steps.proofs.SeatLemmas.{holds, one_holder, no_holder, sole, i
 use Rattle.ticket_steps.proofs.Totals.{times-append, times-same, times-take-drop, total-set, total-append, terms_le, below_le}
 use Rattle.ticket_lock.specs.declared.views.Start.{Start}
 use Rattle.ticket_lock.specs.declared.views.View.{View}
-use Rattle.ticket_lock.specs.Knowing.{IsKnown}
+use Rattle.ticket_lock.specs.Histories.{IsKnown}
 use Rattle.ticket_lock.specs.Rule.{IsTableOf}
 use Rattle.ticket_lock.specs.Slots.{IsBook}
-use Rattle.ticket_lock.specs.Steps.{after_split, after_draw, after_waiting, after_holding, after_leaving, after_gather, after_settling, Returns, IsEvent}
-use Rattle.ticket_lock.specs.Views.{draws_in, view, seat_in, spent_view, Follows, keeping_view, given_view, drawn_view, joined_view, settled_view, held_view, left_view}
+use Rattle.ticket_lock.specs.Steps.{after_split, after_draw, after_waiting, after_holding, after_leaving, after_gather, after_second_load, Returns, IsEvent}
+use Rattle.ticket_lock.specs.Views.{draws_in, view, seat_in, spent_view, Follows, keeping_view, given_view, drawn_view, joined_view, reloaded_view, held_view, left_view}
 use Rattle.ticket_lock.proofs.Seen.{follows_self, follows_none, follows_later, follows_fewer, longer_of}
 
 module _ {K C R : Type 0} (k : Ghosts K C R) (start : Start K) where
@@ -139,6 +139,30 @@ module _ {K C R : Type 0} (k : Ghosts K C R) (start : Start K) where
   -- a look that waits changes nothing
   pub waiting_same : (s : Table) (id : ℕ) (me : Me (Option K) V) → get_elem? s.views id ≡ some me.0 → after_waiting s id me ≡ s
   waiting_same s id me at = λ i. record { words = set-get_or s.words 1 0 i; homes = s.homes; views = set_again s.views id me.0 at i }
+
+  -- a look that waits is the core's waiting look
+  pub wait_event : (hs : List (Happening C R)) (c : Core) (s : Table) (id ticket : ℕ) (me : Me (Option K) V) → Ruled hs c s → get_elem? s.views id ≡ some me.0 → me.0.seat.phase ≡ Waiting ticket → ticket ≢ c.served
+      → IsEvent k start hs c (waited me.0.seat.own) (after_waiting s id me)
+  wait_event hs c s id ticket me r at waits later =
+      let v : V = me.0 in
+      let at' = seat_at hs c s r id v at in
+      let h : Happening C R = waited v.seat.own in
+      let move : Moves k.step start.draws c h c = (id, v.seat, ticket, (at', refl, waits), later, refl) in (
+        c,
+        move,
+        subst (λ (z : Table). IsTableOf k start (hs ++ h ∷ []) c z) (sym (waiting_same s id me at)) record {
+          some_number = r.some_number;
+          few_numbers = r.few_numbers;
+          few_draws = r.few_draws;
+          words = record {
+            words = r.words.words;
+            seats = r.words.seats;
+            leads = leads_more k.step start.draws _ c c hs h r.words.leads move;
+          };
+          slot = r.slot;
+          known = r.known;
+        },
+      )
 
   pub look_event : (hs : List (Happening C R)) (c : Core) (s : Table) (id : ℕ) (me : Me (Option K) V) → Ruled hs c s → get_elem? s.views id ≡ some me.0 → me.0.seat.phase ≡ Waiting c.served
       → (book : K) × (get_elem? s.homes 0 ≡ some (some (Some book))) × IsBook k start c.book book × IsEvent k start hs c (held me.0.seat.own) (after_holding k s id c.served me book)
@@ -356,10 +380,10 @@ module _ {K C R : Type 0} (k : Ghosts K C R) (start : Start K) where
       )
 
   -- the second load of a gather is no event
-  pub settle_same : (hs : List (Happening C R)) (c : Core) (s : Table) (id : ℕ) (me : Me (Option K) V) → Ruled hs c s → get_elem? s.views id ≡ some me.0 → me.0.seat.phase ≡ Idle → IsTableOf k start hs c (after_settling s id me)
-  settle_same hs c s id me r at idle =
+  pub second_load_same : (hs : List (Happening C R)) (c : Core) (s : Table) (id : ℕ) (me : Me (Option K) V) → Ruled hs c s → get_elem? s.views id ≡ some me.0 → me.0.seat.phase ≡ Idle → IsTableOf k start hs c (after_second_load s id me)
+  second_load_same hs c s id me r at idle =
       let v : V = me.0 in
-      let w : V = settled_view v in
+      let w : V = reloaded_view v in
       let at' = at_map seat_in s.views id v at in
       let old = r.known.each id v at in
       let views : map seat_in (set s.views id w) ≡ map seat_in s.views = map-set seat_in s.views id w ∙ set_again (map seat_in s.views) id v.seat at' in

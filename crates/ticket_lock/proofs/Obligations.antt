@@ -1,19 +1,19 @@
 -- What the calls owe the table: each step keeps the rule, and tells what its play says.
-use Rattle.std.proofs.Common.{◌≡◌, ℕ, suc, ◌+◌, ◌%◌, ◌<◌, ◌≤◌, List, [], ◌∷◌, ◌++◌, length, get_or, sym, refl, ap, ◌∙◌, subst, ⊎_elim, arith, true, Option, Some}
+use Rattle.std.proofs.Common.{◌≡◌, ℕ, suc, ◌+◌, ◌%◌, ◌<◌, ◌≤◌, ◌≢◌, List, [], ◌∷◌, ◌++◌, length, get_or, sym, refl, ap, ◌∙◌, subst, ⊎_elim, arith, true, Option, Some}
 use mathlib.Core.Logic.{dite}
 use native.Mathlib.Decide.{ℕ_discrete, dec_le}
 use mathlib.Core.Option.{some, none, some-ne-none}
 use lib.ListN.{get_elem?}
 use Rattle.std.specs.Option.{unwrap_or}
-use Rattle.atomic_table.specs.Table.{State, Me, step, keeps, takes, gives, Allows, Splits, Joins, opening as opens, rest}
+use Rattle.atomic_table.specs.Table.{State, Me, Step, step, keeps, takes, gives, Allows, Splits, Joins, opening as opens, rest}
 use Rattle.ticket_steps.specs.declared.kept.Entry.{Entry}
 use Rattle.ticket_steps.specs.declared.kept.Kept.{Ghosts}
 use Rattle.ticket_steps.specs.declared.seats.CoreSeat.{CoreSeat}
 use Rattle.ticket_steps.specs.declared.seats.Phase.{Phase}
 use Rattle.ticket_steps.specs.declared.seats.Phase.TheVariants.{Idle, Waiting, Holding}
 use Rattle.ticket_steps.specs.Books.{empty_book}
-use Rattle.ticket_steps.specs.CoreStates.{opened}
-use Rattle.ticket_steps.specs.Happenings.{drew, held, split, gathered}
+use Rattle.ticket_steps.specs.CoreStates.{CoreState, opened}
+use Rattle.ticket_steps.specs.Happenings.{Happening, drew, waited, held, split, gathered}
 use Rattle.ticket_steps.specs.History.{of, IsLegal}
 use Rattle.ticket_steps.specs.Seats.{holds_one, tickets_of}
 use Rattle.ticket_steps.specs.Sums.{total, times}
@@ -22,12 +22,13 @@ use Rattle.ticket_steps.proofs.SeatLemmas.{holds, alone_served, alone, in_line, 
 use Rattle.ticket_steps.proofs.Totals.{times_le, times-same, below_yes, term_le}
 use Rattle.ticket_lock.specs.declared.views.Start.{Start}
 use Rattle.ticket_lock.specs.declared.views.View.{View}
-use Rattle.ticket_lock.specs.Knowing.{IsKnown}
-use Rattle.ticket_lock.specs.Plays.{DrawTells, LookTells, LeaveTells, SettlingTells}
+use Rattle.ticket_lock.specs.Histories.{IsKnown}
+use Rattle.ticket_lock.specs.Plays.{DrawTells, LookTells, LeaveTells, SecondLoadTells}
 use Rattle.ticket_lock.specs.Rule.{IsTableOf, IsRuled}
+use Rattle.ticket_lock.specs.Slots.{IsBook}
 use Rattle.ticket_lock.specs.Steps.{Returns}
-use Rattle.ticket_lock.specs.Views.{spent_view, first_view, Follows, keeping_view, given_view, drawn_view, joined_view, settled_view, held_view, left_view}
-use Rattle.ticket_lock.proofs.Events.{lawful, next_small, seat_at, draw_event, waiting_same, look_event, leave_event, split_event, gather_event, settle_same, strangers_none}
+use Rattle.ticket_lock.specs.Views.{spent_view, first_view, Follows, keeping_view, given_view, drawn_view, joined_view, reloaded_view, held_view, left_view}
+use Rattle.ticket_lock.proofs.Events.{lawful, next_small, seat_at, draw_event, wait_event, look_event, leave_event, split_event, gather_event, second_load_same, strangers_none}
 use Rattle.ticket_lock.proofs.Seen.{follows_self, follows_longer, longer_is, all_seen, empty_before}
 
 abbrev pub in_hand : {K : Type 0} → K → List (ℕ × Option K) → K
@@ -45,38 +46,89 @@ module _ {K C R : Type 0} (k : Ghosts K C R) (start : Start K) where
   abbrev Table : Type 0
   Table = State (Option K) V
 
+  abbrev Core : Type 0
+  Core = CoreState k.State C R
+
   abbrev Rule : Table → Type 0
   Rule s = IsRuled k start s
 
+  -- the table as it is made is that of the core's opening
+  pub opens_with : (book : K) → k.opening book ≡ (k.opening start.book) → k.history book ≡ [] → k.refusals book ≡ 0 → 0 < start.numbers → start.numbers ≤ 1024 → start.draws ≤ 4294967295
+      → IsTableOf k start [] (opened start.numbers start.draws (k.opening start.book)) (opens (0 ∷ 0 ∷ []) (Some book ∷ []) (first_view start))
+  opens_with book state none_kept none_refused some_number few few_draws =
+      record {
+        some_number = some_number;
+        few_numbers = few;
+        few_draws = few_draws;
+        words = record { words = refl; seats = refl; leads = refl };
+        slot = record { one_slot = refl; home = λ _. (book, refl, record { opening = state; entries = none_kept; refused = none_refused }); away = λ h. absurd (omega (arith, h)) };
+        known = record {
+          each = λ j v e. ⊎_elim (λ t. absurd (some-ne-none v (sym t))) (λ t. subst (λ (w : V). IsKnown {S = k.State} start (empty_book (k.opening start.book)) w) t record {
+            start_is = λ o e'. cc;
+            seen = follows_self _ [];
+            one = follows_self [] [];
+            two = follows_self [] [];
+            within = λ n. omega arith;
+            out = λ t' e'. absurd (cc);
+          }) (at_snoc [] (first_view start) v j e);
+        };
+      }
+
   pub starts : (book : K) → k.opening book ≡ (k.opening start.book) → k.history book ≡ [] → k.refusals book ≡ 0 → 0 < start.numbers → start.numbers ≤ 1024 → start.draws ≤ 4294967295
       → Rule (opens (0 ∷ 0 ∷ []) (Some book ∷ []) (first_view start))
-  starts book state none_kept none_refused some_number few few_draws = (
-    [],
-    opened start.numbers start.draws (k.opening start.book),
-    record {
-      some_number = some_number;
-      few_numbers = few;
-      few_draws = few_draws;
-      words = record { words = refl; seats = refl; leads = refl };
-      slot = record { one_slot = refl; home = λ _. (book, refl, record { opening = state; entries = none_kept; refused = none_refused }); away = λ h. absurd (omega (arith, h)) };
-      known = record {
-        each = λ j v e. ⊎_elim (λ t. absurd (some-ne-none v (sym t))) (λ t. subst (λ (w : V). IsKnown {S = k.State} start (empty_book (k.opening start.book)) w) t record {
-          start_is = λ o e'. cc;
-          seen = follows_self _ [];
-          one = follows_self [] [];
-          two = follows_self [] [];
-          within = λ n. omega arith;
-          out = λ t' e'. absurd (cc);
-        }) (at_snoc [] (first_view start) v j e);
-      };
-    },
-  )
+  starts book state none_kept none_refused some_number few few_draws =
+      ([], opened start.numbers start.draws (k.opening start.book), opens_with book state none_kept none_refused some_number few few_draws)
 
   pub draws : (n id : ℕ) (me : Me (Option K) V) → me.0.seat.phase ≡ Idle → 0 < me.0.seat.left
       → Allows Rule n id me 0 (λ x. (x + 1) % 18446744073709551616) (DrawTells (step n 0 1 0 none) me)
   draws n id me idle some_left s r wide at small =
       let e = draw_event k start r.0 r.1 s id me r.2 at idle some_left in
       (drawn_view (get_or s.words 0 0) me.0, keeps, tt, (r.0 ++ drew me.0.seat.own r.1.next ∷ [], e.0, e.2), refl)
+
+  -- what the play of a look tells of a look that holds
+  pub look_held_told : (hs : List (Happening C R)) (c : Core) (s : Table) (id : ℕ) (me : Me (Option K) V) (book : K) (st : Step (Option K)) → IsTableOf k start hs c s → get_elem? s.views id ≡ some me.0 → me.0.seat.phase ≡ Waiting c.served → me.1 ≡ []
+      → IsBook k start c.book book → LookTells k st me (get_or s.words 1 0) (held_view k c.served me.0 book, (0, Some book) ∷ me.1)
+  look_held_told hs c s id me book st r at waits bare is_book =
+      let v : V = me.0 in
+      let is : get_or s.words 1 0 ≡ c.served = ap (λ (ws : List ℕ). get_or ws 1 0) r.words.words in
+      let l = lawful k start hs c s r in
+      let at' = seat_at k start hs c s r id v at in
+      let old = r.known.each id v at in
+      let has : 0 < times c.served (tickets_of v.seat.phase) = omega (arith, tickets_waiting c.served c.served v.seat waits, times-same c.served []) in
+      let ticket : (t' : ℕ) → v.seat.phase ≡ Waiting t' → c.served ≡ t' = λ t' e. let both : Waiting c.served ≡ Waiting t' = sym waits ∙ e in cc in
+      λ t' phase. (
+        λ _. (
+          book,
+          (let same : c.served ≡ t' = ticket t' phase in λ i. (held_view k (same i) v book, (0, Some book) ∷ bare i)),
+          λ o known. let mine : o ≡ start = old.start_is o known in record {
+            opening = is_book.opening ∙ ap (λ (z : Start K). k.opening z.book) (sym mine);
+            follows = subst (Follows v.seat.numbers v.seen) (sym is_book.entries) old.seen;
+            counted = omega (arith, l.counted, ap length is_book.entries, is_book.refused, ticket t' phase);
+            few = omega (arith, ticket t' phase, in_line start.numbers start.draws c l id c.served v.seat at' has, next_small k start hs c s r);
+          },
+        ),
+        λ miss. absurd (miss (is ∙ ticket t' phase)),
+      )
+
+  -- and of one that waits
+  pub look_waits_told : (hs : List (Happening C R)) (c : Core) (s : Table) (id ticket : ℕ) (me : Me (Option K) V) (st : Step (Option K)) → IsTableOf k start hs c s → get_elem? s.views id ≡ some me.0 → me.0.seat.phase ≡ Waiting ticket → ticket ≢ c.served
+      → LookTells k st me (get_or s.words 1 0) me
+  look_waits_told hs c s id ticket me st r at waits later =
+      let v : V = me.0 in
+      let is : get_or s.words 1 0 ≡ c.served = ap (λ (ws : List ℕ). get_or ws 1 0) r.words.words in
+      let l = lawful k start hs c s r in
+      let at' = seat_at k start hs c s r id v at in
+      let old = r.known.each id v at in
+      let same : (t' : ℕ) → v.seat.phase ≡ Waiting t' → ticket ≡ t' = λ t' e. let both : Waiting ticket ≡ Waiting t' = sym waits ∙ e in cc in
+      λ t' phase. (
+        λ hit. absurd (later (same t' phase ∙ (sym hit ∙ is))),
+        λ _. (
+          refl,
+          λ o known. dite (dec_le o.numbers (length v.seat.numbers))
+              (λ all. absurd (later (alone_served start.numbers start.draws c l id ticket v.seat at' waits (omega (arith, all, ap (λ (z : Start K). z.numbers) (old.start_is o known))))))
+              (λ fewer. omega arith),
+        ),
+      )
 
   pub looks : (n id t : ℕ) (me : Me (Option K) V) → me.0.seat.phase ≡ Waiting t → me.1 ≡ []
       → Allows Rule n id me 1 (λ x. x) (LookTells k (step n 1 0 0 none) me)
@@ -86,49 +138,38 @@ module _ {K C R : Type 0} (k : Ghosts K C R) (start : Start K) where
       let c = r.1 in
       let x : ℕ = get_or s.words 1 0 in
       let is : x ≡ c.served = ap (λ (ws : List ℕ). get_or ws 1 0) r.2.words.words in
-      let l = lawful k start hs c s r.2 in
-      let at' = seat_at k start hs c s r.2 id v at in
-      let old = r.2.known.each id v at in
-      let ticket : (t' : ℕ) → v.seat.phase ≡ Waiting t' → t' ≡ t = λ t' e. let both : Waiting t' ≡ Waiting t = sym e ∙ waits in cc in
       dite (ℕ_discrete x t)
       (λ hit.
-      let served : t ≡ c.served = sym hit ∙ is in
-      let e = look_event k start hs c s id me r.2 at (waits ∙ ap Waiting served) in
-      let book : K = e.0 in
-      let has : 0 < times t (tickets_of v.seat.phase) = omega (arith, tickets_waiting t t v.seat waits, times-same t []) in (
-        held_view k c.served v book,
-        takes 0 (Some book),
+      let mine : v.seat.phase ≡ Waiting c.served = waits ∙ ap Waiting (sym hit ∙ is) in
+      let e = look_event k start hs c s id me r.2 at mine in (
+        held_view k c.served v e.0,
+        takes 0 (Some e.0),
         e.1,
         (hs ++ held v.seat.own ∷ [], e.3.0, e.3.2),
-        λ t' phase. (
-          λ _. (
-            book,
-            (let same : c.served ≡ t' = sym served ∙ sym (ticket t' phase) in λ i. (held_view k (same i) v book, (0, Some book) ∷ bare i)),
-            λ o known. let mine : o ≡ start = old.start_is o known in record {
-              opening = e.2.opening ∙ ap (λ (z : Start K). k.opening z.book) (sym mine);
-              follows = subst (Follows v.seat.numbers v.seen) (sym e.2.entries) old.seen;
-              counted = omega (arith, l.counted, ap length e.2.entries, e.2.refused, ticket t' phase, served);
-              few = omega (arith, ticket t' phase, served, in_line start.numbers start.draws c l id t v.seat at' has, next_small k start hs c s r.2);
-            },
-          ),
-          λ miss. absurd (miss (hit ∙ sym (ticket t' phase))),
-        ),
+        look_held_told hs c s id me e.0 (step n 1 0 0 none) r.2 at mine bare e.2,
       ))
-      (λ miss. (
+      (λ miss.
+      let later : t ≢ c.served = λ e. miss (is ∙ sym e) in
+      let e = wait_event k start hs c s id t me r.2 at waits later in (
         v,
         keeps,
         tt,
-        (hs, c, subst (λ (z : Table). IsTableOf k start hs c z) (sym (waiting_same k start s id me at)) r.2),
-        λ t' phase. (
-          λ hit. absurd (miss (hit ∙ ticket t' phase)),
-          λ _. (
-            refl,
-            λ o known. dite (dec_le o.numbers (length v.seat.numbers))
-                (λ all. absurd (miss (is ∙ sym (alone_served start.numbers start.draws c l id t v.seat at' waits (omega (arith, all, ap (λ (z : Start K). z.numbers) (old.start_is o known)))))))
-                (λ fewer. omega arith),
-          ),
-        ),
+        (hs ++ waited v.seat.own ∷ [], e.0, e.2),
+        look_waits_told hs c s id t me (step n 1 0 0 none) r.2 at waits later,
       ))
+
+  -- what the play of a leave tells
+  pub leave_told : (hs : List (Happening C R)) (c : Core) (s : Table) (id t : ℕ) (me : Me (Option K) V) (book : K) (st : Step (Option K)) → IsTableOf k start hs c s → get_elem? s.views id ≡ some me.0 → me.0.seat.phase ≡ Holding t → me.1 ≡ (0, Some book) ∷ []
+      → LeaveTells k st me (get_or s.words 1 0) (left_view k me.0 book, [])
+  leave_told hs c s id t me book st r at holder hand =
+      let v : V = me.0 in
+      let l = lawful k start hs c s r in
+      let at' = seat_at k start hs c s r id v at in
+      let has : 0 < times t (tickets_of v.seat.phase) = omega (arith, tickets_holding t t v.seat holder, times-same t []) in
+      λ b h. (
+        (let same : book ≡ b = ap (in_hand book) (sym hand ∙ h) in λ i. (left_view k v (same i), [])),
+        omega (arith, one_calls start.numbers start.draws c l id v.seat at', in_line start.numbers start.draws c l id t v.seat at' has, next_small k start hs c s r),
+      )
 
   pub leaves : ((b : K) → IsLegal k.step (k.opening b) (k.history b)) → (n id t : ℕ) (me : Me (Option K) V) (book : K) (o : Start K) → me.1 ≡ (0, Some book) ∷ [] → me.0.seat.phase ≡ Holding t → me.0.start ≡ Some o → Returns k o me.0.seat.own me.0.seen me.0.refused book
       → Allows Rule n id me 1 (λ x. (x + 1) % 18446744073709551616) (LeaveTells k (step n 1 1 0 none) me)
@@ -163,26 +204,30 @@ module _ {K C R : Type 0} (k : Ghosts K C R) (start : Start K) where
       let e = gather_event k start r.0 r.1 s id other v w r.2 at apart there idle idle' in
       (r.0 ++ gathered v.seat.own w.seat.own ∷ [], e.0, e.2)
 
-  pub settles : (n id : ℕ) (me : Me (Option K) V) → me.0.seat.phase ≡ Idle → Allows Rule n id me 0 (λ x. x) (SettlingTells (step n 0 0 0 none) me)
-  settles n id me idle s r wide at small =
+  -- what the second load of a gather tells
+  pub second_load_told : (hs : List (Happening C R)) (c : Core) (s : Table) (id : ℕ) (me : Me (Option K) V) (st : Step (Option K)) → IsTableOf k start hs c s → get_elem? s.views id ≡ some me.0
+      → SecondLoadTells st me (get_or s.words 0 0) (reloaded_view me.0, me.1)
+  second_load_told hs c s id me st r at =
       let v : V = me.0 in
-      let hs = r.0 in
-      let c = r.1 in
-      let old = r.2.known.each id v at in
-      let l = lawful k start hs c s r.2 in
-      let at' = seat_at k start hs c s r.2 id v at in (
-        settled_view v,
-        keeps,
-        tt,
-        (hs, c, settle_same k start hs c s id me r.2 at idle),
-        λ is. (
-          refl,
-          follows_longer v.one.numbers v.one.seen v.seen c.book.entries old.one old.seen.0 (rw is (longer_is v.one.seen v.two.seen (λ (q : List (Entry C R)). length v.one.seen ≤ length q) (λ lt. omega arith) (λ _. omega arith))),
-          follows_longer v.two.numbers v.two.seen v.seen c.book.entries old.two old.seen.0 (rw is (longer_is v.one.seen v.two.seen (λ (q : List (Entry C R)). length v.two.seen ≤ length q) (λ _. omega arith) (λ le. le))),
-          omega (arith, l.count, r.2.few_numbers, term_le (λ (p : CoreSeat). length p.numbers) c.seats id v.seat at'),
-          omega (arith, one_calls start.numbers start.draws c l id v.seat at', served_le start.numbers start.draws c l, next_small k start hs c s r.2),
-        ),
+      let old = r.known.each id v at in
+      let l = lawful k start hs c s r in
+      let at' = seat_at k start hs c s r id v at in
+      λ is. (
+        refl,
+        follows_longer v.one.numbers v.one.seen v.seen c.book.entries old.one old.seen.0 (rw is (longer_is v.one.seen v.two.seen (λ (q : List (Entry C R)). length v.one.seen ≤ length q) (λ lt. omega arith) (λ _. omega arith))),
+        follows_longer v.two.numbers v.two.seen v.seen c.book.entries old.two old.seen.0 (rw is (longer_is v.one.seen v.two.seen (λ (q : List (Entry C R)). length v.two.seen ≤ length q) (λ _. omega arith) (λ le. le))),
+        omega (arith, l.count, r.few_numbers, term_le (λ (p : CoreSeat). length p.numbers) c.seats id v.seat at'),
+        omega (arith, one_calls start.numbers start.draws c l id v.seat at', served_le start.numbers start.draws c l, next_small k start hs c s r),
       )
+
+  pub second_loads : (n id : ℕ) (me : Me (Option K) V) → me.0.seat.phase ≡ Idle → Allows Rule n id me 0 (λ x. x) (SecondLoadTells (step n 0 0 0 none) me)
+  second_loads n id me idle s r wide at small = (
+    reloaded_view me.0,
+    keeps,
+    tt,
+    (r.0, r.1, second_load_same k start r.0 r.1 s id me r.2 at idle),
+    second_load_told r.0 r.1 s id me (step n 0 0 0 none) r.2 at,
+  )
 
   -- where one idle seat stands for all numbers, the book is home and has what the seat has seen
   pub closes : (s : Table) (id : ℕ) (v : V) → Rule s → get_elem? s.views id ≡ some v → v.seat.phase ≡ Idle → start.numbers ≤ length v.seat.numbers

@@ -1,11 +1,11 @@
 pub mod Views
 pub mod Words
 pub mod Slots
-pub mod Knowing
+pub mod Histories
 pub mod Rule
 pub mod Steps
 pub mod Legal
-pub mod Figures
+pub mod Counts
 pub mod Callers
 pub mod Plays
 pub mod Tokens

@@ -6,7 +6,7 @@ use Rattle.ticket_steps.specs.declared.seats.Phase.TheVariants.{Waiting}
 use Rattle.ticket_lock.specs.declared.views.Start.{Start}
 use Rattle.ticket_lock.specs.declared.views.View.{View}
 use Rattle.ticket_lock.specs.Callers.{IsHanded}
-use Rattle.ticket_lock.specs.Views.{Follows, longer, drawn_view, settled_view, held_view, left_view}
+use Rattle.ticket_lock.specs.Views.{Follows, longer, drawn_view, reloaded_view, held_view, left_view}
 
 module _ {K C R : Type 0} where
   -- a draw: the number found is the ticket
@@ -14,9 +14,9 @@ module _ {K C R : Type 0} where
   DrawTells step before found after = after ≡ (drawn_view found before.0, before.1)
 
   -- the second load of a gather: the two histories are beginnings of one, and the seat has seen the longer
-  abbrev pub SettlingTells : Step (Option K) → Me (Option K) (View K C R) → ℕ → Me (Option K) (View K C R) → Type 0
-  SettlingTells step before found after = before.0.seen ≡ longer before.0.one.seen before.0.two.seen
-      → (after ≡ (settled_view before.0, before.1)) × Follows before.0.one.numbers before.0.one.seen before.0.seen × Follows before.0.two.numbers before.0.two.seen before.0.seen
+  abbrev pub SecondLoadTells : Step (Option K) → Me (Option K) (View K C R) → ℕ → Me (Option K) (View K C R) → Type 0
+  SecondLoadTells step before found after = before.0.seen ≡ longer before.0.one.seen before.0.two.seen
+      → (after ≡ (reloaded_view before.0, before.1)) × Follows before.0.one.numbers before.0.one.seen before.0.seen × Follows before.0.two.numbers before.0.two.seen before.0.seen
       × (length before.0.seat.numbers ≤ 1024) × (before.0.seat.calls ≤ 4398046510080)
 
 module _ {K C R : Type 0} (k : Ghosts K C R) where

@@ -8,7 +8,7 @@ use Rattle.ticket_lock.specs.declared.views.Start.{Start}
 use Rattle.ticket_lock.specs.declared.views.View.{View}
 use Rattle.ticket_lock.specs.Words.{IsCoreOf}
 use Rattle.ticket_lock.specs.Slots.{IsSlotOf}
-use Rattle.ticket_lock.specs.Knowing.{IsKnownToAll}
+use Rattle.ticket_lock.specs.Histories.{IsKnownToAll}
 
 module _ {K C R : Type 0} (k : Ghosts K C R) (start : Start K) where
   -- what happened led the table to this core state

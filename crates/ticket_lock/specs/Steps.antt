@@ -2,7 +2,7 @@
 use Rattle.std.specs.Prelude.{◌≡◌, ℕ, ◌+◌, ◌%◌, List, [], ◌∷◌, ◌++◌, slice_index, slice_set, Option, Some, ◌⊎◌}
 use mathlib.Core.Option.{some}
 use lib.ListN.{get_elem?}
-use Rattle.atomic_table.specs.Table.{State, Me, keeps, takes, gives, stepped}
+use Rattle.atomic_table.specs.Table.{State, Me, keeps, takes, gives, opening, stepped}
 use Rattle.ticket_steps.specs.declared.kept.Entry.{Entry}
 use Rattle.ticket_steps.specs.declared.kept.Kept.{Ghosts}
 use Rattle.ticket_steps.specs.CoreStates.{CoreState}
@@ -10,10 +10,14 @@ use Rattle.ticket_steps.specs.Happenings.{Happening, Moves}
 use Rattle.ticket_lock.specs.declared.views.Start.{Start}
 use Rattle.ticket_lock.specs.declared.views.View.{View}
 use Rattle.ticket_lock.specs.Rule.{IsTableOf}
-use Rattle.ticket_lock.specs.Views.{spent_view, keeping_view, given_view, drawn_view, joined_view, settled_view, held_view, left_view}
+use Rattle.ticket_lock.specs.Views.{first_view, spent_view, keeping_view, given_view, drawn_view, joined_view, reloaded_view, held_view, left_view}
 use Rattle.ticket_lock.specs.Words.{next_word, served_word}
 
 module _ {K C R : Type 0} where
+  -- the table as it is made: no ticket is drawn, none is served, the book is in its slot, and one seat stands for all numbers
+  abbrev pub first_table : Start K → State (Option K) (View K C R)
+  first_table start = opening (0 ∷ 0 ∷ []) (Some start.book ∷ []) (first_view start)
+
   -- split, a load of the next ticket: the seat id keeps its first numbers, a new seat has the last
   abbrev pub after_split : State (Option K) (View K C R) → ℕ → ℕ → View K C R → State (Option K) (View K C R)
   after_split s id count v = record { words = s.words; homes = s.homes; views = slice_set s.views id (keeping_view count v) ++ given_view count v ∷ [] }
@@ -31,8 +35,8 @@ module _ {K C R : Type 0} where
   after_gather s id v other w = record { words = s.words; homes = s.homes; views = slice_set (slice_set s.views id (joined_view v w)) other spent_view }
 
   -- the second load of a gather, at which the seat learns what the rule says of it
-  abbrev pub after_settling : State (Option K) (View K C R) → ℕ → Me (Option K) (View K C R) → State (Option K) (View K C R)
-  after_settling s id me = stepped s next_word (slice_index s.words next_word) id me.1 (settled_view me.0) keeps
+  abbrev pub after_second_load : State (Option K) (View K C R) → ℕ → Me (Option K) (View K C R) → State (Option K) (View K C R)
+  after_second_load s id me = stepped s next_word (slice_index s.words next_word) id me.1 (reloaded_view me.0) keeps
 
 module _ {K C R : Type 0} (k : Ghosts K C R) where
   -- look, a load of the number served, by the seat whose ticket it is, which takes the book
@@ -52,8 +56,8 @@ module _ {K C R : Type 0} (k : Ghosts K C R) where
   abbrev pub IsEvent : Start K → List (Happening C R) → CoreState k.State C R → Happening C R → State (Option K) (View K C R) → Type 0
   IsEvent start happened c h s = (d : CoreState k.State C R) × Moves k.step start.draws c h d × IsTableOf k start (happened ++ h ∷ []) d s
 
--- one moment of one seat: how the lock was opened, what has happened since, the core state that it led to, the table, and the seat that is about to step
-pub record Moment (K S C R : Type 0) : Type 0 where
+-- a moment of the table, for one of its seats: how the lock was opened, what has happened since, the core state that it led to, the table, and the seat that is about to step
+pub record TableMoment (K S C R : Type 0) : Type 0 where
   pub start : Start K
   pub happened : List (Happening C R)
   pub core : CoreState S C R
@@ -63,14 +67,19 @@ pub record Moment (K S C R : Type 0) : Type 0 where
   pub me : Me (Option K) (View K C R)
 
 module _ {K C R : Type 0} (k : Ghosts K C R) where
-  pub record IsMoment (m : Moment K k.State C R) : Type 0 where
+  pub record IsTableMoment (m : TableMoment K k.State C R) : Type 0 where
     pub ruled : IsTableOf k m.start m.happened m.core m.table
     pub there : get_elem? m.table.views m.id ≡ some m.me.0
 
   -- the step to this table takes the core state to the one that this one event leaves
-  abbrev pub IsOneEvent : Moment K k.State C R → Happening C R → State (Option K) (View K C R) → Type 0
+  abbrev pub IsOneEvent : TableMoment K k.State C R → Happening C R → State (Option K) (View K C R) → Type 0
   IsOneEvent m h s = IsEvent k m.start m.happened m.core h s
 
   -- the step to this table leaves the core state as it was
-  abbrev pub IsNoEvent : Moment K k.State C R → State (Option K) (View K C R) → Type 0
+  abbrev pub IsNoEvent : TableMoment K k.State C R → State (Option K) (View K C R) → Type 0
   IsNoEvent m s = IsTableOf k m.start m.happened m.core s
+
+  -- In the table after a step this is the seat that stepped, and it is told so: of the number that was found in the word, and of itself.
+  pub record IsTold (m : TableMoment K k.State C R) (word : ℕ) (tells : ℕ → Me (Option K) (View K C R) → Type 0) (after : Me (Option K) (View K C R)) (s : State (Option K) (View K C R)) : Type 0 where
+    pub stands : get_elem? s.views m.id ≡ some after.0
+    pub told : tells (slice_index m.table.words word) after

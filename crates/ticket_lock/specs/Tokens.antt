@@ -23,13 +23,13 @@ module _ {K C R : Type 0} where
 module _ {K C R : Type 0} {G : Ghosts K C R} where
   -- the caller behind a seat, a turn, a hold
   abbrev pub seat_of : Seat K C R G → Caller C R
-  seat_of seat = caller_in seat.spot.me.0
+  seat_of seat = caller_in seat.table_seat.me.0
 
   abbrev pub turn_of : Turn K C R G → Caller C R
-  turn_of turn = caller_in turn.spot.me.0
+  turn_of turn = caller_in turn.table_seat.me.0
 
   abbrev pub hold_of : Hold K C R G → Caller C R
-  hold_of hold = caller_in hold.spot.me.0
+  hold_of hold = caller_in hold.table_seat.me.0
 
   -- the ticket of a turn, of a hold
   abbrev pub ticket_of : Turn K C R G → ℕ
@@ -40,17 +40,17 @@ module _ {K C R : Type 0} {G : Ghosts K C R} where
 
   -- how many calls were refused when the holder took the book out
   abbrev pub refused_before : Hold K C R G → ℕ
-  refused_before hold = hold.spot.me.0.refused
+  refused_before hold = hold.table_seat.me.0.refused
 
   -- it is of this lock
   abbrev pub IsSeatOf : TicketLock K C R → Seat K C R G → Type 0
-  IsSeatOf lock seat = (seat.spot.table_id ≡ lock.table.shared.table_id) × (seat.spot.me.0.start ≡ Some (start_of lock))
+  IsSeatOf lock seat = (seat.table_seat.table_id ≡ lock.table.shared.table_id) × (seat.table_seat.me.0.start ≡ Some (start_of lock))
 
   abbrev pub IsTurnOf : TicketLock K C R → Turn K C R G → Type 0
-  IsTurnOf lock turn = (turn.spot.table_id ≡ lock.table.shared.table_id) × (turn.spot.me.0.start ≡ Some (start_of lock))
+  IsTurnOf lock turn = (turn.table_seat.table_id ≡ lock.table.shared.table_id) × (turn.table_seat.me.0.start ≡ Some (start_of lock))
 
   abbrev pub IsHoldOf : TicketLock K C R → Hold K C R G → Type 0
-  IsHoldOf lock hold = (hold.spot.table_id ≡ lock.table.shared.table_id) × (hold.spot.me.0.start ≡ Some (start_of lock))
+  IsHoldOf lock hold = (hold.table_seat.table_id ≡ lock.table.shared.table_id) × (hold.table_seat.me.0.start ≡ Some (start_of lock))
 
   -- the two answers of a look
   abbrev pub MatchLook : Look K C R G → (Hold K C R G → K → Type 0) → (Turn K C R G → Type 0) → Type 0

@@ -64,8 +64,8 @@ module _ {K C R : Type 0} where
   }
 
   -- once it has looked
-  abbrev pub settled_view : View K C R → View K C R
-  settled_view v = view v.start v.seat v.seen 0
+  abbrev pub reloaded_view : View K C R → View K C R
+  reloaded_view v = view v.start v.seat v.seen 0
 
   module _ (k : Ghosts K C R) where
     -- the view of a holder that has taken this book

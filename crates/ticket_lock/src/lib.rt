@@ -7,12 +7,12 @@
 //! of the core holds of the lock, whatever threads do.
 //!
 //! - `lock`: the lock and its calls.
-//! - `tokens`: seats, turns and holds; `figures`: what they tell at run time.
+//! - `tokens`: seats, turns and holds; `counts`: what they tell at run time.
 //! - `views`: what seats know in proofs, and the rule; `plays`: the kinds of step.
 //! - `turns`: a turn over the counter book, as a layer above takes it.
 //! - `steps`: the law that each kind of step is one event of the core.
 
-mod figures;
+mod counts;
 mod lock;
 mod plays;
 mod steps;

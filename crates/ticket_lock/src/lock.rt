@@ -2,26 +2,25 @@
 ghost use Rattle.std.specs.Prelude.{⊤, ◌≡◌, ◌≢◌, ◌↔◌, ℕ, ◌+◌, ◌*◌, ◌<◌, ◌≤◌, true, false, [], ◌∷◌, ◌++◌, length, Some, None, IsErr, MatchResult, IfOk, IfErr};
 ghost use Rattle.ticket_steps.specs.Books.{book_state, IsLawfulBook};
 ghost use Rattle.ticket_steps.specs.History.{of};
-ghost use Rattle.ticket_steps.specs.declared.seats.Phase.TheVariants.{Holding};
 ghost use Rattle.ticket_lock.specs.Callers.{Caller, first_caller, keeping, given, drawn, having_seen, ended, joined, IsHanded};
 ghost use Rattle.ticket_lock.specs.Steps.{Returns};
 ghost use Rattle.ticket_lock.specs.Views.{Follows};
 
-use crate::figures::Figures;
-use crate::plays::{Count, Draws, Gathers, Leaves, Looks, Settles, Splits};
-use crate::tokens::{Hold, Seat, Spot, Turn};
-use crate::views::{About, Order, View};
+use crate::counts::SeatCounts;
+use crate::plays::{Count, Draws, Gathers, Leaves, Looks, SecondLoad, Splits};
+use crate::tokens::{Hold, Seat, TableSeat, Turn};
+use crate::views::{LockRule, Opening, View};
 use atomic_table::{Refused, Table};
 use std::alloc::Global;
 use std::marker::Brand;
 use std::snapshot::Snapshot;
 use ticket_steps::{DRAWS, Kept};
 
-type Board<K> = Table<
+type LockTable<K> = Table<
     Option<K>,
     View<K, <K as Kept>::Call, <K as Kept>::Reply>,
-    About<K>,
-    Order<K>,
+    Opening<K>,
+    LockRule<K>,
     Global,
 >;
 
@@ -42,7 +41,7 @@ const SERVED: usize = 1;
 /// the book's sequential step at its place.
 #[derive(Drop)]
 pub struct TicketLock<K: Kept> {
-    pub(crate) table: Board<K>,
+    pub(crate) table: LockTable<K>,
     pub(crate) numbers: u32,
     pub(crate) draws: u32,
     ghost sized: { (table.shared.table_id.words ≡ 2) × (table.shared.table_id.slots ≡ 1) },
@@ -89,7 +88,7 @@ impl<K: Kept> TicketLock<K> {
         ensures seat { IfOk result (λ made. seat_of made.1 ≡ first_caller numbers draws) }
         ensures refused { IfErr result (λ back. back ≡ book) }
     {
-        let about = About {
+        let opening = Opening {
             book: Snapshot::of(&book),
             numbers,
             draws,
@@ -98,11 +97,11 @@ impl<K: Kept> TicketLock<K> {
             return Err(book);
         };
         slots.push_reserved(Some(book));
-        match Table::new(alloc, &[0, 0], slots, &about) {
-            Ok((table, spot)) => {
+        match Table::new(alloc, &[0, 0], slots, &opening) {
+            Ok((table, table_seat)) => {
                 let seat = Seat {
-                    spot,
-                    figures: Figures {
+                    table_seat,
+                    counts: SeatCounts {
                         number: 0,
                         count: numbers,
                         left: numbers as u64 * draws as u64,
@@ -136,11 +135,11 @@ impl<K: Kept> TicketLock<K> {
         ensures kept { seat_of result.0 ≡ keeping (start_of self.now).draws count (seat_of seat) }
         ensures given { seat_of result.1 ≡ given (start_of self.now).draws count (seat_of seat) }
     {
-        self.cut::<Brand>(seat, count)
+        self.split_by::<Brand>(seat, count)
     }
 
     /// The same, for a count that proofs can name in a type.
-    fn cut<N: Count>(&self, seat: Seat<K>, count: u32) -> (Seat<K>, Seat<K>)
+    fn split_by<N: Count>(&self, seat: Seat<K>, count: u32) -> (Seat<K>, Seat<K>)
         requires is { count ≡ N.count }
         requires lock { IsSeatOf self.now seat }
         requires count { (0 < count) × (count < length (seat_of seat).numbers) }
@@ -150,16 +149,16 @@ impl<K: Kept> TicketLock<K> {
         ensures given { seat_of result.1 ≡ given (start_of self.now).draws count (seat_of seat) }
     {
         let Seat {
-            mut spot,
-            figures,
+            mut table_seat,
+            counts,
             fresh,
         } = seat;
-        let other = self.table.shared.split_seat::<Splits<N>>(&mut spot);
-        let kept = figures.count - count;
+        let other = self.table.shared.split_seat::<Splits<N>>(&mut table_seat);
+        let kept = counts.count - count;
         let given = Seat {
-            spot: other,
-            figures: Figures {
-                number: figures.number + kept,
+            table_seat: other,
+            counts: SeatCounts {
+                number: counts.number + kept,
                 count,
                 left: count as u64 * self.draws as u64,
                 calls: 0,
@@ -167,12 +166,12 @@ impl<K: Kept> TicketLock<K> {
             fresh,
         };
         let seat = Seat {
-            spot,
-            figures: Figures {
-                number: figures.number,
+            table_seat,
+            counts: SeatCounts {
+                number: counts.number,
                 count: kept,
                 left: kept as u64 * self.draws as u64,
-                calls: figures.calls,
+                calls: counts.calls,
             },
             fresh,
         };
@@ -188,24 +187,27 @@ impl<K: Kept> TicketLock<K> {
         ensures lock { IfOk result (λ turn. IsTurnOf self.now turn) }
         ensures drawn { IfOk result (λ turn. turn_of turn ≡ drawn (seat_of seat)) }
     {
-        if seat.figures.left == 0 {
+        if seat.counts.left == 0 {
             return Err(seat);
         }
         let Seat {
-            mut spot,
-            figures,
+            mut table_seat,
+            counts,
             fresh: _,
         } = seat;
-        let ticket = self.table.shared.fetch_add::<Draws<K>>(&mut spot, NEXT, 1);
-        let figures = Figures {
-            number: figures.number,
-            count: figures.count,
-            left: figures.left - 1,
-            calls: figures.calls,
+        let ticket = self
+            .table
+            .shared
+            .fetch_add::<Draws<K>>(&mut table_seat, NEXT, 1);
+        let counts = SeatCounts {
+            number: counts.number,
+            count: counts.count,
+            left: counts.left - 1,
+            calls: counts.calls,
         };
         Ok(Turn {
-            spot,
-            figures,
+            table_seat,
+            counts,
             ticket,
         })
     }
@@ -232,23 +234,23 @@ impl<K: Kept> TicketLock<K> {
             (λ back. ⊤) }
     {
         let Turn {
-            mut spot,
-            figures,
+            mut table_seat,
+            counts,
             ticket,
         } = turn;
-        let served = self.table.shared.load::<Looks<K>>(&mut spot, SERVED);
+        let served = self.table.shared.load::<Looks<K>>(&mut table_seat, SERVED);
         if served == ticket {
-            let book = self.take_book(&mut spot);
+            let book = self.take_book(&mut table_seat);
             let hold = Hold {
-                spot,
-                figures,
+                table_seat,
+                counts,
                 ticket,
             };
             return Look::Held(hold, book);
         }
         Look::Waiting(Turn {
-            spot,
-            figures,
+            table_seat,
+            counts,
             ticket,
         })
     }
@@ -263,23 +265,23 @@ impl<K: Kept> TicketLock<K> {
         ensures ended { seat_of result ≡ ended (K.history book) (hold_of hold) }
     {
         let Hold {
-            mut spot,
-            figures,
+            mut table_seat,
+            counts,
             ticket: _,
         } = hold;
-        self.put_book(&mut spot, book);
+        self.put_book(&mut table_seat, book);
         self.table
             .shared
-            .fetch_add::<Leaves<K>>(&mut spot, SERVED, 1);
-        let figures = Figures {
-            number: figures.number,
-            count: figures.count,
-            left: figures.left,
-            calls: figures.calls + 1,
+            .fetch_add::<Leaves<K>>(&mut table_seat, SERVED, 1);
+        let counts = SeatCounts {
+            number: counts.number,
+            count: counts.count,
+            left: counts.left,
+            calls: counts.calls + 1,
         };
         Seat {
-            spot,
-            figures,
+            table_seat,
+            counts,
             fresh: false,
         }
     }
@@ -296,26 +298,30 @@ impl<K: Kept> TicketLock<K> {
             (seat_of result).seen }
     {
         let Seat {
-            mut spot,
-            figures,
+            mut table_seat,
+            counts,
             fresh: _,
         } = seat;
         let Seat {
-            spot: other,
-            figures: more,
+            table_seat: other,
+            counts: more,
             fresh: _,
         } = other;
-        self.table.shared.join_seat::<Gathers>(&mut spot, other);
-        self.table.shared.load::<Settles<K>>(&mut spot, NEXT);
-        let figures = Figures {
-            number: figures.number,
-            count: figures.count + more.count,
-            left: figures.left,
-            calls: figures.calls + more.calls,
+        self.table
+            .shared
+            .join_seat::<Gathers>(&mut table_seat, other);
+        self.table
+            .shared
+            .load::<SecondLoad<K>>(&mut table_seat, NEXT);
+        let counts = SeatCounts {
+            number: counts.number,
+            count: counts.count + more.count,
+            left: counts.left,
+            calls: counts.calls + more.calls,
         };
         Seat {
-            spot,
-            figures,
+            table_seat,
+            counts,
             fresh: false,
         }
     }
@@ -336,7 +342,7 @@ impl<K: Kept> TicketLock<K> {
         ensures lawful { IfOk result (λ book. IsLawfulBook K.step (K.opening book)
             (book_state (K.state book) (K.history book) (K.refusals book))) }
     {
-        if seat.figures.count < self.numbers {
+        if seat.counts.count < self.numbers {
             return Err((self, seat));
         }
         let TicketLock {
@@ -345,11 +351,11 @@ impl<K: Kept> TicketLock<K> {
             draws: _,
         } = self;
         let Seat {
-            spot,
-            figures: _,
+            table_seat,
+            counts: _,
             fresh: _,
         } = seat;
-        let mut closed = table.close_with(spot);
+        let mut closed = table.close_with(table_seat);
         let slot = closed.take(0);
         closed.free();
         let Some(book) = slot else { unreachable!() };
@@ -357,24 +363,24 @@ impl<K: Kept> TicketLock<K> {
     }
 
     /// Moves the book out of the slot, which the seat owns.
-    fn take_book(&self, spot: &mut Spot<K>) -> K
-        requires lock { spot.old.table_id ≡ self.now.table.shared.table_id }
-        requires full { (book : K) × (spot.old.me.1 ≡ (0, Some book) ∷ []) }
-        ensures book { spot.old.me.1 ≡ (0, Some result) ∷ [] }
-        ensures taken { spot.new.me ≡ (spot.old.me.0, (0, None) ∷ []) }
-        ensures same { (spot.new.table_id ≡ spot.old.table_id) × (spot.new.id ≡ spot.old.id) }
+    fn take_book(&self, table_seat: &mut TableSeat<K>) -> K
+        requires lock { table_seat.old.table_id ≡ self.now.table.shared.table_id }
+        requires full { (book : K) × (table_seat.old.me.1 ≡ (0, Some book) ∷ []) }
+        ensures book { table_seat.old.me.1 ≡ (0, Some result) ∷ [] }
+        ensures taken { table_seat.new.me ≡ (table_seat.old.me.0, (0, None) ∷ []) }
+        ensures same { (table_seat.new.table_id ≡ table_seat.old.table_id) × (table_seat.new.id ≡ table_seat.old.id) }
     {
-        self.table.shared.exchange(spot, 0, None).unwrap()
+        self.table.shared.exchange(table_seat, 0, None).unwrap()
     }
 
     /// Moves the book back into the slot, which the seat owns.
-    fn put_book(&self, spot: &mut Spot<K>, book: K)
-        requires lock { spot.old.table_id ≡ self.now.table.shared.table_id }
-        requires empty { spot.old.me.1 ≡ (0, None) ∷ [] }
-        ensures put { spot.new.me ≡ (spot.old.me.0, (0, Some book) ∷ []) }
-        ensures same { (spot.new.table_id ≡ spot.old.table_id) × (spot.new.id ≡ spot.old.id) }
+    fn put_book(&self, table_seat: &mut TableSeat<K>, book: K)
+        requires lock { table_seat.old.table_id ≡ self.now.table.shared.table_id }
+        requires empty { table_seat.old.me.1 ≡ (0, None) ∷ [] }
+        ensures put { table_seat.new.me ≡ (table_seat.old.me.0, (0, Some book) ∷ []) }
+        ensures same { (table_seat.new.table_id ≡ table_seat.old.table_id) × (table_seat.new.id ≡ table_seat.old.id) }
     {
-        let was = self.table.shared.exchange(spot, 0, Some(book));
+        let was = self.table.shared.exchange(table_seat, 0, Some(book));
         let None = was else { unreachable!() };
     }
 }

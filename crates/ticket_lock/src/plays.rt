@@ -1,6 +1,6 @@
 //! The kinds of step, and what each tells the seat that steps.
 ghost use Rattle.std.specs.Prelude.{ℕ};
-ghost use Rattle.ticket_lock.specs.Plays.{DrawTells, LookTells, LeaveTells, SettlingTells};
+ghost use Rattle.ticket_lock.specs.Plays.{DrawTells, LookTells, LeaveTells, SecondLoadTells};
 ghost use Rattle.ticket_lock.specs.Views.{keeping_view, given_view, joined_view, spent_view};
 
 use crate::views::View;
@@ -66,10 +66,10 @@ impl<K, C, R> Join<View<K, C, R>> for Gathers {
 
 /// The second step of a gather: joining two seats tells nothing of the rule, so the joined seat
 /// loads once more, to learn that the two histories are beginnings of one.
-pub(crate) struct Settles<K> {
+pub(crate) struct SecondLoad<K> {
     marker: PhantomData<K>,
 }
 
-impl<K: Kept> Play<Option<K>, View<K, K::Call, K::Reply>> for Settles<K> {
-    ghost then = { SettlingTells };
+impl<K: Kept> Play<Option<K>, View<K, K::Call, K::Reply>> for SecondLoad<K> {
+    ghost then = { SecondLoadTells };
 }

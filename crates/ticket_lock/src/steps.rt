@@ -1,49 +1,96 @@
 //! Each kind of step of the lock is one event of the core.
-ghost use Rattle.std.specs.Prelude.{◌≡◌, ◌≢◌, ◌⊎◌, ℕ, ◌<◌, true, [], ◌∷◌, length, Some, None};
+ghost use Rattle.std.specs.Prelude.{◌≡◌, ◌≢◌, ◌⊎◌, ℕ, ◌<◌, ◌≤◌, true, [], ◌∷◌, length, Option, Some, None};
 ghost use mathlib.Core.Option.{some};
 ghost use lib.ListN.{get_elem?};
-ghost use Rattle.ticket_steps.specs.Happenings.{Happening, split, drew, held, recorded, refused, gathered};
-ghost use Rattle.ticket_steps.specs.declared.seats.Phase.TheVariants.{Idle, Waiting, Holding};
+ghost use Rattle.ticket_steps.specs.Happenings.{Happening, split, drew, waited, held, recorded, refused, gathered};
+ghost use Rattle.ticket_steps.specs.declared.seats.Phase.TheVariants.{Idle, Waiting};
+ghost use Rattle.ticket_steps.specs.CoreStates.{opened};
+ghost use Rattle.ticket_steps.specs.Seats.{Holds};
+ghost use Rattle.atomic_table.specs.Table.{Step};
+ghost use Rattle.ticket_lock.specs.declared.views.Start.{Start};
 ghost use Rattle.ticket_lock.specs.declared.views.View.{View as ViewOf};
-ghost use Rattle.ticket_lock.specs.Steps.{Moment, IsMoment, IsOneEvent, IsNoEvent, Returns, after_split, after_draw, after_waiting, after_holding, after_leaving, after_gather, after_settling};
+ghost use Rattle.ticket_lock.specs.Plays.{DrawTells, LookTells, LeaveTells, SecondLoadTells};
+ghost use Rattle.ticket_lock.specs.Rule.{IsTableOf};
+ghost use Rattle.ticket_lock.specs.Steps.{TableMoment, IsTableMoment, IsOneEvent, IsNoEvent, IsTold, Returns, first_table, after_split, after_draw, after_waiting, after_holding, after_leaving, after_gather, after_second_load};
+ghost use Rattle.ticket_lock.specs.Views.{drawn_view, held_view, left_view, reloaded_view};
+ghost use Rattle.ticket_lock.specs.Words.{next_word, served_word};
 
 use ticket_steps::Kept;
 
-/// A law without code: at any moment that meets the rule, each kind of step of the lock leads to a
-/// table that meets it again, whose core state is the one that this one event of the core leaves.
+/// A law without code: each kind of step of the lock is one event of the core.
 ///
-/// A look that waits leaves the core state as it was (`look_waits`), and so does the second load of
-/// a gather, by which the joined seat learns that its two histories are beginnings of one (`settle`).
+/// The table as it is made is that of the core's opening (`opening`). At any moment that meets the
+/// rule, each kind of step leads to a table that meets it again, whose core state is the one that
+/// this one event of the core leaves: a split, a draw, a look that holds or waits, a leave, and a
+/// gather. The second load of a gather, by which the joined seat learns that its two histories are
+/// beginnings of one, is no event: it leaves the core state as it was (`second_load`).
+///
+/// What the seat that steps is told, on which the lock's code relies, is so of that very step: of
+/// the number found in the word, and of the seat as it stands in the table after it (`draw_tells`,
+/// `look_held_tells`, `look_waits_tells`, `leave_tells`, `second_load_tells`).
 pub fn every_step<K: Kept>()
-    ensures split { (m : Moment K K.State K.Call K.Reply) (count : ℕ) → IsMoment K.Kept m
-        → m.me.0.start ≡ Some m.start → m.me.0.seat.phase ≡ Idle → m.me.0.seat.fresh ≡ true
+    ensures opening { (start : Start K) → K.history start.book ≡ [] → K.refusals start.book ≡ 0
+        → 0 < start.numbers → start.numbers ≤ 1024 → start.draws ≤ 4294967295
+        → IsTableOf K.Kept start [] (opened start.numbers start.draws (K.opening start.book))
+        (first_table start) }
+    ensures split { (m : TableMoment K K.State K.Call K.Reply) (count : ℕ)
+        → IsTableMoment K.Kept m → m.me.0.start ≡ Some m.start
+        → m.me.0.seat.phase ≡ Idle → m.me.0.seat.fresh ≡ true
         → 0 < count → count < length m.me.0.seat.numbers
         → IsOneEvent K.Kept m (split m.me.0.seat.own count)
         (after_split m.table m.id count m.me.0) }
-    ensures draw { (m : Moment K K.State K.Call K.Reply) → IsMoment K.Kept m
+    ensures draw { (m : TableMoment K K.State K.Call K.Reply) → IsTableMoment K.Kept m
         → m.me.0.seat.phase ≡ Idle → 0 < m.me.0.seat.left
         → IsOneEvent K.Kept m (drew m.me.0.seat.own m.core.next) (after_draw m.table m.id m.me) }
-    ensures look_held { (m : Moment K K.State K.Call K.Reply) → IsMoment K.Kept m
+    ensures draw_tells { (m : TableMoment K K.State K.Call K.Reply) (step : Step (Option K))
+        → IsTableMoment K.Kept m
+        → IsTold K.Kept m next_word (DrawTells step m.me)
+        (drawn_view m.core.next m.me.0, m.me.1) (after_draw m.table m.id m.me) }
+    ensures look_held { (m : TableMoment K K.State K.Call K.Reply) → IsTableMoment K.Kept m
         → m.me.0.seat.phase ≡ Waiting m.core.served
         → (book : K) × (get_elem? m.table.homes 0 ≡ some (some (Some book)))
         × IsOneEvent K.Kept m (held m.me.0.seat.own)
         (after_holding K.Kept m.table m.id m.core.served m.me book) }
-    ensures look_waits { (m : Moment K K.State K.Call K.Reply) (ticket : ℕ) → IsMoment K.Kept m
+    ensures look_held_tells { (m : TableMoment K K.State K.Call K.Reply) (book : K)
+        (step : Step (Option K)) → IsTableMoment K.Kept m
+        → m.me.0.seat.phase ≡ Waiting m.core.served → m.me.1 ≡ []
+        → get_elem? m.table.homes 0 ≡ some (some (Some book))
+        → IsTold K.Kept m served_word (LookTells K.Kept step m.me)
+        (held_view K.Kept m.core.served m.me.0 book, (0, Some book) ∷ m.me.1)
+        (after_holding K.Kept m.table m.id m.core.served m.me book) }
+    ensures look_waits { (m : TableMoment K K.State K.Call K.Reply) (ticket : ℕ)
+        → IsTableMoment K.Kept m
         → m.me.0.seat.phase ≡ Waiting ticket → ticket ≢ m.core.served
-        → IsNoEvent K.Kept m (after_waiting m.table m.id m.me) }
-    ensures leave { (m : Moment K K.State K.Call K.Reply) (ticket : ℕ) (book : K)
-        → IsMoment K.Kept m
-        → m.me.0.seat.phase ≡ Holding ticket → m.me.1 ≡ (0, Some book) ∷ []
+        → IsOneEvent K.Kept m (waited m.me.0.seat.own) (after_waiting m.table m.id m.me) }
+    ensures look_waits_tells { (m : TableMoment K K.State K.Call K.Reply) (ticket : ℕ)
+        (step : Step (Option K)) → IsTableMoment K.Kept m
+        → m.me.0.seat.phase ≡ Waiting ticket → ticket ≢ m.core.served
+        → IsTold K.Kept m served_word (LookTells K.Kept step m.me) m.me
+        (after_waiting m.table m.id m.me) }
+    ensures leave { (m : TableMoment K K.State K.Call K.Reply) (ticket : ℕ) (book : K)
+        → IsTableMoment K.Kept m
+        → Holds ticket m.me.0.seat.phase → m.me.1 ≡ (0, Some book) ∷ []
         → Returns K.Kept m.start m.me.0.seat.own m.me.0.seen m.me.0.refused book
         → (h : Happening K.Call K.Reply)
         × (((call : K.Call) × (reply : K.Reply) × (h ≡ recorded m.me.0.seat.own call reply))
         ⊎ (h ≡ refused m.me.0.seat.own))
         × IsOneEvent K.Kept m h (after_leaving K.Kept m.table m.id m.me book) }
-    ensures gather { (m : Moment K K.State K.Call K.Reply) (other : ℕ) (w : ViewOf K K.Call K.Reply)
-        → IsMoment K.Kept m → m.me.0.seat.phase ≡ Idle → other ≢ m.id
+    ensures leave_tells { (m : TableMoment K K.State K.Call K.Reply) (ticket : ℕ) (book : K)
+        (step : Step (Option K)) → IsTableMoment K.Kept m
+        → Holds ticket m.me.0.seat.phase → m.me.1 ≡ (0, Some book) ∷ []
+        → IsTold K.Kept m served_word (LeaveTells K.Kept step m.me)
+        (left_view K.Kept m.me.0 book, []) (after_leaving K.Kept m.table m.id m.me book) }
+    ensures gather { (m : TableMoment K K.State K.Call K.Reply) (other : ℕ)
+        (w : ViewOf K K.Call K.Reply)
+        → IsTableMoment K.Kept m → m.me.0.seat.phase ≡ Idle → other ≢ m.id
         → get_elem? m.table.views other ≡ some w → w.seat.phase ≡ Idle
         → IsOneEvent K.Kept m (gathered m.me.0.seat.own w.seat.own)
         (after_gather m.table m.id m.me.0 other w) }
-    ensures settle { (m : Moment K K.State K.Call K.Reply) → IsMoment K.Kept m
-        → m.me.0.seat.phase ≡ Idle → IsNoEvent K.Kept m (after_settling m.table m.id m.me) }
+    ensures second_load { (m : TableMoment K K.State K.Call K.Reply) → IsTableMoment K.Kept m
+        → m.me.0.seat.phase ≡ Idle
+        → IsNoEvent K.Kept m (after_second_load m.table m.id m.me) }
+    ensures second_load_tells { (m : TableMoment K K.State K.Call K.Reply) (step : Step (Option K))
+        → IsTableMoment K.Kept m
+        → IsTold K.Kept m next_word (SecondLoadTells step m.me)
+        (reloaded_view m.me.0, m.me.1) (after_second_load m.table m.id m.me) }
 {}

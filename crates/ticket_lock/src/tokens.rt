@@ -4,15 +4,16 @@
 //! history that it has seen, which is always a beginning of the one history of the book.
 ghost use Rattle.std.specs.Prelude.{◌≡◌, ◌+◌, ◌^◌, ◌<◌, ◌≤◌, true, false, [], ◌∷◌, length, None};
 ghost use Rattle.std.specs.Coded.{Coded-set};
-ghost use Rattle.ticket_steps.specs.declared.seats.Phase.TheVariants.{Idle, Waiting, Holding};
-ghost use Rattle.ticket_lock.specs.Figures.{AreFiguresOf};
+ghost use Rattle.ticket_steps.specs.declared.seats.Phase.TheVariants.{Idle, Waiting};
+ghost use Rattle.ticket_steps.specs.Seats.{Holds};
+ghost use Rattle.ticket_lock.specs.Counts.{AreCountsOf};
 ghost use Rattle.ticket_lock.specs.Legal.{IsLegalFrom, IsLegalFrom-prop};
 
-use crate::figures::Figures;
+use crate::counts::SeatCounts;
 use crate::views::View;
 use ticket_steps::Kept;
 
-pub(crate) type Spot<K> = atomic_table::Seat<
+pub(crate) type TableSeat<K> = atomic_table::Seat<
     Option<K>,
     View<K, <K as Kept>::Call, <K as Kept>::Reply>,
 >;
@@ -23,15 +24,15 @@ pub(crate) type Spot<K> = atomic_table::Seat<
 /// new seat, for another thread, and `TicketLock::gather` puts two seats together again.
 #[derive(Drop)]
 pub struct Seat<K: Kept> {
-    pub(crate) spot: Spot<K>,
-    pub(crate) figures: Figures,
+    pub(crate) table_seat: TableSeat<K>,
+    pub(crate) counts: SeatCounts,
     pub(crate) fresh: bool,
-    ghost bare: { spot.me.1 ≡ [] },
-    ghost legal: { IsLegalFrom K.Kept spot.me.0.start spot.me.0.seen } by { IsLegalFrom-prop K.Kept (Coded-set K.Reply.code) spot.me.0.start spot.me.0.seen },
-    ghost idle: { spot.me.0.seat.phase ≡ Idle },
-    ghost told: { AreFiguresOf figures spot.me.0.seat },
-    ghost fresh_is: { spot.me.0.seat.fresh ≡ fresh },
-    ghost range: { fresh ≡ true → figures.number + figures.count ≤ 1024 },
+    ghost bare: { table_seat.me.1 ≡ [] },
+    ghost legal: { IsLegalFrom K.Kept table_seat.me.0.start table_seat.me.0.seen } by { IsLegalFrom-prop K.Kept (Coded-set K.Reply.code) table_seat.me.0.start table_seat.me.0.seen },
+    ghost idle: { table_seat.me.0.seat.phase ≡ Idle },
+    ghost told: { AreCountsOf counts table_seat.me.0.seat },
+    ghost fresh_is: { table_seat.me.0.seat.fresh ≡ fresh },
+    ghost range: { fresh ≡ true → counts.number + counts.count ≤ 1024 },
 }
 
 /// A caller that has drawn a ticket and waits for its turn.
@@ -39,14 +40,14 @@ pub struct Seat<K: Kept> {
 /// It is not `Drop`, so one that isn't spent by `TicketLock::look` doesn't compile: a ticket that
 /// nobody uses would stop all that come after it.
 pub struct Turn<K: Kept> {
-    pub(crate) spot: Spot<K>,
-    pub(crate) figures: Figures,
+    pub(crate) table_seat: TableSeat<K>,
+    pub(crate) counts: SeatCounts,
     pub(crate) ticket: u64,
-    ghost bare: { spot.me.1 ≡ [] },
-    ghost legal: { IsLegalFrom K.Kept spot.me.0.start spot.me.0.seen } by { IsLegalFrom-prop K.Kept (Coded-set K.Reply.code) spot.me.0.start spot.me.0.seen },
-    ghost waits: { spot.me.0.seat.phase ≡ Waiting ticket },
-    ghost told: { AreFiguresOf figures spot.me.0.seat },
-    ghost stale: { spot.me.0.seat.fresh ≡ false },
+    ghost bare: { table_seat.me.1 ≡ [] },
+    ghost legal: { IsLegalFrom K.Kept table_seat.me.0.start table_seat.me.0.seen } by { IsLegalFrom-prop K.Kept (Coded-set K.Reply.code) table_seat.me.0.start table_seat.me.0.seen },
+    ghost waits: { table_seat.me.0.seat.phase ≡ Waiting ticket },
+    ghost told: { AreCountsOf counts table_seat.me.0.seat },
+    ghost stale: { table_seat.me.0.seat.fresh ≡ false },
 }
 
 /// A caller whose turn it is: it has the book in hand.
@@ -54,14 +55,14 @@ pub struct Turn<K: Kept> {
 /// It is not `Drop`, so one that isn't spent by `TicketLock::leave` doesn't compile: the book has
 /// to come back.
 pub struct Hold<K: Kept> {
-    pub(crate) spot: Spot<K>,
-    pub(crate) figures: Figures,
+    pub(crate) table_seat: TableSeat<K>,
+    pub(crate) counts: SeatCounts,
     pub(crate) ticket: u64,
-    ghost out: { spot.me.1 ≡ (0, None) ∷ [] },
-    ghost legal: { IsLegalFrom K.Kept spot.me.0.start spot.me.0.seen } by { IsLegalFrom-prop K.Kept (Coded-set K.Reply.code) spot.me.0.start spot.me.0.seen },
-    ghost holds: { spot.me.0.seat.phase ≡ Holding ticket },
-    ghost told: { AreFiguresOf figures spot.me.0.seat },
-    ghost stale: { spot.me.0.seat.fresh ≡ false },
+    ghost out: { table_seat.me.1 ≡ (0, None) ∷ [] },
+    ghost legal: { IsLegalFrom K.Kept table_seat.me.0.start table_seat.me.0.seen } by { IsLegalFrom-prop K.Kept (Coded-set K.Reply.code) table_seat.me.0.start table_seat.me.0.seen },
+    ghost holds: { Holds ticket table_seat.me.0.seat.phase },
+    ghost told: { AreCountsOf counts table_seat.me.0.seat },
+    ghost stale: { table_seat.me.0.seat.fresh ≡ false },
 }
 
 impl<K: Kept> Seat<K> {
@@ -71,14 +72,14 @@ impl<K: Kept> Seat<K> {
     pub fn number(&self) -> u32
         ensures { result ≡ (seat_of self.now).own }
     {
-        self.figures.number
+        self.counts.number
     }
 
     /// How many numbers it stands for now, its own included.
     pub fn count(&self) -> u32
         ensures { result ≡ length (seat_of self.now).numbers }
     {
-        self.figures.count
+        self.counts.count
     }
 
     /// Whether it has never drawn, and no seat was gathered into it.
@@ -92,7 +93,7 @@ impl<K: Kept> Seat<K> {
     pub fn left(&self) -> u64
         ensures { result ≡ (seat_of self.now).left }
     {
-        self.figures.left
+        self.counts.left
     }
 
     /// The calls that it and the seats gathered into it have ended.
@@ -100,7 +101,7 @@ impl<K: Kept> Seat<K> {
         ensures calls { result ≡ (seat_of self.now).calls }
         ensures few { result < 2 ^ 42 }
     {
-        self.figures.calls
+        self.counts.calls
     }
 }
 
@@ -122,7 +123,7 @@ impl<K: Kept> Hold<K> {
     pub fn number(&self) -> u32
         ensures { result ≡ (hold_of self.now).own }
     {
-        self.figures.number
+        self.counts.number
     }
 
     /// Its ticket: how many calls have ended before its own.

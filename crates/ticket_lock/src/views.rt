@@ -1,6 +1,6 @@
 //! What the seats of the table know, and the rule of the table.
 //!
-//! No value of these types is made but of `About`: views are the data that the rule speaks of.
+//! No value of these types is made but of `Opening`: views are the data that the rule speaks of.
 ghost use Rattle.ticket_lock.specs.Rule.{IsRuled};
 ghost use Rattle.ticket_lock.specs.Views.{first_view};
 
@@ -40,21 +40,21 @@ pub struct View<K, C, R> {
 
 /// What the table is told when it is made.
 #[derive(Drop)]
-pub struct About<K> {
+pub struct Opening<K> {
     pub book: Snapshot<K>,
     pub numbers: u32,
     pub draws: u32,
 }
 
 /// The rule of the lock's table.
-pub struct Order<K> {
+pub struct LockRule<K> {
     marker: PhantomData<K>,
 }
 
-impl<K: Kept> TableRule<Option<K>, View<K, K::Call, K::Reply>, About<K>> for Order<K> {
-    ghost holds = { λ about. IsRuled K.Kept
-        (record { book = about.book.value; numbers = about.numbers; draws = about.draws }) };
+impl<K: Kept> TableRule<Option<K>, View<K, K::Call, K::Reply>, Opening<K>> for LockRule<K> {
+    ghost holds = { λ opening. IsRuled K.Kept
+        (record { book = opening.book.value; numbers = opening.numbers; draws = opening.draws }) };
 
-    ghost first = { λ about. first_view
-        (record { book = about.book.value; numbers = about.numbers; draws = about.draws }) };
+    ghost first = { λ opening. first_view
+        (record { book = opening.book.value; numbers = opening.numbers; draws = opening.draws }) };
 }

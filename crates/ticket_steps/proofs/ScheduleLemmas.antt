@@ -8,7 +8,7 @@ use Rattle.ticket_steps.specs.Books.{BookState, IsLawfulBook, with_entry, with_r
 use Rattle.ticket_steps.specs.declared.events.Seen.{Seen}
 use Rattle.ticket_steps.specs.CoreStates.{CoreState, opened}
 use Rattle.ticket_steps.specs.Faults.{Shows, LeadsBy}
-use Rattle.ticket_steps.specs.Happenings.{Happening, split, drew, waited, held, recorded, refused, gathered, IsOf, AreOf, recorded_by, Moves, Leads}
+use Rattle.ticket_steps.specs.Happenings.{Happening, split, drew, waited, held, recorded, refused, gathered, IsOf, AreOf, calls_made, recorded_by, Moves, Leads}
 use Rattle.ticket_steps.specs.History.{entry, of}
 use Rattle.ticket_steps.specs.Lawful.{IsLawful}
 use Rattle.ticket_steps.specs.Seats.{is_there}
@@ -73,6 +73,29 @@ module _ {S C R : Type 0} (step : S → C → S × R) where
     leads_of n b c (h ∷ hs) t = leads_of n t.0 c hs t.2 ∙ (ap (λ (l : List (Entry C R)). l ++ recorded_by n hs) (moves_of n b t.0 h t.1)
         ∙ (append_assoc (of n b.book.entries) (recorded_by n (h ∷ [])) (recorded_by n hs) ∙ ap (λ (l : List (Entry C R)). of n b.book.entries ++ l) (sym (recorded-cons n h hs))))
 
+    -- each happening that ends a turn raises the number served by one
+    moves_made : (b c : CoreState S C R) (h : Happening C R) → Moves step draws b h c → c.served ≡ b.served + calls_made (h ∷ [])
+    moves_made b c (split own count) t = omega (arith, ap (λ (z : CoreState S C R). z.served) t.6)
+    moves_made b c (drew own ticket) t = omega (arith, ap (λ (z : CoreState S C R). z.served) t.5)
+    moves_made b c (waited own) t = omega (arith, ap (λ (z : CoreState S C R). z.served) t.5)
+    moves_made b c (held own) t = omega (arith, ap (λ (z : CoreState S C R). z.served) t.3)
+    moves_made b c (recorded own call reply) t = omega (arith, ap (λ (z : CoreState S C R). z.served) t.5)
+    moves_made b c (refused own) t = omega (arith, ap (λ (z : CoreState S C R). z.served) t.4)
+    moves_made b c (gathered own other) t = omega (arith, ap (λ (z : CoreState S C R). z.served) t.7)
+
+    made-cons : (h : Happening C R) (hs : List (Happening C R)) → calls_made (h ∷ hs) ≡ calls_made (h ∷ []) + calls_made hs
+    made-cons (split own count) hs = omega arith
+    made-cons (drew own ticket) hs = omega arith
+    made-cons (waited own) hs = omega arith
+    made-cons (held own) hs = omega arith
+    made-cons (recorded own call reply) hs = omega arith
+    made-cons (refused own) hs = omega arith
+    made-cons (gathered own other) hs = omega arith
+
+    pub leads_made : (b c : CoreState S C R) (hs : List (Happening C R)) → Leads step draws b hs c → c.served ≡ b.served + calls_made hs
+    leads_made b c [] t = omega (arith, ap (λ (z : CoreState S C R). z.served) t)
+    leads_made b c (h ∷ hs) t = omega (arith, moves_made b t.0 h t.1, leads_made t.0 c hs t.2, made-cons h hs)
+
     are_more : (es : List (Event C)) (hs : List (Happening C R)) (e : Event C) (h : Happening C R) → AreOf es hs → IsOf e h → AreOf (es ++ e ∷ []) (hs ++ h ∷ [])
     are_more [] [] e h t is = (is, tt)
     are_more [] (x ∷ xs) e h t is = absurd t
@@ -113,6 +136,9 @@ module _ {S C R : Type 0} (step : S → C → S × R) where
 
   pub schedule_of : (s : Schedule S C R) → IsSchedule step s → (n : ℕ) → of n s.end.book.entries ≡ recorded_by n s.happened
   schedule_of s is n = leads_of s.draws n (opened s.numbers s.draws s.opening) s.end s.happened is.leads
+
+  pub schedule_made : (s : Schedule S C R) → IsSchedule step s → calls_made s.happened ≡ s.end.served
+  schedule_made s is = omega (arith, leads_made s.draws (opened s.numbers s.draws s.opening) s.end s.happened is.leads)
 
   pub schedule_strangers : (s : Schedule S C R) → IsSchedule step s → (n : ℕ) → s.numbers ≤ n → of n s.end.book.entries ≡ []
   schedule_strangers s is n le = leads_strangers s.draws s.numbers n (opened s.numbers s.draws s.opening) s.end s.happened (lawful_opened s.numbers s.draws s.opening is.some_number) le refl is.leads

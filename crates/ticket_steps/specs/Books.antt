@@ -1,5 +1,5 @@
 -- What is so of a book, whatever it is made of: its state, its entries and its refusals.
-use Rattle.std.specs.Prelude.{◌≡◌, ℕ, ◌+◌, List, [], ◌∷◌, ◌++◌}
+use Rattle.std.specs.Prelude.{◌≡◌, ℕ, ◌+◌, List, [], ◌∷◌, ◌++◌, length}
 use Rattle.ticket_steps.specs.declared.kept.Entry.{Entry}
 use Rattle.ticket_steps.specs.History.{entry, replay, IsLegal}
 
@@ -15,6 +15,10 @@ module _ {S C R : Type 0} where
   -- a book without entries and refusals
   abbrev pub empty_book : S → BookState S C R
   empty_book state = book_state state [] 0
+
+  -- how many calls a book has taken in: those of its entries, and those that were refused
+  abbrev pub calls_taken : BookState S C R → ℕ
+  calls_taken book = length book.entries + book.refused
 
   -- one refusal more, and nothing else changed
   abbrev pub with_refusal : BookState S C R → BookState S C R

@@ -1,7 +1,7 @@
 -- The states of the core: the next ticket, the number served, the seats and the book.
 use Rattle.std.specs.Prelude.{◌≡◌, ℕ, List, [], ◌∷◌}
 use Rattle.ticket_steps.specs.declared.seats.CoreSeat.{CoreSeat}
-use Rattle.ticket_steps.specs.Books.{BookState, empty_book}
+use Rattle.ticket_steps.specs.Books.{BookState, calls_taken, empty_book}
 use Rattle.ticket_steps.specs.Seats.{fresh_seat, holders}
 use Rattle.ticket_steps.specs.Sums.{counted}
 
@@ -25,3 +25,7 @@ module _ {S C R : Type 0} where
   -- the book is out exactly while a seat holds
   abbrev pub IsHome : CoreState S C R → Type 0
   IsHome c = holders c.seats ≡ 0
+
+  -- what is counted: the calls that the book has taken in are the number served
+  abbrev pub IsCounted : CoreState S C R → Type 0
+  IsCounted c = calls_taken c.book ≡ c.served

@@ -63,6 +63,13 @@ module _ {C R : Type 0} where
   recorded_by number (recorded own call reply ∷ hs) = cond (own == number) (entry own call reply ∷ recorded_by number hs) (recorded_by number hs)
   recorded_by number (_ ∷ hs) = recorded_by number hs
 
+  -- how many turns have ended, each by a call that was recorded or by one that was refused
+  abbrev pub calls_made : List (Happening C R) → ℕ
+  calls_made [] = 0
+  calls_made (recorded own call reply ∷ hs) = 1 + calls_made hs
+  calls_made (refused own ∷ hs) = 1 + calls_made hs
+  calls_made (_ ∷ hs) = calls_made hs
+
 module _ {S C R : Type 0} where
   -- other seats, and all else as it was
   abbrev pub with_seats : CoreState S C R → List CoreSeat → CoreState S C R

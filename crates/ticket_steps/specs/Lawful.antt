@@ -3,15 +3,14 @@ use Rattle.std.specs.Prelude.{◌≡◌, ℕ, ◌+◌, ◌-◌, ◌*◌, ◌<◌
 use mathlib.Core.Option.{some}
 use lib.ListN.{get_elem?}
 use Rattle.ticket_steps.specs.declared.seats.CoreSeat.{CoreSeat}
-use Rattle.ticket_steps.specs.declared.seats.Phase.TheVariants.{Holding}
-use Rattle.ticket_steps.specs.CoreStates.{CoreState}
-use Rattle.ticket_steps.specs.Seats.{is_there, tickets_at, answering}
+use Rattle.ticket_steps.specs.CoreStates.{CoreState, IsCounted}
+use Rattle.ticket_steps.specs.Seats.{Holds, is_there, tickets_at, answering}
 use Rattle.ticket_steps.specs.Sums.{total, times, once_below, counted}
 
 -- what is so of each seat, where this number is served
 pub record IsSeat (draws served : ℕ) (s : CoreSeat) : Type 0 where
   -- a holder's ticket is the number served
-  pub holder : (ticket : ℕ) → s.phase ≡ Holding ticket → ticket ≡ served
+  pub holder : (ticket : ℕ) → Holds ticket s.phase → ticket ≡ served
   -- a seat answers for its own number
   pub own : is_there s.phase ≡ true → 0 < times s.own s.numbers
   -- a fresh seat has a range of numbers and all their draws
@@ -31,7 +30,7 @@ pub record IsLawful {S C R : Type 0} (numbers draws : ℕ) (c : CoreState S C R)
   -- each number is one seat's to answer for
   pub numbered : (n : ℕ) → answering n c.seats ≡ once_below n numbers
   pub count : total (λ (s : CoreSeat). length s.numbers) c.seats ≡ numbers
-  pub counted : length c.book.entries + c.book.refused ≡ c.served
+  pub counted : IsCounted c
   pub calls : total (λ (s : CoreSeat). s.calls) c.seats ≡ c.served
   pub supply : c.next + total (λ (s : CoreSeat). s.left) c.seats ≤ numbers * draws
   pub places : length c.seats + total spare c.seats ≤ numbers

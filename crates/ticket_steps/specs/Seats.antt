@@ -21,6 +21,10 @@ holds_one (Waiting ticket) = 0
 holds_one (Holding ticket) = 1
 holds_one Gone = 0
 
+-- a seat in this phase has this ticket, and holds
+abbrev pub Holds : ℕ → Phase → Type 0
+Holds ticket phase = phase ≡ Holding ticket
+
 -- whether a seat is there: it was not gathered into another
 abbrev pub is_there : Phase → Bool
 is_there Idle = true

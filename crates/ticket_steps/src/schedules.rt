@@ -3,12 +3,12 @@ ghost use Rattle.std.specs.Prelude.{◌≡◌, ℕ, ◌+◌, ◌<◌, ◌≤◌,
 ghost use mathlib.Core.Option.{some};
 ghost use lib.ListN.{get_elem?};
 ghost use Rattle.ticket_steps.specs.declared.seats.CoreSeat.{CoreSeat};
-ghost use Rattle.ticket_steps.specs.declared.seats.Phase.TheVariants.{Holding};
 ghost use Rattle.ticket_steps.specs.Books.{IsLawfulBook};
-ghost use Rattle.ticket_steps.specs.Happenings.{recorded_by};
+ghost use Rattle.ticket_steps.specs.CoreStates.{IsCounted};
+ghost use Rattle.ticket_steps.specs.Happenings.{calls_made, recorded_by};
 ghost use Rattle.ticket_steps.specs.History.{of};
 ghost use Rattle.ticket_steps.specs.Schedules.{Schedule, IsSchedule, IsLine};
-ghost use Rattle.ticket_steps.specs.Seats.{answering, holders, is_there};
+ghost use Rattle.ticket_steps.specs.Seats.{Holds, answering, holders, is_there};
 ghost use Rattle.ticket_steps.specs.Sums.{total, once_below};
 
 use crate::kept::Kept;
@@ -21,8 +21,9 @@ use crate::kept::Kept;
 /// - at most one seat holds (`one_holder`), with the number served as its ticket (`holder`);
 /// - the tickets of the waiting and holding seats are the numbers from the number served to the
 ///   last one drawn, each once (`line`);
-/// - entries and refusals together are the number served (`counted`), and so are the calls ended by
-///   all seats (`calls`);
+/// - entries and refusals together are the number served (`counted`), and so are the calls that were
+///   made (`made`), those ended by all seats together (`calls`), and those of the seat that stands for
+///   all numbers, where there is one (`alone`);
 /// - the book is lawful: its entries are legal, and its state is their replay (`lawful`);
 /// - the entries of each number are the calls that it recorded when it left, in their order
 ///   (`entries`), and there are none of numbers that weren't given out (`strangers`);
@@ -34,12 +35,17 @@ pub fn every_schedule<K: Kept>()
         → holders s.end.seats ≤ 1 }
     ensures holder { (s : Schedule K.State K.Call K.Reply) → IsSchedule K.step s
         → (i ticket : ℕ) (p : CoreSeat) → get_elem? s.end.seats i ≡ some p
-        → p.phase ≡ Holding ticket → ticket ≡ s.end.served }
+        → Holds ticket p.phase → ticket ≡ s.end.served }
     ensures line { (s : Schedule K.State K.Call K.Reply) → IsSchedule K.step s → IsLine s.end }
     ensures counted { (s : Schedule K.State K.Call K.Reply) → IsSchedule K.step s
-        → length s.end.book.entries + s.end.book.refused ≡ s.end.served }
+        → IsCounted s.end }
+    ensures made { (s : Schedule K.State K.Call K.Reply) → IsSchedule K.step s
+        → calls_made s.happened ≡ s.end.served }
     ensures calls { (s : Schedule K.State K.Call K.Reply) → IsSchedule K.step s
         → total (λ (p : CoreSeat). p.calls) s.end.seats ≡ s.end.served }
+    ensures alone { (s : Schedule K.State K.Call K.Reply) → IsSchedule K.step s
+        → (i : ℕ) (p : CoreSeat) → get_elem? s.end.seats i ≡ some p
+        → length p.numbers ≡ s.numbers → p.calls ≡ s.end.served }
     ensures lawful { (s : Schedule K.State K.Call K.Reply) → IsSchedule K.step s
         → IsLawfulBook K.step s.opening s.end.book }
     ensures entries { (s : Schedule K.State K.Call K.Reply) → IsSchedule K.step s

@@ -2,7 +2,7 @@
 //!
 //! Each test also passes where any one request for memory is refused
 //! (`rt try --test --fail-alloc N`).
-ghost use Rattle.std.specs.Prelude.{◌≡◌, [], IfOk};
+ghost use Rattle.std.specs.Prelude.{◌≡◌, ◌<◌, ◌≤◌, [], IfOk};
 ghost use Rattle.ticket_steps.specs.CounterBooks.{entries_of, refused_of, room_of};
 
 use crate::counter::CounterBook;
@@ -20,14 +20,21 @@ fn empty_book(alloc: Global, room: usize) -> Result<CounterBook, AllocError>
     }
 }
 
-/// A core of two numbers over an empty book with room 10. Want of memory hands the book back as it
-/// was, and a second try with memory succeeds.
-fn core_of_two(alloc: Global) -> Result<Core<CounterBook>, AllocError> {
-    let book = empty_book(alloc, 10)?;
-    match Core::open(alloc, book, 2) {
+/// A core of so many numbers over an empty book. Want of memory hands the book back as it was, and a
+/// second try with memory succeeds.
+fn core_of(alloc: Global, numbers: u32, room: usize) -> Result<Core<CounterBook>, AllocError>
+    requires { (0 < numbers) × (numbers ≤ 1024) }
+{
+    let book = empty_book(alloc, room)?;
+    match Core::open(alloc, book, numbers) {
         Ok(core) => Ok(core),
-        Err(book) => Core::open(alloc, book, 2).map_err(|_book| AllocError),
+        Err(book) => Core::open(alloc, book, numbers).map_err(|_book| AllocError),
     }
+}
+
+/// A core of two numbers over an empty book with room 10.
+fn core_of_two(alloc: Global) -> Result<Core<CounterBook>, AllocError> {
+    core_of(alloc, 2, 10)
 }
 
 const SPLIT: Event<u8> = Event::Split { seat: 0, count: 1 };
@@ -142,5 +149,30 @@ fn a_book_counts_what_it_refuses(rt: HostRuntime) -> Result<(), Fail> {
         200u64.wrapping_sub(book.refused())
     );
     assert_eq!(rt; book.room(), 4);
+    Ok(())
+}
+
+/// As many seats as there can be, each with one turn, in the order of their draws.
+#[test]
+fn a_core_of_1024_seats(rt: HostRuntime) -> Result<(), Fail> {
+    let mut core = core_of(rt.alloc(), 1024, 1024)?;
+    for _seat in 1..1024 {
+        assert_eq!(rt; core.step(SPLIT), Ok(Seen::Split));
+    }
+    assert_eq!(rt; core.step(SPLIT), Err(Fault::Phase), "one number is left");
+    for seat in 0..1024 {
+        assert_eq!(rt; core.step(draw(seat)), Ok(Seen::Drew(seat as u64)));
+    }
+    assert_eq!(rt; core.step(look(1023)), Ok(Seen::Waiting));
+    for seat in 0..1024 {
+        assert_eq!(rt; core.step(look(seat)), Ok(Seen::Held));
+        assert_eq!(rt;
+            core.step(leave(seat, 1)),
+            Ok(Seen::Left(Ok(seat as u64 + 1)))
+        );
+    }
+    for seat in 1..1024 {
+        assert_eq!(rt; core.step(gather(0, seat)), Ok(Seen::Gathered));
+    }
     Ok(())
 }

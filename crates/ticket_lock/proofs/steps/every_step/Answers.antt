@@ -1,15 +1,50 @@
-use Rattle.std.proofs.Common.{sym, subst}
-use Rattle.ticket_lock.specs.Rule.{IsTableOf}
-use Rattle.ticket_lock.proofs.Events.{split_event, draw_event, look_event, waiting_same, leave_event, gather_event, settle_same}
+use Rattle.std.proofs.Common.{◌≡◌, ℕ, List, ◌∷◌, Some, length, get_or, set, refl, sym, ap, ◌∙◌, subst}
+use Rattle.std.specs.Option.{unwrap_or}
+use mathlib.Core.Option.{some, some-injective}
+use lib.ListN.{get_elem?}
+use Rattle.ticket_steps.proofs.Lists.{at_within, set_here}
+use Rattle.ticket_lock.specs.Slots.{IsBook}
+use Rattle.ticket_lock.specs.Views.{drawn_view}
+use Rattle.ticket_lock.proofs.Events.{split_event, draw_event, look_event, wait_event, leave_event, gather_event, second_load_same}
+use Rattle.ticket_lock.proofs.Obligations.{opens_with, look_held_told, look_waits_told, leave_told, second_load_told}
 use Rattle.ticket_lock.proofs.steps.every_step.Goals as goal
+
+stepped_here : {V : Type 0} (views : List V) (id : ℕ) (v w : V) → get_elem? views id ≡ some v → get_elem? (set views id w) id ≡ some w
+stepped_here views id v w at = set_here views id w (at_within views id v at)
 
 pub returns : goal.returns
 returns g c = record {
+  opening = λ start none_kept none_refused some_number few few_draws. opens_with g.K.Kept start start.book refl none_kept none_refused some_number few few_draws;
   split = λ m count is start idle fresh some_count less. split_event g.K.Kept m.start m.happened m.core m.table m.id count m.me.0 is.ruled is.there start idle fresh some_count less;
   draw = λ m is idle some_left. draw_event g.K.Kept m.start m.happened m.core m.table m.id m.me is.ruled is.there idle some_left;
+  draw_tells = λ m step is.
+      let next : get_or m.table.words 0 0 ≡ m.core.next = ap (λ (ws : List ℕ). get_or ws 0 0) is.ruled.words.words in
+      record {
+        stands = stepped_here m.table.views m.id m.me.0 _ is.there ∙ ap (λ (n : ℕ). some (drawn_view n m.me.0)) next;
+        told = ap (λ (n : ℕ). (drawn_view n m.me.0, m.me.1)) (sym next);
+      };
+  look_held_tells = λ m book step is waits bare at.
+      let e = look_event g.K.Kept m.start m.happened m.core m.table m.id m.me is.ruled is.there waits in
+      let same : e.0 ≡ book = ap (λ o. unwrap_or o book) (some-injective _ _ (some-injective _ _ (sym e.1 ∙ at))) in
+      record {
+        stands = stepped_here m.table.views m.id m.me.0 _ is.there;
+        told = look_held_told g.K.Kept m.start m.happened m.core m.table m.id m.me book step is.ruled is.there waits bare (subst (IsBook g.K.Kept m.start m.core.book) same e.2);
+      };
+  look_waits_tells = λ m ticket step is waits later. record {
+    stands = stepped_here m.table.views m.id m.me.0 _ is.there;
+    told = look_waits_told g.K.Kept m.start m.happened m.core m.table m.id ticket m.me step is.ruled is.there waits later;
+  };
+  leave_tells = λ m ticket book step is holds hand. record {
+    stands = stepped_here m.table.views m.id m.me.0 _ is.there;
+    told = leave_told g.K.Kept m.start m.happened m.core m.table m.id ticket m.me book step is.ruled is.there holds hand;
+  };
+  second_load_tells = λ m step is. record {
+    stands = stepped_here m.table.views m.id m.me.0 _ is.there;
+    told = second_load_told g.K.Kept m.start m.happened m.core m.table m.id m.me step is.ruled is.there;
+  };
   look_held = λ m is waits. let e = look_event g.K.Kept m.start m.happened m.core m.table m.id m.me is.ruled is.there waits in (e.0, e.1, e.3);
-  look_waits = λ m ticket is waits later. subst (λ s. IsTableOf g.K.Kept m.start m.happened m.core s) (sym (waiting_same g.K.Kept m.start m.table m.id m.me is.there)) is.ruled;
+  look_waits = λ m ticket is waits later. wait_event g.K.Kept m.start m.happened m.core m.table m.id ticket m.me is.ruled is.there waits later;
   leave = λ m ticket book is holds hand returns. leave_event g.K.Kept m.start g.met.K.Kept.legal m.happened m.core m.table m.id ticket m.me book is.ruled is.there holds hand returns;
   gather = λ m other w is idle apart at idle'. gather_event g.K.Kept m.start m.happened m.core m.table m.id other m.me.0 w is.ruled is.there apart at idle idle';
-  settle = λ m is idle. settle_same g.K.Kept m.start m.happened m.core m.table m.id m.me is.ruled is.there idle;
+  second_load = λ m is idle. second_load_same g.K.Kept m.start m.happened m.core m.table m.id m.me is.ruled is.there idle;
 }

@@ -1,5 +1,7 @@
-use Rattle.ticket_steps.proofs.ScheduleLemmas.{schedule_lawful, schedule_book, schedule_of, schedule_strangers, lawful_line}
-use Rattle.ticket_steps.proofs.SeatLemmas.{one_holder, served_le, named_once}
+use Rattle.std.proofs.Common.{arith}
+use Rattle.ticket_steps.specs.declared.seats.CoreSeat.{CoreSeat}
+use Rattle.ticket_steps.proofs.ScheduleLemmas.{schedule_lawful, schedule_book, schedule_made, schedule_of, schedule_strangers, lawful_line}
+use Rattle.ticket_steps.proofs.SeatLemmas.{alone, named_once, one_holder, served_le, unnumbered_calls}
 use Rattle.ticket_steps.proofs.schedules.every_schedule.Goals as goal
 
 pub returns : goal.returns
@@ -8,7 +10,11 @@ returns g c = record {
   holder = λ s is i ticket p at phase. ((schedule_lawful g.K.Kept.step s is).each i p at).holder ticket phase;
   line = λ s is. let l = schedule_lawful g.K.Kept.step s is in lawful_line s.numbers s.draws s.end l (served_le s.numbers s.draws s.end l);
   counted = λ s is. (schedule_lawful g.K.Kept.step s is).counted;
+  made = λ s is. schedule_made g.K.Kept.step s is;
   calls = λ s is. (schedule_lawful g.K.Kept.step s is).calls;
+  alone = λ s is i p at all.
+      let l = schedule_lawful g.K.Kept.step s is in
+      omega (arith, l.calls, alone s.numbers s.draws s.end l i p at (omega (arith, all)) (λ (q : CoreSeat). q.calls) (λ k u e none. unnumbered_calls s.draws s.end.served u (l.each k u e) none));
   lawful = λ s is. schedule_book g.K.Kept.step s is;
   entries = λ s is. schedule_of g.K.Kept.step s is;
   strangers = λ s is. schedule_strangers g.K.Kept.step s is;

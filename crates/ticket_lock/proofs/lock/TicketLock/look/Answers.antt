@@ -1,7 +1,7 @@
 use Rattle.std.proofs.Common.{subst, rules, sym, ap, ◌∙◌, ◌≡◌}
 use Rattle.ticket_steps.specs.History.{IsLegal}
 use Rattle.ticket_lock.specs.Callers.{IsHanded}
-use Rattle.ticket_lock.specs.Figures.{AreFiguresOf}
+use Rattle.ticket_lock.specs.Counts.{AreCountsOf}
 use Rattle.ticket_lock.specs.Legal.{IsLegalFrom}
 use Rattle.ticket_lock.specs.Tokens.{start_of}
 use Rattle.ticket_lock.specs.Views.{held_view}
@@ -18,15 +18,15 @@ invariant_of-hold g c =
     let book = c.take_book-book.result in
     let t = (c.load-served.ensures.2 s.ticket s.waits).0 c.if-served-ticket.true in
     let same : book ≡ t.0 = ap (in_hand t.0) (sym c.take_book-book.ensures.book ∙ ap (λ m. m.1) t.1) in
-    let now : c.take_book-book.new.spot.me.0 ≡ held_view k s.ticket s.spot.me.0 book =
-    ap (λ m. m.0) c.take_book-book.ensures.taken ∙ (ap (λ m. m.0) t.1 ∙ ap (held_view k s.ticket s.spot.me.0) (sym same)) in
-    let handed = subst (IsHanded k (start_of c.args.self.now) s.spot.me.0.seat.numbers s.spot.me.0.seen s.ticket) (sym same) (t.2 _ c.requires.1) in
+    let now : c.take_book-book.new.table_seat.me.0 ≡ held_view k s.ticket s.table_seat.me.0 book =
+    ap (λ m. m.0) c.take_book-book.ensures.taken ∙ (ap (λ m. m.0) t.1 ∙ ap (held_view k s.ticket s.table_seat.me.0) (sym same)) in
+    let handed = subst (IsHanded k (start_of c.args.self.now) s.table_seat.me.0.seat.numbers s.table_seat.me.0.seen s.ticket) (sym same) (t.2 _ c.requires.1) in
     record {
       out = ap (λ m. m.1) c.take_book-book.ensures.taken;
       legal = subst (λ w. IsLegalFrom k w.start w.seen) (sym now) (subst (λ a. IsLegalFrom k a (k.history book)) (sym c.requires.1)
           (subst (λ o. IsLegal k.step o (k.history book)) handed.opening (g.met.K.Kept.legal book)));
       holds = ap (λ w. w.seat.phase) now;
-      told = subst (λ w. AreFiguresOf s.figures w.seat) (sym now) record {
+      told = subst (λ w. AreCountsOf s.counts w.seat) (sym now) record {
         own = s.told.own;
         count = s.told.count;
         left = s.told.left;
@@ -45,4 +45,4 @@ returns-then-served-ticket-clause-book g c =
     let book = c.take_book-book.result in
     let t = (c.load-served.ensures.2 s.ticket s.waits).0 c.if-served-ticket.true in
     let same : book ≡ t.0 = ap (in_hand t.0) (sym c.take_book-book.ensures.book ∙ ap (λ m. m.1) t.1) in
-    subst (IsHanded k (start_of c.args.self.now) s.spot.me.0.seat.numbers s.spot.me.0.seen s.ticket) (sym same) (t.2 _ c.requires.1)
+    subst (IsHanded k (start_of c.args.self.now) s.table_seat.me.0.seat.numbers s.table_seat.me.0.seen s.ticket) (sym same) (t.2 _ c.requires.1)

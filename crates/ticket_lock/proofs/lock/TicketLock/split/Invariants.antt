@@ -1,4 +1,4 @@
 use Rattle.ticket_lock.proofs.lock.TicketLock.split.Given as goal
 
-abbrev pub ghosts-cut : goal.ghosts-cut
-ghosts-cut g a = record { count = a.count }
+abbrev pub ghosts-split_by : goal.ghosts-split_by
+ghosts-split_by g a = record { count = a.count }

@@ -2,7 +2,7 @@
 
 /// The numbers that go with a caller from seat to turn to hold.
 #[derive(Clone, Copy)]
-pub(crate) struct Figures {
+pub(crate) struct SeatCounts {
     /// Its own number.
     pub(crate) number: u32,
     /// How many numbers it answers for.

@@ -4,19 +4,19 @@ use Rattle.ticket_lock.specs.Tokens.{caller_in}
 use Rattle.ticket_lock.specs.Views.{draws_in}
 use Rattle.ticket_lock.proofs.Callers.{kept_len, given_len, keeping_is, given_is}
 use Rattle.ticket_lock.proofs.Obligations.{splits}
-use Rattle.ticket_lock.proofs.lock.TicketLock.cut.Goals as goal
+use Rattle.ticket_lock.proofs.lock.TicketLock.split_by.Goals as goal
 
 pub split_seat-other-requires : goal.split_seat-other-requires
 split_seat-other-requires g c = let s = c.args.seat in (
   c.requires.lock.0,
   search rules,
-  splits g.K.Kept _ _ g.N.Count.count s.spot.me.0 _ c.requires.lock.1 s.idle c.requires.fresh (omega (arith, c.requires.is, c.requires.count)) (omega (arith, c.requires.is, c.requires.count)),
+  splits g.K.Kept _ _ g.N.Count.count s.table_seat.me.0 _ c.requires.lock.1 s.idle c.requires.fresh (omega (arith, c.requires.is, c.requires.count)) (omega (arith, c.requires.is, c.requires.count)),
 )
 
 pub invariant_of-given : goal.invariant_of-given
 invariant_of-given g c =
     let s = c.args.seat in
-    let v = s.spot.me.0 in
+    let v = s.table_seat.me.0 in
     let e = c.split_seat-other.ensures.4 in
     let n : g.N.Count.count ≡ c.args.count = sym c.requires.is in
     let draws : draws_in v.start ≡ c.args.self.now.draws = ap draws_in c.requires.lock.1 in
@@ -41,12 +41,12 @@ invariant_of-given g c =
 pub invariant_of-seat : goal.invariant_of-seat
 invariant_of-seat g c =
     let s = c.args.seat in
-    let v = s.spot.me.0 in
+    let v = s.table_seat.me.0 in
     let e = c.split_seat-other.ensures.2 in
     let n : g.N.Count.count ≡ c.args.count = sym c.requires.is in
     let draws : draws_in v.start ≡ c.args.self.now.draws = ap draws_in c.requires.lock.1 in
     let len = kept_len v g.N.Count.count c.args.count c.args.self.now.draws n draws (omega (arith, c.requires.count)) in
-    let kept : length v.seat.numbers - c.args.count ≡ s.figures.count - c.args.count = ap (λ (m : ℕ). m - c.args.count) s.told.count in
+    let kept : length v.seat.numbers - c.args.count ≡ s.counts.count - c.args.count = ap (λ (m : ℕ). m - c.args.count) s.told.count in
     record {
       bare = ap (λ m. m.1) e ∙ s.bare;
       legal = subst (λ m. IsLegalFrom g.K.Kept m.0.start m.0.seen) (sym e) s.legal;
@@ -68,10 +68,10 @@ pub returns-clause-kept : goal.returns-clause-kept
 returns-clause-kept g c =
     let s = c.args.seat in
     ap (λ m. caller_in m.0) c.split_seat-other.ensures.2
-    ∙ keeping_is s.spot.me.0 g.N.Count.count c.args.count c.args.self.now.draws (sym c.requires.is) (ap draws_in c.requires.lock.1) (omega (arith, c.requires.count))
+    ∙ keeping_is s.table_seat.me.0 g.N.Count.count c.args.count c.args.self.now.draws (sym c.requires.is) (ap draws_in c.requires.lock.1) (omega (arith, c.requires.count))
 
 pub returns-clause-given : goal.returns-clause-given
 returns-clause-given g c =
     let s = c.args.seat in
     ap (λ m. caller_in m.0) c.split_seat-other.ensures.4
-    ∙ given_is s.spot.me.0 g.N.Count.count c.args.count c.args.self.now.draws (sym c.requires.is) (ap draws_in c.requires.lock.1) (omega (arith, c.requires.count))
+    ∙ given_is s.table_seat.me.0 g.N.Count.count c.args.count c.args.self.now.draws (sym c.requires.is) (ap draws_in c.requires.lock.1) (omega (arith, c.requires.count))

@@ -3,9 +3,9 @@ use Rattle.std.specs.Prelude.{◌≡◌, ℕ, ◌+◌, ◌≤◌, Option, Some}
 use mathlib.Core.Option.{some}
 use lib.ListN.{get_elem?}
 use Rattle.atomic_table.specs.Table.{State}
-use Rattle.ticket_steps.specs.declared.seats.Phase.TheVariants.{Holding}
 use Rattle.ticket_steps.specs.Books.{BookState}
 use Rattle.ticket_steps.specs.CoreStates.{CoreState}
+use Rattle.ticket_steps.specs.Seats.{Holds}
 use Rattle.ticket_steps.specs.Sums.{times}
 use Rattle.ticket_lock.specs.declared.views.Start.{Start}
 use Rattle.ticket_lock.specs.declared.views.View.{View}
@@ -23,7 +23,7 @@ module _ {K S C R : Type 0} (start : Start K) where
     pub two : Follows v.two.numbers v.two.seen b.entries
     pub within : (number : ℕ) → times number v.one.numbers + times number v.two.numbers ≤ times number v.seat.numbers
     -- a holder has seen the whole history, and knows how many calls were refused when it took the book out
-    pub out : (ticket : ℕ) → v.seat.phase ≡ Holding ticket → (v.seen ≡ b.entries) × (v.refused ≡ b.refused)
+    pub out : (ticket : ℕ) → Holds ticket v.seat.phase → (v.seen ≡ b.entries) × (v.refused ≡ b.refused)
 
   -- so it is with every seat, however many there are
   pub record IsKnownToAll (c : CoreState S C R) (s : State (Option K) (View K C R)) : Type 0 where

@@ -1,10 +1,10 @@
 -- What a token tells at run time of its seat.
 use Rattle.std.specs.Prelude.{◌≡◌, ◌<◌, ◌≤◌, length}
 use Rattle.ticket_steps.specs.declared.seats.CoreSeat.{CoreSeat}
-use Rattle.ticket_lock.specs.declared.figures.Figures.{Figures}
+use Rattle.ticket_lock.specs.declared.counts.SeatCounts.{SeatCounts}
 
--- the figures are those of the seat, and in range
-pub record AreFiguresOf (f : Figures) (s : CoreSeat) : Type 0 where
+-- the counts are those of the seat, and in range
+pub record AreCountsOf (f : SeatCounts) (s : CoreSeat) : Type 0 where
   pub own : s.own ≡ f.number
   pub count : length s.numbers ≡ f.count
   pub left : s.left ≡ f.left

@@ -1,0 +1,64 @@
+//! The law of the whole: what is so of the history that all callers share.
+
+ghost use Rattle.std.specs.Prelude.{ℕ, ◌≡◌, ◌+◌, ◌≤◌, List, [], ◌∷◌, ◌++◌, length, true, false};
+ghost use mathlib.Core.Option.{some};
+ghost use lib.ListN.{get_elem?};
+ghost use Rattle.ticket_steps.specs.declared.kept.Entry.{Entry};
+ghost use Rattle.ticket_steps.specs.declared.seats.CoreSeat.{CoreSeat};
+ghost use Rattle.ticket_steps.specs.Books.{calls_taken};
+ghost use Rattle.ticket_steps.specs.Happenings.{calls_made, recorded_by};
+ghost use Rattle.ticket_steps.specs.History.{of, replay, IsLegal};
+ghost use Rattle.ticket_steps.specs.Schedules.{Schedule};
+ghost use Rattle.check_objects.specs.Configuration.{Configuration};
+ghost use Rattle.check_sched.specs.declared.call.Call.{Call};
+ghost use Rattle.check_sched.specs.declared.call.Reply.{Reply};
+ghost use Rattle.check_sched.specs.BookState.{BookState};
+ghost use Rattle.check_sched.specs.Runs.{begins, runs_begun, runs_under};
+ghost use Rattle.check_sched.specs.State.{opening};
+ghost use Rattle.check_sched.specs.Step.{step};
+ghost use Rattle.check_desk.specs.Schedules.{IsScheduleOver};
+
+/// A law without code: whatever callers do, and in whatever order the steps of their passes come,
+/// the history that they share is one thread's.
+///
+/// It speaks of every setup, start and room, of 1 to 1,024 passes, and of every schedule of the core
+/// from the opening on. The book is the one at home, whenever no seat holds; while one does, it is
+/// the book as its holder took it out, so that nothing here asks whether the lock is free.
+///
+/// - Each reply is the sequential scheduler's at its place (`legal`), and the scheduler is in the
+///   state that those calls leave (`state`).
+/// - No object is taken while it runs, by the history alone (`once`), and the numbers of runs are 1,
+///   2, 3 and so on (`runs`).
+/// - Each number's entries are the calls that it recorded, each once and in its order (`entries`); a
+///   number that was never given out has none (`strangers`).
+/// - Entries and refusals together are the calls that were made (`made`); where one seat stands for
+///   all numbers, they are the calls that it tells of (`all`).
+pub fn headline()
+    ensures legal { (setup : Configuration) (start room : ℕ) (s : Schedule BookState Call Reply)
+        → IsScheduleOver setup start room s → IsLegal step (opening setup start) s.end.book.entries }
+    ensures state { (setup : Configuration) (start room : ℕ) (s : Schedule BookState Call Reply)
+        → IsScheduleOver setup start room s
+        → s.end.book.state.sched ≡ replay step (opening setup start) s.end.book.entries }
+    ensures once { (setup : Configuration) (start room : ℕ) (s : Schedule BookState Call Reply)
+        → IsScheduleOver setup start room s
+        → (front back : List (Entry Call Reply)) (e : Entry Call Reply) (object run other : ℕ)
+        → s.end.book.entries ≡ front ++ e ∷ back → begins object run e ≡ true
+        → runs_under object other front ≡ false }
+    ensures runs { (setup : Configuration) (start room : ℕ) (s : Schedule BookState Call Reply)
+        → IsScheduleOver setup start room s
+        → (front back : List (Entry Call Reply)) (e : Entry Call Reply) (object run : ℕ)
+        → s.end.book.entries ≡ front ++ e ∷ back → begins object run e ≡ true
+        → run ≡ runs_begun front + 1 }
+    ensures entries { (setup : Configuration) (start room : ℕ) (s : Schedule BookState Call Reply)
+        → IsScheduleOver setup start room s
+        → (number : ℕ) → of number s.end.book.entries ≡ recorded_by number s.happened }
+    ensures strangers { (setup : Configuration) (start room : ℕ) (s : Schedule BookState Call Reply)
+        → IsScheduleOver setup start room s
+        → (number : ℕ) → s.numbers ≤ number → of number s.end.book.entries ≡ [] }
+    ensures made { (setup : Configuration) (start room : ℕ) (s : Schedule BookState Call Reply)
+        → IsScheduleOver setup start room s → calls_taken s.end.book ≡ calls_made s.happened }
+    ensures all { (setup : Configuration) (start room : ℕ) (s : Schedule BookState Call Reply)
+        → IsScheduleOver setup start room s
+        → (i : ℕ) (p : CoreSeat) → get_elem? s.end.seats i ≡ some p
+        → length p.numbers ≡ s.numbers → calls_taken s.end.book ≡ p.calls }
+{}
