@@ -5,16 +5,16 @@ use Rattle.std.specs.Io.KnownBytes.{Keeps, Consumes}
 use Rattle.ticket_steps.specs.declared.kept.Entry.{Entry}
 use Rattle.check_sched.specs.declared.call.Call.{Call}
 use Rattle.check_sched.specs.declared.call.Reply.{Reply}
-use Rattle.nagsched.specs.declared.drive.DriveError.{DriveError}
-use Rattle.nagsched.specs.declared.drive.DriveError.TheVariants as errors
+use Rattle.check_script.specs.declared.drive_error.DriveError.{DriveError}
+use Rattle.check_script.specs.declared.drive_error.DriveError.TheVariants as errors
 use Rattle.nagsched.specs.declared.drive.Outcome.{Outcome}
 use Rattle.nagsched.specs.Drill.{AfterDrillFault, IsDrill, IsDrillOnInput, IsTextOf, WroteDrill, WroteDrillFront, drill_outcome}
-use Rattle.nagsched.specs.DrillScript.{DrillScript, drill_script_of}
+use Rattle.check_script.specs.DrillScript.{DrillScript, drill_script_of}
 use Rattle.nagsched.specs.Drive.{HasRead, outcome_by}
-use Rattle.nagsched.specs.Output.{WroteFront}
-use Rattle.nagsched.specs.Text.{drill_text}
+use Rattle.check_text.specs.Output.{WroteFront}
+use Rattle.check_text.specs.Text.{drill_text}
 use Rattle.nagsched.proofs.DriveLemmas.{Keeps-same, drill_script_take, has_read, input_of, input_of-is}
-use Rattle.nagsched.proofs.OutputLemmas.{Appends-Keeps, front_all}
+use Rattle.check_text.proofs.OutputLemmas.{Appends-Keeps, front_all}
 
 -- the text of a history of the input's script
 pub text_of_drill : (start workers room : ℕ) (input : List ℕ) (s : DrillScript) (history : List (Entry Call Reply)) (refused : ℕ) → drill_script_of input ≡ Ok s
@@ -67,25 +67,26 @@ drill_write_fault errors.Memory start workers room (Some bytes) left held holds 
 
 -- ---- whole drills
 
-pub drill_written : (r : Result Outcome DriveError) (start workers room : ℕ) (had held mid holds : Option (List ℕ)) (input : List ℕ) → IfSome had (λ bytes. input ≡ take 67108865 bytes)
-    → WroteDrill start workers room input held mid → Keeps mid holds → OnOk r (IfSome had (λ bytes. WroteDrill start workers room bytes held holds))
-drill_written (Ok x) start workers room None held mid holds input all w k = tt
-drill_written (Ok x) start workers room (Some bytes) held mid holds input all w k = wrote_at start workers room held mid holds input bytes all w k
-drill_written (Err e) start workers room had held mid holds input all w k = tt
+pub drill_written : (start workers room : ℕ) (had held mid holds : Option (List ℕ)) (input : List ℕ) → IfSome had (λ bytes. input ≡ take 67108865 bytes)
+    → WroteDrill start workers room input held mid → Keeps mid holds → IfSome had (λ bytes. WroteDrill start workers room bytes held holds)
+drill_written start workers room None held mid holds input all w k = tt
+drill_written start workers room (Some bytes) held mid holds input all w k = wrote_at start workers room held mid holds input bytes all w k
 
-pub drill_outcome_is : (r : Result Outcome DriveError) (had : Option (List ℕ)) (given : Outcome) (input : List ℕ) → IfSome had (λ bytes. input ≡ take 67108865 bytes) → given ≡ drill_outcome input
-    → IfOk r (λ o. o ≡ given) → IfOk r (λ o. IfSome had (λ bytes. o ≡ drill_outcome bytes))
-drill_outcome_is (Ok x) None given input all g o = tt
-drill_outcome_is (Ok x) (Some bytes) given input all g o = o ∙ g ∙ ap outcome_by (ap drill_script_of all ∙ drill_script_take bytes)
-drill_outcome_is (Err e) had given input all g o = tt
+pub drill_outcome_is : (had : Option (List ℕ)) (given : Outcome) (input : List ℕ) → IfSome had (λ bytes. input ≡ take 67108865 bytes) → given ≡ drill_outcome input
+    → IfSome had (λ bytes. given ≡ drill_outcome bytes)
+drill_outcome_is None given input all g = tt
+drill_outcome_is (Some bytes) given input all g = g ∙ ap outcome_by (ap drill_script_of all ∙ drill_script_take bytes)
 
-pub drill_fault : (r : Result Outcome DriveError) (start workers room : ℕ) (had left held mid holds : Option (List ℕ)) (input : List ℕ) → IfSome had (λ bytes. input ≡ take 67108865 bytes)
-    → Consumes had left input → WroteDrill start workers room input held mid → Keeps mid holds → IsOkUnless r errors.Write
-    → IfErr r (λ e. AfterDrillFault e start workers room had left held holds)
-drill_fault (Ok x) start workers room had left held mid holds input all c w k u = tt
-drill_fault (Err e) start workers room had left held mid holds input all c w k u =
-    let front : WroteDrillFront start workers room input held holds = record { text = w.text; is_text = w.is_text; written = front_all held holds w.text (Appends-Keeps held mid holds w.text w.written k) } in
-    rw u (drill_write_fault errors.Write start workers room had left held holds input (λ q. cc) all c (inr front))
+written_front : (start workers room : ℕ) (input : List ℕ) (held mid holds : Option (List ℕ)) → WroteDrill start workers room input held mid → Keeps mid holds
+    → WroteDrillFront start workers room input held holds
+written_front start workers room input held mid holds w k =
+    record { text = w.text; is_text = w.is_text; written = front_all held holds w.text (Appends-Keeps held mid holds w.text w.written k) }
+
+-- the flush failed
+pub drill_flush_fault : (e : DriveError) (start workers room : ℕ) (had left held mid holds : Option (List ℕ)) (input : List ℕ) → IfSome had (λ bytes. input ≡ take 67108865 bytes)
+    → Consumes had left input → WroteDrill start workers room input held mid → Keeps mid holds → e ≡ errors.Write → AfterDrillFault e start workers room had left held holds
+drill_flush_fault e start workers room had left held mid holds input all c w k u =
+    rw u (drill_write_fault errors.Write start workers room had left held holds input (λ q. cc) all c (inr (written_front start workers room input held mid holds w k)))
 
 -- ---- the input of a drill, whatever is known of its reader
 
@@ -113,16 +114,19 @@ pub cut_drill : (e : DriveError) (start workers room : ℕ) (had held holds : Op
 cut_drill e start workers room had held holds read all f =
     record { input = input_of had read; is_input = input_of-is had read; outcome_is = tt; written = tt; front = front_of_read start workers room had held holds read all f }
 
--- a drill that came to its flush
-pub flushed_drill : (r : Result Outcome DriveError) (start workers room : ℕ) (had held mid holds : Option (List ℕ)) (given : Outcome) (read : List ℕ)
-    → IfSome had (λ bytes. read ≡ take 67108865 bytes) → WroteDrill start workers room read held mid → Keeps mid holds → given ≡ drill_outcome read → IfOk r (λ o. o ≡ given)
-    → IsDrillOnInput start workers room r had held holds
-flushed_drill (Ok x) start workers room had held mid holds given read all w k g o = record {
+-- a drill that came to its flush, which failed
+pub unflushed_drill : (e : DriveError) (start workers room : ℕ) (had held mid holds : Option (List ℕ)) (read : List ℕ) → IfSome had (λ bytes. read ≡ take 67108865 bytes)
+    → WroteDrill start workers room read held mid → Keeps mid holds → IsDrillOnInput start workers room (Err e) had held holds
+unflushed_drill e start workers room had held mid holds read all w k =
+    cut_drill e start workers room had held holds read all (inr (written_front start workers room read held mid holds w k))
+
+-- a drill that came to its end
+pub flushed_drill : (start workers room : ℕ) (had held mid holds : Option (List ℕ)) (given : Outcome) (read : List ℕ) → IfSome had (λ bytes. read ≡ take 67108865 bytes)
+    → WroteDrill start workers room read held mid → Keeps mid holds → given ≡ drill_outcome read → IsDrillOnInput start workers room (Ok given) had held holds
+flushed_drill start workers room had held mid holds given read all w k g = record {
   input = input_of had read;
   is_input = input_of-is had read;
-  outcome_is = o ∙ g ∙ ap outcome_by (input_of-script had read all);
+  outcome_is = g ∙ ap outcome_by (input_of-script had read all);
   written = record { text = w.text; is_text = text_of_read start workers room had read w.text all w.is_text; written = Appends-Keeps held mid holds w.text w.written k };
   front = tt;
 }
-flushed_drill (Err e) start workers room had held mid holds given read all w k g o =
-    cut_drill e start workers room had held holds read all (inr (record { text = w.text; is_text = w.is_text; written = front_all held holds w.text (Appends-Keeps held mid holds w.text w.written k) }))

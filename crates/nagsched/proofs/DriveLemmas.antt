@@ -6,20 +6,20 @@ use Rattle.std.specs.Io.KnownBytes.{Appends, Keeps, Consumes}
 use Rattle.std.proofs.lemmas.Bool.{cases_lt}
 use Rattle.std.proofs.lemmas.Bool.Decides.{nat_tests}
 use Rattle.std.proofs.lemmas.List.{take_all}
-use Rattle.nagsched.specs.declared.drive.DriveError.{DriveError}
-use Rattle.nagsched.specs.declared.drive.DriveError.TheVariants as errors
-use Rattle.nagsched.specs.Output.{WroteFront}
+use Rattle.check_script.specs.declared.drive_error.DriveError.{DriveError}
+use Rattle.check_script.specs.declared.drive_error.DriveError.TheVariants as errors
+use Rattle.check_text.specs.Output.{WroteFront}
 use Rattle.serde_json.specs.Data.{Items}
 use Rattle.check_objects.specs.Configuration.{Configuration}
-use Rattle.nagsched.specs.Command.{call_by}
-use Rattle.nagsched.specs.DrillCommand.{drill_command_by}
-use Rattle.nagsched.specs.DrillScript.{drill_over, drill_script_of}
-use Rattle.nagsched.specs.Line.{◌>>=◌}
-use Rattle.nagsched.specs.Script.{script_by}
-use Rattle.nagsched.specs.declared.refusal.LineFault.{LineFault}
-use Rattle.nagsched.specs.Text.{text, script_text}
+use Rattle.check_script.specs.Command.{call_by}
+use Rattle.check_script.specs.DrillCommand.{drill_command_by}
+use Rattle.check_script.specs.DrillScript.{drill_over, drill_script_of}
+use Rattle.check_script.specs.Line.{◌>>=◌}
+use Rattle.check_script.specs.Script.{script_by}
+use Rattle.check_script.specs.declared.refusal.LineFault.{LineFault}
+use Rattle.check_text.specs.Text.{text, script_text}
 use Rattle.nagsched.specs.Drive.{outcome_of, outcome_by, HasRead, AfterFault, IsInput, IsRunOnInput}
-use Rattle.nagsched.proofs.OutputLemmas.{front_none, front_all, Appends-Keeps}
+use Rattle.check_text.proofs.OutputLemmas.{front_none, front_all, Appends-Keeps}
 
 -- One byte more than an input may have is enough to refuse it.
 script_take_by : {K : Type 0} (meaning : Configuration → List ℕ → Items → Result K LineFault) (bytes : List ℕ) → (67108864 < length bytes) ⊎ (length bytes ≤ 67108864)
@@ -85,21 +85,15 @@ pub run_read : (had left : Option (List ℕ)) (input : List ℕ) → IfSome had 
 run_read None left input all c = tt
 run_read (Some bytes) left input all c = has_read left input bytes all c
 
-pub finished_written : (r : Result Outcome DriveError) (start : ℕ) (had held mid holds : Option (List ℕ)) (input : List ℕ) → IfSome had (λ bytes. input ≡ take 67108865 bytes) → Appends held mid (text start input) → Keeps mid holds
-    → OnOk r (IfSome had (λ bytes. Appends held holds (text start bytes)))
-finished_written (Ok x) start had held mid holds input all a k = run_written start had held mid holds input all a k
-finished_written (Err e) start had held mid holds input all a k = tt
+pub flushed_outcome : (had : Option (List ℕ)) (given : Outcome) (input : List ℕ) → IfSome had (λ bytes. input ≡ take 67108865 bytes) → given ≡ outcome_of input
+    → IfSome had (λ bytes. given ≡ outcome_of bytes)
+flushed_outcome None given input all g = tt
+flushed_outcome (Some bytes) given input all g = g ∙ ap outcome_of all ∙ outcome_take bytes
 
-pub finished_outcome : (r : Result Outcome DriveError) (had : Option (List ℕ)) (given : Outcome) (input : List ℕ) → IfSome had (λ bytes. input ≡ take 67108865 bytes) → given ≡ outcome_of input → IfOk r (λ o. o ≡ given)
-    → IfOk r (λ o. IfSome had (λ bytes. o ≡ outcome_of bytes))
-finished_outcome (Ok x) None given input all g o = tt
-finished_outcome (Ok x) (Some bytes) given input all g o = o ∙ g ∙ ap outcome_of all ∙ outcome_take bytes
-finished_outcome (Err e) had given input all g o = tt
-
-pub finished_fault : (r : Result Outcome DriveError) (start : ℕ) (had left held mid holds : Option (List ℕ)) (input : List ℕ) → IfSome had (λ bytes. input ≡ take 67108865 bytes) → Consumes had left input
-    → Appends held mid (text start input) → Keeps mid holds → IsOkUnless r errors.Write → IfErr r (λ e. AfterFault e start had left held holds)
-finished_fault (Ok x) start had left held mid holds input all c a k u = tt
-finished_fault (Err e) start had left held mid holds input all c a k u =
+-- the flush failed
+pub flush_fault : (e : DriveError) (start : ℕ) (had left held mid holds : Option (List ℕ)) (input : List ℕ) → IfSome had (λ bytes. input ≡ take 67108865 bytes) → Consumes had left input
+    → Appends held mid (text start input) → Keeps mid holds → e ≡ errors.Write → AfterFault e start had left held holds
+flush_fault e start had left held mid holds input all c a k u =
     rw u (write_fault errors.Write start had left held holds input (λ q. cc) all c (front_all held holds (text start input) (Appends-Keeps held mid holds (text start input) a k)))
 
 -- ---- the input of a run, whatever is known of its reader
@@ -134,15 +128,19 @@ pub cut_run : (e : DriveError) (start : ℕ) (had held holds : Option (List ℕ)
 cut_run e start had held holds read all f =
     record { input = input_of had read; is_input = input_of-is had read; outcome_is = tt; written = tt; front = rw (input_of-text start had read all) at f }
 
--- a run that came to its flush
-pub flushed_run : (r : Result Outcome DriveError) (start : ℕ) (had held mid holds : Option (List ℕ)) (given : Outcome) (read : List ℕ) → IfSome had (λ bytes. read ≡ take 67108865 bytes)
-    → Appends held mid (text start read) → Keeps mid holds → given ≡ outcome_of read → IfOk r (λ o. o ≡ given) → IsRunOnInput start r had held holds
-flushed_run (Ok x) start had held mid holds given read all a k g o = record {
+-- a run that came to its flush, which failed
+pub unflushed_run : (e : DriveError) (start : ℕ) (had held mid holds : Option (List ℕ)) (read : List ℕ) → IfSome had (λ bytes. read ≡ take 67108865 bytes) → Appends held mid (text start read)
+    → Keeps mid holds → IsRunOnInput start (Err e) had held holds
+unflushed_run e start had held mid holds read all a k =
+    cut_run e start had held holds read all (front_all held holds (text start read) (Appends-Keeps held mid holds (text start read) a k))
+
+-- a run that came to its end
+pub flushed_run : (start : ℕ) (had held mid holds : Option (List ℕ)) (given : Outcome) (read : List ℕ) → IfSome had (λ bytes. read ≡ take 67108865 bytes)
+    → Appends held mid (text start read) → Keeps mid holds → given ≡ outcome_of read → IsRunOnInput start (Ok given) had held holds
+flushed_run start had held mid holds given read all a k g = record {
   input = input_of had read;
   is_input = input_of-is had read;
-  outcome_is = o ∙ g ∙ input_of-outcome had read all;
+  outcome_is = g ∙ input_of-outcome had read all;
   written = rw (input_of-text start had read all) at (Appends-Keeps held mid holds (text start read) a k);
   front = tt;
 }
-flushed_run (Err e) start had held mid holds given read all a k g o =
-    cut_run e start had held holds read all (front_all held holds (text start read) (Appends-Keeps held mid holds (text start read) a k))

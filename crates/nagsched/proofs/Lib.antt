@@ -1,11 +1,3 @@
-pub mod OutputLemmas
-pub mod InputLemmas
-pub mod LineLaws
-pub mod CommandLemmas
-pub mod ScriptLemmas
-pub mod DrillLemmas
-pub mod TextLemmas
 pub mod DriveLemmas
 pub mod DrillDriveLemmas
-pub mod WordsLemmas
 pub mod DrillLaws

@@ -9,15 +9,15 @@ use Rattle.check_sched.specs.declared.call.Reply.{Reply}
 use Rattle.check_sched.specs.State.{opening}
 use Rattle.check_sched.specs.Step.{step}
 use Rattle.check_workers.specs.Shifts.{IsShift, Shift, shift_entries}
-use Rattle.nagsched.specs.declared.drive.DriveError.{DriveError}
-use Rattle.nagsched.specs.declared.drive.DriveError.TheVariants as errors
+use Rattle.check_script.specs.declared.drive_error.DriveError.{DriveError}
+use Rattle.check_script.specs.declared.drive_error.DriveError.TheVariants as errors
 use Rattle.nagsched.specs.declared.drive.Outcome.{Outcome}
-use Rattle.nagsched.specs.declared.refusal.InputRefusal.{InputRefusal}
-use Rattle.nagsched.specs.DrillScript.{DrillScript, drill_script_of}
+use Rattle.check_script.specs.declared.refusal.InputRefusal.{InputRefusal}
+use Rattle.check_script.specs.DrillScript.{DrillScript, drill_script_of}
 use Rattle.nagsched.specs.Drive.{HasRead, IsInput, outcome_by}
-use Rattle.nagsched.specs.Output.{WroteFront}
+use Rattle.check_text.specs.Output.{WroteFront}
 use Rattle.nagsched.specs.ScriptedCodes.{scripted_code}
-use Rattle.nagsched.specs.Text.{drill_text, refusal_line}
+use Rattle.check_text.specs.Text.{drill_text, refusal_line}
 
 -- the plugin of a drill gives the scripted code and no other, whatever the moment
 abbrev pub gives_scripted : List (List Code) → ℕ → ℕ → ℕ → Code → Type 0

@@ -1,14 +1,14 @@
 -- What a run from a reader to a writer leaves, fault or none.
 use Rattle.std.specs.Prelude.{ℕ, ◌≡◌, ◌⊎◌, List, Option, Some, None, Result, Ok, Err, IfOk, IfSome, OnErr, OnOk, take, ⊤}
 use Rattle.std.specs.Io.KnownBytes.{Appends, Keeps, Consumes}
-use Rattle.nagsched.specs.declared.drive.DriveError.{DriveError}
-use Rattle.nagsched.specs.declared.drive.DriveError.TheVariants as errors
+use Rattle.check_script.specs.declared.drive_error.DriveError.{DriveError}
+use Rattle.check_script.specs.declared.drive_error.DriveError.TheVariants as errors
 use Rattle.nagsched.specs.declared.drive.Outcome.{Outcome}
 use Rattle.nagsched.specs.declared.drive.Outcome.TheVariants as outcome
-use Rattle.nagsched.specs.declared.refusal.InputRefusal.{InputRefusal}
-use Rattle.nagsched.specs.Output.{WroteFront}
-use Rattle.nagsched.specs.Script.{script_of}
-use Rattle.nagsched.specs.Text.{text}
+use Rattle.check_script.specs.declared.refusal.InputRefusal.{InputRefusal}
+use Rattle.check_text.specs.Output.{WroteFront}
+use Rattle.check_script.specs.Script.{script_of}
+use Rattle.check_text.specs.Text.{text}
 
 -- what was read is run
 abbrev pub outcome_by : {A : Type 0} → Result A InputRefusal → Outcome

@@ -2,20 +2,20 @@
 use Rattle.std.specs.Prelude.{ℕ, ◌≡◌, ◌⊎◌, List, [], Option, Some, Result, Ok, Err, codes, string_bytes, IfSome}
 use Rattle.std.specs.Io.KnownBytes.{Appends}
 use Rattle.clap.specs.Words.{Text, fault_of}
-use Rattle.nagsched.specs.declared.drive.DriveError.{DriveError}
-use Rattle.nagsched.specs.declared.drive.DriveError.TheVariants as errors
+use Rattle.check_script.specs.declared.drive_error.DriveError.{DriveError}
+use Rattle.check_script.specs.declared.drive_error.DriveError.TheVariants as errors
 use Rattle.nagsched.specs.declared.drive.Outcome.{Outcome}
 use Rattle.nagsched.specs.declared.drive.Outcome.TheVariants as outcome
 use Rattle.nagsched.specs.declared.session.Ending.{Ending}
 use Rattle.nagsched.specs.declared.session.Ending.TheVariants as ending
-use Rattle.nagsched.specs.declared.words.Job.{Job}
-use Rattle.nagsched.specs.declared.words.Job.TheVariants as job
-use Rattle.nagsched.specs.declared.words.WordsError.{WordsError}
-use Rattle.nagsched.specs.declared.words.WordsError.TheVariants as words_error
+use Rattle.check_words.specs.declared.words.Job.{Job}
+use Rattle.check_words.specs.declared.words.Job.TheVariants as job
+use Rattle.check_words.specs.declared.words.WordsError.{WordsError}
+use Rattle.check_words.specs.declared.words.WordsError.TheVariants as words_error
 use Rattle.nagsched.specs.Drill.{AfterDrillFault, IsDrillOnInput}
 use Rattle.nagsched.specs.Drive.{AfterFault, HasRead, IsRunOnInput}
-use Rattle.nagsched.specs.Output.{WroteFront}
-use Rattle.nagsched.specs.Words.{AsksHelp, IsRefused, job_asked, program}
+use Rattle.check_text.specs.Output.{WroteFront}
+use Rattle.check_words.specs.Words.{AsksHelp, IsRefused, job_asked, program}
 
 -- What a job has done that no error ended, by how it ended, by what the reader had and has left and by what the writer held
 -- and holds: it ran or refused one input, which is the reader's where that is known, wrote what it is to write on it, and

@@ -4,22 +4,19 @@ ghost use Rattle.std.specs.Prelude.{◌≡◌, ◌≢◌, ◌<◌, ◌≤◌, �
 ghost use Rattle.std.specs.Io.KnownBytes.{Appends, Keeps};
 ghost use Rattle.check_sched.specs.Books.{entries_of, refused_of, sched_of};
 ghost use Rattle.nagsched.specs.Drill.{AfterDrillFault, IsDrill, IsDrillOnInput, WroteDrill, WroteDrillFront, drill_outcome};
-ghost use Rattle.nagsched.specs.DrillScript.{drill_script_of};
-ghost use Rattle.nagsched.specs.DrillScripted.{drill_script};
+ghost use Rattle.check_script.specs.DrillScript.{drill_script_of};
+ghost use Rattle.check_script.specs.DrillScripted.{drill_script};
 ghost use Rattle.nagsched.specs.Drive.{HasRead};
-ghost use Rattle.nagsched.specs.Output.{WroteFront};
-ghost use Rattle.nagsched.specs.Text.{drill_text, entry_line, total_line};
+ghost use Rattle.check_text.specs.Output.{WroteFront};
+ghost use Rattle.check_text.specs.Text.{drill_text, entry_line, total_line};
 
-use crate::drill_script::DrillScript;
-use crate::drive::{DriveError, Outcome, finish, refuse};
-use crate::input::read_input;
-use crate::output::write_text;
-use crate::refusal::ScriptError;
+use crate::drive::Outcome;
 use crate::scripted::Scripted;
-use crate::text::{push_entry, push_total};
 use check_desk::Desk;
 use check_objects::Setup;
 use check_sched::{Book, Call, Reply};
+use check_script::{DrillScript, DriveError, ScriptError, read_input};
+use check_text::{flush, push_entry, push_total, write_refusal, write_text};
 use check_workers::crew;
 use std::alloc::Global;
 use std::io::{Read, Write};
@@ -62,11 +59,12 @@ pub fn drill<H: Threads + Wait + Sync, R: Read, W: Write>(
 {
     let input = read_input(alloc, reader)?;
     let outcome = answer(rt, alloc, start, workers, room, &input, writer)?;
-    finish(writer, outcome)
+    flush(writer)?;
+    Ok(outcome)
 }
 
 /// Writes the text of an input that was read.
-#[tactic(auto, unfolding(crate::specs::DrillScript::drill_script_of))]
+#[tactic(auto, unfolding(check_script::specs::DrillScript::drill_script_of))]
 fn answer<H: Threads + Wait + Sync, W: Write>(
     rt: &H,
     alloc: Global,
@@ -91,7 +89,10 @@ fn answer<H: Threads + Wait + Sync, W: Write>(
             let book = work_all(rt, alloc, start, workers, room, script)?;
             write_book(alloc, &book, writer)
         }
-        Err(ScriptError::Refused(refusal)) => refuse(alloc, refusal, writer),
+        Err(ScriptError::Refused(refusal)) => {
+            write_refusal(alloc, refusal, writer)?;
+            Ok(Outcome::Refused)
+        }
         Err(ScriptError::Memory) => Err(DriveError::Memory),
     }
 }

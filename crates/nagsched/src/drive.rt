@@ -1,21 +1,17 @@
 //! A run: reads an input, makes its calls on one scheduler, and writes the lines of the replies.
-ghost use Rattle.std.specs.Prelude.{◌≡◌, ◌≤◌, ◌^◌, IfOk, IfErr, IfSome, OnOk, OnErr, IsOkUnless, ◌≢◌};
-ghost use Rattle.std.specs.Io.KnownBytes.{Appends, Keeps};
+ghost use Rattle.std.specs.Prelude.{◌≡◌, ◌≤◌, ◌^◌, IfOk, IfErr, IfSome, OnOk, OnErr, ◌≢◌};
+ghost use Rattle.std.specs.Io.KnownBytes.{Appends};
 ghost use Rattle.check_sched.specs.State.{opening};
 ghost use Rattle.check_sched.specs.Step.{step};
-ghost use Rattle.nagsched.specs.Output.{WroteFront};
-ghost use Rattle.nagsched.specs.Text.{text, text_from, line_from, refusal_line};
+ghost use Rattle.check_text.specs.Output.{WroteFront};
+ghost use Rattle.check_text.specs.Text.{text, text_from, line_from};
 ghost use Rattle.nagsched.specs.Drive.{outcome_of, HasRead, AfterFault, IsRunOnInput};
 
-use crate::input::read_input;
-use crate::output::write_text;
-use crate::refusal::{InputRefusal, ScriptError};
-use crate::script::Script;
-use crate::text::{push_refusal, push_reply};
 use check_sched::{Call, Sched};
-use std::alloc::{AllocError, Global};
+use check_script::{DriveError, Script, ScriptError, read_input};
+use check_text::{flush, push_reply, write_refusal, write_text};
+use std::alloc::Global;
 use std::io::{Read, Write};
-use thiserror::Error;
 
 /// How a run ended that met no fault and no want of memory.
 #[derive(Clone, Copy, Debug, PartialEq, Eq)]
@@ -24,33 +20,6 @@ pub enum Outcome {
     Ran,
     /// The input was refused before any call was made, and the line of its first refusal written.
     Refused,
-}
-
-/// Why a run ended early.
-#[derive(Clone, Copy, Debug, PartialEq, Eq, Error)]
-pub enum DriveError {
-    /// The reader failed or was interrupted. Nothing was written.
-    #[error("the input could not be read")]
-    Read,
-    /// The writer failed, was interrupted or took no byte, or its flush failed. A front of the text
-    /// was written.
-    #[error("the output could not be written")]
-    Write,
-    /// Memory was wanted. A front of the text was written, and nothing where the input was not
-    /// read.
-    #[error("out of memory")]
-    Memory,
-}
-
-impl From<AllocError> for DriveError {
-    ghost use Rattle.std.specs.Prelude.{◌≡◌};
-    ghost use Rattle.nagsched.specs.declared.drive.DriveError.TheVariants.{Memory};
-
-    ghost from_gives = { λ _ e. e ≡ Memory };
-
-    fn from(_refused: AllocError) -> DriveError {
-        DriveError::Memory
-    }
 }
 
 /// Reads a setup and a script, checks every line, then makes the calls on one scheduler that starts
@@ -81,11 +50,12 @@ pub fn drive<R: Read, W: Write>(
 {
     let input = read_input(alloc, reader)?;
     let outcome = answer(alloc, start, &input, writer)?;
-    finish(writer, outcome)
+    flush(writer)?;
+    Ok(outcome)
 }
 
 /// Writes the text of an input that was read.
-#[tactic(auto, unfolding(crate::specs::Text::text, crate::specs::Drive::outcome_of))]
+#[tactic(auto, unfolding(check_text::specs::Text::text, crate::specs::Drive::outcome_of))]
 fn answer<W: Write>(
     alloc: Global,
     start: u64,
@@ -102,7 +72,10 @@ fn answer<W: Write>(
 {
     match Script::read(alloc, input) {
         Ok(script) => run(alloc, start, script, writer),
-        Err(ScriptError::Refused(refusal)) => refuse(alloc, refusal, writer),
+        Err(ScriptError::Refused(refusal)) => {
+            write_refusal(alloc, refusal, writer)?;
+            Ok(Outcome::Refused)
+        }
         Err(ScriptError::Memory) => Err(DriveError::Memory),
     }
 }
@@ -152,35 +125,4 @@ fn make_call<W: Write>(
     line.clear();
     push_reply(line, sched.setup(), call, reply)?;
     write_text(writer, line.as_bytes())
-}
-
-/// Writes the line of a refusal.
-pub fn refuse<W: Write>(
-    alloc: Global,
-    refusal: InputRefusal,
-    writer: &mut W,
-) -> Result<Outcome, DriveError>
-    ensures written { OnOk result
-        (Appends (W.contents writer.old) (W.contents writer.new) (refusal_line refusal)) }
-    ensures outcome { IfOk result (λ outcome. outcome ≡ Outcome.Refused) }
-    ensures fault { OnErr result
-        (WroteFront (W.contents writer.old) (W.contents writer.new) (refusal_line refusal)) }
-    ensures kind { IfErr result (λ e. e ≢ DriveError.Read) }
-{
-    let mut line = String::new(alloc);
-    push_refusal(&mut line, refusal)?;
-    write_text(writer, line.as_bytes())?;
-    Ok(Outcome::Refused)
-}
-
-/// Flushes what was written, and hands the outcome on.
-pub fn finish<W: Write>(writer: &mut W, outcome: Outcome) -> Result<Outcome, DriveError>
-    ensures kept { Keeps (W.contents writer.old) (W.contents writer.new) }
-    ensures outcome { IfOk result (λ given. given ≡ outcome) }
-    ensures kind { IsOkUnless result DriveError.Write }
-{
-    match writer.flush() {
-        Ok(()) => Ok(outcome),
-        Err(_) => Err(DriveError::Write),
-    }
 }

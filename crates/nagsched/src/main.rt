@@ -1,37 +1,23 @@
 //! The program `nagsched`: reads a setup and a script of calls from standard input, makes the calls
 //! on one scheduler, and writes the line of each reply to standard output.
 //!
-//! The words say what is to be done: `job` reads them, `words` has what they can ask for, and
-//! `session` does it and gives the exit status. What comes in and goes out flows through these
-//! modules: `input` (bytes and lines), `script` (the setup and the commands of an input), `line` (the
-//! command of one line), `command` (the calls that the words of `run` mean), `drive` (the run), `text`
-//! (the line of a reply or a refusal) and `output` (bytes to the writer). `refusal` has the errors of
-//! an input. A drill has words of its own, `drill_command`, which `drill_script` puts together;
-//! `scripted` is its plugin, and `drill` lets workers work on it and writes what came of it.
+//! `session` does what the words ask for, which `check_words` reads, and gives the exit status.
+//! `drive` is a run: an input is read by `check_script`, its calls are made on one scheduler, and the
+//! lines are made and written by `check_text`. `drill` lets workers work on an input, with the plugin
+//! of `scripted`, and writes what came of it.
 #![tactic(auto)]
 
 ghost use Rattle.std.specs.Prelude.{◌≡◌, IfOk, map, string_bytes};
 ghost use Rattle.clap.specs.Walk.{texts};
 
-mod command;
 mod drill;
-mod drill_command;
-mod drill_script;
 mod drive;
-mod input;
-mod job;
-mod line;
-mod output;
-mod refusal;
-mod script;
 mod scripted;
 mod session;
 #[cfg(test)]
 mod tests;
-mod text;
-mod words;
 
-use drive::DriveError;
+use check_script::DriveError;
 use session::{Ending, exit_status, refuse_words, session};
 use std::alloc::{AllocError, Global};
 use std::io::{BufWriter, ErrorKind};

@@ -1,17 +1,18 @@
-//! What the program does, by its words, and its exit statuses. The words are read in `job`.
+//! What the program does, by its words, and its exit statuses.
 ghost use Rattle.std.specs.Prelude.{◌≡◌, codes, Result, OnOk, OnErr, IsOkUnless};
 ghost use Rattle.std.specs.Io.KnownBytes.{Appends};
 ghost use Rattle.clap.specs.Walk.{texts};
-ghost use Rattle.nagsched.specs.declared.drive.DriveError.{DriveError};
+ghost use Rattle.check_script.specs.declared.drive_error.DriveError.{DriveError};
 ghost use Rattle.nagsched.specs.declared.session.Ending.{Ending};
-ghost use Rattle.nagsched.specs.Output.{WroteFront};
+ghost use Rattle.check_text.specs.Output.{WroteFront};
 ghost use Rattle.nagsched.specs.Session.{exit_status, Ends, Tells};
 
 use crate::drill::drill;
-use crate::drive::{DriveError, Outcome, drive};
-use crate::job::job;
-use crate::output::write_text;
-use crate::words::{Job, WordsError};
+use crate::drive::{Outcome, drive};
+use check_script::DriveError;
+use check_text::{flush, write_text};
+use check_words::job::job;
+use check_words::words::{Job, WordsError};
 use std::alloc::Global;
 use std::io::{Read, Write};
 use std::sync::Wait;
@@ -115,10 +116,7 @@ fn tell<W: Write>(writer: &mut W, text: &[u8]) -> Result<(), DriveError>
     ensures only { IsOkUnless result DriveError.Write }
 {
     write_text(writer, text)?;
-    match writer.flush() {
-        Ok(()) => Ok(()),
-        Err(_) => Err(DriveError::Write),
-    }
+    flush(writer)
 }
 
 /// The exit status of a session: 0 ran or told its help, 1 input refused, 2 words refused, 3 a fault

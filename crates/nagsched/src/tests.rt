@@ -7,7 +7,6 @@ mod devices;
 mod drill_example;
 mod drill_faults;
 mod drill_sessions;
-mod drill_words;
 mod drills;
 mod faults;
 mod limits;

@@ -4,15 +4,17 @@
 use super::SERVICE;
 use super::devices::{FailingReader, KINDS, ShortWriter};
 use crate::drill::drill;
-use crate::drive::{DriveError, Outcome};
+use crate::drive::Outcome;
+use check_script::DriveError;
 use std::alloc::Global;
 use std::io::{ErrorKind, Read};
+use std::process::Abort;
 use std::sync::Wait;
 use std::test::Fail;
 use std::thread::Threads;
 
 /// A service that fails once and is well again at its second check.
-const LINES: &str = "[\"plugin\",\"h;s\",2,0]\n[\"moment\",0]\n[\"moment\",60000]\n";
+pub const LINES: &str = "[\"plugin\",\"h;s\",2,0]\n[\"moment\",0]\n[\"moment\",60000]\n";
 
 /// What one worker makes of them.
 pub const WELL_AGAIN: &str = "0 taken 1 h;s\n0 standing CRITICAL SOFT 1 yes 60000 h;s\n\
@@ -33,24 +35,54 @@ fn drill_into<H: Threads + Wait + Sync, R: Read>(
     drill(rt, alloc, 0, 1, 100, reader, writer)
 }
 
-/// A writer that takes one byte a call gets the whole text, and one flush at the end.
+/// A writer that takes one byte a call gets this text, and one flush at the end.
+fn writes<H: Abort + Threads + Wait + Sync>(
+    rt: &H,
+    alloc: Global,
+    lines: &str,
+    wanted: &str,
+    ended: Outcome,
+) -> Result<(), Fail> {
+    let input = with_service(alloc, lines)?;
+    let mut writer = ShortWriter::new(alloc, 1);
+    let result = drill_into(rt, alloc, &mut input.as_bytes(), &mut writer);
+    assert_eq!(rt; result, Ok(ended));
+    assert!(rt; writer.taken.as_slice() == wanted.as_bytes());
+    assert_eq!(rt; writer.flushes, 1);
+    assert_eq!(rt; writer.flushed, wanted.len());
+    Ok(())
+}
+
 #[test]
 fn drills_flush_once(rt: HostRuntime) -> Result<(), Fail> {
     let alloc = rt.alloc();
-    for (lines, wanted, ended) in [
-        (LINES, WELL_AGAIN, Outcome::Ran),
-        ("", "total 0 0\n", Outcome::Ran),
-        ("[\"moment\"]", "refused S3 Shape 2\n", Outcome::Refused),
-    ] {
-        let input = with_service(alloc, lines)?;
-        let mut writer = ShortWriter::new(alloc, 1);
-        let result = drill_into(&rt, alloc, &mut input.as_bytes(), &mut writer);
-        assert_eq!(rt; result, Ok(ended));
-        assert!(rt; writer.taken.as_slice() == wanted.as_bytes());
-        assert_eq!(rt; writer.flushes, 1);
-        assert_eq!(rt; writer.flushed, wanted.len());
-    }
-    Ok(())
+    writes(&rt, alloc, LINES, WELL_AGAIN, Outcome::Ran)?;
+    writes(&rt, alloc, "", "total 0 0\n", Outcome::Ran)?;
+    writes(
+        &rt,
+        alloc,
+        "[\"moment\"]",
+        "refused S3 Shape 2\n",
+        Outcome::Refused,
+    )
+}
+
+/// A reader that gives so many bytes and then fails is told as that, and nothing is written.
+fn reader_fails<H: Abort + Threads + Wait + Sync>(
+    rt: &H,
+    alloc: Global,
+    bytes: &[u8],
+    error: ErrorKind,
+) {
+    let mut reader = FailingReader {
+        bytes,
+        most: 100,
+        error,
+    };
+    let mut writer = ShortWriter::new(alloc, 7);
+    let result = drill_into(rt, alloc, &mut reader, &mut writer);
+    assert_eq!(rt; result, Err(DriveError::Read));
+    assert!(rt; writer.taken.is_empty());
 }
 
 #[test]
@@ -58,38 +90,40 @@ fn readers_of_drills_fail(rt: HostRuntime) -> Result<(), Fail> {
     let alloc = rt.alloc();
     let input = with_service(alloc, LINES)?;
     for error in KINDS {
-        for count in [0, 1, 300, input.len()] {
-            let mut reader = FailingReader {
-                bytes: &input.as_bytes()[..count.min(input.len())],
-                most: 100,
-                error,
-            };
-            let mut writer = ShortWriter::new(alloc, 7);
-            let result = drill_into(&rt, alloc, &mut reader, &mut writer);
-            assert_eq!(rt; result, Err(DriveError::Read));
-            assert!(rt; writer.taken.is_empty());
-        }
+        reader_fails(&rt, alloc, input.as_bytes(), error);
+    }
+    for count in 0..input.len() {
+        reader_fails(&rt, alloc, &input.as_bytes()[..count], ErrorKind::Other);
     }
     Ok(())
+}
+
+/// A writer that fails after so many bytes has taken that front of the text.
+fn writer_fails<H: Abort + Threads + Wait + Sync>(
+    rt: &H,
+    alloc: Global,
+    input: &str,
+    room: usize,
+    error: ErrorKind,
+) {
+    let mut writer = ShortWriter::new(alloc, 100);
+    writer.room = room;
+    writer.error = error;
+    let result = drill_into(rt, alloc, &mut input.as_bytes(), &mut writer);
+    assert_eq!(rt; result, Err(DriveError::Write));
+    assert!(rt; WELL_AGAIN.as_bytes().starts_with(&writer.taken));
+    assert_eq!(rt; writer.taken.len(), room);
 }
 
 #[test]
 fn writers_of_drills_fail(rt: HostRuntime) -> Result<(), Fail> {
     let alloc = rt.alloc();
     let input = with_service(alloc, LINES)?;
-    for room in 0..WELL_AGAIN.len() {
-        let mut writer = ShortWriter::new(alloc, 100);
-        writer.room = room;
-        let result = drill_into(&rt, alloc, &mut input.as_bytes(), &mut writer);
-        assert_eq!(rt; result, Err(DriveError::Write));
-        assert!(rt; writer.taken.as_slice() == &WELL_AGAIN.as_bytes()[..room]);
-    }
     for error in KINDS {
-        let mut writer = ShortWriter::new(alloc, 100);
-        writer.room = 20;
-        writer.error = error;
-        let result = drill_into(&rt, alloc, &mut input.as_bytes(), &mut writer);
-        assert_eq!(rt; result, Err(DriveError::Write));
+        writer_fails(&rt, alloc, &input, 20, error);
+    }
+    for room in 0..WELL_AGAIN.len() {
+        writer_fails(&rt, alloc, &input, room, ErrorKind::BrokenPipe);
     }
     Ok(())
 }

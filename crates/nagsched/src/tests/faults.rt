@@ -2,7 +2,8 @@
 
 use super::devices::{FailingReader, KINDS, ShortWriter};
 use super::with_host;
-use crate::drive::{DriveError, Outcome, drive};
+use crate::drive::{Outcome, drive};
+use check_script::DriveError;
 use std::io::ErrorKind;
 use std::test::Fail;
 

@@ -1,5 +1,5 @@
 use Rattle.nagsched.proofs.DrillDriveLemmas.{front_of_drill}
-use Rattle.nagsched.proofs.DrillLemmas.{few_moments}
+use Rattle.check_script.proofs.DrillLemmas.{few_moments}
 use Rattle.nagsched.proofs.drill.answer.Goals as goal
 
 pub work_all-requires-clause-few : goal.work_all-requires-clause-few

@@ -8,7 +8,7 @@ use Rattle.check_desk.proofs.PassLemmas.{new_at}
 use Rattle.check_desk.specs.Desks.{opened_with}
 use Rattle.check_workers.specs.Crews.{AreShiftsOf}
 use Rattle.nagsched.specs.Drill.{gives_scripted}
-use Rattle.nagsched.specs.DrillScripted.{drill_script}
+use Rattle.check_script.specs.DrillScripted.{drill_script}
 use Rattle.nagsched.proofs.DrillLaws.{drill_is}
 use Rattle.nagsched.proofs.drill.work_all.Goals as goal
 

@@ -1,4 +1,4 @@
-use Rattle.nagsched.proofs.OutputLemmas.{on_err_any}
+use Rattle.check_text.proofs.OutputLemmas.{on_err_any}
 use Rattle.nagsched.proofs.drill.write_book.Goals as goal
 
 pub returns-in_err-write_history-clause-fault : goal.returns-in_err-write_history-clause-fault

@@ -1,7 +1,7 @@
 use Rattle.std.proofs.Common.{arith}
 use Rattle.std.proofs.lemmas.Result.{on_err_weaker}
-use Rattle.nagsched.proofs.OutputLemmas.{WroteUpTo-next, WroteUpTo-cut, on_err_any}
-use Rattle.nagsched.proofs.TextLemmas.{entries_next, entries_end}
+use Rattle.check_text.proofs.OutputLemmas.{WroteUpTo-next, WroteUpTo-cut, on_err_any}
+use Rattle.check_text.proofs.TextLemmas.{entries_next, entries_end}
 use Rattle.nagsched.proofs.drill.write_history.Goals as goal
 
 pub loop-entry-preserved : goal.loop-entry-preserved

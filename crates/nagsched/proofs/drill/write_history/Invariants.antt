@@ -1,7 +1,7 @@
 use Rattle.std.proofs.Common.{◌++◌, drop, length}
 use Rattle.std.specs.Prelude.{flat_map}
-use Rattle.nagsched.specs.Output.{WroteUpTo}
-use Rattle.nagsched.specs.Text.{drill_text, entry_line, total_line}
+use Rattle.check_text.specs.Output.{WroteUpTo}
+use Rattle.check_text.specs.Text.{drill_text, entry_line, total_line}
 use Rattle.nagsched.proofs.drill.write_history.Given as goal
 
 abbrev pub invariant-loop-entry : goal.invariant-loop-entry

@@ -1,5 +1,5 @@
-use Rattle.nagsched.proofs.OutputLemmas.{front_none, on_err_any}
-use Rattle.nagsched.specs.Text.{line_from}
+use Rattle.check_text.proofs.OutputLemmas.{front_none, on_err_any}
+use Rattle.check_text.specs.Text.{line_from}
 use Rattle.nagsched.proofs.drive.make_call.Goals as goal
 
 pub returns-in_err-push_reply-clause-fault : goal.returns-in_err-push_reply-clause-fault

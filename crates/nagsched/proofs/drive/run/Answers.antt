@@ -1,7 +1,7 @@
 use Rattle.std.proofs.Common.{arith}
 use Rattle.check_sched.specs.declared.call.Call.TheVariants as call
-use Rattle.nagsched.proofs.OutputLemmas.{WroteUpTo-none, WroteUpTo-next, WroteUpTo-cut, WroteUpTo-whole, on_err_any}
-use Rattle.nagsched.proofs.TextLemmas.{text_next, text_end}
+use Rattle.check_text.proofs.OutputLemmas.{WroteUpTo-none, WroteUpTo-next, WroteUpTo-cut, WroteUpTo-whole, on_err_any}
+use Rattle.check_text.proofs.TextLemmas.{text_next, text_end}
 use Rattle.nagsched.proofs.drive.run.Goals as goal
 
 pub returns-in_default-clause-fault : goal.returns-in_default-clause-fault

@@ -1,7 +1,7 @@
 use Rattle.std.proofs.Common.{drop}
 use Rattle.check_sched.specs.State.{opening}
-use Rattle.nagsched.specs.Output.{WroteUpTo}
-use Rattle.nagsched.specs.Text.{text_from}
+use Rattle.check_text.specs.Output.{WroteUpTo}
+use Rattle.check_text.specs.Text.{text_from}
 use Rattle.nagsched.proofs.drive.run.Given as goal
 
 abbrev pub invariant-loop-call : goal.invariant-loop-call

@@ -1,0 +1,139 @@
+-- The members of a drill's commands, and what the commands say together.
+use Rattle.std.proofs.Common.{◌≡◌, ℕ, suc, zero, ◌+◌, ◌≤◌, ◌<◌, ◌==◌, true, false, cond, ◌&&◌, List, [], ◌∷◌, ◌++◌, length, map, replicate, Option, Some, None, get_or, refl, sym, ◌∙◌, ap, append-nil, inl, inr, arith, Result, Ok, Err}
+use Rattle.std.specs.Prelude.{is_some, unwrap_or, filter_map, IfOk}
+use Rattle.std.specs.List.{list_all, last_or, range_with_len, cons_option}
+use Rattle.std.proofs.Math.ListN.{set}
+use Rattle.std.proofs.lemmas.List.{ext_get_or, get_or-set_same, get_or-set_other, length-set}
+use Rattle.std.proofs.lemmas.List.Elements.{filter_map-append}
+use Rattle.std.proofs.lemmas.List.FromFn.{get_or-map-range_with_len, length-map-range_with_len}
+use Rattle.std.proofs.lemmas.Bool.{cases_eq, eq-eqb, ne_eqb}
+use Rattle.serde_json.specs.View.{view, items_view}
+use Rattle.serde_json.specs.declared.value.Value.{Value}
+use Rattle.check_objects.specs.Configuration.{Configuration, object_count}
+use Rattle.check_objects.specs.Tree.{◌>=>◌, whole_number}
+use Rattle.check_rules.specs.declared.state.Code.{Code}
+use Rattle.check_script.specs.DrillCommand.{Command, PluginOf, MomentAt, are_numbers, are_some_numbers, drill_command_by, number_in}
+use Rattle.check_script.specs.DrillCommanded.{drill_command}
+use Rattle.check_script.specs.DrillScript.{DrillScript, drill_over, drill_script_of, given_by, moment_of, moments_in, returns_below, returns_by, returns_of}
+use Rattle.check_script.specs.Line.{◌>>=◌}
+use Rattle.check_script.specs.Script.{Script, script_by}
+use Rattle.check_script.specs.declared.drill_command.DrillCommand.{DrillCommand}
+use Rattle.check_script.specs.declared.refusal.InputRefusal.{InputRefusal}
+use Rattle.check_script.proofs.ScriptLemmas.{few_script}
+
+-- ---- members
+
+-- return codes that go on with those that follow, if there are any
+abbrev pub codes_with_front : List Code → Option (List Code) → Option (List Code)
+codes_with_front front rest = rest >=> λ more. Some (front ++ more)
+
+-- fewer or more members than one
+pub number_few : (vs : List Value) → length vs < 1 → number_in (items_view vs) ≡ None
+number_few [] h = refl
+number_few (v ∷ vs) h = absurd (omega arith)
+
+pub number_many : (vs : List Value) → 1 < length vs → number_in (items_view vs) ≡ None
+number_many [] h = refl
+number_many (v ∷ []) h = absurd (omega arith)
+number_many (v ∷ w ∷ vs) h = refl
+
+-- all values are numbers where all members are
+are_numbers_all : (vs : List Value) → list_all (λ v. is_some (whole_number (view v))) vs ≡ are_numbers (items_view vs)
+are_numbers_all [] = refl
+are_numbers_all (v ∷ vs) = ap (λ b. is_some (whole_number (view v)) && b) (are_numbers_all vs)
+
+-- the same of one member or more
+pub are_some_all : (vs : List Value) → 1 ≤ length vs → list_all (λ v. is_some (whole_number (view v))) vs ≡ are_some_numbers (items_view vs)
+are_some_all [] h = absurd (omega arith)
+are_some_all (v ∷ vs) h = are_numbers_all (v ∷ vs)
+
+-- ---- moments
+
+filter_map-map : {A B C : Type 0} (h : B → Option C) (v : A → B) (xs : List A) → filter_map (λ x. h (v x)) xs ≡ filter_map h (map v xs)
+filter_map-map h v [] = refl
+filter_map-map h v (x ∷ xs) = ap (cons_option (h (v x))) (filter_map-map h v xs)
+
+pub moments_seen : (commands : List DrillCommand) → filter_map (λ c. moment_of (drill_command c)) commands ≡ moments_in (map drill_command commands)
+moments_seen commands = filter_map-map moment_of drill_command commands
+
+length-cons_moment : (o : Option ℕ) (xs : List ℕ) (n : ℕ) → length xs ≤ n → length (cons_option o xs) ≤ suc n
+length-cons_moment None xs n h = omega (arith, h)
+length-cons_moment (Some x) xs n h = omega (arith, h)
+
+length-moments_in : (commands : List Command) → length (moments_in commands) ≤ length commands
+length-moments_in [] = omega arith
+length-moments_in (c ∷ commands) = length-cons_moment (moment_of c) (moments_in commands) (length commands) (length-moments_in commands)
+
+few_over_by : (r : Result (Script Command) InputRefusal) (s : DrillScript) (n : ℕ) → IfOk r (λ read. length read.commands ≤ n) → (r >>= λ read. Ok (drill_over read)) ≡ Ok s
+    → length s.moments ≤ n
+few_over_by (Ok read) s n h e = let k : drill_over read ≡ s = cc in rw (← k) (omega (arith, length-moments_in read.commands, h))
+few_over_by (Err r) s n h e =
+    let k : Err r ≡ Ok s = e in
+    let f : ⊥ = cc in
+    absurd f
+
+-- a script has no more moments than an input may have bytes
+pub few_moments : (input : List ℕ) (s : DrillScript) → drill_script_of input ≡ Ok s → length s.moments ≤ 67108864
+unfolding drill_script_of
+few_moments input s e = few_over_by (script_by drill_command_by input) s 67108864 (few_script drill_command_by input) e
+
+-- ---- return codes
+
+last_or-more : {A : Type 0} (o : Option A) (xs : List A) (x : A) → last_or o (xs ++ x ∷ []) ≡ Some x
+last_or-more o [] x = refl
+last_or-more o (y ∷ xs) x = last_or-more (Some y) xs x
+
+-- what an object returns after one command more: for its own plugin, for another's, and a moment
+returns_own : (done : List Command) (named object : ℕ) (r : List Code) → (named == object) ≡ true → returns_of (done ++ PluginOf named r ∷ []) object ≡ r
+returns_own done named object r e =
+    let given = filter_map (returns_by object) done in
+    ap (λ l. unwrap_or (last_or None l) []) (filter_map-append (returns_by object) done (PluginOf named r ∷ []) ∙ ap (λ b. given ++ cons_option (cond b (Some r) None) []) e)
+    ∙ ap (λ o. unwrap_or o []) (last_or-more None given r)
+
+returns_other : (done : List Command) (named object : ℕ) (r : List Code) → (named == object) ≡ false → returns_of (done ++ PluginOf named r ∷ []) object ≡ returns_of done object
+returns_other done named object r e =
+    let given = filter_map (returns_by object) done in
+    ap (λ l. unwrap_or (last_or None l) []) (filter_map-append (returns_by object) done (PluginOf named r ∷ []) ∙ ap (λ b. given ++ cons_option (cond b (Some r) None) []) e ∙ append-nil given)
+
+returns_moment : (done : List Command) (now object : ℕ) → returns_of (done ++ MomentAt now ∷ []) object ≡ returns_of done object
+returns_moment done now object =
+    let given = filter_map (returns_by object) done in
+    ap (λ l. unwrap_or (last_or None l) []) (filter_map-append (returns_by object) done (MomentAt now ∷ []) ∙ append-nil given)
+
+length-returns_below : (count : ℕ) (commands : List Command) → length (returns_below count commands) ≡ count
+length-returns_below count commands = length-map-range_with_len (returns_of commands) 0 count
+
+returns_at : (count object : ℕ) (commands : List Command) → object < count → get_or (returns_below count commands) object [] ≡ returns_of commands object
+returns_at count object commands h = get_or-map-range_with_len (returns_of commands) 0 count object object [] h (omega arith)
+
+-- before the first command
+none_from : (a count : ℕ) → replicate count [] ≡ map (returns_of []) (range_with_len a count)
+none_from a zero = refl
+none_from a (suc count) = ap (λ l. [] ∷ l) (none_from (a + 1) count)
+
+pub returns_none : (count : ℕ) → replicate count [] ≡ returns_below count []
+returns_none count = none_from 0 count
+
+-- after one command more
+pub returns_next : (count : ℕ) (done : List Command) (c : Command) → given_by c (returns_below count done) ≡ returns_below count (done ++ c ∷ [])
+returns_next count done (MomentAt now) =
+    let same : returns_of done ≡ returns_of (done ++ MomentAt now ∷ []) = λ i object. sym (returns_moment done now object) i in
+    ap (λ f. map f (range_with_len 0 count)) same
+returns_next count done (PluginOf named r) =
+    let old = returns_below count done in
+    let all = done ++ PluginOf named r ∷ [] in
+    let size : length (set old named r) ≡ count = length-set old named r ∙ length-returns_below count done in
+    ext_get_or [] (set old named r) (returns_below count all) (size ∙ sym (length-returns_below count all)) (λ o l. let below : o < count = omega (arith, l, size) in elim (cases_eq o named) [
+      | inl e ↦ ap (λ k. get_or (set old named r) k []) e ∙ get_or-set_same old named r [] (omega (arith, length-returns_below count done, below, e))
+          ∙ sym (returns_own done named o r (eq-eqb named o (sym e))) ∙ sym (returns_at count o all below)
+      | inr n ↦ get_or-set_other old named o r [] n ∙ returns_at count o done below ∙ sym (returns_other done named o r (ne_eqb named o (λ e. n (sym e)))) ∙ sym (returns_at count o all below)
+    ])
+
+-- ---- the whole script
+
+abbrev pub drill_with : Configuration → List (List Code) → List ℕ → DrillScript
+drill_with setup lists moments = record { setup = setup; returns = lists; moments = moments }
+
+pub drill_is : (setup : Configuration) (commands : List DrillCommand) (lists : List (List Code)) (moments : List ℕ) → lists ≡ returns_below (object_count setup) (map drill_command commands)
+    → moments ≡ filter_map (λ c. moment_of (drill_command c)) commands → drill_with setup lists moments ≡ drill_over (record { setup = setup; commands = map drill_command commands })
+drill_is setup commands lists moments r m = rw (r, m, moments_seen commands) refl

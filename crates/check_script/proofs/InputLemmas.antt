@@ -1,0 +1,89 @@
+-- Reads one after another, and the first line of an input.
+use Rattle.std.proofs.Common.{◌≡◌, ℕ, suc, ◌+◌, ◌-◌, min, ◌==◌, Bool, true, false, not, cond, length, List, [], ◌∷◌, ◌++◌, take, drop, Option, None, Some, refl, sym, ◌∙◌, ap, append_assoc, arith, ◌≤◌}
+use Rattle.std.specs.List.{position_or_len, position}
+use Rattle.std.proofs.lemmas.List.{take_rest, take_all, drop_min}
+use Rattle.std.proofs.Math.Seq.{take-append_seam}
+use Rattle.std.specs.Prelude.{IfSome, nat_lt}
+use borrow.Author.Tests.{ltb-false}
+use Rattle.check_script.specs.Input.{lines_of, first_line_of, onto_first}
+use Rattle.std.specs.Io.KnownBytes.{Consumes, IsAtEnd}
+use Rattle.std.proofs.lemmas.Grind.{common_steps}
+
+pub Consumes-none : (known : Option (List ℕ)) → Consumes known known []
+Consumes-none None = tt
+Consumes-none (Some xs) = refl
+
+pub Consumes-trans : (old mid new : Option (List ℕ)) (xs ys : List ℕ) → Consumes old mid xs → Consumes mid new ys → Consumes old new (xs ++ ys)
+Consumes-trans None mid new xs ys h k = tt
+Consumes-trans (Some a) None new xs ys h k = absurd h
+Consumes-trans (Some a) (Some b) None xs ys h k = absurd k
+Consumes-trans (Some a) (Some b) (Some c) xs ys h k = h ∙ ap (λ v. xs ++ v) k ∙ sym (append_assoc xs ys c)
+
+suc_first : (n : ℕ) → suc (n + 1) ≡ suc n + 1
+suc_first n = omega arith
+
+one_first : (n : ℕ) → suc n ≡ 1 + n
+one_first n = omega arith
+
+drop_least : (n : ℕ) (bs : List ℕ) → drop (min (length bs) n) bs ≡ drop n bs
+drop_least n bs = ap (λ k. drop k bs) (let e : min (length bs) n ≡ min n (length bs) = omega arith in e) ∙ drop_min n bs
+
+pub lines_first : (b : ℕ) (bs : List ℕ) → lines_of (b ∷ bs) ≡ first_line_of (b ∷ bs) ∷ lines_of (drop (length (first_line_of (b ∷ bs)) + 1) (b ∷ bs))
+lines_first b [] =
+    elim (b == 10) as (λ v. (cond v ([] ∷ []) ((b ∷ []) ∷ [])) ≡ (cond v [] (b ∷ [])) ∷ lines_of (drop (length (cond v [] (b ∷ [])) + 1) (b ∷ []))) [
+      | true ↦ refl
+      | false ↦ refl
+    ]
+lines_first b (c ∷ cs) =
+    let again = lines_first c cs in
+    elim (b == 10) as (λ v. (cond v ([] ∷ lines_of (c ∷ cs)) (onto_first b (lines_of (c ∷ cs)))) ≡ (cond v [] (b ∷ first_line_of (c ∷ cs))) ∷ lines_of (drop (length (cond v [] (b ∷ first_line_of (c ∷ cs))) + 1) (b ∷ c ∷ cs))) [
+      | true ↦ refl
+      | false ↦ ap (onto_first b) again ∙ ap (λ k. (b ∷ first_line_of (c ∷ cs)) ∷ lines_of (drop k (b ∷ c ∷ cs))) (suc_first (length (first_line_of (c ∷ cs))))
+    ]
+
+pub first_line_of-take : (bs : List ℕ) → first_line_of bs ≡ take (position_or_len (λ b. b == 10) bs) bs
+first_line_of-take [] = refl
+first_line_of-take (b ∷ bs) =
+    let again = first_line_of-take bs in
+    elim (b == 10) as (λ v. cond v [] (b ∷ first_line_of bs) ≡ take (cond (not v) (1 + position_or_len (λ c. c == 10) bs) 0) (b ∷ bs)) [
+      | true ↦ refl
+      | false ↦ ap (λ l. b ∷ l) again ∙ ap (λ k. take k (b ∷ bs)) (one_first _)
+    ]
+
+pub drop_next : (bs : List ℕ) (n : ℕ) → take (length bs - min (length bs) n) (drop (min (length bs) n) bs) ≡ drop n bs
+drop_next bs n = take_rest bs (min (length bs) n) ∙ drop_least n bs
+
+pub read_limit : (old new : Option (List ℕ)) (input : List ℕ) (limit : ℕ) → Consumes old new input → length input ≡ limit → IfSome old (λ bytes. input ≡ take limit bytes)
+read_limit None new input limit h e = tt
+read_limit (Some xs) None input limit h e = absurd h
+read_limit (Some xs) (Some ys) input limit h e = rw (h, ← e) (sym (take-append_seam input ys))
+
+pub read_end : (old mid new : Option (List ℕ)) (input piece : List ℕ) (n limit : ℕ) → Consumes old mid input → Consumes mid new (take n piece) → n ≡ 0 → IsAtEnd new → length input ≤ limit → IfSome old (λ bytes. input ≡ take limit bytes)
+read_end None mid new input piece n limit h k e f l = tt
+read_end (Some xs) None new input piece n limit h k e f l = absurd h
+read_end (Some xs) (Some ys) None input piece n limit h k e f l = absurd k
+read_end (Some xs) (Some ys) (Some zs) input piece n limit h k e f l =
+    let last : ys ≡ [] = k ∙ rw (e, f) refl in
+    let all : xs ≡ input = grind (arith, common_steps, h, last) in
+    rw all (sym (take_all limit input l))
+
+some_of : (b : Bool) (n i : ℕ) → cond b (Some n) None ≡ Some i → n ≡ i
+some_of true n i e = cc
+some_of false n i e = cc
+
+none_of : (b : Bool) (n : ℕ) → cond b (Some n) None ≡ None → b ≡ false
+none_of true n e = cc
+none_of false n e = refl
+
+pub line_end_some : (bs : List ℕ) (i : ℕ) → position (λ b. b == 10) bs ≡ Some i → take i bs ≡ first_line_of bs
+line_end_some bs i e = let n = some_of (nat_lt (position_or_len (λ b. b == 10) bs) (length bs)) _ _ e in rw (← n) (sym (first_line_of-take bs))
+
+pub line_end_none : (bs : List ℕ) → position (λ b. b == 10) bs ≡ None → bs ≡ first_line_of bs
+line_end_none bs e =
+    let n = none_of (nat_lt (position_or_len (λ b. b == 10) bs) (length bs)) _ e in
+    let past : length bs ≤ position_or_len (λ b. b == 10) bs = ltb-false _ _ n in
+    sym (first_line_of-take bs ∙ take_all _ bs past)
+
+pub lines_next : (bs line : List ℕ) (n : ℕ) → (length bs == 0) ≡ false → line ≡ first_line_of bs → n ≡ min (length bs) (length line + 1) → lines_of bs ≡ line ∷ lines_of (take (length bs - n) (drop n bs))
+lines_next [] line n e h k = cc
+lines_next (b ∷ bs) line n e h k = rw (h, k, h, drop_next (b ∷ bs) (length (first_line_of (b ∷ bs)) + 1)) (lines_first b bs)

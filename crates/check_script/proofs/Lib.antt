@@ -1,0 +1,5 @@
+pub mod InputLemmas
+pub mod LineLaws
+pub mod CommandLemmas
+pub mod ScriptLemmas
+pub mod DrillLemmas

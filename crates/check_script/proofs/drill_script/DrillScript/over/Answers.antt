@@ -1,0 +1,12 @@
+use Rattle.std.proofs.Common.{◌∙◌, ap, map}
+use Rattle.std.specs.Prelude.{filter_map}
+use Rattle.check_script.specs.DrillCommanded.{drill_command}
+use Rattle.check_script.specs.DrillScript.{moment_of, returns_below}
+use Rattle.check_script.proofs.DrillLemmas.{drill_is}
+use Rattle.check_script.proofs.drill_script.DrillScript.over.Goals as goal
+
+pub returns : goal.returns
+returns c =
+    drill_is c.args.read.setup c.args.read.commands.items _ _
+    (c.in_ok-codes.ensures ∙ ap (λ n. returns_below n (map drill_command c.args.read.commands.items)) c.len.ensures.count)
+    (c.in_ok-moments.ensures ∙ ap (filter_map (λ x. moment_of (drill_command x))) c.deref.ensures.value)

@@ -1,0 +1,8 @@
+use Rattle.check_script.proofs.LineLaws.{lines_are, lines_only}
+use Rattle.check_script.proofs.input.Lines.new.Goals as goal
+
+pub returns-clause-lines : goal.returns-clause-lines
+returns-clause-lines c = lines_are c.args.input.now
+
+pub returns-clause-only : goal.returns-clause-only
+returns-clause-only c = lines_only c.args.input.now

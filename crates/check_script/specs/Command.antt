@@ -1,0 +1,97 @@
+-- The words of `run`, and the call that each means with the members after it.
+use Rattle.std.specs.Prelude.{ℕ, ◌==◌, Bool, List, Option, Some, None, Result, Ok, Err, ok_or, codes, bytes_eq, if◌then◌else◌}
+use Rattle.serde_json.specs.Data.{Data, Items, no_items, item}
+use Rattle.serde_json.specs.Find.{as_bool, as_str}
+use Rattle.check_objects.specs.Tree.{◌>=>◌, whole_number}
+use Rattle.check_objects.specs.Configuration.{Configuration, number_of}
+use Rattle.check_rules.specs.declared.state.Code.{Code}
+use Rattle.check_rules.specs.declared.state.Code.TheVariants as code
+use Rattle.check_sched.specs.declared.call.Call.{Call}
+use Rattle.check_sched.specs.declared.call.Call.TheVariants as call
+use Rattle.check_script.specs.declared.refusal.LineFault.{LineFault}
+use Rattle.check_script.specs.declared.refusal.LineFault.TheVariants as fault
+use Rattle.check_script.specs.Line.{◌>>=◌}
+
+-- ---- the members after a word
+
+abbrev pub two_of : Items → Option (Data × Data)
+two_of (item a (item b no_items)) = Some (a, b)
+two_of members = None
+
+abbrev pub three_of : Items → Option (Data × Data × Data)
+three_of (item a (item b (item c no_items))) = Some (a, b, c)
+three_of members = None
+
+-- a name alone
+abbrev pub name_in : Items → Option (List ℕ)
+name_in (item name no_items) = as_str name
+name_in members = None
+
+-- a name, and true or false
+abbrev pub name_and_switch : Items → Option (List ℕ × Bool)
+name_and_switch members = two_of members >=> λ p. (as_str p.0 >=> λ name. (as_bool p.1 >=> λ on. Some (name, on)))
+
+-- a name and two numbers
+abbrev pub name_and_numbers : Items → Option (List ℕ × ℕ × ℕ)
+name_and_numbers members = three_of members >=> λ p. (as_str p.0 >=> λ name. (whole_number p.1 >=> λ first. (whole_number p.2 >=> λ second. Some (name, first, second))))
+
+-- a name, a number, and true or false
+abbrev pub name_number_switch : Items → Option (List ℕ × ℕ × Bool)
+name_number_switch members = three_of members >=> λ p. (as_str p.0 >=> λ name. (whole_number p.1 >=> λ n. (as_bool p.2 >=> λ on. Some (name, n, on))))
+
+-- the number of the object with this full name
+abbrev pub object_named : Configuration → List ℕ → Result ℕ LineFault
+object_named c name = ok_or (number_of c name) fault.UnknownName
+
+-- a plugin's return code, 0 to 3
+abbrev pub code_of : ℕ → Option Code
+code_of returned = if returned == 0 then Some code.Ok else (if returned == 1 then Some code.Warning
+    else (if returned == 2 then Some code.Critical else (if returned == 3 then Some code.Unknown else None)))
+
+-- ---- one definition a word, over the members after the word: first their number and kinds, then
+-- the return code, then the name
+
+abbrev pub take_at : Option ℕ → Result Call LineFault
+take_at (Some now) = Ok (call.Take now)
+take_at None = Err fault.Shape
+
+-- `["take",now]`: the next check to run at the moment `now`
+abbrev pub take_call : Items → Result Call LineFault
+take_call (item now no_items) = take_at (whole_number now)
+take_call members = Err fault.Shape
+
+-- `["report",name,run,code]`: the check of the object `name` that runs under the number `run` returned `code`
+abbrev pub report_call : Configuration → Items → Result Call LineFault
+report_call c members = ok_or (name_and_numbers members) fault.Shape >>= λ p. (ok_or (code_of p.2) fault.Code >>= λ code.
+    (object_named c p.0 >>= λ object. Ok (call.Report object p.1 code)))
+
+-- `["abandon",name,run,now]`: the check of the object `name` that runs under the number `run` is given up at the moment `now`
+abbrev pub abandon_call : Configuration → Items → Result Call LineFault
+abandon_call c members = ok_or (name_and_numbers members) fault.Shape >>= λ p.
+    (object_named c p.0 >>= λ object. Ok (call.Abandon object p.1 p.2))
+
+-- `["reschedule",name,time,forced]`: the next check of the object `name` is at the moment `time`, forced or not
+abbrev pub reschedule_call : Configuration → Items → Result Call LineFault
+reschedule_call c members = ok_or (name_number_switch members) fault.Shape >>= λ p.
+    (object_named c p.0 >>= λ object. Ok (call.Reschedule object p.1 p.2))
+
+-- `["enable",name,on]`: the active checks of the object `name` are on or off
+abbrev pub enable_call : Configuration → Items → Result Call LineFault
+enable_call c members = ok_or (name_and_switch members) fault.Shape >>= λ p.
+    (object_named c p.0 >>= λ object. Ok (call.Enable object p.1))
+
+-- `["status",name]`: what is known of the object `name`
+abbrev pub status_call : Configuration → Items → Result Call LineFault
+status_call c members = ok_or (name_in members) fault.Shape >>= λ name.
+    (object_named c name >>= λ object. Ok (call.Status object))
+
+-- ---- all words
+
+-- the call of a word with these members after it
+abbrev pub call_by : Configuration → List ℕ → Items → Result Call LineFault
+call_by c word members = if bytes_eq word (codes "take") then take_call members
+    else (if bytes_eq word (codes "report") then report_call c members
+    else (if bytes_eq word (codes "abandon") then abandon_call c members
+    else (if bytes_eq word (codes "reschedule") then reschedule_call c members
+    else (if bytes_eq word (codes "enable") then enable_call c members
+    else (if bytes_eq word (codes "status") then status_call c members else Err fault.Shape)))))

@@ -1,0 +1,50 @@
+-- The script that an input of `drill` is: a setup, the return codes of each object's plugin, and the moments.
+use Rattle.std.specs.Prelude.{ℕ, ◌==◌, List, [], Option, Some, None, Result, Ok, if◌then◌else◌, map, filter_map, unwrap_or, slice_set}
+use Rattle.std.specs.List.{last_or, range_with_len}
+use Rattle.check_objects.specs.Configuration.{Configuration, object_count}
+use Rattle.check_rules.specs.declared.state.Code.{Code}
+use Rattle.check_script.specs.declared.refusal.InputRefusal.{InputRefusal}
+use Rattle.check_script.specs.Line.{◌>>=◌}
+use Rattle.check_script.specs.DrillCommand.{Command, PluginOf, MomentAt, drill_command_by}
+use Rattle.check_script.specs.Script.{Script, script_by}
+
+pub record DrillScript : Type 0 where
+  pub setup : Configuration
+  -- of each object by number the return codes of its plugin, and none where no command gives it any
+  pub returns : List (List Code)
+  pub moments : List ℕ
+
+-- the moment that a command adds
+abbrev pub moment_of : Command → Option ℕ
+moment_of (MomentAt now) = Some now
+moment_of (PluginOf object returned) = None
+
+-- the moments that commands add, in their order
+abbrev pub moments_in : List Command → List ℕ
+moments_in commands = filter_map moment_of commands
+
+-- the return codes that a command gives to an object
+abbrev pub returns_by : ℕ → Command → Option (List Code)
+returns_by object (PluginOf named returned) = if named == object then Some returned else None
+returns_by object (MomentAt now) = None
+
+-- the return codes of an object: those of the last command that gives it any, or else none
+abbrev pub returns_of : List Command → ℕ → List Code
+returns_of commands object = unwrap_or (last_or None (filter_map (returns_by object) commands)) []
+
+-- those of each object below this number
+abbrev pub returns_below : ℕ → List Command → List (List Code)
+returns_below count commands = map (returns_of commands) (range_with_len 0 count)
+
+-- the lists of return codes after a command, which puts its own in the place of those of its object
+abbrev pub given_by : Command → List (List Code) → List (List Code)
+given_by (PluginOf object returned) lists = slice_set lists object returned
+given_by (MomentAt now) lists = lists
+
+-- what a script's commands say together
+abbrev pub drill_over : Script Command → DrillScript
+drill_over s = record { setup = s.setup; returns = returns_below (object_count s.setup) s.commands; moments = moments_in s.commands }
+
+-- the script of an input of `drill`, or its first refusal
+unfoldable pub drill_script_of : List ℕ → Result DrillScript InputRefusal
+drill_script_of input = script_by drill_command_by input >>= λ s. Ok (drill_over s)

@@ -1,0 +1,10 @@
+pub mod Input
+pub mod Script
+pub mod Line
+pub mod Command
+pub mod DrillCommand
+pub mod DrillCommanded
+pub mod DrillScript
+pub mod DrillScripted
+pub mod Scripted
+pub mod Agreement

@@ -1,0 +1,44 @@
+-- One line of a script: it is blank, or a JSON array that is a command. The array's first member is its word; what a word with
+-- the members after it means is a matter of the vocabulary, of which each subcommand has its own.
+use Rattle.std.specs.Prelude.{ℕ, ◌||◌, ◌==◌, Bool, List, length, Option, Some, None, Result, Ok, Err, ok_or, nat_lt, if◌then◌else◌}
+use Rattle.std.specs.List.{list_all}
+use Rattle.serde_json.specs.Data.{Data, Items, no_items, item}
+use Rattle.serde_json.specs.Find.{as_array, as_str}
+use Rattle.check_objects.specs.Tree.{◌>=>◌, tree_of}
+use Rattle.check_script.specs.declared.refusal.LineFault.{LineFault}
+use Rattle.check_script.specs.declared.refusal.LineFault.TheVariants as fault
+use Rattle.check_script.specs.declared.refusal.InputRefusal.{InputRefusal}
+use Rattle.check_script.specs.declared.refusal.InputRefusal.TheVariants as refusal
+
+-- a value and what follows from it, or the error before
+infixl 10 ◌>>=◌
+abbrev pub ◌>>=◌ : {A B E : Type 0} → Result A E → (A → Result B E) → Result B E
+(Ok x) >>= f = f x
+(Err e) >>= f = Err e
+
+-- a line that is passed over: spaces, tabs and carriage returns alone, or nothing
+abbrev pub is_blank : List ℕ → Bool
+is_blank line = list_all (λ b. b == 32 || b == 9 || b == 13) line
+
+-- the word of an array, and the members after it
+abbrev pub word_and_members_in : Items → Option (List ℕ × Items)
+word_and_members_in no_items = None
+word_and_members_in (item word members) = as_str word >=> λ w. Some (w, members)
+
+-- the same of a tree that is an array
+abbrev pub word_and_members : Data → Option (List ℕ × Items)
+word_and_members d = as_array d >=> word_and_members_in
+
+-- a fault as the refusal of the line with number n
+abbrev pub at_line : {A : Type 0} → ℕ → Result A LineFault → Result A InputRefusal
+at_line n (Ok x) = Ok x
+at_line n (Err e) = Err (refusal.Line e n)
+
+-- the command that a tree is, by what words with members mean
+abbrev pub command_in : {K : Type 0} → (List ℕ → Items → Result K LineFault) → Data → Result K LineFault
+command_in meaning d = ok_or (word_and_members d) fault.Shape >>= λ p. meaning p.0 p.1
+
+-- the command of the line with number n, or its first fault: too long, then no JSON, then those of the command
+unfoldable pub command_of : {K : Type 0} → (List ℕ → Items → Result K LineFault) → ℕ → List ℕ → Result K InputRefusal
+command_of meaning n line = if nat_lt 4096 (length line) then Err (refusal.Line fault.TooLong n)
+    else (ok_or (tree_of line) (refusal.Line fault.NotJson n) >>= λ d. at_line n (command_in meaning d))

@@ -1,0 +1,166 @@
+//! The words of `drill`: the return codes of plugins, and moments. Each word has one function here
+//! and one definition in `specs/DrillCommand.antt`.
+ghost use Rattle.std.specs.Prelude.{◌≡◌, IfOk, option_map, is_some};
+ghost use Rattle.std.specs.List.{list_all};
+ghost use Rattle.serde_json.specs.View.{view, items_view};
+ghost use Rattle.check_objects.specs.Tree.{whole_number};
+ghost use Rattle.check_script.specs.Line.{at_line};
+ghost use Rattle.check_script.specs.DrillCommand.{plugin_command, moment_command, name_and_returned, are_some_numbers, number_in, code_in, codes_in};
+ghost use Rattle.check_script.specs.DrillScript.{moment_of};
+ghost use Rattle.check_script.specs.Agreement.{Gives};
+
+use crate::command::{code_of, object_named};
+use crate::line::{Command, refused};
+use crate::refusal::{LineFault, ScriptError};
+use check_objects::Setup;
+use check_rules::Code;
+use serde_json::Value;
+use std::alloc::{AllocError, Global};
+
+/// A command of a drill.
+#[derive(Drop)]
+pub enum DrillCommand {
+    /// What the plugin of the object with this number returns, run by run and over and over: one
+    /// code or more.
+    Plugin { object: u32, codes: Vec<Code> },
+    /// One more moment, in milliseconds, at which each worker asks for a check.
+    Moment { now: u64 },
+}
+
+impl Command for DrillCommand {
+    ghost use Rattle.check_script.specs.DrillCommand as spec;
+    ghost use Rattle.check_script.specs.DrillCommanded.{drill_command};
+
+    ghost Seen = { spec.Command };
+
+    ghost seen = { drill_command };
+
+    ghost meaning = { spec.drill_command_by };
+
+    fn read(
+        alloc: Global,
+        setup: &Setup,
+        word: &str,
+        members: &[Value],
+        number: usize,
+    ) -> Result<DrillCommand, ScriptError> {
+        match word {
+            "plugin" => DrillCommand::of_plugin(alloc, setup, members, number),
+            "moment" => DrillCommand::of_moment(members, number),
+            _ => Err(refused(LineFault::Shape, number)),
+        }
+    }
+}
+
+impl DrillCommand {
+    ghost use Rattle.check_script.specs.DrillCommanded.{drill_command};
+
+    /// `["plugin",name,code,..]`: the plugin of the object `name` returns these codes.
+    fn of_plugin(
+        alloc: Global,
+        setup: &Setup,
+        members: &[Value],
+        number: usize,
+    ) -> Result<DrillCommand, ScriptError>
+        ensures { Gives drill_command result
+            (at_line number (plugin_command setup.now (items_view members.now))) }
+    {
+        let Some((name, returned)) = name_and_returned(members) else {
+            return Err(refused(LineFault::Shape, number));
+        };
+        let Some(codes) = codes_in(alloc, returned)? else {
+            return Err(refused(LineFault::Code, number));
+        };
+        match object_named(setup, name) {
+            Ok(object) => Ok(DrillCommand::Plugin { object, codes }),
+            Err(fault) => Err(refused(fault, number)),
+        }
+    }
+
+    /// `["moment",now]`: one more moment, `now`, in milliseconds.
+    fn of_moment(members: &[Value], number: usize) -> Result<DrillCommand, ScriptError>
+        ensures { Gives drill_command result
+            (at_line number (moment_command (items_view members.now))) }
+    {
+        match number_in(members) {
+            Some(now) => Ok(DrillCommand::Moment { now }),
+            None => Err(refused(LineFault::Shape, number)),
+        }
+    }
+
+    /// The moment that the command adds, in milliseconds.
+    pub fn moment(&self) -> Option<u64>
+        ensures { result ≡ moment_of (drill_command self.now) }
+    {
+        match self {
+            DrillCommand::Moment { now } => Some(*now),
+            DrillCommand::Plugin { .. } => None,
+        }
+    }
+}
+
+/// A name, and after it whole numbers, one or more.
+fn name_and_returned(members: &[Value]) -> Option<(&str, &[Value])>
+    ensures { option_map (λ p. (p.0.now, items_view p.1.now)) result
+        ≡ name_and_returned (items_view members.now) }
+{
+    match members {
+        [name, returned @ ..] => {
+            if !are_some_numbers(returned) {
+                return None;
+            }
+            Some((name.as_str()?, returned))
+        }
+        [] => None,
+    }
+}
+
+/// Whether values are whole numbers, one or more.
+fn are_some_numbers(values: &[Value]) -> bool
+    ensures { result ≡ are_some_numbers (items_view values.now) }
+{
+    match values {
+        [] => false,
+        _ => are_numbers(values),
+    }
+}
+
+/// Whether all values are whole numbers.
+fn are_numbers(values: &[Value]) -> bool
+    ensures { result ≡ list_all (λ value. is_some (whole_number (view value))) values.now }
+{
+    values.iter().all(|value| value.as_u64().is_some())
+}
+
+/// A number alone.
+#[tactic(auto, using(crate::proofs::DrillLemmas::number_few, crate::proofs::DrillLemmas::number_many))]
+fn number_in(members: &[Value]) -> Option<u64>
+    ensures { result ≡ number_in (items_view members.now) }
+{
+    match members {
+        [number] => number.as_u64(),
+        _ => None,
+    }
+}
+
+/// The return codes that values are, or None where some value isn't one.
+fn codes_in(alloc: Global, values: &[Value]) -> Result<Option<Vec<Code>>, AllocError>
+    ensures { IfOk result (λ codes.
+        option_map (λ list. list.items) codes ≡ codes_in (items_view values.now)) }
+{
+    let mut codes = Vec::new(alloc);
+    for value in values {
+        let Some(code) = code_in(value) else {
+            return Ok(None);
+        };
+        codes.push(code)?;
+    }
+    Ok(Some(codes))
+}
+
+/// The return code that a value is.
+fn code_in(value: &Value) -> Option<Code>
+    ensures { result ≡ code_in (view value.now) }
+{
+    code_of(value.as_u64()?)
+}

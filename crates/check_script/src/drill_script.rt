@@ -1,0 +1,105 @@
+//! The script of a drill: what the commands of an input say together.
+ghost use Rattle.std.specs.Prelude.{◌≡◌, [], IfOk, filter_map, map, replicate, slice_set};
+ghost use Rattle.check_script.specs.DrillCommanded.{drill_command};
+ghost use Rattle.check_script.specs.DrillScript.{drill_script_of, drill_over, moment_of, returns_below, given_by};
+ghost use Rattle.check_script.specs.Agreement.{Gives};
+
+use crate::drill_command::DrillCommand;
+use crate::refusal::ScriptError;
+use crate::script::Script;
+use check_objects::Setup;
+use check_rules::Code;
+use std::alloc::{AllocError, Global};
+
+/// A setup, what its objects' plugins return, and the moments at which each worker asks for a check.
+#[derive(Drop)]
+pub struct DrillScript {
+    pub setup: Setup,
+    /// Of each object by number the return codes of its plugin, and none where no command gives it
+    /// any.
+    pub codes: Vec<Vec<Code>>,
+    /// The moments, in milliseconds, in the order of their commands.
+    pub moments: Vec<u64>,
+}
+
+impl DrillScript {
+    ghost use Rattle.check_script.specs.DrillScripted.{drill_script};
+    ghost use Rattle.check_script.specs.Scripted.{script};
+
+    /// Reads an input, every line of it, or gives its first refusal, in the order in which a script
+    /// is tested. Of several commands for the plugin of one object the last counts. Want of memory is
+    /// an error of its own.
+    #[tactic(auto, unfolding(crate::specs::DrillScript::drill_script_of))]
+    pub fn read(alloc: Global, input: &[u8]) -> Result<DrillScript, ScriptError>
+        ensures { Gives drill_script result (drill_script_of input.now) }
+    {
+        let read = Script::read(alloc, input)?;
+        Ok(DrillScript::over(alloc, read)?)
+    }
+
+    /// What the commands of a script say together.
+    fn over(alloc: Global, read: Script<DrillCommand>) -> Result<DrillScript, AllocError>
+        ensures { IfOk result (λ drill.
+            drill_script drill ≡ drill_over (script drill_command read)) }
+    {
+        let Script { setup, commands } = read;
+        let moments = moments_in(alloc, &commands)?;
+        let codes = codes_below(alloc, setup.len(), commands)?;
+        Ok(DrillScript {
+            setup,
+            codes,
+            moments,
+        })
+    }
+}
+
+/// The moments that commands add, in their order.
+fn moments_in(alloc: Global, commands: &[DrillCommand]) -> Result<Vec<u64>, AllocError>
+    ensures { IfOk result (λ moments.
+        moments.items ≡ filter_map (λ command. moment_of (drill_command command)) commands.now) }
+{
+    commands
+        .iter()
+        .filter_map(|command| command.moment())
+        .collect(alloc)
+}
+
+/// The return codes of each object below the number `count`: those of the last command that gives it
+/// any.
+fn codes_below(
+    alloc: Global,
+    count: usize,
+    commands: Vec<DrillCommand>,
+) -> Result<Vec<Vec<Code>>, AllocError>
+    ensures { IfOk result (λ lists. map (λ list. list.items) lists.items
+        ≡ returns_below count (map drill_command commands.items)) }
+{
+    let mut lists = no_codes(alloc, count)?;
+    for command in commands {
+        place_codes(&mut lists, command);
+    }
+    Ok(lists)
+}
+
+/// So many lists without a code.
+fn no_codes(alloc: Global, count: usize) -> Result<Vec<Vec<Code>>, AllocError>
+    ensures { IfOk result (λ lists. map (λ list. list.items) lists.items ≡ replicate count []) }
+{
+    let mut lists = Vec::with_capacity(alloc, count)?;
+    for _made in 0..count {
+        lists.push(Vec::new(alloc))?;
+    }
+    Ok(lists)
+}
+
+/// Puts the codes of a command in the place of those that its object had.
+fn place_codes(lists: &mut Vec<Vec<Code>>, command: DrillCommand)
+    ensures { map (λ list. list.items) lists.new.items
+        ≡ given_by (drill_command command) (map (λ list. list.items) lists.old.items) }
+{
+    if let DrillCommand::Plugin { object, codes } = command {
+        if (object as usize) < lists.len() {
+            lists[object as usize] = codes;
+        }
+    }
+}

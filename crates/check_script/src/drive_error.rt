@@ -1,0 +1,31 @@
+//! Why a run or a drill ended early: its reader, its writer, or memory.
+
+use std::alloc::AllocError;
+use thiserror::Error;
+
+/// Why a run ended early.
+#[derive(Clone, Copy, Debug, PartialEq, Eq, Error)]
+pub enum DriveError {
+    /// The reader failed or was interrupted. Nothing was written.
+    #[error("the input could not be read")]
+    Read,
+    /// The writer failed, was interrupted or took no byte, or its flush failed. A front of the text
+    /// was written.
+    #[error("the output could not be written")]
+    Write,
+    /// Memory was wanted. A front of the text was written, and nothing where the input was not
+    /// read.
+    #[error("out of memory")]
+    Memory,
+}
+
+impl From<AllocError> for DriveError {
+    ghost use Rattle.std.specs.Prelude.{◌≡◌};
+    ghost use Rattle.check_script.specs.declared.drive_error.DriveError.TheVariants.{Memory};
+
+    ghost from_gives = { λ _ e. e ≡ Memory };
+
+    fn from(_refused: AllocError) -> DriveError {
+        DriveError::Memory
+    }
+}

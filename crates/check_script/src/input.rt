@@ -1,0 +1,99 @@
+//! The bytes of an input and its lines. What a line says is read in `script` and `command`.
+ghost use Rattle.std.specs.Prelude.{◌≡◌, ◌==◌, ◌<◌, ℕ, List, length, position, ◌≢◌, take, IfOk, IfErr, IfSome, vec_items};
+ghost use Rattle.std.specs.Io.KnownBytes.{Consumes};
+ghost use Rattle.std.specs.Iterator.{YieldsFirstRef, item_count};
+ghost use Rattle.check_script.specs.Input.{AreLines, lines_of, first_line_of};
+
+use crate::drive_error::DriveError;
+use std::alloc::Global;
+use std::io::Read;
+
+/// How many bytes are read at most: one more than an input may have, so that a longer one is known
+/// to be too long.
+pub const READ_LIMIT: usize = 67_108_865;
+
+/// How many bytes are asked of the reader at a time.
+const CHUNK: usize = 65_536;
+
+const LINE_FEED: u8 = b'\n';
+
+/// Reads to the end of the input or to `READ_LIMIT` bytes, whichever comes first.
+///
+/// Each error of the reader is a fault, an interruption among them: nothing is tried again.
+pub fn read_input<R: Read>(alloc: Global, reader: &mut R) -> Result<Vec<u8>, DriveError>
+    ensures all { IfOk result (λ input.
+        IfSome (R.remaining reader.old) (λ bytes. input.items ≡ take READ_LIMIT bytes)) }
+    ensures left { IfOk result (λ input.
+        Consumes (R.remaining reader.old) (R.remaining reader.new) input.items) }
+    ensures errors { IfErr result (λ e. e ≢ DriveError.Write) }
+{
+    let mut input = Vec::new(alloc);
+    let mut chunk = [0; CHUNK];
+    while input.len() < READ_LIMIT {
+        let wanted = CHUNK.min(READ_LIMIT - input.len());
+        let Ok(count) = reader.read(&mut chunk[..wanted]) else {
+            return Err(DriveError::Read);
+        };
+        if count == 0 {
+            break;
+        }
+        input.extend_from_slice(&chunk[..count])?;
+    }
+    Ok(input)
+}
+
+/// The lines of an input, each without its line feed. A last line needs none, and a line feed at
+/// the end begins no further line.
+#[derive(Drop)]
+pub struct Lines<'a> {
+    /// The bytes of the lines that are still to come.
+    pub rest: &'a [u8],
+}
+
+impl<'a> Lines<'a> {
+    /// The lines of these bytes. They are their lines by `AreLines`, and no other lines are.
+    pub fn new(input: &'a [u8]) -> Self
+        ensures bytes { result.rest.now ≡ input.now }
+        ensures lines { AreLines input.now (lines_of input.now) }
+        ensures only { (others : List (List ℕ)) → AreLines input.now others
+            → others ≡ lines_of input.now }
+    {
+        Lines { rest: input }
+    }
+}
+
+impl<'a> Iterator for Lines<'a> {
+    type Item = &'a [u8];
+
+    ghost next_gives = { YieldsFirstRef (λ s. lines_of s.rest.now) };
+
+    ghost remaining = { item_count (λ s. lines_of s.rest.now) };
+
+    fn next(&mut self) -> Option<&'a [u8]> {
+        if self.rest.is_empty() {
+            return None;
+        }
+        let line = first_line(self.rest);
+        let next = self.rest.len().min(line.len() + 1);
+        self.rest = &self.rest[next..];
+        Some(line)
+    }
+}
+
+/// The bytes before the first line feed, or all where there is none.
+fn first_line(bytes: &[u8]) -> &[u8]
+    ensures { result.now ≡ first_line_of bytes.now }
+{
+    match line_end(bytes) {
+        Some(end) => &bytes[..end],
+        None => bytes,
+    }
+}
+
+/// The place of the first line feed.
+fn line_end(bytes: &[u8]) -> Option<usize>
+    ensures place { result ≡ position (λ b. b == LINE_FEED) bytes.now }
+    ensures within { IfSome result (λ end. end < length bytes.now) }
+{
+    bytes.iter().position(|byte| *byte == LINE_FEED)
+}

@@ -1,0 +1,27 @@
+#![tactic(auto)]
+//! What an input says: bytes from a reader, lines, a setup, and commands, or the input's first
+//! refusal.
+//!
+//! A byte goes through these modules in this order: `input` (bytes from a reader, and lines),
+//! `script` (a setup, and a command for each later line), `line` (the command of one line: its length,
+//! its tree, its word; the trait [`Command`], which each vocabulary implements). The vocabularies are
+//! `command`, the words of `run`, and `drill_command`, the words of `drill`, whose commands
+//! `drill_script` puts together. `refusal` has the errors of an input, and `drive_error` why a run or
+//! a drill ends early.
+
+mod command;
+mod drill_command;
+mod drill_script;
+mod drive_error;
+mod input;
+mod line;
+mod refusal;
+mod script;
+
+pub use drill_command::DrillCommand;
+pub use drill_script::DrillScript;
+pub use drive_error::DriveError;
+pub use input::{Lines, READ_LIMIT, read_input};
+pub use line::Command;
+pub use refusal::{InputRefusal, LineFault, ScriptError};
+pub use script::Script;

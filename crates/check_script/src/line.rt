@@ -1,0 +1,120 @@
+//! One line of a script: it is blank, or a JSON array that is a command. The array's first member is
+//! its word. Each subcommand has a vocabulary of its own, a type that is a [`Command`].
+ghost use Rattle.std.specs.Prelude.{◌≡◌, List, ℕ, Result, ok_or, option_map};
+ghost use Rattle.std.specs.List.{list_all};
+ghost use Rattle.serde_json.specs.Data.{Items};
+ghost use Rattle.serde_json.specs.View.{view, items_view};
+ghost use Rattle.check_objects.specs.Configuration.{Configuration};
+ghost use Rattle.check_objects.specs.Tree.{tree_of};
+ghost use Rattle.check_script.specs.declared.refusal.LineFault.{LineFault};
+ghost use Rattle.check_script.specs.Line.{is_blank, word_and_members, word_and_members_in, at_line, command_of};
+ghost use Rattle.check_script.specs.Agreement.{Gives};
+
+use crate::refusal::{InputRefusal, LineFault, ScriptError};
+use check_objects::Setup;
+use serde_json::Value;
+use std::alloc::Global;
+
+/// How many bytes a line may have without its line feed.
+const MAX_LINE: usize = 4096;
+
+/// A command of a vocabulary. An implementation names a command as the definitions see it (`Seen`,
+/// `seen`), and what a word with the members after it means over a setup (`meaning`).
+pub trait Command: Drop {
+    ghost Seen: { Type 0 };
+
+    ghost seen: { Self → Seen };
+
+    ghost meaning: { Configuration → List ℕ → Items → Result Seen LineFault };
+
+    /// The command of a word with these members after it, or its first fault: another shape, then a
+    /// return code above 3, then a name that the setup doesn't have. A fault is told as that of the
+    /// line with this number. Want of memory is an error of its own.
+    fn read(
+        alloc: Global,
+        setup: &Setup,
+        word: &str,
+        members: &[Value],
+        number: usize,
+    ) -> Result<Self, ScriptError>
+        ensures { Gives seen result
+            (at_line number (meaning setup.now word.now (items_view members.now))) };
+}
+
+/// Whether a line has only spaces, tabs and carriage returns, or nothing. Such a line is passed
+/// over.
+pub fn is_blank(line: &[u8]) -> bool
+    ensures { result ≡ is_blank line.now }
+{
+    line.iter()
+        .all(|byte| *byte == b' ' || *byte == b'\t' || *byte == b'\r')
+}
+
+/// The command of the line with this number, or its first fault: too long, then no JSON, then those
+/// of the command.
+#[tactic(auto, unfolding(crate::specs::Line::command_of))]
+pub fn read_command<C: Command>(
+    alloc: Global,
+    setup: &Setup,
+    line: &[u8],
+    number: usize,
+) -> Result<C, ScriptError>
+    ensures { Gives C.seen result (command_of (C.meaning setup.now) number line.now) }
+{
+    if line.len() > MAX_LINE {
+        return Err(refused(LineFault::TooLong, number));
+    }
+    let tree = read_tree(alloc, line, number)?;
+    match word_and_members(&tree) {
+        Some((word, members)) => C::read(alloc, setup, word, members, number),
+        None => Err(refused(LineFault::Shape, number)),
+    }
+}
+
+/// The tree that `serde_json` reads from a line.
+fn read_tree(alloc: Global, line: &[u8], number: usize) -> Result<Value, ScriptError>
+    ensures { Gives view result
+        (ok_or (tree_of line.now) (InputRefusal.Line LineFault.NotJson number)) }
+{
+    match Value::from_slice(alloc, line) {
+        Ok(tree) => Ok(tree),
+        Err(e) => {
+            if e.is_memory() {
+                return Err(ScriptError::Memory);
+            }
+            Err(refused(LineFault::NotJson, number))
+        }
+    }
+}
+
+/// The word of a tree that is an array, and the members after it.
+fn word_and_members(tree: &Value) -> Option<(&str, &[Value])>
+    ensures { option_map (λ p. (p.0.now, items_view p.1.now)) result
+        ≡ word_and_members (view tree.now) }
+{
+    match tree.as_array() {
+        Some(items) => word_and_members_in(items),
+        None => None,
+    }
+}
+
+/// The word of an array, and the members after it.
+fn word_and_members_in(items: &[Value]) -> Option<(&str, &[Value])>
+    ensures { option_map (λ p. (p.0.now, items_view p.1.now)) result
+        ≡ word_and_members_in (items_view items.now) }
+{
+    match items {
+        [word, members @ ..] => match word.as_str() {
+            Some(word) => Some((word, members)),
+            None => None,
+        },
+        [] => None,
+    }
+}
+
+/// The refusal of a line for a fault.
+pub fn refused(fault: LineFault, line: usize) -> ScriptError
+    ensures { result ≡ ScriptError.Refused (InputRefusal.Line fault line) }
+{
+    ScriptError::Refused(InputRefusal::Line { fault, line })
+}

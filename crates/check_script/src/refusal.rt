@@ -1,0 +1,60 @@
+//! What an input can be refused for. The text of a refusal is in `text`.
+
+use check_objects::LoadError;
+use std::alloc::{AllocError, AllocFailed};
+
+/// What is wrong with a line of a script, in the order in which a line is tested.
+#[derive(Clone, Copy, Debug, PartialEq, Eq)]
+pub enum LineFault {
+    /// The line has more than 4,096 bytes without its line feed. As the fault of line 0: the input
+    /// has more than 67,108,864 bytes.
+    TooLong,
+    /// `serde_json` gives no reading of the line, for another cause than memory.
+    NotJson,
+    /// The line is no array, its word is unknown, or its members are wrong in number or kind.
+    Shape,
+    /// A return code above 3. (Manual: "Plugin API"; a plugin may return no other.)
+    Code,
+    /// The setup has no object of that full name.
+    UnknownName,
+}
+
+/// The first refusal of an input. It comes before any call is made.
+#[derive(Clone, Copy, Debug, PartialEq, Eq)]
+pub enum InputRefusal {
+    /// The setup document, which is line 1, was refused.
+    Setup(LoadError),
+    /// A later line was refused, or with line 0 the whole input.
+    Line { fault: LineFault, line: usize },
+}
+
+/// Why an input was not read as a script.
+#[derive(Clone, Copy, Debug, PartialEq, Eq)]
+pub enum ScriptError {
+    /// The input is refused, and the run writes this refusal.
+    Refused(InputRefusal),
+    /// Memory was wanted, which says nothing of the input.
+    Memory,
+}
+
+impl From<AllocError> for ScriptError {
+    ghost use Rattle.std.specs.Prelude.{◌≡◌};
+    ghost use Rattle.check_script.specs.declared.refusal.ScriptError.TheVariants.{Memory};
+
+    ghost from_gives = { λ _ e. e ≡ Memory };
+
+    fn from(_refused: AllocError) -> ScriptError {
+        ScriptError::Memory
+    }
+}
+
+impl<T: Drop> From<AllocFailed<T>> for ScriptError {
+    ghost use Rattle.std.specs.Prelude.{◌≡◌};
+    ghost use Rattle.check_script.specs.declared.refusal.ScriptError.TheVariants.{Memory};
+
+    ghost from_gives = { λ _ e. e ≡ Memory };
+
+    fn from(_refused: AllocFailed<T>) -> ScriptError {
+        ScriptError::Memory
+    }
+}

@@ -1,0 +1,208 @@
+-- The text that a run writes: a function of the start and of the input. The words of each line are
+-- said once, here.
+use Rattle.std.specs.Prelude.{ℕ, Bool, true, false, if◌then◌else◌, List, [], ◌∷◌, ◌++◌, Option, Some, None, Result, Ok, Err, codes, decimal, flat_map, length}
+use Rattle.std.specs.List.{zip}
+use Rattle.ticket_steps.specs.declared.kept.Entry.{Entry}
+use Rattle.check_objects.specs.Configuration.{Configuration, name_of}
+use Rattle.check_objects.specs.declared.error.LoadError.{LoadError}
+use Rattle.check_objects.specs.declared.error.LoadError.TheVariants as load
+use Rattle.check_objects.specs.declared.place.Place.{Place}
+use Rattle.check_objects.specs.declared.place.Part.{Part}
+use Rattle.check_objects.specs.declared.place.Part.TheVariants as part
+use Rattle.check_rules.specs.declared.standing.Kind.{Kind}
+use Rattle.check_rules.specs.declared.standing.Kind.TheVariants as kind
+use Rattle.check_rules.specs.declared.standing.Standing.{Standing}
+use Rattle.check_rules.specs.declared.state.State.TheVariants as state
+use Rattle.check_rules.specs.declared.state.State as rules
+use Rattle.check_sched.specs.declared.call.Call.{Call}
+use Rattle.check_sched.specs.declared.call.Call.TheVariants as call
+use Rattle.check_sched.specs.declared.call.Reply.{Reply}
+use Rattle.check_sched.specs.declared.call.Reply.TheVariants as reply
+use Rattle.check_sched.specs.declared.call.Refusal.{Refusal}
+use Rattle.check_sched.specs.declared.call.Refusal.TheVariants as refused
+use Rattle.check_sched.specs.State.{State, opening}
+use Rattle.check_sched.specs.Step.{step, replies}
+use Rattle.check_script.specs.declared.refusal.LineFault.{LineFault}
+use Rattle.check_script.specs.declared.refusal.LineFault.TheVariants as fault
+use Rattle.check_script.specs.declared.refusal.InputRefusal.{InputRefusal}
+use Rattle.check_script.specs.declared.refusal.InputRefusal.TheVariants as refusal
+use Rattle.check_script.specs.Script.{Script, script_of}
+
+-- a line: its text, ended by a line feed
+abbrev pub line_of : List ℕ → List ℕ
+line_of text = text ++ 10 ∷ []
+
+-- a time in milliseconds, or `none`
+abbrev pub time_text : Option ℕ → List ℕ
+time_text (Some time) = decimal time
+time_text None = codes "none"
+
+-- ---- replies
+
+-- the object with this full name runs under this number
+abbrev pub taken_text : ℕ → List ℕ → List ℕ
+taken_text run name = codes "taken " ++ (decimal run ++ (codes " " ++ name))
+
+-- the object with this full name was due, but was put off to this time, if it is checked again
+abbrev pub putoff_text : Option ℕ → List ℕ → List ℕ
+putoff_text until name = codes "putoff " ++ (time_text until ++ (codes " " ++ name))
+
+-- nothing is due, and this is the time of the next check, if there is one
+abbrev pub idle_text : Option ℕ → List ℕ
+idle_text next = codes "idle " ++ time_text next
+
+abbrev pub state_word : rules.State → List ℕ
+state_word state.Ok = codes "OK"
+state_word state.Warning = codes "WARNING"
+state_word state.Critical = codes "CRITICAL"
+state_word state.Unknown = codes "UNKNOWN"
+state_word state.Up = codes "UP"
+state_word state.Down = codes "DOWN"
+state_word state.Unreachable = codes "UNREACHABLE"
+
+-- the state of an object, or PENDING where it was never checked
+abbrev pub state_text : Standing → List ℕ
+state_text s = if s.checked then state_word s.state else codes "PENDING"
+
+abbrev pub kind_text : Kind → List ℕ
+kind_text kind.Soft = codes "SOFT"
+kind_text kind.Hard = codes "HARD"
+
+-- whether a state differs from the one before
+abbrev pub changed_text : Bool → List ℕ
+changed_text true = codes "yes"
+changed_text false = codes "no"
+
+-- how the object with this full name stands, and when it is checked next
+abbrev pub standing_text : Standing → Bool → Option ℕ → List ℕ → List ℕ
+standing_text s changed next name = codes "standing " ++ (state_text s ++ (codes " " ++ (kind_text s.kind ++ (codes " " ++
+    (decimal s.attempt ++ (codes " " ++ (changed_text changed ++ (codes " " ++ (time_text next ++ (codes " " ++ name))))))))))
+
+-- the check of the object with this full name was given up, and this is the time of its next one
+abbrev pub freed_text : ℕ → List ℕ → List ℕ
+freed_text next name = codes "freed " ++ (decimal next ++ (codes " " ++ name))
+
+-- what was asked for the object with this full name was done
+abbrev pub done_text : List ℕ → List ℕ
+done_text name = codes "done " ++ name
+
+-- the full name of the object that a call asks for, or nothing where it asks for none
+abbrev pub asked_name : Configuration → Call → List ℕ
+asked_name c (call.Take now) = []
+asked_name c (call.Report object run code) = name_of c object
+asked_name c (call.Abandon object run now) = name_of c object
+asked_name c (call.Reschedule object time forced) = name_of c object
+asked_name c (call.Enable object on) = name_of c object
+asked_name c (call.Status object) = name_of c object
+
+-- a refusal for this reason
+abbrev pub refused_text : List ℕ → List ℕ
+refused_text reason = codes "refused " ++ reason
+
+-- why a call was refused
+abbrev pub call_refusal_text : Refusal → List ℕ
+call_refusal_text refused.UnknownObject = codes "C1 UnknownObject"
+call_refusal_text refused.TimeRange = codes "C2 TimeRange"
+call_refusal_text refused.NotRunning = codes "C3 NotRunning"
+call_refusal_text refused.WrongRun = codes "C4 WrongRun"
+call_refusal_text refused.RunsSpent = codes "C5 RunsSpent"
+
+-- The text of the reply to a call. The object is told by its full name: the one of the reply, or else of the call.
+abbrev pub reply_text : Configuration → Call → Reply → List ℕ
+reply_text c asked (reply.Taken object run) = taken_text run (name_of c object)
+reply_text c asked (reply.PutOff object until) = putoff_text until (name_of c object)
+reply_text c asked (reply.Idle next) = idle_text next
+reply_text c asked reply.AtLimit = codes "atlimit"
+reply_text c asked (reply.Standing standing changed next) = standing_text standing changed next (asked_name c asked)
+reply_text c asked (reply.Freed next) = freed_text next (asked_name c asked)
+reply_text c asked reply.Done = done_text (asked_name c asked)
+reply_text c asked (reply.Refused why) = refused_text (call_refusal_text why)
+
+abbrev pub reply_line : Configuration → Call → Reply → List ℕ
+reply_line c asked r = line_of (reply_text c asked r)
+
+-- ---- refusals of the input
+
+-- the part of a setup document: its member, or the document itself
+abbrev pub part_text : Part → List ℕ
+part_text part.Document = codes "document"
+part_text part.Options = codes "options"
+part_text part.Hosts = codes "hosts"
+part_text part.Services = codes "services"
+part_text part.ServiceDependencies = codes "service_dependencies"
+part_text part.HostDependencies = codes "host_dependencies"
+
+abbrev pub index_text : Option ℕ → List ℕ
+index_text None = []
+index_text (Some i) = codes " " ++ decimal i
+
+-- where in a setup document: the part, and the index where there is one
+abbrev pub place_text : Place → List ℕ
+place_text p = part_text p.part ++ index_text p.index
+
+-- what is wrong with a setup document
+abbrev pub load_text : LoadError → List ℕ
+load_text load.NotJson = codes "L1 NotJson"
+load_text (load.Shape p) = codes "L2 Shape " ++ place_text p
+load_text load.TooMany = codes "L3 TooMany"
+load_text (load.BadName p) = codes "L4 BadName " ++ place_text p
+load_text (load.Duplicate p) = codes "L5 Duplicate " ++ place_text p
+load_text (load.UnknownHost p) = codes "L6 UnknownHost " ++ place_text p
+load_text (load.UnknownMaster p) = codes "L7 UnknownMaster " ++ place_text p
+load_text (load.Range p) = codes "L8 Range " ++ place_text p
+load_text load.DependencyCycle = codes "L9 DependencyCycle"
+load_text load.ParentCycle = codes "L10 ParentCycle"
+load_text load.Memory = codes "L11 Memory"
+load_text load.TooLong = codes "L12 TooLong"
+
+-- what is wrong with a line of a script
+abbrev pub fault_text : LineFault → List ℕ
+fault_text fault.TooLong = codes "S1 TooLong"
+fault_text fault.NotJson = codes "S2 NotJson"
+fault_text fault.Shape = codes "S3 Shape"
+fault_text fault.Code = codes "S4 Code"
+fault_text fault.UnknownName = codes "S5 UnknownName"
+
+-- why an input is refused, and where
+abbrev pub input_refusal_text : InputRefusal → List ℕ
+input_refusal_text (refusal.Setup e) = load_text e
+input_refusal_text (refusal.Line f n) = fault_text f ++ (codes " " ++ decimal n)
+
+abbrev pub refusal_line : InputRefusal → List ℕ
+refusal_line r = line_of (refused_text (input_refusal_text r))
+
+-- ---- the whole text
+
+-- the line of the reply to a call, in this state
+abbrev pub line_from : State → Call → List ℕ
+line_from s c = reply_line s.setup c (step s c).1
+
+-- the lines of the replies to the calls, from this state on
+abbrev pub text_from : State → List Call → List ℕ
+text_from s calls = flat_map (λ p. reply_line s.setup p.0 p.1) (zip calls (replies s calls))
+
+abbrev pub script_text : ℕ → Result (Script Call) InputRefusal → List ℕ
+script_text start (Ok s) = text_from (opening s.setup start) s.commands
+script_text start (Err r) = refusal_line r
+
+-- What a run on the input writes, the scheduler starting at the moment `start`: the one line of the
+-- input's first refusal, or the lines of the replies to its calls, in order.
+unfoldable pub text : ℕ → List ℕ → List ℕ
+text start input = script_text start (script_of input)
+
+-- ---- the text of a drill
+
+-- the line of an entry: the number of the pass that made the call, and the line of the reply
+abbrev pub entry_line : Configuration → Entry Call Reply → List ℕ
+entry_line c e = decimal e.pass ++ (codes " " ++ reply_line c e.call e.reply)
+
+-- how many entries there are, and how many calls were refused for want of memory
+abbrev pub total_text : ℕ → ℕ → List ℕ
+total_text entries refused = codes "total " ++ (decimal entries ++ (codes " " ++ decimal refused))
+
+abbrev pub total_line : ℕ → ℕ → List ℕ
+total_line entries refused = line_of (total_text entries refused)
+
+-- What a drill writes of a history: the lines of its entries, in order, and then the total.
+abbrev pub drill_text : Configuration → List (Entry Call Reply) → ℕ → List ℕ
+drill_text c entries refused = flat_map (entry_line c) entries ++ total_line (length entries) refused

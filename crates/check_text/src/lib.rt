@@ -1,0 +1,12 @@
+#![tactic(auto)]
+//! What is told of a scheduler's calls: the lines of replies, standings and refusals, and how they
+//! are written.
+//!
+//! `text` has the text of each line, one definition each, whatever subcommand writes it; `output`
+//! hands bytes to a writer, whole or up to a fault.
+
+mod output;
+mod text;
+
+pub use output::{flush, write_refusal, write_text};
+pub use text::{push_entry, push_refusal, push_reply, push_total};

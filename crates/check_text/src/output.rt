@@ -1,0 +1,63 @@
+//! Bytes to a writer: a text, the line of a refusal, and the flush at the end. The lines that are
+//! written are made in `text`.
+ghost use Rattle.std.specs.Prelude.{OnOk, OnErr, IfErr, IsOkUnless, ◌≢◌};
+ghost use Rattle.std.specs.Io.KnownBytes.{Appends, Keeps};
+ghost use Rattle.check_text.specs.Output.{WroteFront};
+ghost use Rattle.check_text.specs.Text.{refusal_line};
+
+use crate::text::push_refusal;
+use check_script::{DriveError, InputRefusal};
+use std::alloc::Global;
+use std::io::Write;
+
+/// Writes all of the text, or before a fault the front of it that the writer took.
+///
+/// Each error of the writer is a fault, an interruption among them, and so is a write that takes no
+/// byte: nothing is tried again.
+pub fn write_text<W: Write>(writer: &mut W, text: &[u8]) -> Result<(), DriveError>
+    ensures ok { OnOk result (Appends (W.contents writer.old) (W.contents writer.new) text.now) }
+    ensures err { OnErr result
+        (WroteFront (W.contents writer.old) (W.contents writer.new) text.now) }
+    ensures only { IsOkUnless result DriveError.Write }
+{
+    let mut rest = text;
+    while !rest.is_empty() {
+        let Ok(count) = writer.write(rest) else {
+            return Err(DriveError::Write);
+        };
+        if count == 0 {
+            return Err(DriveError::Write);
+        }
+        rest = &rest[count..];
+    }
+    Ok(())
+}
+
+/// Writes the line of a refusal. An Err is `Write` or `Memory`, and a front of the line was written
+/// then. Nothing is flushed.
+pub fn write_refusal<W: Write>(
+    alloc: Global,
+    refusal: InputRefusal,
+    writer: &mut W,
+) -> Result<(), DriveError>
+    ensures written { OnOk result
+        (Appends (W.contents writer.old) (W.contents writer.new) (refusal_line refusal)) }
+    ensures fault { OnErr result
+        (WroteFront (W.contents writer.old) (W.contents writer.new) (refusal_line refusal)) }
+    ensures kind { IfErr result (λ e. e ≢ DriveError.Read) }
+{
+    let mut line = String::new(alloc);
+    push_refusal(&mut line, refusal)?;
+    write_text(writer, line.as_bytes())
+}
+
+/// Flushes what was written. An Err is `Write`.
+pub fn flush<W: Write>(writer: &mut W) -> Result<(), DriveError>
+    ensures kept { Keeps (W.contents writer.old) (W.contents writer.new) }
+    ensures kind { IsOkUnless result DriveError.Write }
+{
+    match writer.flush() {
+        Ok(()) => Ok(()),
+        Err(_) => Err(DriveError::Write),
+    }
+}

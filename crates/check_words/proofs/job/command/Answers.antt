@@ -1,0 +1,15 @@
+use Rattle.std.proofs.Common.{ap, ap₂, ◌≡◌, ◌∙◌}
+use Rattle.std.proofs.lemmas.Result.{IfOk-weaker}
+use Rattle.clap.specs.Simple.{app_of_fields}
+use Rattle.clap.specs.Words.{App, app_of, new_app, with_subcommand}
+use Rattle.std.specs.Prelude.{codes}
+use Rattle.check_words.proofs.job.command.Goals as goal
+
+pub returns : goal.returns
+returns c =
+    let top : app_of c.after_help.result ≡ new_app (codes "nagsched") =
+    ap app_of_fields c.after_help.ensures ∙ ap app_of_fields c.about.ensures ∙ c.new.ensures.app in
+    let with_run = c.in_ok-subcommand.ensures.shape c.in_ok-run.ensures.1
+    ∙ ap₂ with_subcommand top (ap (λ (a : App). a.top) c.in_ok-run.ensures.0) in
+    IfOk-weaker c.subcommand-2.result _ _ (λ r h. h.shape c.in_ok-drill.ensures.1
+    ∙ ap₂ with_subcommand with_run (ap (λ (a : App). a.top) c.in_ok-drill.ensures.0)) c.subcommand-2.ensures

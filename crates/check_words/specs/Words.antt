@@ -1,0 +1,130 @@
+-- What the program's words ask for, as `clap` reads them.
+use Rattle.std.specs.Prelude.{ℕ, ◌^◌, ◌≤◌, ◌≡◌, ◌≢◌, ◌⊎◌, ⊤, List, [], ◌∷◌, if◌then◌else◌, Option, Some, None, Result, Ok, Err, codes, option_map, option_and_then}
+use Rattle.std.specs.Str.{bytes_eq}
+use Rattle.std.specs.Str.Parse.{digits_value, without_leading_plus}
+use Rattle.clap.specs.ValueTests.{is_unsigned_in}
+use Rattle.clap.specs.Words.{App, IsAmong, Row, Rule, Text, fault_of, first_of, new_app, new_rule, subcommand_of, with_rule, with_subcommand}
+use Rattle.clap.specs.declared.error.kind.ErrorKind.{ErrorKind}
+use Rattle.clap.specs.declared.error.kind.ErrorKind.TheVariants as kind
+use Rattle.check_words.specs.declared.words.Job.{Job}
+use Rattle.check_words.specs.declared.words.Job.TheVariants as job
+use Rattle.check_words.specs.declared.words.WordsError.{WordsError}
+use Rattle.check_words.specs.declared.words.WordsError.TheVariants as error
+
+-- ---- the program's command
+
+-- an option `--name N` of a number, which is `otherwise` where it isn't given
+abbrev pub number_option : Text → Text → Rule
+number_option name otherwise = record (new_rule name) {
+  long = Some name;
+  value_names = 1;
+  defaults = otherwise ∷ [];
+}
+
+-- the option `--start N`, which is 0 where it isn't given
+abbrev pub start_option : Rule
+start_option = number_option (codes "start") (codes "0")
+
+-- the option `--workers N`, which is 2 where it isn't given
+abbrev pub workers_option : Rule
+workers_option = number_option (codes "workers") (codes "2")
+
+-- the option `--room N`, which is 1000 where it isn't given
+abbrev pub room_option : Rule
+room_option = number_option (codes "room") (codes "1000")
+
+-- the subcommand `run`, with its option
+abbrev pub run_command : App
+run_command = with_rule (new_app (codes "run")) start_option
+
+-- the subcommand `drill`, with its three options
+abbrev pub drill_command : App
+drill_command = with_rule (with_rule (with_rule (new_app (codes "drill")) start_option) workers_option) room_option
+
+-- the program's command, with its two subcommands
+abbrev pub program : App
+program = with_subcommand (with_subcommand (new_app (codes "nagsched")) run_command.top) drill_command.top
+
+-- ---- what the words ask for
+
+-- the number that std reads as a `u64` from a text, where it is within these limits
+abbrev pub number_between : ℕ → ℕ → Text → Option ℕ
+number_between least most text = if is_unsigned_in least most text then Some (digits_value 10 (without_leading_plus text)) else None
+
+-- the number of an option, within these limits, by the options that were read
+abbrev pub number_of : Text → ℕ → ℕ → List Row → Option ℕ
+number_of name least most options = option_and_then (number_between least most) (first_of name options)
+
+-- the moment at which the scheduler starts, by the options that were read
+abbrev pub start_of : List Row → Option ℕ
+start_of = number_of (codes "start") 0 (2 ^ 60)
+
+-- how many workers there are, by the options that were read
+abbrev pub workers_of : List Row → Option ℕ
+workers_of = number_of (codes "workers") 1 64
+
+-- for how many entries there is room, by the options that were read
+abbrev pub room_of : List Row → Option ℕ
+room_of = number_of (codes "room") 0 1000000
+
+-- `run`, by the options that were read for it
+abbrev pub run_of : List Row → Option Job
+run_of options = option_map job.Run (start_of options)
+
+-- `drill`, by the options that were read for it
+abbrev pub drill_of : List Row → Option Job
+drill_of options = option_and_then (λ start.
+    option_and_then (λ workers.
+    option_map (job.Drill start workers) (room_of options))
+    (workers_of options)) (start_of options)
+
+-- the job of a subcommand with its options; without a subcommand it is `run` from the start 0
+abbrev pub job_of : Option (Text × List Row) → Option Job
+job_of None = Some (job.Run 0)
+job_of (Some (name, options)) =
+    if bytes_eq name (codes "run") then run_of options
+    else (if bytes_eq name (codes "drill") then drill_of options else None)
+
+-- The job that the words ask for, the program's name first: of the subcommand that `clap` reads
+-- from them, with the first value of each of its options.
+abbrev pub job_asked : List Text → Option Job
+job_asked words = job_of (subcommand_of program words)
+
+-- the numbers of a job are within their limits
+abbrev pub IsWithinLimits : Job → Type 0
+IsWithinLimits (job.Run start) = start ≤ 2 ^ 60
+IsWithinLimits (job.Drill start workers room) = (start ≤ 2 ^ 60) × (1 ≤ workers) × (workers ≤ 64) × (room ≤ 1000000)
+
+-- ---- where the words are no job
+
+-- `clap` reads from the words that help is asked for
+abbrev pub AsksHelp : List Text → Type 0
+AsksHelp words = IsAmong kind.DisplayHelp (fault_of program words)
+
+-- `clap` finds another fault in the words
+abbrev pub HasFault : List Text → Type 0
+HasFault words = (k : ErrorKind) × (k ≢ kind.DisplayHelp) × IsAmong k (fault_of program words)
+
+-- the words are no job, and ask for no help
+abbrev pub IsRefused : List Text → Type 0
+IsRefused words = HasFault words ⊎ (job_asked words ≡ None)
+
+-- why the words are no job, of which want of memory says nothing
+abbrev pub Explains : List Text → WordsError → Type 0
+Explains words (error.Help text) = AsksHelp words
+Explains words error.Refused = IsRefused words
+Explains words error.Memory = ⊤
+
+-- ---- steps of the reading
+
+-- a job that is read is the one that is expected; a refusal comes only where none is
+abbrev pub Reads : Result Job WordsError → Option Job → Type 0
+Reads (Ok job) expected = expected ≡ Some job
+Reads (Err error.Refused) expected = expected ≡ None
+Reads (Err e) expected = ⊥
+
+-- what an error of this kind says
+abbrev pub Tells : ErrorKind → WordsError → Type 0
+Tells k (error.Help text) = k ≡ kind.DisplayHelp
+Tells k error.Refused = (k ≢ kind.DisplayHelp) × (k ≢ kind.OutOfMemory)
+Tells k error.Memory = ⊤

@@ -1,0 +1,250 @@
+//! What the program's words ask for, as `clap` reads them. What the program then does is no
+//! matter of this crate.
+ghost use Rattle.std.specs.Prelude.{◌≡◌, ◌≤◌, ◌^◌, Some, [], false, IfOk, OnOk, IfErr, IfSome};
+ghost use Rattle.clap.specs.declared.builder.command.Command.TheViews.{out-Command};
+ghost use Rattle.clap.specs.Words.{app_of, fault_of, kind_of, rows_of, rule_of, found_of, subcommand_rows_of};
+ghost use Rattle.clap.specs.Walk.{texts};
+ghost use Rattle.check_words.specs.Words.{program, run_command, drill_command, start_option, number_option};
+ghost use Rattle.check_words.specs.Words.{job_asked, job_of, run_of, drill_of, start_of, workers_of, room_of};
+ghost use Rattle.check_words.specs.Words.{number_of, number_between, Explains, IsWithinLimits, Reads, Tells};
+
+use crate::words::{Job, WordsError};
+use clap::error::ErrorKind;
+use clap::{Arg, ArgMatches, Command};
+use std::alloc::{AllocError, Global};
+
+/// What the help says of the program.
+const ABOUT: &str = "\
+Schedules the active checks of hosts and services as Nagios Core 4 does: it decides whose
+check is due, and what a result does to state, attempt and next time.
+
+It reads a setup and a script from standard input. `run` makes the calls of the script one
+after another on one scheduler, and writes a line for each reply. `drill` has workers, each
+in a thread, share one scheduler: they take what is due at the script's moments and report
+what its plugins return, and it writes a line for each call that was recorded.
+
+Without a command it does `run --start 0`. `nagsched run --help` and `nagsched drill --help`
+tell more.";
+
+/// What the help says of the subcommand `run`.
+const ABOUT_RUN: &str = "Makes the calls of a script on one scheduler";
+
+/// What the help says of the subcommand `drill`.
+const ABOUT_DRILL: &str =
+    "Has workers share one scheduler, with the moments and plugins of a script";
+
+/// What the help says of the option `--start`.
+const ABOUT_START: &str = "\
+Moment at which the scheduler starts, in milliseconds, from 0 to 1152921504606846976 (2^60)";
+
+/// What the help says of the option `--workers`.
+const ABOUT_WORKERS: &str = "Number of workers, each in a thread of its own, from 1 to 64";
+
+/// What the help says of the option `--room`.
+const ABOUT_ROOM: &str = "\
+Number of recorded calls for which memory is set aside at the start, from 0 to 1000000";
+
+/// What stands at the end of the help.
+const NOTES: &str = "\
+Input:
+  Line 1 is the setup, a JSON object with options, hosts and services. Each later line is
+  a JSON array. Moments are milliseconds of a clock of your choice. The whole input is
+  checked before the first call is made. docs/FORMATS.md describes every member, line and
+  refusal, each with an example.
+
+  run    Each later line is a call, such as [\"take\",0].
+  drill  Each later line is one of these, in any order:
+           [\"plugin\",name,code,..]  the return codes of an object's plugin, in order,
+                                    over and over; without such a line it returns 0
+           [\"moment\",now]           one more moment at which each worker asks for a check
+
+Output:
+  run    A line for each reply.
+  drill  The number of a pass, which is one worker's, and a line for each recorded call;
+         last `total ENTRIES REFUSED`: the calls that were recorded, and those that
+         weren't for want of memory.
+
+Exit status:
+  0  ran, or told its help
+  1  the input was refused, and one line says why and where
+  2  the words were refused, with the line `refused words`
+  3  standard input or standard output failed
+  4  there was not enough memory, or a thread couldn't be had";
+
+/// The latest moment at which a scheduler may start, in milliseconds.
+const LATEST_START: u64 = 1 << 60;
+
+/// The most workers that a drill may have.
+const MOST_WORKERS: u64 = 64;
+
+/// The most entries for which a drill may have room from the outset.
+const MOST_ROOM: u64 = 1_000_000;
+
+/// Reads the program's words, its own name first: `run [--start N]`, or
+/// `drill [--start N] [--workers N] [--room N]`, or nothing, which is `run --start 0`. N is read as
+/// std reads a `u64` from a text. Options without a subcommand are refused, and of an option that is
+/// given twice `clap` decides.
+pub fn job(alloc: Global, words: &[&str]) -> Result<Job, WordsError>
+    ensures asked { IfOk result (λ job. job_asked (texts words.now) ≡ Some job) }
+    ensures faultless { OnOk result (fault_of program (texts words.now) ≡ []) }
+    ensures limits { IfOk result IsWithinLimits }
+    ensures errors { IfErr result (Explains (texts words.now)) }
+{
+    match command(alloc)?.try_get_matches_from(words) {
+        Ok(matches) => job_in(&matches),
+        Err(error) => Err(words_error(alloc, &error)),
+    }
+}
+
+/// The program's command.
+fn command<'a>(alloc: Global) -> Result<Command<'a>, AllocError>
+    ensures { IfOk result (λ c. app_of c ≡ program) }
+{
+    let run = run_command(alloc)?;
+    let drill = drill_command(alloc)?;
+    Command::new(alloc, "nagsched")
+        .about(ABOUT)
+        .after_help(NOTES)
+        .subcommand(run)?
+        .subcommand(drill)
+}
+
+/// The subcommand `run`.
+fn run_command<'a>(alloc: Global) -> Result<Command<'a>, AllocError>
+    ensures { IfOk result (λ c.
+        (app_of c ≡ run_command) × ((out-Command c).has_globals ≡ false)) }
+{
+    Command::new(alloc, "run")
+        .about(ABOUT_RUN)
+        .after_help(NOTES)
+        .arg(start_option(alloc))
+}
+
+/// The subcommand `drill`.
+fn drill_command<'a>(alloc: Global) -> Result<Command<'a>, AllocError>
+    ensures { IfOk result (λ c.
+        (app_of c ≡ drill_command) × ((out-Command c).has_globals ≡ false)) }
+{
+    let workers = number_option(alloc, "workers", "2").help(ABOUT_WORKERS);
+    let room = number_option(alloc, "room", "1000").help(ABOUT_ROOM);
+    Command::new(alloc, "drill")
+        .about(ABOUT_DRILL)
+        .after_help(NOTES)
+        .arg(start_option(alloc))?
+        .arg(workers)?
+        .arg(room)
+}
+
+/// The option `--start N`.
+fn start_option<'a>(alloc: Global) -> Arg<'a>
+    ensures rule { rule_of result ≡ start_option }
+    ensures local { result.global ≡ false }
+{
+    number_option(alloc, "start", "0").help(ABOUT_START)
+}
+
+/// The option `--name N`, a number, which is `otherwise` where it isn't given.
+fn number_option<'a>(alloc: Global, name: &'a str, otherwise: &'a str) -> Arg<'a>
+    ensures rule { rule_of result ≡ number_option name.now otherwise.now }
+    ensures local { result.global ≡ false }
+{
+    Arg::new(alloc, name)
+        .long(name)
+        .value_name("N")
+        .default_value(otherwise)
+}
+
+/// The job that was read.
+fn job_in(matches: &ArgMatches<'_>) -> Result<Job, WordsError>
+    ensures asked { Reads result (job_of (subcommand_rows_of matches.now)) }
+    ensures limits { IfOk result IsWithinLimits }
+{
+    match matches.subcommand() {
+        None => Ok(Job::Run { start: 0 }),
+        Some(("run", options)) => run_in(options).ok_or(WordsError::Refused),
+        Some(("drill", options)) => drill_in(options).ok_or(WordsError::Refused),
+        Some(_) => Err(WordsError::Refused),
+    }
+}
+
+/// The job of `run` with these options.
+fn run_in(options: &ArgMatches<'_>) -> Option<Job>
+    ensures asked { result ≡ run_of (rows_of (found_of options.now)) }
+    ensures limits { IfSome result IsWithinLimits }
+{
+    Some(Job::Run {
+        start: start_in(options)?,
+    })
+}
+
+/// The job of `drill` with these options.
+fn drill_in(options: &ArgMatches<'_>) -> Option<Job>
+    ensures asked { result ≡ drill_of (rows_of (found_of options.now)) }
+    ensures limits { IfSome result IsWithinLimits }
+{
+    Some(Job::Drill {
+        start: start_in(options)?,
+        workers: workers_in(options)?,
+        room: room_in(options)?,
+    })
+}
+
+/// The number of the option `--start`, where a scheduler may start then.
+fn start_in(options: &ArgMatches<'_>) -> Option<u64>
+    ensures value { result ≡ start_of (rows_of (found_of options.now)) }
+    ensures limits { IfSome result (λ start. start ≤ 2 ^ 60) }
+{
+    number_of(options, "start", 0, LATEST_START)
+}
+
+/// The number of the option `--workers`, where a drill may have so many.
+fn workers_in(options: &ArgMatches<'_>) -> Option<u32>
+    ensures value { result ≡ workers_of (rows_of (found_of options.now)) }
+    ensures limits { IfSome result (λ workers. (1 ≤ workers) × (workers ≤ 64)) }
+{
+    let workers = number_of(options, "workers", 1, MOST_WORKERS)?;
+    Some(workers as u32)
+}
+
+/// The number of the option `--room`, where a drill may have that room.
+fn room_in(options: &ArgMatches<'_>) -> Option<usize>
+    ensures value { result ≡ room_of (rows_of (found_of options.now)) }
+    ensures limits { IfSome result (λ room. room ≤ 1000000) }
+{
+    let room = number_of(options, "room", 0, MOST_ROOM)?;
+    Some(room as usize)
+}
+
+/// The number of an option, where it is within these limits.
+fn number_of(options: &ArgMatches<'_>, name: &str, least: u64, most: u64) -> Option<u64>
+    ensures value { result ≡ number_of name.now least most (rows_of (found_of options.now)) }
+    ensures limits { IfSome result (λ number. (least ≤ number) × (number ≤ most)) }
+{
+    number_in(options.get_str(name)?, least, most)
+}
+
+/// The number that std reads as a `u64` from a text, where it is within these limits.
+fn number_in(text: &str, least: u64, most: u64) -> Option<u64>
+    ensures value { result ≡ number_between least most text.now }
+    ensures limits { IfSome result (λ number. (least ≤ number) × (number ≤ most)) }
+{
+    match text.parse::<u64>() {
+        Ok(number) if least <= number && number <= most => Some(number),
+        Ok(_) => None,
+        Err(_) => None,
+    }
+}
+
+/// What an error of `clap` says of the words.
+fn words_error(alloc: Global, error: &clap::Error) -> WordsError
+    ensures { Tells (kind_of error.now) result }
+{
+    match error.kind() {
+        ErrorKind::OutOfMemory => WordsError::Memory,
+        ErrorKind::DisplayHelp => match format!(in alloc; "{error}") {
+            Ok(text) => WordsError::Help(text),
+            Err(_) => WordsError::Memory,
+        },
+        _ => WordsError::Refused,
+    }
+}

@@ -1,0 +1,4 @@
+//! Tests of what no clause says: which words are accepted, and what the help tells.
+
+mod drill_words;
+mod run_words;

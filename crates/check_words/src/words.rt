@@ -1,0 +1,47 @@
+//! What the program's words can ask for. They are read in `job`.
+
+use std::alloc::AllocError;
+use thiserror::Error;
+
+/// What the program's words ask it to do.
+#[derive(Clone, Copy, Debug, PartialEq, Eq)]
+pub enum Job {
+    /// To make the calls of a script on a scheduler that starts at the moment `start`, in
+    /// milliseconds, from 0 to 2^60.
+    Run {
+        start: u64,
+    },
+    /// To have workers, 1 to 64 of them, check what is due at the moments of a script, on one
+    /// scheduler that starts at the moment `start`, as above. The scheduler's book has room for
+    /// `room` entries from the outset, 0 to 1,000,000.
+    Drill {
+        start: u64,
+        workers: u32,
+        room: usize,
+    },
+}
+
+/// Why the program's words ask for nothing that it could do.
+#[derive(Debug, Drop, Error)]
+pub enum WordsError {
+    /// They ask for help, which is this text.
+    #[error("{0}")]
+    Help(String),
+    /// They name no job, or a value that is no number within its limits.
+    #[error("refused words")]
+    Refused,
+    /// Memory was wanted, which says nothing of the words.
+    #[error("out of memory")]
+    Memory,
+}
+
+impl From<AllocError> for WordsError {
+    ghost use Rattle.std.specs.Prelude.{◌≡◌};
+    ghost use Rattle.check_words.specs.declared.words.WordsError.TheVariants.{Memory};
+
+    ghost from_gives = { λ _ e. e ≡ Memory };
+
+    fn from(_refused: AllocError) -> WordsError {
+        WordsError::Memory
+    }
+}

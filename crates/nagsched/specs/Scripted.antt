@@ -1,7 +1,0 @@
--- The scripts of the code as the definitions see them, by how these see a command.
-use Rattle.std.specs.Prelude.{map}
-use Rattle.nagsched.specs.declared.script.Script.{Script}
-use Rattle.nagsched.specs.Script as spec
-
-abbrev pub script : {C K : Type 0} → (C → K) → Script C → spec.Script K
-script seen s = record { setup = s.setup; commands = map seen s.commands.items }
