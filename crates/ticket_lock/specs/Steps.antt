@@ -56,7 +56,8 @@ module _ {K C R : Type 0} (k : Ghosts K C R) where
   abbrev pub IsEvent : Start K → List (Happening C R) → CoreState k.State C R → Happening C R → State (Option K) (View K C R) → Type 0
   IsEvent start happened c h s = (d : CoreState k.State C R) × Moves k.step start.draws c h d × IsTableOf k start (happened ++ h ∷ []) d s
 
--- a moment of the table, for one of its seats: how the lock was opened, what has happened since, the core state that it led to, the table, and the seat that is about to step
+-- a moment of the table, for one of its seats: how the lock was opened, what has happened since, the core state that it led
+-- to, the table, and the seat that is about to step
 pub record TableMoment (K S C R : Type 0) : Type 0 where
   pub start : Start K
   pub happened : List (Happening C R)
