@@ -1,0 +1,123 @@
+//! The options: each, their defaults, and what is refused.
+
+use super::{place, refuses};
+use crate::{DelayMethod, InterleaveFactor, LoadError, Options, Part, Setup};
+use std::alloc::{AllocError, Global};
+use std::process::Abort;
+use std::test::Fail;
+
+/// A document with this text as its options alone.
+fn with_options(alloc: Global, options: &str) -> Result<String, AllocError> {
+    format!(in alloc; "{{\"options\":{{{options}}}}}")
+}
+
+/// A document with this text as its options is refused for this reason.
+fn refuses_options_of(
+    rt: &impl Abort,
+    alloc: Global,
+    options: &str,
+    want: LoadError,
+) -> Result<(), AllocError> {
+    let document = with_options(alloc, options)?;
+    refuses(rt, alloc, document.as_str(), want);
+    Ok(())
+}
+
+#[test]
+fn reads_each_option(rt: HostRuntime) -> Result<(), Fail> {
+    let document = with_options(
+        rt.alloc(),
+        r#""interval_length":86400,"service_inter_check_delay_method":86400000,"max_service_check_spread":525600,
+        "service_interleave_factor":4096,"host_inter_check_delay_method":"d","max_host_check_spread":1,
+        "max_concurrent_checks":1000000,"soft_state_dependencies":true,"use_aggressive_host_checking":true"#,
+    )?;
+    let Ok(setup) = Setup::read(rt.alloc(), document.as_bytes()) else {
+        panic!(rt; "the document was refused");
+    };
+    let want = Options {
+        interval_length: 86_400,
+        service_inter_check_delay_method: DelayMethod::Fixed(86_400_000),
+        max_service_check_spread: 525_600,
+        service_interleave_factor: InterleaveFactor::Fixed(4096),
+        host_inter_check_delay_method: DelayMethod::Dumb,
+        max_host_check_spread: 1,
+        max_concurrent_checks: 1_000_000,
+        soft_state_dependencies: true,
+        use_aggressive_host_checking: true,
+    };
+    assert_eq!(rt; *setup.options(), want);
+    Ok(())
+}
+
+#[test]
+fn options_have_defaults(rt: HostRuntime) -> Result<(), Fail> {
+    let Ok(setup) = Setup::read(rt.alloc(), b"{}") else {
+        panic!(rt; "the document was refused");
+    };
+    let want = Options {
+        interval_length: 60,
+        service_inter_check_delay_method: DelayMethod::Smart,
+        max_service_check_spread: 30,
+        service_interleave_factor: InterleaveFactor::Smart,
+        host_inter_check_delay_method: DelayMethod::Smart,
+        max_host_check_spread: 30,
+        max_concurrent_checks: 0,
+        soft_state_dependencies: false,
+        use_aggressive_host_checking: false,
+    };
+    assert_eq!(rt; *setup.options(), want);
+    Ok(())
+}
+
+#[test]
+fn refuses_options(rt: HostRuntime) -> Result<(), Fail> {
+    let shape = LoadError::Shape(place(Part::Options, None));
+    let range = LoadError::Range(place(Part::Options, None));
+    refuses_options_of(
+        &rt,
+        rt.alloc(),
+        r#""service_inter_check_delay_method":"x""#,
+        shape,
+    )?;
+    refuses_options_of(
+        &rt,
+        rt.alloc(),
+        r#""host_inter_check_delay_method":true"#,
+        shape,
+    )?;
+    refuses_options_of(&rt, rt.alloc(), r#""service_interleave_factor":"n""#, shape)?;
+    refuses_options_of(&rt, rt.alloc(), r#""max_host_check_spread":"s""#, shape)?;
+    refuses_options_of(&rt, rt.alloc(), r#""max_concurrent_checks":-1"#, shape)?;
+    refuses_options_of(&rt, rt.alloc(), r#""soft_state_dependencies":0"#, shape)?;
+    refuses_options_of(&rt, rt.alloc(), r#""interval_length":86401"#, range)?;
+    refuses_options_of(
+        &rt,
+        rt.alloc(),
+        r#""service_inter_check_delay_method":86400001"#,
+        range,
+    )?;
+    refuses_options_of(
+        &rt,
+        rt.alloc(),
+        r#""host_inter_check_delay_method":86400001"#,
+        range,
+    )?;
+    refuses_options_of(&rt, rt.alloc(), r#""max_service_check_spread":0"#, range)?;
+    refuses_options_of(
+        &rt,
+        rt.alloc(),
+        r#""max_service_check_spread":525601"#,
+        range,
+    )?;
+    refuses_options_of(&rt, rt.alloc(), r#""max_host_check_spread":0"#, range)?;
+    refuses_options_of(&rt, rt.alloc(), r#""max_host_check_spread":525601"#, range)?;
+    refuses_options_of(&rt, rt.alloc(), r#""service_interleave_factor":0"#, range)?;
+    refuses_options_of(
+        &rt,
+        rt.alloc(),
+        r#""service_interleave_factor":4097"#,
+        range,
+    )?;
+    refuses_options_of(&rt, rt.alloc(), r#""max_concurrent_checks":1000001"#, range)?;
+    Ok(())
+}
