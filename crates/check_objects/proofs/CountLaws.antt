@@ -17,7 +17,8 @@ host_counted c n is below =
     let named : name_of c n ≡ get_or names n (i.item.name) = name_of_host c n i.item i.at ∙ ap (λ (h : Host). h.name) (sym (get_or_from_slice_get c.hosts n i.item i.item i.at)) ∙ sym (get_or-map (λ (h : Host). h.name) c.hosts n i.item i.item.name below) in
     ap (smaller_among text_order names) named ∙ rank_at text_order texts_total names n i.item.name is.hosts_ascend (omega (arith, below, length-map c.hosts (λ (h : Host). h.name)))
 
-pub service_counted : (c : Configuration) (n : ℕ) (s : Service) → IsSetup c → slice_get c.services n ≡ Some s → smaller_among pair_order (map (pair_of c) c.services) (pair_of c s) ≡ n
+pub service_counted : (c : Configuration) (n : ℕ) (s : Service) → IsSetup c → slice_get c.services n ≡ Some s
+    → smaller_among pair_order (map (pair_of c) c.services) (pair_of c s) ≡ n
 service_counted c n s is at =
     let below = slice_get_within c.services n s at in
     let pairs = map (pair_of c) c.services in

@@ -12,7 +12,8 @@ use Rattle.check_objects.specs.Draft.{items_from}
 use Rattle.check_objects.specs.LoadError.{◌>>=◌, with_front}
 
 module _ {A : Type 0} (shape : Data → Option A) (place : ℕ → Place) where
-  with_front-more : (front : List A) (x : A) (rest : Result (List A) LoadError) → with_front front (rest >>= λ xs. Ok (x ∷ xs)) ≡ with_front (front ++ x ∷ []) rest
+  with_front-more : (front : List A) (x : A) (rest : Result (List A) LoadError)
+      → with_front front (rest >>= λ xs. Ok (x ∷ xs)) ≡ with_front (front ++ x ∷ []) rest
   with_front-more front x (Ok xs) = ap Ok (sym (append_assoc front (x ∷ []) xs))
   with_front-more front x (Err e) = refl
 

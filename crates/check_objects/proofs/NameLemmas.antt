@@ -42,7 +42,8 @@ one_more : (n : ℕ) → 1 + n ≡ suc n
 one_more n = omega arith
 
 -- the place of an element before which nothing passes
-pub first_at : {A : Type 0} (p : A → Bool) (xs : List A) (n : ℕ) (x : A) → slice_get xs n ≡ Some x → p x ≡ true → list_any p (take n xs) ≡ false → position p xs ≡ Some n
+pub first_at : {A : Type 0} (p : A → Bool) (xs : List A) (n : ℕ) (x : A) → slice_get xs n ≡ Some x → p x ≡ true → list_any p (take n xs) ≡ false
+    → position p xs ≡ Some n
 first_at p [] n x at e new = cc
 first_at p (y ∷ xs) zero x at e new = let same : y ≡ x = cc in position-front p (y ∷ []) xs 0 (one_found p y (ap p same ∙ e))
 first_at p (y ∷ xs) (suc n) x at e new =
@@ -58,8 +59,10 @@ pub record Found {A : Type 0} (p : A → Bool) (xs : List A) : Type 0 where
   pub passes : p item ≡ true
   pub below : index < length xs
 
-found_by : {A : Type 0} (p : A → Bool) (x : A) (xs : List A) (b : Bool) → p x ≡ b → (b || list_any p xs) ≡ true → (list_any p xs ≡ true → Found p xs) → Found p (x ∷ xs)
-found_by p x xs true e h more = record { index = 0; item = x; place = position-front p (x ∷ []) xs 0 (one_found p x e); at = refl; passes = e; below = omega arith }
+found_by : {A : Type 0} (p : A → Bool) (x : A) (xs : List A) (b : Bool) → p x ≡ b → (b || list_any p xs) ≡ true
+    → (list_any p xs ≡ true → Found p xs) → Found p (x ∷ xs)
+found_by p x xs true e h more =
+    record { index = 0; item = x; place = position-front p (x ∷ []) xs 0 (one_found p x e); at = refl; passes = e; below = omega arith }
 found_by p x xs false e h more =
     let f = more h in
     record {
@@ -107,7 +110,8 @@ same_text a = (bytes_eq-Decides a a).1 refl
 
 semicolon_free : (bytes : List ℕ) → list_all is_name_byte bytes ≡ true → is_host_name bytes ≡ true
 semicolon_free [] h = refl
-semicolon_free (b ∷ bytes) h = and_both _ _ (and_second _ _ (and_first (is_name_byte b) (list_all is_name_byte bytes) h)) (semicolon_free bytes (and_second (is_name_byte b) (list_all is_name_byte bytes) h))
+semicolon_free (b ∷ bytes) h =
+    and_both _ _ (and_second _ _ (and_first (is_name_byte b) (list_all is_name_byte bytes) h)) (semicolon_free bytes (and_second (is_name_byte b) (list_all is_name_byte bytes) h))
 
 -- a name has no semicolon
 pub parted_name : (name : List ℕ) → is_name name ≡ true → is_host_name name ≡ true
@@ -128,7 +132,8 @@ apart_from_hosts [] b (y ∷ name) h = rw (not_semicolon_by y (y == 59) refl (an
 apart_from_hosts (x ∷ a) b [] h = refl
 apart_from_hosts (x ∷ a) b (y ∷ name) h = never_both (x == y) _ (apart_from_hosts a b name (and_second _ (is_host_name name) h))
 
-pub no_host_has : {A : Type 0} (name : A → List ℕ) (text : List ℕ) (key : List ℕ × List ℕ) (xs : List A) → text ≡ full_name key → list_all (λ x. is_host_name (name x)) xs ≡ true → list_any (λ x. bytes_eq text (name x)) xs ≡ false
+pub no_host_has : {A : Type 0} (name : A → List ℕ) (text : List ℕ) (key : List ℕ × List ℕ) (xs : List A) → text ≡ full_name key
+    → list_all (λ x. is_host_name (name x)) xs ≡ true → list_any (λ x. bytes_eq text (name x)) xs ≡ false
 no_host_has name text key [] e h = refl
 no_host_has name text key (x ∷ xs) e h =
     let here : bytes_eq text (name x) ≡ false = ap (λ t. bytes_eq t (name x)) e ∙ apart_from_hosts key.0 key.1 (name x) (and_first _ _ h) in
@@ -157,10 +162,12 @@ pub record HasNames (c : Configuration) : Type 0 where
   pub hosted : list_all (λ s. nat_lt s.host (length c.hosts)) c.services ≡ true
 
 pub names_of_setup : (c : Configuration) → IsSetup c → HasNames c
-names_of_setup c is = record { host_names = is.host_names; full_names = is.full_names; hosts_ascend = is.hosts_ascend; services_ascend = is.services_ascend; hosted = is.hosted }
+names_of_setup c is =
+    record { host_names = is.host_names; full_names = is.full_names; hosts_ascend = is.hosts_ascend; services_ascend = is.services_ascend; hosted = is.hosted }
 
 good_hosts : (c : Configuration) → HasNames c → list_all (λ h. is_host_name h.name) c.hosts ≡ true
-good_hosts c is = list_all-from_AllPass (λ h. is_host_name h.name) c.hosts (λ k d below. parted_name (get_or c.hosts k d).name (AllPass-from_list_all (λ h. is_name h.name) c.hosts is.host_names k d below))
+good_hosts c is =
+    list_all-from_AllPass (λ h. is_host_name h.name) c.hosts (λ k d below. parted_name (get_or c.hosts k d).name (AllPass-from_list_all (λ h. is_name h.name) c.hosts is.host_names k d below))
 
 module _ (c : Configuration) (is : HasNames c) where
   host_number : (n : ℕ) → n < host_count c → number_of c (name_of c n) ≡ Some n
@@ -183,7 +190,8 @@ module _ (c : Configuration) (is : HasNames c) where
   is_named : Service → Bool
   is_named s = is_host_name (pair_of c s).0 && bytes_eq s.name (full_name (pair_of c s))
 
-  all_named : (ss : List Service) → list_all (λ s. nat_lt s.host (length c.hosts)) ss ≡ true → AllByRecursion (λ s. s.name ≡ full_name (pair_of c s)) ss → list_all is_named ss ≡ true
+  all_named : (ss : List Service) → list_all (λ s. nat_lt s.host (length c.hosts)) ss ≡ true
+      → AllByRecursion (λ s. s.name ≡ full_name (pair_of c s)) ss → list_all is_named ss ≡ true
   unfolding is_named
   all_named [] h k = refl
   all_named (s ∷ ss) h k =

@@ -15,7 +15,8 @@ front_of : {K : Type 0} (before more : List K) (i : ℕ) → i ≡ length before
 front_of [] more i e = ap (λ k. take k more) e
 front_of (x ∷ before) more i e = ap (λ k. take k (x ∷ (before ++ more))) e ∙ ap (λ l. x ∷ l) (front_of before more (length before) refl)
 
-stands_by : {K : Type 0} (same : K → K → Bool) (before : List K) (key : K) (keys : List K) (i : ℕ) → i ≡ length before → stands_before same (before ++ key ∷ keys) i ≡ list_any (same key) before
+stands_by : {K : Type 0} (same : K → K → Bool) (before : List K) (key : K) (keys : List K) (i : ℕ) → i ≡ length before
+    → stands_before same (before ++ key ∷ keys) i ≡ list_any (same key) before
 stands_by same before key keys i e =
     ap (λ o. unwrap_or (option_map (λ k. list_any (same k) (take i (before ++ key ∷ keys))) o) false) (next_at before key keys i e)
     ∙ ap (list_any (same key)) (front_of before (key ∷ keys) i e)
@@ -34,7 +35,8 @@ length_more (x ∷ before) key = ap suc (length_more before key)
 zero_more : (i : ℕ) → i + 0 ≡ i
 zero_more i = omega arith
 
-repeats_by : {K : Type 0} (same : K → K → Bool) (before : List K) (i : ℕ) (key : K) (keys : List K) (b : Bool) → i ≡ length before → list_any (same key) before ≡ b
+repeats_by : {K : Type 0} (same : K → K → Bool) (before : List K) (i : ℕ) (key : K) (keys : List K) (b : Bool) → i ≡ length before
+    → list_any (same key) before ≡ b
     → repeat_after same (before ++ key ∷ []) (i + 1) keys ≡ option_map (λ j. (i + 1) + j) (position (stands_before same ((before ++ key ∷ []) ++ keys)) (range_with_len (i + 1) (length keys)))
     → cond b (Some i) (repeat_after same (before ++ key ∷ []) (i + 1) keys) ≡ option_map (λ j. i + j) (position (stands_before same (before ++ key ∷ keys)) (range_with_len i (suc (length keys))))
 repeats_by same before i key keys true e there more =

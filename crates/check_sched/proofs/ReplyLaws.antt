@@ -127,7 +127,8 @@ taken_among s front back m now object run legal =
 -- In a book's history the report of an object that was taken before is answered by its standing, or
 -- refused since the object isn't running or runs under another run.
 pub report_reply : (s : BookState) (front back : List (Entry Call Reply)) (m n now object run : ℕ) (code : Code) (r : Reply)
-    → IsLegal book_step s (((front ++ entry m (call.Take now) (reply.Taken object run) ∷ []) ++ back) ++ entry n (call.Report object run code) r ∷ []) → IsReportReply r
+    → IsLegal book_step s (((front ++ entry m (call.Take now) (reply.Taken object run) ∷ []) ++ back) ++ entry n (call.Report object run code) r ∷ [])
+    → IsReportReply r
 report_reply s front back m n now object run code r legal =
     let before = (front ++ entry m (call.Take now) (reply.Taken object run) ∷ []) ++ back in
     let report = entry n (call.Report object run code) r in

@@ -62,7 +62,8 @@ eligible_within now s c is_state e =
     omega (arith, less, is_state.one_each)
 
 -- the same of what was found, if anything was
-pub found_within : (now : ℕ) (s : State) (found : Option Candidate) → IsState s → found ≡ least (eligible now s) → IfSome found (λ c. c.1 < object_count s.setup)
+pub found_within : (now : ℕ) (s : State) (found : Option Candidate) → IsState s → found ≡ least (eligible now s)
+    → IfSome found (λ c. c.1 < object_count s.setup)
 found_within now s None is_state e = tt
 found_within now s (Some c) is_state e = eligible_within now s c is_state (sym e)
 
@@ -105,12 +106,15 @@ put_off_is_state now n s is_state m =
 -- ---- what the code leaves
 
 -- the state that the write to an object leaves whose check begins
-pub taken_left : (now n : ℕ) (s : State) (o new : Scheduling) → n < length s.objects → o ≡ get_or s.objects n o → new ≡ running_from (record { number = s.runs + 1; start = now }) o
-    → let left : State = record { setup = s.setup; start = s.start; objects = set s.objects n new; standings = s.standings; runs = s.runs + 1 } in left ≡ taken now n s
+pub taken_left : (now n : ℕ) (s : State) (o new : Scheduling) → n < length s.objects → o ≡ get_or s.objects n o
+    → new ≡ running_from (record { number = s.runs + 1; start = now }) o
+    → let left : State =
+    record { setup = s.setup; start = s.start; objects = set s.objects n new; standings = s.standings; runs = s.runs + 1 } in left ≡ taken now n s
 taken_left now n s o new h e g i = record {
   setup = s.setup;
   start = s.start;
-  objects = set_is_update n (running_from (record { number = s.runs + 1; start = now })) s.objects o new h (g ∙ ap (running_from (record { number = s.runs + 1; start = now })) e) i;
+  objects =
+      set_is_update n (running_from (record { number = s.runs + 1; start = now })) s.objects o new h (g ∙ ap (running_from (record { number = s.runs + 1; start = now })) e) i;
   standings = s.standings;
   runs = s.runs + 1;
 }

@@ -64,7 +64,8 @@ length-moments_in : (commands : List Command) → length (moments_in commands) �
 length-moments_in [] = omega arith
 length-moments_in (c ∷ commands) = length-cons_moment (moment_of c) (moments_in commands) (length commands) (length-moments_in commands)
 
-few_over_by : (r : Result (Script Command) InputRefusal) (s : DrillScript) (n : ℕ) → IfOk r (λ read. length read.commands ≤ n) → (r >>= λ read. Ok (drill_over read)) ≡ Ok s
+few_over_by : (r : Result (Script Command) InputRefusal) (s : DrillScript) (n : ℕ) → IfOk r (λ read. length read.commands ≤ n)
+    → (r >>= λ read. Ok (drill_over read)) ≡ Ok s
     → length s.moments ≤ n
 few_over_by (Ok read) s n h e = let k : drill_over read ≡ s = cc in rw (← k) (omega (arith, length-moments_in read.commands, h))
 few_over_by (Err r) s n h e =
@@ -90,7 +91,8 @@ returns_own done named object r e =
     ap (λ l. unwrap_or (last_or None l) []) (filter_map-append (returns_by object) done (PluginOf named r ∷ []) ∙ ap (λ b. given ++ cons_option (cond b (Some r) None) []) e)
     ∙ ap (λ o. unwrap_or o []) (last_or-more None given r)
 
-returns_other : (done : List Command) (named object : ℕ) (r : List Code) → (named == object) ≡ false → returns_of (done ++ PluginOf named r ∷ []) object ≡ returns_of done object
+returns_other : (done : List Command) (named object : ℕ) (r : List Code) → (named == object) ≡ false
+    → returns_of (done ++ PluginOf named r ∷ []) object ≡ returns_of done object
 returns_other done named object r e =
     let given = filter_map (returns_by object) done in
     ap (λ l. unwrap_or (last_or None l) []) (filter_map-append (returns_by object) done (PluginOf named r ∷ []) ∙ ap (λ b. given ++ cons_option (cond b (Some r) None) []) e ∙ append-nil given)
@@ -134,6 +136,8 @@ returns_next count done (PluginOf named r) =
 abbrev pub drill_with : Configuration → List (List Code) → List ℕ → DrillScript
 drill_with setup lists moments = record { setup = setup; returns = lists; moments = moments }
 
-pub drill_is : (setup : Configuration) (commands : List DrillCommand) (lists : List (List Code)) (moments : List ℕ) → lists ≡ returns_below (object_count setup) (map drill_command commands)
-    → moments ≡ filter_map (λ c. moment_of (drill_command c)) commands → drill_with setup lists moments ≡ drill_over (record { setup = setup; commands = map drill_command commands })
+pub drill_is : (setup : Configuration) (commands : List DrillCommand) (lists : List (List Code)) (moments : List ℕ)
+    → lists ≡ returns_below (object_count setup) (map drill_command commands)
+    → moments ≡ filter_map (λ c. moment_of (drill_command c)) commands
+    → drill_with setup lists moments ≡ drill_over (record { setup = setup; commands = map drill_command commands })
 drill_is setup commands lists moments r m = rw (r, m, moments_seen commands) refl

@@ -33,7 +33,8 @@ one_by true a b c h = h
 one_by false a b c h = refl
 
 -- a test that counts one position more
-pub visits_one : (t u : ℕ → Bool) (b : Bool) (p i k : ℕ) (xs : List Object) (d : Object) → p ≡ i + k → k < length xs → ((j : ℕ) → j ≢ p → t j ≡ u j) → one (u p) ≡ one (t p) + one b
+pub visits_one : (t u : ℕ → Bool) (b : Bool) (p i k : ℕ) (xs : List Object) (d : Object) → p ≡ i + k → k < length xs → ((j : ℕ) → j ≢ p → t j ≡ u j)
+    → one (u p) ≡ one (t p) + one b
     → visits u i xs ≡ visits t i xs + one (is_scheduled (get_or xs k d) && b)
 visits_one t u b p i k [] d e l h o = absurd (omega arith)
 visits_one t u b p i zero (x ∷ xs) d e l h o =
@@ -81,7 +82,8 @@ two_by true a b c h = h
 two_by false a b c h = refl
 
 -- a test that is either of two
-pub visits_either : (t u v : ℕ → Bool) (i : ℕ) (xs : List Object) → ((j : ℕ) → one (t j) + one (u j) ≡ one (v j)) → visits t i xs + visits u i xs ≡ visits v i xs
+pub visits_either : (t u v : ℕ → Bool) (i : ℕ) (xs : List Object) → ((j : ℕ) → one (t j) + one (u j) ≡ one (v j))
+    → visits t i xs + visits u i xs ≡ visits v i xs
 visits_either t u v i [] h = refl
 visits_either t u v i (x ∷ xs) h =
     let rest = visits_either t u v (i + 1) xs h in
@@ -94,7 +96,8 @@ visits_either t u v i (x ∷ xs) h =
 -- ---- counts by remainder
 
 -- the counts after a scheduled object at position p, where the tests differ there alone
-pub counts_add : (t u : ℕ → ℕ → Bool) (factor p : ℕ) (xs : List Object) (d : Object) (counts : List ℕ) → 0 < factor → p % factor < factor → p < length xs → is_scheduled (get_or xs p d) ≡ true
+pub counts_add : (t u : ℕ → ℕ → Bool) (factor p : ℕ) (xs : List Object) (d : Object) (counts : List ℕ) → 0 < factor → p % factor < factor
+    → p < length xs → is_scheduled (get_or xs p d) ≡ true
     → ((r j : ℕ) → j ≢ p → t r j ≡ u r j) → ((r : ℕ) → one (u r p) ≡ one (t r p) + one (p % factor == r))
     → HasCounts t factor xs counts → HasCounts u factor xs (set counts (p % factor) (count_at counts (p % factor) + 1))
 counts_add t u factor p xs d counts f w l s same more has = record {
@@ -181,7 +184,9 @@ nothing_below j = grind (arith, nat_tests)
 pub counts_first : (factor : ℕ) (xs : List Object) (counts : List ℕ) → counts ≡ replicate factor 0 → HasCounts (has_remainder_before factor 0) factor xs counts
 counts_first factor xs counts e = record {
   size = rw e (length-replicate factor 0);
-  at = λ r h. rw e (get_or-replicate factor r 0 0 h) ∙ sym (visits_none (has_remainder_before factor 0 r) 0 xs (λ j. rw (nothing_below j) (false_second (j % factor == r))));
+  at =
+      λ r h. rw e (get_or-replicate factor r 0 0 h)
+      ∙ sym (visits_none (has_remainder_before factor 0 r) 0 xs (λ j. rw (nothing_below j) (false_second (j % factor == r))));
 }
 
 or_false : (b : Bool) → (b || false) ≡ b
@@ -192,10 +197,13 @@ true_second : (b : Bool) → (b && true) ≡ b
 true_second true = refl
 true_second false = refl
 
-pub counts_all : (factor n : ℕ) (xs : List Object) (counts : List ℕ) → n ≡ length xs → HasCounts (has_remainder_before factor n) factor xs counts → HasCounts (has_remainder factor) factor xs counts
+pub counts_all : (factor n : ℕ) (xs : List Object) (counts : List ℕ) → n ≡ length xs → HasCounts (has_remainder_before factor n) factor xs counts
+    → HasCounts (has_remainder factor) factor xs counts
 counts_all factor n xs counts e has = record {
   size = has.size;
-  at = λ r h. has.at r h ∙ visits_same (has_remainder_before factor n r) (has_remainder factor r) 0 xs (λ j l m. let below : nat_lt j n ≡ true = (let k : j < n = omega (arith, e) in grind (arith, nat_tests)) in rw below (true_second (j % factor == r)));
+  at =
+      λ r h. has.at r h
+      ∙ visits_same (has_remainder_before factor n r) (has_remainder factor r) 0 xs (λ j l m. let below : nat_lt j n ≡ true = (let k : j < n = omega (arith, e) in grind (arith, nat_tests)) in rw below (true_second (j % factor == r)));
 }
 
 -- ---- the ranks at which the remainders begin
@@ -228,7 +236,8 @@ one_more : (r : ℕ) → suc r ≡ r + 1
 one_more r = omega arith
 
 -- the counts of the first r remainders add up to those with a smaller one
-sums_less : (factor : ℕ) (xs : List Object) (counts : List ℕ) → HasCounts (has_remainder factor) factor xs counts → (r : ℕ) → r ≤ factor → sum (take r counts) ≡ visits (has_less_remainder factor r) 0 xs
+sums_less : (factor : ℕ) (xs : List Object) (counts : List ℕ) → HasCounts (has_remainder factor) factor xs counts → (r : ℕ) → r ≤ factor
+    → sum (take r counts) ≡ visits (has_less_remainder factor r) 0 xs
 sums_less factor xs counts has zero h = sym (visits_none (has_less_remainder factor 0) 0 xs (λ j. nothing_below (j % factor)))
 sums_less factor xs counts has (suc r) h =
     let before = sums_less factor xs counts has r (omega arith) in
@@ -244,7 +253,8 @@ few_in_all factor xs counts has =
     let few = visits_few (has_less_remainder factor factor) 0 xs in
     omega (arith, all, whole, few)
 
-pub ranks_first : (factor : ℕ) (xs : List Object) (counts ranks : List ℕ) → HasCounts (has_remainder factor) factor xs counts → ranks ≡ sums_before 0 counts → HasCounts (has_less_remainder factor) factor xs ranks
+pub ranks_first : (factor : ℕ) (xs : List Object) (counts ranks : List ℕ) → HasCounts (has_remainder factor) factor xs counts
+    → ranks ≡ sums_before 0 counts → HasCounts (has_less_remainder factor) factor xs ranks
 ranks_first factor xs counts ranks has e = record {
   size = rw e (length-sums_before 0 counts ∙ has.size);
   at = λ r h. rw e (sums_at 0 counts r (omega (arith, has.size)) ∙ (let s = sums_less factor xs counts has r (omega arith) in omega (arith, s)));
@@ -270,7 +280,8 @@ visits_most t i (x ∷ xs) =
     omega (arith, a, b, c, rest)
 
 -- where a scheduled one isn't counted, fewer are counted than are scheduled
-visits_less : (t : ℕ → Bool) (i k : ℕ) (xs : List Object) (d : Object) → k < length xs → is_scheduled (get_or xs k d) ≡ true → t (i + k) ≡ false → visits t i xs < count_by is_scheduled xs
+visits_less : (t : ℕ → Bool) (i k : ℕ) (xs : List Object) (d : Object) → k < length xs → is_scheduled (get_or xs k d) ≡ true → t (i + k) ≡ false
+    → visits t i xs < count_by is_scheduled xs
 visits_less t i k [] d h s e = absurd (omega arith)
 visits_less t i zero (x ∷ xs) d h s e =
     let rest = visits_most t (i + 1) xs in
@@ -289,17 +300,21 @@ visits_less t i (suc k) (x ∷ xs) d h s e =
     omega (arith, a, b, c, rest)
 
 -- the rank of a scheduled object is less than how many are scheduled
-pub rank_less : (factor p : ℕ) (xs : List Object) (d : Object) → p < length xs → is_scheduled (get_or xs p d) ≡ true → visits (is_visited_earlier factor p (p % factor)) 0 xs < count_by is_scheduled xs
+pub rank_less : (factor p : ℕ) (xs : List Object) (d : Object) → p < length xs → is_scheduled (get_or xs p d) ≡ true
+    → visits (is_visited_earlier factor p (p % factor)) 0 xs < count_by is_scheduled xs
 rank_less factor p xs d h s =
     let not_less : nat_lt (p % factor) (p % factor) ≡ false = not_less_itself (p % factor) in
     let not_itself : is_visited_earlier factor p (p % factor) p ≡ false = rw (not_less, not_less_itself p) (false_second (p % factor == p % factor)) in
     let at : 0 + p ≡ p = omega arith in
     visits_less (is_visited_earlier factor p (p % factor)) 0 p xs d h s (rw at not_itself)
 
-pub earlier_first : (factor : ℕ) (xs : List Object) (ranks : List ℕ) → HasCounts (has_less_remainder factor) factor xs ranks → HasCounts (is_visited_earlier factor 0) factor xs ranks
+pub earlier_first : (factor : ℕ) (xs : List Object) (ranks : List ℕ) → HasCounts (has_less_remainder factor) factor xs ranks
+    → HasCounts (is_visited_earlier factor 0) factor xs ranks
 earlier_first factor xs ranks has = record {
   size = has.size;
-  at = λ r h. has.at r h ∙ visits_same (has_less_remainder factor r) (is_visited_earlier factor 0 r) 0 xs (λ j l m. sym (rw (nothing_below j, false_second (j % factor == r)) (or_false (nat_lt (j % factor) r))));
+  at =
+      λ r h. has.at r h
+      ∙ visits_same (has_less_remainder factor r) (is_visited_earlier factor 0 r) 0 xs (λ j l m. sym (rw (nothing_below j, false_second (j % factor == r)) (or_false (nat_lt (j % factor) r))));
 }
 
 pub ok_weaker : {A E : Type 0} {P Q : A → Type 0} (r : Result A E) → ((x : A) → P x → Q x) → IfOk r P → IfOk r Q

@@ -24,7 +24,8 @@ interval_of interval_length o = o.check_interval * interval_length * 1000
 
 -- how many of the objects are scheduled, and the sum of their check intervals
 abbrev pub load_of : ℕ → List Object → Load
-load_of interval_length objects = record { scheduled = count_by is_scheduled objects; total = sum_by (interval_of interval_length) (filter is_scheduled objects) }
+load_of interval_length objects =
+    record { scheduled = count_by is_scheduled objects; total = sum_by (interval_of interval_length) (filter is_scheduled objects) }
 
 -- ---- the order
 

@@ -29,6 +29,10 @@ loop-index-preserved c =
     let more = one_key_more (list_any (λ n. bytes_eq draft.name.now n.now) c.loop-index.names.keys) c.loop-index.names.keys c.insert.new.self.keys draft.name c.in_ok-insert.ensures.keys new in
     let rest = dropped_as hs c.loop-index.index draft c.loop-index-test.true c.index-hosts-index.is in
     record {
-      repeat = c.loop-index.invariant.repeat ∙ repeat_later bytes_eq (λ n. n.now) (λ ds. names_of (map host ds)) (λ d. d.name) (λ d ds. refl) c.loop-index.names.keys c.insert.new.self.keys hs c.loop-index.index draft rest new more;
-      names = c.loop-index.invariant.names ∙ keys_later bytes_eq (λ n. n.now) (λ ds. names_of (map host ds)) (λ d. d.name) (λ d ds. refl) c.loop-index.names.keys c.insert.new.self.keys hs c.loop-index.index draft rest more;
+      repeat =
+          c.loop-index.invariant.repeat
+          ∙ repeat_later bytes_eq (λ n. n.now) (λ ds. names_of (map host ds)) (λ d. d.name) (λ d ds. refl) c.loop-index.names.keys c.insert.new.self.keys hs c.loop-index.index draft rest new more;
+      names =
+          c.loop-index.invariant.names
+          ∙ keys_later bytes_eq (λ n. n.now) (λ ds. names_of (map host ds)) (λ d. d.name) (λ d ds. refl) c.loop-index.names.keys c.insert.new.self.keys hs c.loop-index.index draft rest more;
     }

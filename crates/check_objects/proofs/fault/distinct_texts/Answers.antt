@@ -15,4 +15,5 @@ loop-text-preserved c =
     ∙ ap (λ l. is_known l name) (sym (mapped_next string_bytes all i text c.loop-text-test.true c.text-item.is))
 
 pub returns-clause-same : goal.returns-clause-same
-returns-clause-same c = λ name. c.loop-text.invariant name ∙ ap (λ l. is_known (map string_bytes l) name) (take_all c.loop-text.text-index c.args.all.now (omega arith))
+returns-clause-same c =
+    λ name. c.loop-text.invariant name ∙ ap (λ l. is_known (map string_bytes l) name) (take_all c.loop-text.text-index c.args.all.now (omega arith))

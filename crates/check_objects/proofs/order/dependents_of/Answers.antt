@@ -5,7 +5,8 @@ use Rattle.check_objects.proofs.DependentLemmas.{dependents_none, replicate_with
 use Rattle.check_objects.proofs.order.dependents_of.Goals as goal
 
 pub loop-object-init : goal.loop-object-init
-loop-object-init c = dependents_none (length c.args.links.now) (map (λ list. list.items) c.args.links.now) _ c.in_ok-dependents.ensures (rw c.in_ok-dependents.ensures (replicate_within (length c.args.links.now) (length c.args.links.now)))
+loop-object-init c =
+    dependents_none (length c.args.links.now) (map (λ list. list.items) c.args.links.now) _ c.in_ok-dependents.ensures (rw c.in_ok-dependents.ensures (replicate_within (length c.args.links.now) (length c.args.links.now)))
 
 pub add_dependent-requires : goal.add_dependent-requires
 add_dependent-requires c =

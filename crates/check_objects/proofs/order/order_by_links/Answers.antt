@@ -5,7 +5,8 @@ use Rattle.check_objects.proofs.DependentLemmas.{list_at, all_below_same, within
 use Rattle.check_objects.proofs.order.order_by_links.Goals as goal
 
 pub loop-place-init : goal.loop-place-init
-loop-place-init c = rw (c.in_ok-order.ensures, c.deref.ensures.value) (under_way_first (map (λ list. list.items) c.args.links.now) c.in_ok-left.left.items c.in_ok-left.ensures)
+loop-place-init c =
+    rw (c.in_ok-order.ensures, c.deref.ensures.value) (under_way_first (map (λ list. list.items) c.args.links.now) c.in_ok-left.left.items c.in_ok-left.ensures)
 
 pub close_links-requires-clause-within : goal.close_links-requires-clause-within
 close_links-requires-clause-within c =

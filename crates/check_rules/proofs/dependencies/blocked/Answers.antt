@@ -7,7 +7,8 @@ use Rattle.check_rules.proofs.MarkLemmas.{empty_is, order_within, walk_first, wa
 use Rattle.check_rules.proofs.dependencies.blocked.Goals as goal
 
 pub returns-then-is_empty-clause-value : goal.returns-then-is_empty-clause-value
-returns-then-is_empty-clause-value c = unblocked c.args.setup.now c.args.standings.now c.args.n (sym c.dependencies.ensures.dependencies ∙ empty_is c.dependencies.result.now (sym c.is_empty.ensures ∙ c.if-is_empty.true))
+returns-then-is_empty-clause-value c =
+    unblocked c.args.setup.now c.args.standings.now c.args.n (sym c.dependencies.ensures.dependencies ∙ empty_is c.dependencies.result.now (sym c.is_empty.ensures ∙ c.if-is_empty.true))
 
 pub loop-place-init : goal.loop-place-init
 loop-place-init c =

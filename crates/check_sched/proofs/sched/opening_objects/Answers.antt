@@ -9,4 +9,6 @@ loop-number-preserved c =
     (object_seen c.args.setup.now c.args.times.now c.loop-number.number c.object.result.now _ c.opening.result c.requires c.loop-number-test.true c.object.ensures refl c.opening.ensures)
 
 pub returns-clause-items : goal.returns-clause-items
-returns-clause-items c = c.loop-number.invariant ∙ take_all c.loop-number.number _ (let l = length-objects_at c.args.setup.now c.args.times.now c.requires in omega (arith, l))
+returns-clause-items c =
+    c.loop-number.invariant
+    ∙ take_all c.loop-number.number _ (let l = length-objects_at c.args.setup.now c.args.times.now c.requires in omega (arith, l))

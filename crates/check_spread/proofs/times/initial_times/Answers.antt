@@ -5,10 +5,12 @@ use Rattle.check_spread.proofs.TimesLemmas.{front_in_range, back_in_range, lengt
 use Rattle.check_spread.proofs.times.initial_times.Goals as goal
 
 pub push_first_times-requires-clause-intervals : goal.push_first_times-requires-clause-intervals
-push_first_times-requires-clause-intervals c = rw (c.split_at.ensures.front, c.deref.ensures.value) (front_in_range c.hosts.result c.in_ok-objects.objects.items c.in_ok-objects.ensures.intervals)
+push_first_times-requires-clause-intervals c =
+    rw (c.split_at.ensures.front, c.deref.ensures.value) (front_in_range c.hosts.result c.in_ok-objects.objects.items c.in_ok-objects.ensures.intervals)
 
 pub push_first_times-requires-2-clause-intervals : goal.push_first_times-requires-2-clause-intervals
-push_first_times-requires-2-clause-intervals c = rw (c.split_at.ensures.back, c.deref.ensures.value) (back_in_range c.hosts.result c.in_ok-objects.objects.items c.in_ok-objects.ensures.intervals)
+push_first_times-requires-2-clause-intervals c =
+    rw (c.split_at.ensures.back, c.deref.ensures.value) (back_in_range c.hosts.result c.in_ok-objects.objects.items c.in_ok-objects.ensures.intervals)
 
 pub returns-clause-one_each : goal.returns-clause-one_each
 returns-clause-one_each c =

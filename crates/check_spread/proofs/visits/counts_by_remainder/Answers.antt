@@ -28,4 +28,5 @@ loop-position-preserved c =
     ]
 
 pub returns : goal.returns
-returns c = counts_all c.args.factor c.loop-position.position c.args.objects.now c.loop-position.counts.items (omega (arith, c.loop-position.auto.position-end)) c.loop-position.invariant
+returns c =
+    counts_all c.args.factor c.loop-position.position c.args.objects.now c.loop-position.counts.items (omega (arith, c.loop-position.auto.position-end)) c.loop-position.invariant

@@ -18,10 +18,12 @@ returns-in_err-flush-clause-fault g c =
     rw (p.1, p.2) (flush_fault _ _ _ _ _ _ _ c.in_ok-input.input.items c.in_ok-input.ensures.all c.in_ok-input.ensures.left (rw c.deref.ensures.value at c.in_ok-outcome.ensures.written) c.flush.ensures.kept c.in_err-flush.ensures.kind)
 
 pub returns-clause-written : goal.returns-clause-written
-returns-clause-written g c = run_written _ _ _ _ _ c.in_ok-input.input.items c.in_ok-input.ensures.all (rw c.deref.ensures.value at c.in_ok-outcome.ensures.written) c.flush.ensures.kept
+returns-clause-written g c =
+    run_written _ _ _ _ _ c.in_ok-input.input.items c.in_ok-input.ensures.all (rw c.deref.ensures.value at c.in_ok-outcome.ensures.written) c.flush.ensures.kept
 
 pub returns-clause-outcome : goal.returns-clause-outcome
-returns-clause-outcome g c = flushed_outcome _ _ c.in_ok-input.input.items c.in_ok-input.ensures.all (rw c.deref.ensures.value at c.in_ok-outcome.ensures.outcome)
+returns-clause-outcome g c =
+    flushed_outcome _ _ c.in_ok-input.input.items c.in_ok-input.ensures.all (rw c.deref.ensures.value at c.in_ok-outcome.ensures.outcome)
 
 pub returns-in_err-input-clause-input : goal.returns-in_err-input-clause-input
 returns-in_err-input-clause-input g c =

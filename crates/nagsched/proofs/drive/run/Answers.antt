@@ -18,4 +18,5 @@ returns-in_err-make_call-clause-fault g c =
     on_err_any _ (WroteUpTo-cut _ _ _ _ _ _ _ c.loop-call.invariant next c.in_err-make_call.ensures.fault)
 
 pub returns-clause-written : goal.returns-clause-written
-returns-clause-written g c = WroteUpTo-whole _ _ _ _ c.loop-call.invariant (text_end c.loop-call.sched c.deref-call-items.result.now c.loop-call.call-index (omega arith))
+returns-clause-written g c =
+    WroteUpTo-whole _ _ _ _ c.loop-call.invariant (text_end c.loop-call.sched c.deref-call-items.result.now c.loop-call.call-index (omega arith))

@@ -17,16 +17,21 @@ use Rattle.check_objects.proofs.SetupLemmas.{few_hosts, few_names, parted, confi
 use Rattle.check_objects.proofs.setup.Setup.of_drafts.Goals as goal
 
 pub sort_hosts-requires-clause-distinct : goal.sort_hosts-requires-clause-distinct
-sort_hosts-requires-clause-distinct c = ap (λ l. first_repeat bytes_eq (names_of (map host l))) c.deref.ensures.value ∙ (once (drafts c.args.document.now) c.requires.faultless).0
+sort_hosts-requires-clause-distinct c =
+    ap (λ l. first_repeat bytes_eq (names_of (map host l))) c.deref.ensures.value ∙ (once (drafts c.args.document.now) c.requires.faultless).0
 
 pub sort_services-requires-clause-distinct : goal.sort_services-requires-clause-distinct
-sort_services-requires-clause-distinct c = ap (λ l. first_repeat same_key (map key_of (map service l))) c.deref-2.ensures.value ∙ (once (drafts c.args.document.now) c.requires.faultless).1
+sort_services-requires-clause-distinct c =
+    ap (λ l. first_repeat same_key (map key_of (map service l))) c.deref-2.ensures.value
+    ∙ (once (drafts c.args.document.now) c.requires.faultless).1
 
 pub index_hosts-requires : goal.index_hosts-requires
-index_hosts-requires c = few_names c.in_ok-names.names.keys _ _ c.in_ok-names.ensures.names (c.in_ok-hosts.ensures.order ∙ ap (λ l. hosts_in_order (map host l)) c.deref.ensures.value) (few_hosts (drafts c.args.document.now) c.requires.faultless)
+index_hosts-requires c =
+    few_names c.in_ok-names.names.keys _ _ c.in_ok-names.ensures.names (c.in_ok-hosts.ensures.order ∙ ap (λ l. hosts_in_order (map host l)) c.deref.ensures.value) (few_hosts (drafts c.args.document.now) c.requires.faultless)
 
 pub index_services-requires-clause-few : goal.index_services-requires-clause-few
-index_services-requires-clause-few c = few_names c.in_ok-names.names.keys _ _ c.in_ok-names.ensures.names (c.in_ok-hosts.ensures.order ∙ ap (λ l. hosts_in_order (map host l)) c.deref.ensures.value) (few_hosts (drafts c.args.document.now) c.requires.faultless)
+index_services-requires-clause-few c =
+    few_names c.in_ok-names.names.keys _ _ c.in_ok-names.ensures.names (c.in_ok-hosts.ensures.order ∙ ap (λ l. hosts_in_order (map host l)) c.deref.ensures.value) (few_hosts (drafts c.args.document.now) c.requires.faultless)
 
 pub index_services-requires-clause-parted : goal.index_services-requires-clause-parted
 index_services-requires-clause-parted c =
@@ -135,7 +140,8 @@ invariant_of-result c =
     let free : has_cycle (masters_of (configuration ds)) ≡ false = ap (λ l. has_cycle (map masters_in l)) (sym seen) ∙ order_has_no_cycle _ _ order in
     let no_parents : has_cycle (parents_by_host (configuration ds)) ≡ false = no_cycle_of (configuration ds) (map host_entry c.in_ok-hosts-2.hosts.entries) c.in_ok-test_parent_cycle-in-Some.field-0 hosts c.in_ok-test_parent_cycle-in-Some.ensures in
     record {
-      setup = subst IsSetup (λ i. record { options = c.args.document.now.options; hosts = sym hosts i; services = sym services i; dependencies = sym lists i }) (configuration_is_setup ds c.requires.faultless free no_parents);
+      setup =
+          subst IsSetup (λ i. record { options = c.args.document.now.options; hosts = sym hosts i; services = sym services i; dependencies = sym lists i }) (configuration_is_setup ds c.requires.faultless free no_parents);
       order = rw (← c.deref-3.ensures.value) order;
     }
 

@@ -20,7 +20,8 @@ invariant_of-self c =
     let left = written c.args.object (ended (Some c.freed_time-next.result)) s c.index_mut.result.now c.end_run.new.self (known_within c.args.object s c.in_ok-state.state (found c)) c.index_mut.ensures.value c.end_run.ensures in
     let time = freed_in_time c.args.now c.args.object c.in_ok-state.state s c.self.invariant.state (known_is c.args.object s c.in_ok-state.state (found c)) (range_is c.args.now c.in_ok-test_moment.field-0 (in_range c)) in
     record {
-      state = rw (left, c.freed_time-next.ensures) (with_object_is_state c.args.object _ s c.self.invariant.state (λ o e. ended_in_time (Some (freed_time c.args.now c.in_ok-state.state)) o time) (λ o e. cc));
+      state =
+          rw (left, c.freed_time-next.ensures) (with_object_is_state c.args.object _ s c.self.invariant.state (λ o e. ended_in_time (Some (freed_time c.args.now c.in_ok-state.state)) o time) (λ o e. cc));
       marks = c.self.invariant.marks;
     }
 

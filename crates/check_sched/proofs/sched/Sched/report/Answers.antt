@@ -73,24 +73,31 @@ answer c =
     (c.next_after-next.ensures.value ∙ (λ i. next_after c.self.inside.setup c.args.object c.judged-standing.result (c.start.ensures i) (c.next.ensures i)))
 
 -- the objects and the standings that the writes leave
-objects_left : (c : goal.After-self-2-1) → set c.self.inside.objects.items c.args.object c.end_run.new.self ≡ update_at c.args.object (ended c.next_after-next.result) c.self.inside.objects.items
-objects_left c = set_is_update _ _ _ c.index_mut.result.now _ (object_there c.self.inside c.args.object c.in_ok-state.state (found c)) (c.end_run.ensures ∙ ap (ended c.next_after-next.result) c.index_mut.ensures.value)
+objects_left : (c : goal.After-self-2-1)
+    → set c.self.inside.objects.items c.args.object c.end_run.new.self ≡ update_at c.args.object (ended c.next_after-next.result) c.self.inside.objects.items
+objects_left c =
+    set_is_update _ _ _ c.index_mut.result.now _ (object_there c.self.inside c.args.object c.in_ok-state.state (found c)) (c.end_run.ensures ∙ ap (ended c.next_after-next.result) c.index_mut.ensures.value)
 
-standings_left : (c : goal.After-self-2-1) → set c.self.inside.standings.items c.args.object c.judged-standing.result ≡ update_at c.args.object (λ (before : Standing). c.judged-standing.result) c.self.inside.standings.items
-standings_left c = set_is_update _ (λ (before : Standing). c.judged-standing.result) _ c.judged-standing.result _ (standing_there c.self.inside c.args.object c.in_ok-state.state c.self.invariant.state (found c)) refl
+standings_left : (c : goal.After-self-2-1)
+    → set c.self.inside.standings.items c.args.object c.judged-standing.result ≡ update_at c.args.object (λ (before : Standing). c.judged-standing.result) c.self.inside.standings.items
+standings_left c =
+    set_is_update _ (λ (before : Standing). c.judged-standing.result) _ c.judged-standing.result _ (standing_there c.self.inside c.args.object c.in_ok-state.state c.self.invariant.state (found c)) refl
 
 state_left : (c : goal.After-self-2-1) (objects : List Scheduling) (standings : List Standing)
     → objects ≡ update_at c.args.object (ended c.next_after-next.result) c.self.inside.objects.items
     → standings ≡ update_at c.args.object (λ (before : Standing). c.judged-standing.result) c.self.inside.standings.items
-    → let s : State = record { setup = c.self.inside.setup; start = c.self.inside.start; objects = objects; standings = standings; runs = c.self.inside.runs } in s ≡ reported c.args.object c.judged-standing.result c.next_after-next.result (state_of c.self.inside)
-state_left c objects standings e f i = record { setup = c.self.inside.setup; start = c.self.inside.start; objects = e i; standings = f i; runs = c.self.inside.runs }
+    → let s : State =
+    record { setup = c.self.inside.setup; start = c.self.inside.start; objects = objects; standings = standings; runs = c.self.inside.runs } in s ≡ reported c.args.object c.judged-standing.result c.next_after-next.result (state_of c.self.inside)
+state_left c objects standings e f i =
+    record { setup = c.self.inside.setup; start = c.self.inside.start; objects = e i; standings = f i; runs = c.self.inside.runs }
 
 pub invariant_of-self : goal.invariant_of-self
 invariant_of-self c =
     let s = state_of c.self.inside in
     let within : IsStandingOf c.self.inside.setup c.args.object c.judged-standing.result = rw (c.judged-standing.ensures, c.deref.ensures.value) (report_standing c.args.object c.args.code c.in_ok-state.state s c.self.invariant.state (known_is c.args.object s c.in_ok-state.state (found c))) in
     record {
-      state = rw (state_left c _ _ (objects_left c) (standings_left c)) (reported_is_state c.args.object c.judged-standing.result c.next_after-next.result s c.self.invariant.state (is_time_holds c.next_after-next.result c.next_after-next.ensures.within) within);
+      state =
+          rw (state_left c _ _ (objects_left c) (standings_left c)) (reported_is_state c.args.object c.judged-standing.result c.next_after-next.result s c.self.invariant.state (is_time_holds c.next_after-next.result c.next_after-next.ensures.within) within);
       marks = c.self.invariant.marks;
     }
 
