@@ -1,5 +1,6 @@
 -- How an order grows.
-use Rattle.std.proofs.Common.{◌≡◌, ◌≢◌, ℕ, zero, suc, ◌+◌, ◌-◌, ◌<◌, ◌≤◌, ◌==◌, ◌&&◌, ◌||◌, Bool, true, false, not, cond, List, [], ◌∷◌, ◌++◌, length, take, drop, map, get_or, refl, sym, ap, ◌∙◌, arith, append_assoc, append-nil, inl, inr}
+use Rattle.std.proofs.Common.{◌≡◌, ◌≢◌, ℕ, zero, suc, ◌+◌, ◌-◌, ◌<◌, ◌≤◌, ◌==◌, ◌&&◌, ◌||◌, Bool, true, false, not, cond, List, [], ◌∷◌, ◌++◌, length, take}
+use Rattle.std.proofs.Common.{drop, map, get_or, refl, sym, ap, ◌∙◌, arith, append_assoc, append-nil, inl, inr}
 use Rattle.std.specs.Prelude.{nat_lt}
 use Rattle.std.specs.List.{list_any, list_all}
 use Rattle.std.proofs.Math.ListN.{set}
@@ -131,7 +132,8 @@ at_other left' d w o n = get_or-set_other left' d o w 0 n
 counts_more : (closing left left' : List ℕ) (d w o : ℕ) → d < length left' → open_at left' d ≡ w + 1
     → open_at left' o + times o closing ≡ open_at left o → open_at (set left' d w) o + times o (closing ++ d ∷ []) ≡ open_at left o
 counts_more closing left left' d w o h v e = elim (cases_eq o d) [
-  | inl s ↦ rw (s, get_or-set_same left' d w 0 h, times-append d closing (d ∷ []), times-same d) (let e2 : open_at left' d + times d closing ≡ open_at left d = rw (← s) e in omega arith)
+  | inl s ↦ rw (s, get_or-set_same left' d w 0 h, times-append d closing (d ∷ []), times-same d)
+      (let e2 : open_at left' d + times d closing ≡ open_at left d = rw (← s) e in omega arith)
   | inr n ↦ rw (at_other left' d w o n, times-append o closing (d ∷ []), times-other o d (λ x. n (sym x))) (omega arith)
 ]
 
@@ -146,16 +148,19 @@ closed_link closing left order left' order' d w c h v p =
       size = length-set left' d w ∙ c.size;
       counts = λ o l. counts_more closing left left' d w o within v (c.counts o l);
       once = λ o l. elim (cases_eq o d) [
-        | inl s ↦ rw (s, get_or-set_same left' d w 0 within, one_at_zero_none w p) (rw (← s) (c.once o l ∙ ap one_at_zero (ap (open_at left') s ∙ v) ∙ one_at_zero_none (w + 1) (omega arith)))
+        | inl s ↦ rw (s, get_or-set_same left' d w 0 within, one_at_zero_none w p)
+            (rw (← s) (c.once o l ∙ ap one_at_zero (ap (open_at left') s ∙ v) ∙ one_at_zero_none (w + 1) (omega arith)))
         | inr n ↦ rw (at_other left' d w o n) (c.once o l)
       ];
       within = c.within;
       free = all_weaker (λ o. open_at left' o == 0) (λ o. open_at (set left' d w) o == 0) (λ o z. elim (cases_eq o d) [
-        | inl s ↦ absurd (let zero_now : open_at left' o ≡ 0 = eqb-true (open_at left' o) 0 z in let now : open_at left' o ≡ w + 1 = ap (open_at left') s ∙ v in omega arith)
+        | inl s ↦ absurd (let zero_now : open_at left' o ≡ 0 = eqb-true (open_at left' o) 0 z in let now : open_at left' o ≡ w + 1 = ap
+            (open_at left') s ∙ v in omega arith)
         | inr n ↦ rw (at_other left' d w o n) z
       ]) c.joined c.free;
       total =
-          let w1 = waiting_objects-set left' d w within in let a : waits (open_at left' d) ≡ 1 = rw (v, ne_eqb (w + 1) 0 (λ e. absurd (omega arith))) refl in let b : waits w ≡ 1 = rw (ne_eqb w 0 (λ e. absurd (omega arith))) refl in let t = c.total in omega arith;
+          let w1 = waiting_objects-set left' d w within in let a : waits (open_at left' d)
+          ≡ 1 = rw (v, ne_eqb (w + 1) 0 (λ e. absurd (omega arith))) refl in let b : waits w ≡ 1 = rw (ne_eqb w 0 (λ e. absurd (omega arith))) refl in let t = c.total in omega arith;
     }
 
 -- the object's last link was closed, and it joined the order
@@ -169,19 +174,22 @@ closed_last_link closing left order left' order' d c h v =
       size = length-set left' d 0 ∙ c.size;
       counts = λ o l. counts_more closing left left' d 0 o within v (c.counts o l);
       once = λ o l. elim (cases_eq o d) [
-        | inl s ↦ rw (s, get_or-set_same left' d 0 0 within, times-append d c.joined (d ∷ []), times-same d) (let before : times d c.joined + one_at_zero (open_at left d) ≡ 0 = rw (← s) (c.once o l ∙ ap one_at_zero (ap (open_at left') s ∙ v)) in omega arith)
+        | inl s ↦ rw (s, get_or-set_same left' d 0 0 within, times-append d c.joined (d ∷ []), times-same d)
+            (let before : times d c.joined + one_at_zero (open_at left d) ≡ 0 = rw (← s) (c.once o l ∙ ap one_at_zero (ap (open_at left') s ∙ v)) in omega arith)
         | inr n ↦ rw (at_other left' d 0 o n, times-append o c.joined (d ∷ []), times-other o d (λ x. n (sym x))) (let before = c.once o l in omega arith)
       ];
       within =
           rw (list_all-append (λ o. nat_lt o (length left)) c.joined (d ∷ [])) (and_both _ _ c.within (and_both _ _ (let t : nat_lt d (length left) ≡ true = grind (arith, nat_tests, h) in t) refl));
       free = rw (list_all-append (λ o. open_at (set left' d 0) o == 0) c.joined (d ∷ [])) (and_both _ _
           (all_weaker (λ o. open_at left' o == 0) (λ o. open_at (set left' d 0) o == 0) (λ o z. elim (cases_eq o d) [
-            | inl s ↦ absurd (let zero_now : open_at left' o ≡ 0 = eqb-true (open_at left' o) 0 z in let now : open_at left' o ≡ 1 = ap (open_at left') s ∙ v in omega arith)
+            | inl s ↦ absurd (let zero_now : open_at left' o ≡ 0 = eqb-true (open_at left' o) 0 z in let now : open_at left' o ≡ 1 = ap
+                (open_at left') s ∙ v in omega arith)
             | inr n ↦ rw (at_other left' d 0 o n) z
           ]) c.joined c.free)
           (and_both _ _ (rw (get_or-set_same left' d 0 0 within) refl) refl));
       total =
-          let w1 = waiting_objects-set left' d 0 within in let a : waits (open_at left' d) ≡ 1 = rw v refl in let t = c.total in let l : length (c.joined ++ d ∷ []) ≡ length c.joined + 1 = grind (arith, common_steps) in omega arith;
+          let w1 = waiting_objects-set left' d 0 within in let a : waits (open_at left' d) ≡ 1 = rw v refl in let t = c.total in let l : length
+          (c.joined ++ d ∷ []) ≡ length c.joined + 1 = grind (arith, common_steps) in omega arith;
     }
 
 -- ---- orders
@@ -302,7 +310,8 @@ under_way_first links left is =
       once = λ o h. ap (λ x. times x (free_from 0 left)) (zero_plus o) ∙ times_free o 0 left (rw size h);
       within = free_all (λ o. nat_lt o (length links)) 0 left (λ j h e. let t : nat_lt (0 + j) (length links) ≡ true = grind (arith, nat_tests, h, size) in t);
       behind_links =
-          follows_placed links [] (free_from 0 left) (free_all (λ o. list_all (is_among []) (links_of links o)) 0 left (λ j h e. open_links_none [] (links_of links (0 + j)) (open_links-nothing (links_of links (0 + j)) ∙ sym (counts (0 + j) (omega arith)) ∙ (let s : 0 + j ≡ j = omega arith in rw s e))));
+          follows_placed links [] (free_from 0 left) (free_all
+          (λ o. list_all (is_among []) (links_of links o)) 0 left (λ j h e. open_links_none [] (links_of links (0 + j)) (open_links-nothing (links_of links (0 + j)) ∙ sym (counts (0 + j) (omega arith)) ∙ (let s : 0 + j ≡ j = omega arith in rw s e))));
       total = free_total 0 left ∙ size;
     }
 
@@ -313,7 +322,8 @@ drop_get xs i d h = grind (arith, common_steps)
 
 times_take : (o : ℕ) (xs : List ℕ) (k : ℕ) → times o (take k xs) ≤ times o xs
 times_take o xs k =
-    let whole : take k xs ++ drop k xs ≡ xs = grind (arith, common_steps) in let e = times-append o (take k xs) (drop k xs) in let f : times o (take k xs ++ drop k xs) ≡ times o xs = ap (times o) whole in omega arith
+    let whole : take k xs ++ drop k xs ≡ xs = grind (arith, common_steps) in let e = times-append o (take k xs) (drop k xs) in let f : times o
+    (take k xs ++ drop k xs) ≡ times o xs = ap (times o) whole in omega arith
 
 one_at_zero-le : (v : ℕ) → one_at_zero v ≤ 1
 one_at_zero-le v = elim (cases_eq v 0) [
@@ -326,11 +336,14 @@ not_yet : (links : List (List ℕ)) (place : ℕ) (left order : List ℕ) (d : �
     → is_among (take place order) (get_or order place d) ≡ false
 not_yet links place left order d u h =
     let m : ℕ = get_or order place d in
-    let within : get_or order place d < length links = below_holds (get_or order place d) (length links) (all_among (λ o. nat_lt o (length links)) order (get_or order place d) u.within (at_place order place d h)) in
+    let within : get_or order place d < length links = below_holds (get_or order place d) (length links)
+    (all_among (λ o. nat_lt o (length links)) order (get_or order place d) u.within (at_place order place d h)) in
     let once = u.once (get_or order place d) within in
     let few = one_at_zero-le (open_at left (get_or order place d)) in
     let next = drop_get order place d h in
-    let a : times (get_or order place d) (take (place + 1) order) ≡ times (get_or order place d) (take place order) + 1 = ap (times (get_or order place d)) next ∙ times-append (get_or order place d) (take place order) (get_or order place d ∷ []) ∙ ap (λ n. times (get_or order place d) (take place order) + n) (times-same (get_or order place d)) in
+    let a : times (get_or order place d) (take (place + 1) order) ≡ times (get_or order place d) (take place order) + 1 = ap
+    (times (get_or order place d)) next ∙ times-append (get_or order place d) (take place order) (get_or order place d ∷ []) ∙ ap
+    (λ n. times (get_or order place d) (take place order) + n) (times-same (get_or order place d)) in
     let b = times_take (get_or order place d) order (place + 1) in
     among_none (take place order) (get_or order place d) (omega arith)
 
@@ -380,7 +393,8 @@ under_way_next links place left order dependents left' order' d u h deps c =
           (sym (counts o (rw (← u.size) (below_holds o (length left) w))) ∙ eqb-true (open_at left' o) 0 z))))
           c.joined c.within c.free)));
       total =
-          rw c.order_is (let l : length (order ++ c.joined) ≡ length order + length c.joined = grind (arith, common_steps) in let a = u.total in let b = c.total in omega arith);
+          rw c.order_is (let l : length (order ++ c.joined) ≡ length order + length c.joined = grind
+          (arith, common_steps) in let a = u.total in let b = c.total in omega arith);
     }
 
 -- ---- the end
@@ -480,7 +494,9 @@ still_to_close dependents left order left' order' j d c h all enough =
     let a = c.counts (get_or dependents j d) l in
     let b = enough (get_or dependents j d) l in
     let next = drop_get dependents j d h in
-    let more : times (get_or dependents j d) (take (j + 1) dependents) ≡ times (get_or dependents j d) (take j dependents) + 1 = ap (times (get_or dependents j d)) next ∙ times-append (get_or dependents j d) (take j dependents) (get_or dependents j d ∷ []) ∙ ap (λ n. times (get_or dependents j d) (take j dependents) + n) (times-same (get_or dependents j d)) in
+    let more : times (get_or dependents j d) (take (j + 1) dependents) ≡ times (get_or dependents j d) (take j dependents) + 1 = ap
+    (times (get_or dependents j d)) next ∙ times-append (get_or dependents j d) (take j dependents) (get_or dependents j d ∷ []) ∙ ap
+    (λ n. times (get_or dependents j d) (take j dependents) + n) (times-same (get_or dependents j d)) in
     let few = times_take (get_or dependents j d) dependents (j + 1) in
     omega arith
 
@@ -494,7 +510,9 @@ closed_next dependents left order left' order' left'' order'' j d c h all pos l 
     let within : get_or dependents j d < length left = below_at (length left) dependents j d h all in
     rw (drop_get dependents j d h) (elim (cases_eq (open_at left' (get_or dependents j d) - 1) 0) [
       | inl e ↦ rw (l, o, e) (closed_last_link (take j dependents) left order left' order' (get_or dependents j d) c within (omega arith))
-      | inr n ↦ rw (l, o, ne_eqb (open_at left' (get_or dependents j d) - 1) 0 n) (closed_link (take j dependents) left order left' order' (get_or dependents j d) (open_at left' (get_or dependents j d) - 1) c within (omega arith) (omega arith))
+      | inr n ↦ rw (l, o, ne_eqb (open_at left' (get_or dependents j d) - 1) 0 n)
+          (closed_link (take j dependents) left order left' order' (get_or dependents j d)
+          (open_at left' (get_or dependents j d) - 1) c within (omega arith) (omega arith))
     ])
 
 -- an object of the order is one of the objects

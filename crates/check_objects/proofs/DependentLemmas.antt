@@ -1,11 +1,13 @@
 -- Who links to whom.
-use Rattle.std.proofs.Common.{◌≡◌, ℕ, zero, suc, ◌+◌, ◌<◌, ◌≤◌, ◌==◌, Bool, true, false, cond, List, [], ◌∷◌, ◌++◌, length, take, map, get_or, refl, sym, ap, ◌∙◌, arith, inl, inr}
+use Rattle.std.proofs.Common.{◌≡◌, ℕ, zero, suc, ◌+◌, ◌<◌, ◌≤◌, ◌==◌, Bool, true, false, cond, List, [], ◌∷◌, ◌++◌, length, take, map, get_or, refl, sym}
+use Rattle.std.proofs.Common.{ap, ◌∙◌, arith, inl, inr}
 use Rattle.std.specs.Prelude.{nat_lt, replicate}
 use Rattle.std.specs.List.{list_all}
 use Rattle.std.proofs.Math.ListN.{set}
 use Rattle.std.proofs.lemmas.Bool.{eq-eqb, ne_eqb, cases_eq, cases_lt}
 use Rattle.std.proofs.lemmas.Bool.Decides.{nat_tests}
-use Rattle.std.proofs.lemmas.List.{get_or-set_same, get_or-set_other, length-set, get_or-replicate, length-replicate, get_or_past, length-take, get_or_append_left, get_or-take, take_all, get_or-map, map-set}
+use Rattle.std.proofs.lemmas.List.{get_or-set_same, get_or-set_other, length-set, get_or-replicate, length-replicate, get_or_past, length-take}
+use Rattle.std.proofs.lemmas.List.{get_or_append_left, get_or-take, take_all, get_or-map, map-set}
 use Rattle.std.proofs.lemmas.List.Folds.{list_all-append}
 use Rattle.std.proofs.lemmas.Grind.{common_steps}
 use Rattle.check_objects.specs.Depth.{links_of, times}
@@ -59,7 +61,14 @@ pub adds_more : (object : ℕ) (done : List ℕ) (old mid new : List (List ℕ))
 adds_more object done old mid new link a h is = rw is (record {
   size = length-set mid link (links_of mid link ++ object ∷ []) ∙ a.size;
   counts = λ at other l. elim (cases_eq at link) [
-    | inl e ↦ rw (e, get_or-set_same mid link (links_of mid link ++ object ∷ []) [] (rw a.size h), times_pushed other object (links_of mid link), times-append link done (link ∷ []), times-same link)
+    | inl e ↦ rw (
+      e,
+      get_or-set_same mid link (links_of mid link ++ object ∷ []) [] (rw a.size h),
+      times_pushed other object
+          (links_of mid link),
+      times-append link done (link ∷ []),
+      times-same link,
+    )
         (cond_plus (other == object) (times other (links_of old link)) (times other (links_of mid link)) (times link done) (a.counts link other h))
     | inr n ↦ rw (get_or-set_other mid link at (links_of mid link ++ object ∷ []) [] n)
         (cond_same (other == object) (times other (links_of old at)) (times other (links_of mid at)) (times at done) (times at (done ++ link ∷ []))

@@ -1,6 +1,7 @@
 -- Chains of links: an order has none as long as it is, and objects that each link to another of them have chains of
 -- every length.
-use Rattle.std.proofs.Common.{◌≡◌, ℕ, zero, suc, ◌+◌, ◌<◌, ◌==◌, ◌&&◌, ◌||◌, Bool, true, false, not, cond, List, [], ◌∷◌, ◌++◌, length, refl, ap, arith, append_assoc, append-nil, inl, inr, ◌⊎◌}
+use Rattle.std.proofs.Common.{◌≡◌, ℕ, zero, suc, ◌+◌, ◌<◌, ◌==◌, ◌&&◌, ◌||◌, Bool, true, false, not, cond, List, [], ◌∷◌, ◌++◌, length, refl, ap, arith}
+use Rattle.std.proofs.Common.{append_assoc, append-nil, inl, inr, ◌⊎◌}
 use Rattle.std.specs.List.{list_any, list_all}
 use Rattle.std.proofs.lemmas.Bool.{eqb-true, cases_lt}
 use Rattle.std.proofs.lemmas.List.Folds.{list_all-append}
@@ -106,8 +107,10 @@ shallow_order links placed [] h s = rw (append-nil placed) s
 shallow_order links placed (o ∷ os) h s =
     let first : list_all (is_among placed) (links_of links o) ≡ true = and_first _ _ h in
     let here : shallow links (suc (length placed)) o ≡ true = shallow_links links (length placed) placed (links_of links o) first s in
-    let before : list_all (shallow links (suc (length placed))) placed ≡ true = all_weaker (shallow links (length placed)) (shallow links (suc (length placed))) (shallow_more links (length placed)) placed s in
-    let both : list_all (shallow links (suc (length placed))) (placed ++ o ∷ []) ≡ true = rw (list_all-append (shallow links (suc (length placed))) placed (o ∷ [])) (and_both _ _ before (and_both _ _ here refl)) in
+    let before : list_all (shallow links (suc (length placed))) placed ≡ true = all_weaker (shallow links (length placed))
+    (shallow links (suc (length placed))) (shallow_more links (length placed)) placed s in
+    let both : list_all (shallow links (suc (length placed))) (placed ++ o ∷ [])
+    ≡ true = rw (list_all-append (shallow links (suc (length placed))) placed (o ∷ [])) (and_both _ _ before (and_both _ _ here refl)) in
     let pushed : list_all (shallow links (length (placed ++ o ∷ []))) (placed ++ o ∷ []) ≡ true = rw (length_push placed o) both in
     let rest = shallow_order links (placed ++ o ∷ []) os (and_second _ _ h) pushed in
     rw (← append_assoc placed (o ∷ []) os) rest

@@ -1,5 +1,6 @@
 -- The drafts of a list, item by item.
-use Rattle.std.proofs.Common.{◌≡◌, ℕ, ◌+◌, ◌<◌, ◌≤◌, List, [], ◌∷◌, ◌++◌, length, drop, get_or, Option, Some, None, refl, sym, ap, append_assoc, append-nil, Result, Ok, Err, arith}
+use Rattle.std.proofs.Common.{◌≡◌, ℕ, ◌+◌, ◌<◌, ◌≤◌, List, [], ◌∷◌, ◌++◌, length, drop, get_or, Option, Some, None, refl, sym, ap, append_assoc, append-nil}
+use Rattle.std.proofs.Common.{Result, Ok, Err, arith}
 use Rattle.std.proofs.lemmas.Grind.{common_steps}
 use Rattle.std.proofs.lemmas.List.{drop_all}
 use Rattle.serde_json.specs.Data.{Data}
@@ -18,7 +19,8 @@ module _ {A : Type 0} (shape : Data → Option A) (place : ℕ → Place) where
   with_front-more front x (Err e) = refl
 
   pub items_next : (front : List A) (i : ℕ) (vs : List Value) (v : Value) (x : A) → i < length vs → v ≡ get_or vs i v → shape (view v) ≡ Some x
-      → with_front front (items_from shape place i (items_view (drop i vs))) ≡ with_front (front ++ x ∷ []) (items_from shape place (i + 1) (items_view (drop (i + 1) vs)))
+      → with_front front (items_from shape place i (items_view (drop i vs))) ≡ with_front (front ++ x ∷ [])
+      (items_from shape place (i + 1) (items_view (drop (i + 1) vs)))
   items_next front i vs v x below is read =
       let e : drop i vs ≡ v ∷ drop (i + 1) vs = grind (arith, common_steps, is) in
       rw (e, read) (with_front-more front x _)

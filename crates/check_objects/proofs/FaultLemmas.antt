@@ -1,5 +1,6 @@
 -- The first fault of a list, the parents counted, and the first key that stood before.
-use Rattle.std.proofs.Common.{◌≡◌, ℕ, Bor, bytes_eq, ◌||◌, ◌&&◌, ◌+◌, ◌<◌, ◌≤◌, not, Bool, true, false, cond, List, [], ◌∷◌, ◌++◌, map, length, drop, get_or, Option, Some, None, refl, sym, ap, ◌∙◌, Ok, Err, append_assoc, arith}
+use Rattle.std.proofs.Common.{◌≡◌, ℕ, Bor, bytes_eq, ◌||◌, ◌&&◌, ◌+◌, ◌<◌, ◌≤◌, not, Bool, true, false, cond, List, [], ◌∷◌, ◌++◌, map, length, drop}
+use Rattle.std.proofs.Common.{get_or, Option, Some, None, refl, sym, ap, ◌∙◌, Ok, Err, append_assoc, arith}
 use Rattle.std.specs.Prelude.{sum_by}
 use Rattle.std.specs.List.{list_any, position}
 use Rattle.std.proofs.lemmas.Grind.{common_steps}
@@ -133,7 +134,8 @@ pub known_more : (keys new : List (Bor (List ℕ))) (key : Bor (List ℕ)) (befo
     → list_any (λ n. bytes_eq key.now n.now) keys ≡ b → new ≡ cond b keys (keys ++ key ∷ [])
     → ((name : List ℕ) → is_known (texts keys) name ≡ is_known before name) → (name : List ℕ) → is_known (texts new) name ≡ is_known (before ++ t ∷ []) name
 known_more keys new key before t true same known is agree name =
-    let there : is_known before t ≡ true = sym (agree t) ∙ list_any-map (bytes_eq t) (λ n. n.now) keys ∙ ap (λ x. list_any (λ n. bytes_eq x n.now) keys) (sym same) ∙ known in
+    let there : is_known before t ≡ true = sym (agree t) ∙ list_any-map (bytes_eq t)
+    (λ n. n.now) keys ∙ ap (λ x. list_any (λ n. bytes_eq x n.now) keys) (sym same) ∙ known in
     ap (λ ks. is_known (texts ks) name) is ∙ agree name ∙ or_same (is_known before name) (bytes_eq name t) (λ e. ap (is_known before) ((bytes_eq-Decides name t).0 e) ∙ there) ∙ sym (known_push before t name)
 known_more keys new key before t false same known is agree name =
     ap (λ ks. is_known (texts ks) name) is ∙ ap (λ l. is_known l name) (map-append (λ n. n.now) keys (key ∷ []))

@@ -1,5 +1,6 @@
 -- Objects found by number and by name, in the code's two maps.
-use Rattle.std.proofs.Common.{◌≡◌, ℕ, zero, suc, get_or, ◌+◌, ◌-◌, ◌<◌, ◌≤◌, ◌==◌, ◌&&◌, not, Bool, true, false, cond, List, [], ◌∷◌, ◌++◌, map, take, length, Option, Some, None, option_map, String, Global, string_bytes, bytes_eq, refl, sym, ap, ◌∙◌, arith}
+use Rattle.std.proofs.Common.{◌≡◌, ℕ, zero, suc, get_or, ◌+◌, ◌-◌, ◌<◌, ◌≤◌, ◌==◌, ◌&&◌, not, Bool, true, false, cond, List, [], ◌∷◌, ◌++◌, map, take}
+use Rattle.std.proofs.Common.{length, Option, Some, None, option_map, String, Global, string_bytes, bytes_eq, refl, sym, ap, ◌∙◌, arith}
 use Rattle.std.specs.Prelude.{nat_lt, slice_get, All, slice_index_or}
 use Rattle.std.specs.List.{list_all, position, position_or_len}
 use Rattle.std.specs.Map.{keys_of}
@@ -70,7 +71,8 @@ position-back p xs ys e =
     let low = prefix_len-le-length (λ x. not (p x)) xs in
     let same : (a == length xs) ≡ true = grind (arith, nat_tests, past, low) in
     let here : position_or_len p (xs ++ ys) ≡ length xs + c = prefix_len-append (λ x. not (p x)) xs ys ∙ ap (λ b. cond b (length xs + c) a) same in
-    let test : nat_lt (length xs + c) (length (xs ++ ys)) ≡ nat_lt c (length ys) = ap (nat_lt (length xs + c)) (length-append xs ys) ∙ shifted_test (length xs) c (length ys) in
+    let test : nat_lt (length xs + c) (length (xs ++ ys)) ≡ nat_lt c (length ys) = ap (nat_lt (length xs + c)) (length-append xs ys) ∙ shifted_test
+    (length xs) c (length ys) in
     ap (λ k. first_of k (length (xs ++ ys))) here ∙ ap (λ b. cond b (Some (length xs + c)) None) test ∙ shifted_by (nat_lt c (length ys)) (length xs) c
 
 both_true : (a b : Bool) → (a && b) ≡ true → (a ≡ true) × (b ≡ true)
@@ -100,7 +102,8 @@ module _ (hosts : List (String Global × Host)) (services : List (String Global 
       → slice_get objects n ≡ Some (named_service (service_entry e))
   object_back n e past at =
       slice_get-back (map named_host (map host_entry hosts)) (map named_service (map service_entry services)) n (n - length hosts) (omega (arith, hosts_length))
-      ∙ slice_get-map named_service (map service_entry services) (n - length hosts) ∙ ap (option_map named_service) (slice_get-map service_entry services (n - length hosts) ∙ ap (option_map service_entry) at)
+      ∙ slice_get-map named_service (map service_entry services) (n - length hosts) ∙ ap (option_map named_service)
+      (slice_get-map service_entry services (n - length hosts) ∙ ap (option_map service_entry) at)
 
   host_place : (name : List ℕ)
       → position (λ n. bytes_eq name n.name) (map named_host (map host_entry hosts)) ≡ position (λ k. bytes_eq name (string_bytes k)) (keys_of hosts)
@@ -159,7 +162,8 @@ pub links_next : {L : Type 0} (items : L → List ℕ) (old new : List L) (link 
     → items link ≡ e.1.parents.items
     → map items new ≡ map (λ h. h.parents) (map host_entry (take (i + 1) hosts))
 links_next items old new link hosts i e so_far grew at same =
-    ap (map items) grew ∙ map-append items old (link ∷ []) ∙ ap (λ l. l ++ items link ∷ []) so_far ∙ ap (λ x. map (λ h. h.parents) (map host_entry (take i hosts)) ++ x ∷ []) same
+    ap (map items) grew ∙ map-append items old (link ∷ []) ∙ ap
+    (λ l. l ++ items link ∷ []) so_far ∙ ap (λ x. map (λ h. h.parents) (map host_entry (take i hosts)) ++ x ∷ []) same
     ∙ sym (map-append (λ h. h.parents) (map host_entry (take i hosts)) (host_entry e ∷ []))
     ∙ ap (map (λ h. h.parents)) (sym (map-append host_entry (take i hosts) (e ∷ [])))
     ∙ ap (λ l. map (λ h. h.parents) (map host_entry l)) (sym (take_next hosts i e at))

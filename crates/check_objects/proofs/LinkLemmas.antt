@@ -1,5 +1,6 @@
 -- The links of a document without a fault, by number and back by name.
-use Rattle.std.proofs.Common.{◌≡◌, ℕ, ◌<◌, ◌==◌, ◌&&◌, ◌||◌, Bool, true, false, cond, List, [], ◌∷◌, map, option_map, bytes_eq, refl, sym, ap, subst, ◌∙◌, Ok, arith}
+use Rattle.std.proofs.Common.{◌≡◌, ℕ, ◌<◌, ◌==◌, ◌&&◌, ◌||◌, Bool, true, false, cond, List, [], ◌∷◌, map, option_map, bytes_eq, refl, sym, ap, subst, ◌∙◌}
+use Rattle.std.proofs.Common.{Ok, arith}
 use Rattle.std.specs.Prelude.{nat_lt, unwrap_or}
 use Rattle.std.specs.List.{list_any, list_all, filter}
 use Rattle.std.specs.List.Sorted.{IsPermutation}
@@ -11,7 +12,8 @@ use Rattle.check_objects.specs.Configuration.{Configuration, named_host, named_s
 use Rattle.check_objects.specs.Draft.{Drafts, HostDraft, DependencyDraft}
 use Rattle.check_objects.specs.Fault.{is_faultless, is_known, names_of, full_names}
 use Rattle.check_objects.specs.Links.{named_parents, named_dependency, named_dependencies, all_named_dependencies}
-use Rattle.check_objects.specs.Numbering.{number_in, numbered_host, numbered_dependency, all_dependencies, dependencies_among, body_of, object_of, hosts_in_order, services_in_order, names_in_order, configuration}
+use Rattle.check_objects.specs.Numbering.{number_in, numbered_host, numbered_dependency, all_dependencies, dependencies_among, body_of, object_of}
+use Rattle.check_objects.specs.Numbering.{hosts_in_order, services_in_order, names_in_order, configuration}
 use Rattle.check_objects.proofs.ListLemmas.{list_any-map, list_all-map}
 use Rattle.check_objects.proofs.BucketLemmas.{bucket, in_buckets, joined_same}
 use Rattle.check_objects.proofs.DepthLemmas.{and_first, and_second, and_both, or_second}
@@ -82,14 +84,16 @@ ends_are_objects : (c : Configuration) (names : List (List ℕ)) → ((name : Li
 ends_are_objects c names known [] h = refl
 ends_are_objects c names known (d ∷ ds) h =
     let here = and_first _ _ h in
-    and_both _ _ (and_both _ _ (known d.dependent (and_first _ _ here)) (known d.master (and_second _ _ here))) (ends_are_objects c names known ds (and_second _ _ h))
+    and_both _ _ (and_both _ _ (known d.dependent (and_first _ _ here)) (known d.master (and_second _ _ here)))
+    (ends_are_objects c names known ds (and_second _ _ h))
 
 pub all_have_ends : (ds : Drafts) → is_faultless ds ≡ Ok tt → list_all (has_ends (configuration ds)) (all_dependencies ds) ≡ true
 all_have_ends ds e =
     let c = configuration ds in
     let f = faultless ds e in
     list_all-append (has_ends c) ds.service_dependencies ds.host_dependencies
-    ∙ and_both _ _ (ends_are_objects c (full_names ds.services) (service_is_object ds e) ds.service_dependencies f.service_ends) (ends_are_objects c (names_of ds.hosts) (host_is_object ds e) ds.host_dependencies f.host_ends)
+    ∙ and_both _ _ (ends_are_objects c (full_names ds.services) (service_is_object ds e) ds.service_dependencies f.service_ends)
+    (ends_are_objects c (names_of ds.hosts) (host_is_object ds e) ds.host_dependencies f.host_ends)
 
 -- ---- dependencies
 
@@ -125,7 +129,8 @@ named_at : (ds : Drafts) → is_faultless ds ≡ Ok tt → (n : ℕ) → n < obj
     → named_dependencies (configuration ds) n ≡ filter (λ x. number_or_none (configuration ds) x.dependent == n) (all_dependencies ds)
 named_at ds e n below =
     let c = configuration ds in
-    ap (map (named_dependency c n)) (list_of_object (object_count c) n (map (numbered_dependency (objects_of c)) (all_dependencies ds)) below) ∙ listed_back c n (all_dependencies ds) (all_have_ends ds e)
+    ap (map (named_dependency c n)) (list_of_object (object_count c) n (map (numbered_dependency (objects_of c)) (all_dependencies ds)) below)
+    ∙ listed_back c n (all_dependencies ds) (all_have_ends ds e)
 
 -- the dependencies of an object are those of the document with its name, in the same order
 pub dependencies_by_name : (ds : Drafts) (n : ℕ) → is_faultless ds ≡ Ok tt → n < object_count (configuration ds)
@@ -140,7 +145,8 @@ dependencies_together ds e =
     let number = λ (d : DependencyDraft). number_or_none c d.dependent in
     let below : list_all (λ d. nat_lt (number d) (object_count c)) (all_dependencies ds) ≡ true =
     sym (list_all-map (λ d. nat_lt d.0 (object_count c)) (numbered_dependency (objects_of c)) (all_dependencies ds)) ∙ dependents_within ds e in
-    subst (IsPermutation (all_dependencies ds)) (joined_same (bucket number (all_dependencies ds)) (named_dependencies c) 0 (object_count c) (λ k low high. sym (named_at ds e k (omega (arith, high)))))
+    subst (IsPermutation (all_dependencies ds)) (joined_same (bucket number (all_dependencies ds)) (named_dependencies c) 0 (object_count c)
+    (λ k low high. sym (named_at ds e k (omega (arith, high)))))
     (in_buckets number (object_count c) (all_dependencies ds) below)
 
 -- ---- parents

@@ -1,5 +1,6 @@
 -- A chain of as many links as there are objects passes one of them twice, and who leads back to itself has chains of every length.
-use Rattle.std.proofs.Common.{◌≡◌, ℕ, zero, suc, ◌+◌, ◌<◌, ◌≤◌, ◌==◌, ◌&&◌, ◌||◌, Bool, true, false, not, cond, List, [], ◌∷◌, length, refl, sym, ap, ◌∙◌, arith, inl, inr}
+use Rattle.std.proofs.Common.{◌≡◌, ℕ, zero, suc, ◌+◌, ◌<◌, ◌≤◌, ◌==◌, ◌&&◌, ◌||◌, Bool, true, false, not, cond, List, [], ◌∷◌, length, refl, sym, ap, ◌∙◌}
+use Rattle.std.proofs.Common.{arith, inl, inr}
 use Rattle.std.specs.Prelude.{nat_lt}
 use Rattle.std.specs.List.{list_any, list_all, filter}
 use Rattle.std.proofs.lemmas.Bool.{eqb-true, eq-eqb, cases_lt}
@@ -111,7 +112,8 @@ pigeon zero [] h l = absurd (omega (arith, l))
 pigeon zero (x ∷ xs) h l = absurd (nothing_below x (and_first _ (list_all (λ y. nat_lt y 0) xs) h))
 pigeon (suc n) xs h l = elim (cases_lt 1 (times n xs)) [
   | inl twice ↦ (n, twice)
-  | inr once ↦ let p = pigeon n (others n xs) (others_below n xs h) (omega (arith, l, once, others_counted n xs)) in (p.0, omega (arith, p.1, times_fewer n p.0 xs))
+  | inr once ↦ let p = pigeon n (others n xs) (others_below n xs h)
+      (omega (arith, l, once, others_counted n xs)) in (p.0, omega (arith, p.1, times_fewer n p.0 xs))
 ]
 
 -- ---- from a chain that passes an object twice to the way back

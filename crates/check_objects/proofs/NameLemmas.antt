@@ -1,5 +1,6 @@
 -- Full names lead to numbers and back: names that ascend are different, and a service's name has a semicolon.
-use Rattle.std.proofs.Common.{◌≡◌, ℕ, zero, suc, get_or, ◌+◌, ◌-◌, ◌<◌, ◌==◌, ◌&&◌, ◌||◌, not, Bool, true, false, List, [], ◌∷◌, ◌++◌, map, take, drop, length, Some, None, option_map, bytes_eq, refl, sym, ap, subst, ◌∙◌, Less, inl, inr, arith}
+use Rattle.std.proofs.Common.{◌≡◌, ℕ, zero, suc, get_or, ◌+◌, ◌-◌, ◌<◌, ◌==◌, ◌&&◌, ◌||◌, not, Bool, true, false, List, [], ◌∷◌, ◌++◌, map, take, drop}
+use Rattle.std.proofs.Common.{length, Some, None, option_map, bytes_eq, refl, sym, ap, subst, ◌∙◌, Less, inl, inr, arith}
 use Rattle.std.specs.Prelude.{nat_lt, unwrap_or, slice_get, All}
 use Rattle.std.specs.List.{AllByRecursion, list_any, list_all, position}
 use Rattle.std.specs.List.Sorted.{IsPermutation, IsStrictlySortedBy}
@@ -11,7 +12,8 @@ use Rattle.std.proofs.lemmas.List.Sorted.{All-permutation}
 use Rattle.std.proofs.lemmas.List.Sums.{AllPass-from_list_all, list_all-from_AllPass}
 use Rattle.std.proofs.lemmas.Option.{slice_get-map}
 use Rattle.std.proofs.lemmas.Slice.Eq.{bytes_eq-Decides}
-use Rattle.check_objects.specs.Configuration.{Configuration, Host, Service, IsSetup, named_host, named_service, object_count, host_count, number_of, name_of, full_name, pair_of}
+use Rattle.check_objects.specs.Configuration.{Configuration, Host, Service, IsSetup, named_host, named_service, object_count, host_count, number_of}
+use Rattle.check_objects.specs.Configuration.{name_of, full_name, pair_of}
 use Rattle.check_objects.specs.Name.{is_name, is_name_byte, text_order, pair_order}
 use Rattle.check_objects.specs.Numbering.{is_host_name}
 use Rattle.check_objects.proofs.ListLemmas.{position-map}
@@ -111,7 +113,8 @@ same_text a = (bytes_eq-Decides a a).1 refl
 semicolon_free : (bytes : List ℕ) → list_all is_name_byte bytes ≡ true → is_host_name bytes ≡ true
 semicolon_free [] h = refl
 semicolon_free (b ∷ bytes) h =
-    and_both _ _ (and_second _ _ (and_first (is_name_byte b) (list_all is_name_byte bytes) h)) (semicolon_free bytes (and_second (is_name_byte b) (list_all is_name_byte bytes) h))
+    and_both _ _ (and_second _ _ (and_first (is_name_byte b) (list_all is_name_byte bytes) h))
+    (semicolon_free bytes (and_second (is_name_byte b) (list_all is_name_byte bytes) h))
 
 -- a name has no semicolon
 pub parted_name : (name : List ℕ) → is_name name ≡ true → is_host_name name ≡ true
@@ -144,7 +147,8 @@ no_host_has name text key (x ∷ xs) e h =
 pub name_of_host : (c : Configuration) (n : ℕ) (h : Host) → slice_get c.hosts n ≡ Some h → name_of c n ≡ h.name
 name_of_host c n h at =
     ap (λ o. unwrap_or (option_map (λ x. x.name) o) [])
-    (slice_get-front (map named_host c.hosts) (map named_service c.services) n (named_host h) (slice_get-map named_host c.hosts n ∙ ap (option_map named_host) at))
+    (slice_get-front (map named_host c.hosts) (map named_service c.services) n (named_host h)
+    (slice_get-map named_host c.hosts n ∙ ap (option_map named_host) at))
 
 pub name_of_service : (c : Configuration) (j : ℕ) (s : Service) → slice_get c.services j ≡ Some s → name_of c (host_count c + j) ≡ s.name
 name_of_service c j s at =
@@ -213,7 +217,8 @@ module _ (c : Configuration) (is : HasNames c) where
       let i = item_at c.services j below in
       let s = i.item in
       let named = recursion_from_All (λ t. t.name ≡ full_name (pair_of c t)) c.services is.full_names in
-      let good : list_all is_named (take j c.services ++ s ∷ drop (suc j) c.services) ≡ true = ap (list_all is_named) (sym i.split) ∙ all_named c.services is.hosted named in
+      let good : list_all is_named (take j c.services ++ s ∷ drop (suc j) c.services) ≡ true = ap (list_all is_named) (sym i.split)
+      ∙ all_named c.services is.hosted named in
       let sorted = subst (λ l. IsStrictlySortedBy pair_order (map (pair_of c) l)) i.split is.services_ascend in
       let new : list_any (λ x. bytes_eq s.name x.name) (take j c.services) ≡ false =
       new_by_order pair_order (pair_of c) (λ x. x.name) is_named services_apart (take j c.services) s (drop (suc j) c.services) sorted good in
@@ -233,6 +238,14 @@ module _ (c : Configuration) (is : HasNames c) where
     | inl l ↦ host_number n l
     | inr l ↦ let j = n - host_count c in
         let whole : n ≡ host_count c + j = omega (arith, l) in
-        let within : j < length c.services = omega (arith, l, below, length-append (map named_host c.hosts) (map named_service c.services), length-map c.hosts named_host, length-map c.services named_service) in
+        let within : j < length c.services = omega (
+          arith,
+          l,
+          below,
+          length-append (map named_host c.hosts)
+              (map named_service c.services),
+          length-map c.hosts named_host,
+          length-map c.services named_service,
+        ) in
         ap (λ k. number_of c (name_of c k)) whole ∙ service_number j within ∙ ap Some (sym whole)
   ]

@@ -1,5 +1,6 @@
 -- Entries put in order one after another: they ascend, and where no key comes twice they are all there.
-use Rattle.std.proofs.Common.{◌≡◌, ℕ, ◌+◌, ◌&&◌, ◌||◌, Bool, true, false, cond, List, [], ◌∷◌, ◌++◌, map, Option, Some, None, bytes_eq, refl, sym, ap, subst, ◌∙◌, append-nil, Result, Ok, Err, Ordering, Less, Equal, Greater, is_eq}
+use Rattle.std.proofs.Common.{◌≡◌, ℕ, ◌+◌, ◌&&◌, ◌||◌, Bool, true, false, cond, List, [], ◌∷◌, ◌++◌, map, Option, Some, None, bytes_eq, refl, sym, ap}
+use Rattle.std.proofs.Common.{subst, ◌∙◌, append-nil, Result, Ok, Err, Ordering, Less, Equal, Greater, is_eq}
 use Rattle.std.specs.BTreeMap.{insert_entry}
 use Rattle.std.specs.Cmp.{IsTotalOrder}
 use Rattle.std.specs.List.{AllByRecursion, list_any}
@@ -7,12 +8,14 @@ use Rattle.std.specs.List.Sorted.{IsPermutation, IsStrictlySortedBy}
 use Rattle.std.specs.Ordering.{match_ordering, ordering_reverse, ordering_then}
 use Rattle.std.proofs.lemmas.Cmp.{nat_list_cmp_total, on_total, then_total}
 use Rattle.std.proofs.lemmas.List.Folds.{list_any-append}
-use Rattle.std.proofs.lemmas.List.Sorted.{IsPermutation-refl, IsPermutation-sym, IsPermutation-trans, IsPermutation-cons, IsPermutation-middle, IsPermutation-append_left}
+use Rattle.std.proofs.lemmas.List.Sorted.{IsPermutation-refl, IsPermutation-sym, IsPermutation-trans, IsPermutation-cons, IsPermutation-middle}
+use Rattle.std.proofs.lemmas.List.Sorted.{IsPermutation-append_left}
 use Rattle.std.proofs.lemmas.Map.Text.{is_eq-slice_cmp}
 use Rattle.check_objects.specs.declared.error.LoadError.{LoadError}
 use Rattle.check_objects.specs.declared.error.LoadError.TheVariants as errors
 use Rattle.check_objects.specs.Draft.{Drafts, HostDraft, ServiceDraft}
-use Rattle.check_objects.specs.Fault.{is_faultless, few_items, good_names, host_names, names_of, first_repeat, same_key, key_of, no_repeated_services, known_links, good_ranges}
+use Rattle.check_objects.specs.Fault.{is_faultless, few_items, good_names, host_names, names_of, first_repeat, same_key, key_of, no_repeated_services}
+use Rattle.check_objects.specs.Fault.{known_links, good_ranges}
 use Rattle.check_objects.specs.LoadError.{◌>>=◌, refused_at}
 use Rattle.check_objects.specs.Numbering.{body_of, object_of, hosts_in_order, services_in_order}
 use Rattle.check_objects.specs.Name.{text_order, pair_order}
@@ -104,7 +107,8 @@ module _ {K V : Type 0} (order : K → K → Ordering) (total : IsTotalOrder ord
 
   has_key_by : (q : K) (o : Ordering) (e : K × V) (es : List (K × V)) (k : K) (v : V) → is_eq o ≡ false
       → has_key q (insert_entry order es k v) ≡ (is_eq (order q k) || has_key q es)
-      → has_key q (match_ordering o ((k, v) ∷ e ∷ es) ((e.0, v) ∷ es) (e ∷ insert_entry order es k v)) ≡ (is_eq (order q k) || (is_eq (order q e.0) || has_key q es))
+      → has_key q (match_ordering o ((k, v) ∷ e ∷ es) ((e.0, v) ∷ es) (e ∷ insert_entry order es k v)) ≡
+      (is_eq (order q k) || (is_eq (order q e.0) || has_key q es))
   has_key_by q Less e es k v new more = refl
   has_key_by q Equal e es k v new more = cc
   has_key_by q Greater e es k v new more = ap (λ b. is_eq (order q e.0) || b) more ∙ or_swap (is_eq (order q e.0)) (is_eq (order q k)) (has_key q es)
@@ -116,7 +120,8 @@ module _ {K V : Type 0} (order : K → K → Ordering) (total : IsTotalOrder ord
       let apart = either_false (is_eq (order k e.0)) (has_key k es) new in
       has_key_by q (order k e.0) e es k v apart.0 (has_key-insert q es k v apart.1)
 
-  pub placed_all : {A : Type 0} (same : K → K → Bool) (agree : (a b : K) → same a b ≡ is_eq (order a b)) (key : A → K) (value : A → V) (done : List (K × V)) (before : List K) (i : ℕ) (xs : List A)
+  pub placed_all : {A : Type 0} (same : K → K → Bool) (agree : (a b : K) → same a b ≡ is_eq (order a b)) (key : A → K) (value : A → V)
+      (done : List (K × V)) (before : List K) (i : ℕ) (xs : List A)
       → ((q : K) → has_key q done ≡ list_any (same q) before) → repeat_after same before i (map key xs) ≡ None
       → IsPermutation (done ++ map (λ x. (key x, value x)) xs) (placed order key value done xs)
   placed_all same agree key value done before i [] seen once = subst (λ l. IsPermutation l done) (sym (append-nil done)) (IsPermutation-refl done)
@@ -193,7 +198,8 @@ pub hosts_placed : (hosts : List HostDraft) → first_repeat bytes_eq (names_of 
 unfolding IsStrictlySortedBy
 hosts_placed hosts apart =
     ascending_is_in_order text_order texts_total (λ h. h.name) body_of hosts (placed text_order (λ h. h.name) body_of [] hosts)
-    (placed_all text_order texts_total bytes_eq texts_agree (λ h. h.name) body_of [] [] 0 hosts (λ q. refl) (sym (first_repeat_is bytes_eq (names_of hosts)) ∙ apart))
+    (placed_all text_order texts_total bytes_eq texts_agree
+    (λ h. h.name) body_of [] [] 0 hosts (λ q. refl) (sym (first_repeat_is bytes_eq (names_of hosts)) ∙ apart))
     (placed_ascending text_order texts_total (λ h. h.name) body_of [] hosts tt)
 
 -- the services put in one after another, where no pair comes twice
@@ -202,7 +208,8 @@ pub services_placed : (services : List ServiceDraft) → first_repeat same_key (
 unfolding IsStrictlySortedBy
 services_placed services apart =
     ascending_is_in_order pair_order pairs_total key_of (λ s. object_of s.check) services (placed pair_order key_of (λ s. object_of s.check) [] services)
-    (placed_all pair_order pairs_total same_key pairs_agree key_of (λ s. object_of s.check) [] [] 0 services (λ q. refl) (sym (first_repeat_is same_key (map key_of services)) ∙ apart))
+    (placed_all pair_order pairs_total same_key pairs_agree key_of
+    (λ s. object_of s.check) [] [] 0 services (λ q. refl) (sym (first_repeat_is same_key (map key_of services)) ∙ apart))
     (placed_ascending pair_order pairs_total key_of (λ s. object_of s.check) [] services tt)
 
 pub every_host : (hosts : List HostDraft) → IsPermutation (map (λ h. (h.name, body_of h)) hosts) (hosts_in_order hosts)

@@ -1,5 +1,6 @@
 -- Hosts, services and dependencies by number keep their names, and a dependency is between objects of one sort.
-use Rattle.std.proofs.Common.{◌≡◌, ℕ, zero, suc, ◌+◌, ◌<◌, ◌≤◌, ◌==◌, ◌&&◌, Bool, true, false, cond, List, [], ◌∷◌, ◌++◌, map, length, Some, None, option_map, bytes_eq, refl, sym, ap, ◌∙◌, arith}
+use Rattle.std.proofs.Common.{◌≡◌, ℕ, zero, suc, ◌+◌, ◌<◌, ◌≤◌, ◌==◌, ◌&&◌, Bool, true, false, cond, List, [], ◌∷◌, ◌++◌, map, length, Some, None}
+use Rattle.std.proofs.Common.{option_map, bytes_eq, refl, sym, ap, ◌∙◌, arith}
 use Rattle.std.specs.Prelude.{nat_lt, unwrap_or, slice_get, sum_by}
 use Rattle.std.specs.List.{AllByRecursion, list_any, list_all, position, filter, range_with_len}
 use Rattle.std.specs.List.Sorted.{IsPermutation}
@@ -12,7 +13,8 @@ use Rattle.std.proofs.lemmas.Option.{slice_get-map}
 use Rattle.std.proofs.lemmas.Slice.Eq.{bytes_eq-Decides}
 use Rattle.check_objects.specs.declared.dependency.Dependency.{Dependency}
 use Rattle.check_objects.specs.declared.object.Object.{Object}
-use Rattle.check_objects.specs.Configuration.{Configuration, Host, Service, Named, named_host, named_service, host_count, number_of, name_of, full_name, pair_of}
+use Rattle.check_objects.specs.Configuration.{Configuration, Host, Service, Named, named_host, named_service, host_count, number_of, name_of, full_name}
+use Rattle.check_objects.specs.Configuration.{pair_of}
 use Rattle.check_objects.specs.Draft.{HostDraft, ServiceDraft, DependencyDraft}
 use Rattle.check_objects.specs.Fault.{is_known, names_of, key_of, full_names}
 use Rattle.check_objects.specs.Numbering.{number_in, numbered_host, numbered_service, numbered_dependency, dependencies_among, dependency_lists, is_host_name}
@@ -41,7 +43,8 @@ module _ (c : Configuration) (ns : List (List ℕ)) (hs : List HostEntry) (are :
   host_named name known =
       let f = found (λ (h : HostEntry). bytes_eq name h.0) hs (sym (list_any-map (bytes_eq name) (λ h. h.0) hs) ∙ known) in
       let number : number_in (map (λ h. h.0) hs) name ≡ f.index = ap (λ o. unwrap_or o 0) (position-map (bytes_eq name) (λ h. h.0) hs ∙ f.place) in
-      let at : slice_get c.hosts f.index ≡ Some (numbered_host ns f.item) = ap (λ l. slice_get l f.index) are ∙ slice_get-map (numbered_host ns) hs f.index ∙ ap (option_map (numbered_host ns)) f.at in
+      let at : slice_get c.hosts f.index ≡ Some (numbered_host ns f.item) = ap
+      (λ l. slice_get l f.index) are ∙ slice_get-map (numbered_host ns) hs f.index ∙ ap (option_map (numbered_host ns)) f.at in
       ap (name_of c) number ∙ name_of_host c f.index (numbered_host ns f.item) at ∙ sym ((bytes_eq-Decides name f.item.0).0 f.passes)
 
   pub pairs_are : (ss : List ServiceEntry) → list_all (λ e. is_known (map (λ h. h.0) hs) e.0.0) ss ≡ true

@@ -1,5 +1,7 @@
 -- Objects put in the order of their names.
-use Rattle.std.proofs.Common.{◌≡◌, ℕ, ◌+◌, ◌≤◌, ◌==◌, ◌&&◌, ◌||◌, not, Bool, true, false, cond, List, [], ◌∷◌, ◌++◌, map, drop, Bor, String, Global, string_bytes, bytes_eq, refl, sym, ap, subst, ◌∙◌, append_assoc, append-nil, Ordering, Less, Equal, Greater, nat_cmp, is_eq, arith}
+use Rattle.std.proofs.Common.{◌≡◌, ℕ, ◌+◌, ◌≤◌, ◌==◌, ◌&&◌, ◌||◌, not, Bool, true, false, cond, List, [], ◌∷◌, ◌++◌, map, drop, Bor, String, Global}
+use Rattle.std.proofs.Common.{string_bytes, bytes_eq, refl, sym, ap, subst, ◌∙◌, append_assoc, append-nil, Ordering, Less, Equal, Greater, nat_cmp, is_eq}
+use Rattle.std.proofs.Common.{arith}
 use Rattle.std.proofs.lemmas.Bool.Decides.{nat_tests}
 use Rattle.std.proofs.lemmas.Cmp.{nat_list_cmp_total}
 use Rattle.std.proofs.lemmas.List.{map-append}
@@ -37,8 +39,10 @@ module _ {K L X Y : Type 0} (order : K → K → Ordering) (order' : L → L →
       ∙ ap (λ l. match_ordering (order' (f k) (f e.0)) (view (k, v) ∷ view e ∷ map view es) ((f e.0, g v) ∷ map view es) (view e ∷ l)) (map-insert es k v)
 
   -- a loop's step: what is kept of the draft d goes into the map behind its key
-  pub placed_next : {D E : Type 0} (key : E → L) (value : E → Y) (drafts : List D → List E) (one : D → E) (step : (d : D) (ds : List D) → drafts (d ∷ ds) ≡ one d ∷ drafts ds)
-      (old new : List (K × X)) (k : K) (v : X) (ds : List D) (i : ℕ) (d : D) → drop i ds ≡ d ∷ drop (i + 1) ds → new ≡ insert_entry order old k v → f k ≡ key (one d) → g v ≡ value (one d)
+  pub placed_next : {D E : Type 0} (key : E → L) (value : E → Y) (drafts : List D → List E) (one : D → E)
+      (step : (d : D) (ds : List D) → drafts (d ∷ ds) ≡ one d ∷ drafts ds)
+      (old new : List (K × X)) (k : K) (v : X) (ds : List D) (i : ℕ) (d : D) → drop i ds ≡ d ∷ drop (i + 1) ds → new ≡ insert_entry order old k v → f k
+      ≡ key (one d) → g v ≡ value (one d)
       → placed order' key value (map view old) (drafts (drop i ds)) ≡ placed order' key value (map view new) (drafts (drop (i + 1) ds))
   placed_next key value drafts one step old new k v ds i d e put same_key same_value =
       let m : map view new ≡ insert_entry order' (map view old) (key (one d)) (value (one d)) =

@@ -1,5 +1,6 @@
 -- In an ascending list the place of a key is how many keys are smaller, so that the list is its items by that number.
-use Rattle.std.proofs.Common.{◌≡◌, ℕ, zero, suc, get_or, ◌+◌, ◌<◌, ◌≤◌, ◌==◌, Bool, true, false, cond, List, [], ◌∷◌, ◌++◌, map, length, Some, refl, sym, ap, subst, ◌∙◌, append_assoc, Ordering, Less, arith}
+use Rattle.std.proofs.Common.{◌≡◌, ℕ, zero, suc, get_or, ◌+◌, ◌<◌, ◌≤◌, ◌==◌, Bool, true, false, cond, List, [], ◌∷◌, ◌++◌, map, length, Some, refl, sym}
+use Rattle.std.proofs.Common.{ap, subst, ◌∙◌, append_assoc, Ordering, Less, arith}
 use Rattle.std.specs.Prelude.{nat_lt, slice_get, All}
 use Rattle.std.specs.Cmp.{IsTotalOrder}
 use Rattle.std.specs.List.{AllByRecursion, list_all, count_by, filter, flat_map, range_with_len}
@@ -72,14 +73,16 @@ module _ {K : Type 0} (order : K → K → Ordering) (total : IsTotalOrder order
   unfolding IsStrictlySortedBy
   ranks [] s = refl
   ranks (k ∷ ks) s =
-      let here : smaller_among order (k ∷ ks) k ≡ 0 = counted (λ x. is_lt (order x k)) k ks false (ap is_lt (tied_itself total k)) ∙ (let e = none_smaller k ks s.0 in omega (arith, e)) in
+      let here : smaller_among order (k ∷ ks) k ≡ 0 = counted
+      (λ x. is_lt (order x k)) k ks false (ap is_lt (tied_itself total k)) ∙ (let e = none_smaller k ks s.0 in omega (arith, e)) in
       let more = raised k ks ks s.0 ∙ ap (map (λ n. 1 + n)) (ranks ks s.1) ∙ shifted 0 (length ks) in
       λ i. here i ∷ more i
 
   -- the key at a place has that many smaller ones
   pub rank_at : (ks : List K) (n : ℕ) (d : K) → IsStrictlySortedBy order ks → n < length ks → smaller_among order ks (get_or ks n d) ≡ n
   rank_at ks n d s below =
-      sym (get_or-map (smaller_among order ks) ks n d 0 below) ∙ ap (λ l. get_or l n 0) (ranks ks s) ∙ get_or-range_with_len 0 (length ks) n 0 below ∙ (let e : 0 + n ≡ n = omega arith in e)
+      sym (get_or-map (smaller_among order ks) ks n d 0 below) ∙ ap
+      (λ l. get_or l n 0) (ranks ks s) ∙ get_or-range_with_len 0 (length ks) n 0 below ∙ (let e : 0 + n ≡ n = omega arith in e)
 
 one_item : {A : Type 0} (xs : List A) → length xs ≡ 1 → (x : A) × (xs ≡ x ∷ [])
 one_item [] e = absurd (omega (arith, e))
@@ -177,7 +180,8 @@ module _ {K A : Type 0} (order : K → K → Ordering) (total : IsTotalOrder ord
       let keys : map key (done ++ x ∷ more) ≡ map key done ++ key x ∷ map key more = map-append key done (x ∷ more) in
       let below = count_below (λ k. is_lt (order k (key x))) (map key done) (key x) (map key more) (ap is_lt (tied_itself total (key x))) in
       let size : length (map key done ++ key x ∷ map key more) ≡ length (done ++ x ∷ more) = ap length (sym keys) ∙ length-map (done ++ x ∷ more) key in
-      let counts : smaller_among order (map key (done ++ x ∷ more)) (key x) < length (done ++ x ∷ more) = omega (arith, below, size, ap (λ l. smaller_among order l (key x)) keys) in
+      let counts : smaller_among order (map key (done ++ x ∷ more)) (key x) < length (done ++ x ∷ more) = omega
+      (arith, below, size, ap (λ l. smaller_among order l (key x)) keys) in
       let here = is_below (smaller_among order (map key (done ++ x ∷ more)) (key x)) (length (done ++ x ∷ more)) counts in
       let later = subst (λ l. list_all (λ y. nat_lt (smaller_among order (map key l) (key y)) (length l)) more ≡ true) (append_assoc done (x ∷ []) more) (ranked (done ++ x ∷ []) more) in
       and_both _ _ here later

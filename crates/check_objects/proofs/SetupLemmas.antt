@@ -1,5 +1,6 @@
 -- What a document without a fault gives: few objects, links to hosts, and full names in two parts.
-use Rattle.std.proofs.Common.{◌≡◌, ℕ, suc, ◌+◌, ◌<◌, ◌≤◌, ◌==◌, ◌&&◌, ◌||◌, not, Bool, true, false, cond, List, [], ◌∷◌, map, length, Bor, Option, Some, None, bytes_eq, refl, sym, ap, subst, ◌∙◌, Result, Ok, Err, inl, inr, arith}
+use Rattle.std.proofs.Common.{◌≡◌, ℕ, suc, ◌+◌, ◌<◌, ◌≤◌, ◌==◌, ◌&&◌, ◌||◌, not, Bool, true, false, cond, List, [], ◌∷◌, map, length, Bor, Option, Some}
+use Rattle.std.proofs.Common.{None, bytes_eq, refl, sym, ap, subst, ◌∙◌, Result, Ok, Err, inl, inr, arith}
 use Rattle.std.specs.Prelude.{nat_lt, nat_le, unwrap_or, All}
 use Rattle.std.specs.List.{AllByRecursion, list_any, list_all, position, position_or_len, prefix_len}
 use Rattle.std.specs.List.Sorted.{IsStrictlySortedBy}
@@ -20,20 +21,27 @@ use Rattle.check_objects.specs.declared.options.InterleaveFactor.{InterleaveFact
 use Rattle.check_objects.specs.declared.options.InterleaveFactor.TheVariants as factor
 use Rattle.check_objects.specs.declared.options.Options.{Options}
 use Rattle.check_objects.specs.declared.object.Object.{Object}
-use Rattle.check_objects.specs.Configuration.{Configuration, Host, IsSetup, IsWithin, IsDelayInRange, IsFactorInRange, is_object_in_range, named_host, named_service, objects_of, object_count, masters_in, masters_of, parents_by_host, host_count, full_name, pair_of, IsSameSort}
+use Rattle.check_objects.specs.Configuration.{Configuration, Host, IsSetup, IsWithin, IsDelayInRange, IsFactorInRange, is_object_in_range, named_host}
+use Rattle.check_objects.specs.Configuration.{named_service, objects_of, object_count, masters_in, masters_of, parents_by_host, host_count, full_name}
+use Rattle.check_objects.specs.Configuration.{pair_of, IsSameSort}
 use Rattle.check_objects.specs.Depth.{has_cycle}
 use Rattle.check_objects.specs.Closing.{are_within}
 use Rattle.check_objects.specs.Drafted.{texts}
 use Rattle.check_objects.specs.Draft.{Drafts, HostDraft, ServiceDraft, DependencyDraft}
-use Rattle.check_objects.specs.Fault.{is_faultless, few_items, few_dependencies, full_names, known_ends, known_links, is_known, names_of, few_objects, has_few_parents, key_of, good_names, good_host_names, good_descriptions, host_names, first_repeat, no_repeated_services, known_parents, known_hosts, good_ranges, good_host_ranges, good_options, good_service_ranges, is_in_range, is_within, is_delay_in_range, is_factor_in_range, are_options_in_range}
+use Rattle.check_objects.specs.Fault.{is_faultless, few_items, few_dependencies, full_names, known_ends, known_links, is_known, names_of, few_objects}
+use Rattle.check_objects.specs.Fault.{has_few_parents, key_of, good_names, good_host_names, good_descriptions, host_names, first_repeat}
+use Rattle.check_objects.specs.Fault.{no_repeated_services, known_parents, known_hosts, good_ranges, good_host_ranges, good_options, good_service_ranges}
+use Rattle.check_objects.specs.Fault.{is_in_range, is_within, is_delay_in_range, is_factor_in_range, are_options_in_range}
 use Rattle.check_objects.specs.LoadError.{◌>>=◌, refused_at}
 use Rattle.check_objects.specs.Place.{host_at, service_at, item_of_part}
-use Rattle.check_objects.specs.Numbering.{number_in, dependencies_among, numbered_host, numbered_service, hosts_in_order, services_in_order, names_in_order, numbered, configuration, numbered_dependency, all_dependencies, is_host_name, object_of, body_of}
+use Rattle.check_objects.specs.Numbering.{number_in, dependencies_among, numbered_host, numbered_service, hosts_in_order, services_in_order, names_in_order}
+use Rattle.check_objects.specs.Numbering.{numbered, configuration, numbered_dependency, all_dependencies, is_host_name, object_of, body_of}
 use Rattle.check_objects.specs.Name.{is_name, is_name_byte, text_order, pair_order}
 use Rattle.check_objects.proofs.ListLemmas.{list_all-map, list_any-map}
 use Rattle.check_objects.proofs.NumberLaws.{hosts_all, services_all, hosts_ascend, services_ascend}
 use Rattle.check_objects.proofs.NameLemmas.{HasNames, found, all_moved}
-use Rattle.check_objects.proofs.NumberedLemmas.{AreAlike, host_names_are, pairs_are, full_names_are, known_in_order, full_name_in_order, parents_counted, listed_few, host_end, service_end, ends_alike, both_hold, alike_among}
+use Rattle.check_objects.proofs.NumberedLemmas.{AreAlike, host_names_are, pairs_are, full_names_are, known_in_order, full_name_in_order, parents_counted}
+use Rattle.check_objects.proofs.NumberedLemmas.{listed_few, host_end, service_end, ends_alike, both_hold, alike_among}
 use Rattle.check_objects.proofs.DependencyLemmas.{dependents_below, masters_below, masters_within_lists, length-dependency_lists, list_of_object}
 use Rattle.std.proofs.lemmas.List.Sorted.{length_permutation}
 
@@ -210,7 +218,8 @@ faultless ds e =
     let names_and_more = λ (u : Unit {0}). good_names ds.hosts ds.services >>= λ _. (host_names ds.hosts >>= repeats_and_more ds) in
     let counted : few_items ds ≡ Ok tt = first_ok (few_items ds) names_and_more tt e in
     let after_counts = rest_ok (few_items ds) names_and_more tt e in
-    let named : good_names ds.hosts ds.services ≡ Ok tt = first_ok (good_names ds.hosts ds.services) (λ _. host_names ds.hosts >>= repeats_and_more ds) tt after_counts in
+    let named : good_names ds.hosts ds.services ≡ Ok tt = first_ok (good_names ds.hosts ds.services)
+    (λ _. host_names ds.hosts >>= repeats_and_more ds) tt after_counts in
     let after_names = rest_ok (good_names ds.hosts ds.services) (λ _. host_names ds.hosts >>= repeats_and_more ds) tt after_counts in
     let after_repeats = names_ok (refused_at (λ i. errors.Duplicate (host_at i)) (first_repeat bytes_eq names)) names (repeats_and_more ds) tt after_names in
     let linked = rest_ok (no_repeated_services ds.services) (λ _. links_and_limits ds names) tt after_repeats in
@@ -226,9 +235,11 @@ faultless ds e =
           few_by (nat_lt 4096 (length ds.hosts + length ds.services)) (not (has_few_parents ds.hosts)) (length ds.hosts + length ds.services) (Ok tt) refl refl
           (first_ok (few_objects ds.hosts ds.services) dependencies tt counted);
       few_parents =
-          few_parents_by (nat_lt 4096 (length ds.hosts + length ds.services)) (has_few_parents ds.hosts) (Ok tt) refl (first_ok (few_objects ds.hosts ds.services) dependencies tt counted);
+          few_parents_by (nat_lt 4096 (length ds.hosts + length ds.services)) (has_few_parents ds.hosts) (Ok tt) refl
+          (first_ok (few_objects ds.hosts ds.services) dependencies tt counted);
       few_dependencies =
-          few_dependencies_by _ (length ds.service_dependencies + length ds.host_dependencies) (Ok tt) refl refl (rest_ok (few_objects ds.hosts ds.services) dependencies tt counted);
+          few_dependencies_by _ (length ds.service_dependencies + length ds.host_dependencies) (Ok tt) refl refl
+          (rest_ok (few_objects ds.hosts ds.services) dependencies tt counted);
       described =
           all_by_position (λ s. is_name s.description) ds.services (nowhere (λ i. errors.BadName (service_at i)) _ (rest_ok (good_host_names ds.hosts) (λ _. good_descriptions ds.services) tt named));
       named =
@@ -329,7 +340,8 @@ options_in_range o e =
 good_options_in_range : (options : Options) (hosts : List HostDraft) (services : List ServiceDraft) → good_ranges options hosts services ≡ Ok tt
     → HasOptionsInRange options
 good_options_in_range options hosts services e =
-    options_in_range options (options_by (are_options_in_range options) _ (Ok tt) refl (first_ok (good_options options) (λ _. good_host_ranges hosts >>= λ _. good_service_ranges services) tt e))
+    options_in_range options (options_by (are_options_in_range options) _ (Ok tt) refl
+    (first_ok (good_options options) (λ _. good_host_ranges hosts >>= λ _. good_service_ranges services) tt e))
 
 -- and so are the numbers of every object
 pub objects_in_range : (ds : Drafts) → is_faultless ds ≡ Ok tt → good_ranges ds.options ds.hosts ds.services ≡ Ok tt
@@ -354,7 +366,15 @@ objects_in_range ds faults e =
 -- as many objects as hosts and services
 pub count_of : (c : Configuration) (hosts services : ℕ) → hosts ≡ length c.hosts → services ≡ length c.services → hosts + services ≡ object_count c
 count_of c hosts services h s =
-    omega (arith, h, s, length-append (map named_host c.hosts) (map named_service c.services), length-map c.hosts named_host, length-map c.services named_service)
+    omega (
+      arith,
+      h,
+      s,
+      length-append (map named_host c.hosts) (map named_service c.services),
+      length-map c.hosts named_host,
+      length-map c.services
+          named_service,
+    )
 
 pub few_in_all : (c : Configuration) → length c.hosts + length c.services ≤ 4096 → object_count c ≤ 4096
 few_in_all c h = omega (arith, h, count_of c (length c.hosts) (length c.services) refl refl)
@@ -459,7 +479,8 @@ same_sorts_of ds e =
     let ns = names_in_order ds.hosts in
     let services = ends_alike objects (full_names ds.services) n false (λ name known.
     let at = found (λ (s : ServiceDraft). bytes_eq name (full_name (key_of s))) ds.services (sym (list_any-map (bytes_eq name) (λ s. full_name (key_of s)) ds.services) ∙ known) in
-    service_end c name (key_of at.item) ((bytes_eq-Decides name (full_name (key_of at.item))).0 at.passes) (parted_hosts ds e) (full_name_in_order ds.services (λ s. object_of s.check) (services_in_order ds.services) (services_all ds e) ns name known))
+    service_end c name (key_of at.item) ((bytes_eq-Decides name (full_name (key_of at.item))).0 at.passes) (parted_hosts ds e)
+    (full_name_in_order ds.services (λ s. object_of s.check) (services_in_order ds.services) (services_all ds e) ns name known))
     ds.service_dependencies f.service_ends in
     let hosts = ends_alike objects (names_of ds.hosts) n true (λ name known.
     host_end c name (ap (λ l. is_known l name) (host_names_are ns hs) ∙ sym (known_in_order ds.hosts body_of hs (hosts_all ds e) name) ∙ known))
@@ -501,7 +522,14 @@ configuration_is_setup ds e acyclic no_parent_cycle =
       few_parents = subst (λ n. n ≤ 16384) (sym (parents_counted ds.hosts (λ h. object_of h.check) hs ns (hosts_all ds e))) (at_most _ 16384 f.few_parents);
       few_dependencies =
           let all = map (numbered_dependency (objects_of (numbered ds))) (all_dependencies ds) in
-          omega (arith, f.few_dependencies, listed_few (length (objects_of (numbered ds))) all, length-map (all_dependencies ds) (numbered_dependency (objects_of (numbered ds))), length-append ds.service_dependencies ds.host_dependencies);
+          omega (
+            arith,
+            f.few_dependencies,
+            listed_few (length (objects_of (numbered ds))) all,
+            length-map (all_dependencies ds)
+                (numbered_dependency (objects_of (numbered ds))),
+            length-append ds.service_dependencies ds.host_dependencies,
+          );
       host_names = names.host_names;
       descriptions = list_all-map (λ x. is_name x.description) (numbered_service ns) (services_in_order ds.services) ∙ described_in_order ds e;
       full_names = names.full_names;

@@ -1,5 +1,6 @@
 -- From bytes to the tree that `serde_json` reads, and what stands in it.
-use Rattle.std.proofs.Common.{◌≡◌, ℕ, Bool, true, false, cond, ◌&&◌, ◌||◌, List, [], ◌∷◌, map, Option, Some, None, Bor, String, Global, string_bytes, bytes_eq, refl, sym, ap, ◌∙◌, Ok, Err}
+use Rattle.std.proofs.Common.{◌≡◌, ℕ, Bool, true, false, cond, ◌&&◌, ◌||◌, List, [], ◌∷◌, map, Option, Some, None, Bor, String, Global, string_bytes}
+use Rattle.std.proofs.Common.{bytes_eq, refl, sym, ap, ◌∙◌, Ok, Err}
 use Rattle.std.specs.Prelude.{ok_or, is_some, unwrap_or, IsUtf8}
 use Rattle.std.specs.Str.{is_utf8}
 use Rattle.std.specs.List.{list_any, list_all}

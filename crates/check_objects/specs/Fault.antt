@@ -1,5 +1,6 @@
 -- The tests after the shape, each over the whole document, in the order in which they are made.
-use Rattle.std.specs.Prelude.{ℕ, ◌+◌, ◌&&◌, ◌||◌, Bool, true, not, List, length, map, sum_by, position, Option, Result, Ok, Err, bytes_eq, nat_lt, nat_le, if◌then◌else◌, false, take, slice_get, option_map, unwrap_or}
+use Rattle.std.specs.Prelude.{ℕ, ◌+◌, ◌&&◌, ◌||◌, Bool, true, not, List, length, map, sum_by, position, Option, Result, Ok, Err, bytes_eq, nat_lt, nat_le}
+use Rattle.std.specs.Prelude.{if◌then◌else◌, false, take, slice_get, option_map, unwrap_or}
 use Rattle.std.specs.List.{list_any, list_all, range_with_len}
 use Rattle.check_objects.specs.declared.draft.CheckDraft.{CheckDraft}
 use Rattle.check_objects.specs.declared.error.LoadError.{LoadError}

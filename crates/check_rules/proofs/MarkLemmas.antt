@@ -1,5 +1,6 @@
 -- The walk along the order from dependents to masters.
-use Rattle.std.proofs.Common.{◌≡◌, ℕ, zero, suc, ◌+◌, ◌<◌, ◌≤◌, ◌==◌, ◌&&◌, ◌||◌, Bool, true, false, List, [], ◌∷◌, ◌++◌, length, take, get_or, replicate, refl, sym, ap, ◌∙◌, arith, inl, inr, append_assoc, append-nil}
+use Rattle.std.proofs.Common.{◌≡◌, ℕ, zero, suc, ◌+◌, ◌<◌, ◌≤◌, ◌==◌, ◌&&◌, ◌||◌, Bool, true, false, List, [], ◌∷◌, ◌++◌, length, take, get_or, replicate}
+use Rattle.std.proofs.Common.{refl, sym, ap, ◌∙◌, arith, inl, inr, append_assoc, append-nil}
 use Rattle.std.specs.Prelude.{nat_lt}
 use Rattle.std.proofs.lemmas.Bool.Decides.{nat_tests}
 use Rattle.std.specs.List.{list_any, list_all}
@@ -121,8 +122,25 @@ pub marked_add : (before marks : List Bool) (ds : List Dependency) (i : ℕ) (d 
 marked_add before marks ds i d h e l is = record {
   size = length-set marks (get_or ds i d).master true ∙ is.size;
   each = λ x. elim (cases_eq (get_or ds i d).master x) [
-    | inl s ↦ rw (← s, get_or-set_same marks (get_or ds i d).master true false l, inherited_more (get_or ds i d).master ds i d h, e, eq-eqb (get_or ds i d).master (get_or ds i d).master refl, or_true (is_inherited (get_or ds i d).master (take i ds)), or_true (is_marked before (get_or ds i d).master)) refl
-    | inr n ↦ rw (get_or-set_other marks (get_or ds i d).master x true false (λ s. n (sym s)), inherited_more x ds i d h, e, ne_eqb (get_or ds i d).master x n, or_false (is_inherited x (take i ds))) (is.each x)
+    | inl s ↦ rw (
+      ← s,
+      get_or-set_same marks (get_or ds i d).master true false l,
+      inherited_more (get_or ds i d).master ds i d h,
+      e,
+      eq-eqb
+          (get_or ds i d).master (get_or ds i d).master refl,
+      or_true (is_inherited (get_or ds i d).master (take i ds)),
+      or_true
+          (is_marked before (get_or ds i d).master),
+    ) refl
+    | inr n ↦ rw (
+      get_or-set_other marks (get_or ds i d).master x true false
+          (λ s. n (sym s)),
+      inherited_more x ds i d h,
+      e,
+      ne_eqb (get_or ds i d).master x n,
+      or_false (is_inherited x (take i ds)),
+    ) (is.each x)
   ];
 }
 
@@ -180,8 +198,10 @@ pub walk_met : (c : Configuration) (standings : List Standing) (n place i : ℕ)
     → place ≡ i + 1 → i < length order → get_or order i d < object_count c → is_marked marks (get_or order i d) ≡ true
     → list_any (is_met c standings) (dependencies_of c (get_or order i d)) ≡ true → IsUnderWay c standings n place order marks → true ≡ is_blocked c standings n
 walk_met c standings n place i order marks d valid e h l m met is =
-    let blocked : is_blocked c standings (get_or order i d) ≡ true = blocked_by_masters c standings (get_or order i d) valid l ∙ any_met_first (is_met c standings) (λ x. x.inherits && is_blocked c standings x.master) (dependencies_of c (get_or order i d)) met in
-    sym (is.asks ∙ rw e (any_walk c standings marks order i d h ∙ rw (m, blocked) (or_true (list_any (λ x. is_marked marks x && is_blocked c standings x) (take i order)))))
+    let blocked : is_blocked c standings (get_or order i d) ≡ true = blocked_by_masters c standings (get_or order i d) valid l ∙ any_met_first
+    (is_met c standings) (λ x. x.inherits && is_blocked c standings x.master) (dependencies_of c (get_or order i d)) met in
+    sym (is.asks ∙ rw e (any_walk c standings marks order i d h ∙ rw (m, blocked)
+    (or_true (list_any (λ x. is_marked marks x && is_blocked c standings x) (take i order)))))
 
 -- a marked object without one hands the question on to the masters of those that inherit
 pub walk_on : (c : Configuration) (standings : List Standing) (n place i : ℕ) (order : List ℕ) (marks marks' : List Bool) (d : ℕ) → IsSetup c
@@ -193,8 +213,10 @@ pub walk_on : (c : Configuration) (standings : List Standing) (n place i : ℕ) 
 walk_on c standings n place i order marks marks' d valid ordered e h l m met same now is =
     let object = get_or order i d in
     let ds = dependencies_of c object in
-    let blocked : is_blocked c standings object ≡ list_any (λ x. x.inherits && is_blocked c standings x.master) ds = blocked_by_masters c standings object valid l ∙ any_met_none (is_met c standings) (λ x. x.inherits && is_blocked c standings x.master) ds met in
-    let behind : list_all (is_among (take i order)) (masters_in ds) ≡ true = rw (← masters_at c object) (follows_at (masters_of c) [] order i d ordered.behind_links h) in
+    let blocked : is_blocked c standings object ≡ list_any
+    (λ x. x.inherits && is_blocked c standings x.master) ds = blocked_by_masters c standings object valid l ∙ any_met_none (is_met c standings) (λ x. x.inherits && is_blocked c standings x.master) ds met in
+    let behind : list_all (is_among (take i order)) (masters_in ds) ≡ true = rw (← masters_at c object)
+    (follows_at (masters_of c) [] order i d ordered.behind_links h) in
     let before = list_any (λ x. is_marked marks x && is_blocked c standings x) (take i order) in
     let handed : list_any (λ x. is_marked marks' x && is_blocked c standings x) (take i order) ≡ (list_any (λ x. is_marked marks x && is_blocked c standings x) (take i order) || list_any (λ x. x.inherits && is_blocked c standings x.master) ds) =
     any_agree (λ x. is_marked marks' x && is_blocked c standings x) (λ x. (is_marked marks x && is_blocked c standings x) || (is_inherited x ds && is_blocked c standings x)) (λ x. ap (λ t. t && is_blocked c standings x) (now x) ∙ and_or (is_marked marks x) (is_inherited x ds) (is_blocked c standings x)) (take i order)
@@ -222,7 +244,8 @@ walk_first c standings n place order marks marks' valid ordered h p e e' =
       size = rw e' (length-set marks n true ∙ count);
       place_within = omega (arith, ordered.size, size, p);
       asks =
-          sym (rw (take_all place order (omega (arith, ordered.size, size, p))) (any_agree (λ x. is_marked marks' x && is_blocked c standings x) (λ x. (n == x) && is_blocked c standings x) (λ x. ap (λ t. t && is_blocked c standings x) (marked x)) order ∙ only_one (is_blocked c standings) n order among));
+          sym (rw (take_all place order (omega (arith, ordered.size, size, p)))
+          (any_agree (λ x. is_marked marks' x && is_blocked c standings x) (λ x. (n == x) && is_blocked c standings x) (λ x. ap (λ t. t && is_blocked c standings x) (marked x)) order ∙ only_one (is_blocked c standings) n order among));
     }
 
 within_by : (n : ℕ) (order : List ℕ) (i : ℕ) → list_all (λ o. nat_lt o n) order ≡ true → i < length order → get_or order i 0 < n

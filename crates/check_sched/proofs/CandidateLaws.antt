@@ -1,5 +1,6 @@
 -- Laws of the candidates and of the least of them.
-use Rattle.std.proofs.Common.{◌≡◌, ℕ, ◌+◌, ◌<◌, ◌≤◌, ◌^◌, Bool, true, false, not, ◌&&◌, ◌||◌, ◌==◌, cond, List, [], ◌∷◌, ◌++◌, length, Option, Some, None, option_map, refl, sym, ap, subst, ◌∙◌, arith, append_assoc}
+use Rattle.std.proofs.Common.{◌≡◌, ℕ, ◌+◌, ◌<◌, ◌≤◌, ◌^◌, Bool, true, false, not, ◌&&◌, ◌||◌, ◌==◌, cond, List, [], ◌∷◌, ◌++◌, length, Option, Some, None}
+use Rattle.std.proofs.Common.{option_map, refl, sym, ap, subst, ◌∙◌, arith, append_assoc}
 use Rattle.std.specs.Prelude.{nat_lt, nat_le, find, filter}
 use Rattle.std.specs.List.{list_any, list_all, filter_map, enumerate_from, cons_option}
 use Rattle.std.proofs.lemmas.Bool.Decides.{nat_tests}
@@ -149,7 +150,8 @@ found_in p cs (d ∷ ds) h m e =
 each_among : (cs ds : List Candidate) → list_all (λ d. list_any (is_same d) (cs ++ ds)) ds ≡ true
 each_among cs [] = refl
 each_among cs (d ∷ ds) =
-    let here : list_any (is_same d) (cs ++ d ∷ ds) ≡ true = list_any-append (is_same d) cs (d ∷ ds) ∙ or_true (list_any (is_same d) cs) (list_any (is_same d) (d ∷ ds)) (rw (is_same_itself d) refl) in
+    let here : list_any (is_same d) (cs ++ d ∷ ds) ≡ true = list_any-append (is_same d) cs (d ∷ ds) ∙ or_true (list_any (is_same d) cs)
+    (list_any (is_same d) (d ∷ ds)) (rw (is_same_itself d) refl) in
     let more : list_all (λ x. list_any (is_same x) (cs ++ d ∷ ds)) ds ≡ true = ap (λ l. list_all (λ x. list_any (is_same x) l) ds) (sym (append_assoc cs (d ∷ []) ds)) ∙ each_among (cs ++ d ∷ []) ds in
     both_and _ _ here more
 
@@ -168,7 +170,8 @@ one_more_by c d cs true s h = (
   record {
     among = rw (is_same_itself c) refl;
     first =
-        both_and (is_no_later c c) _ (no_later_holds c c (omega arith) (λ s. omega arith)) (all_weaker (is_no_later d) (is_no_later c) cs (λ x e. no_later_chain c d x s e) h.first);
+        both_and (is_no_later c c) _ (no_later_holds c c (omega arith)
+        (λ s. omega arith)) (all_weaker (is_no_later d) (is_no_later c) cs (λ x e. no_later_chain c d x s e) h.first);
   },
 )
 one_more_by c d cs false s h =

@@ -1,5 +1,6 @@
 -- Laws of the candidates whose check may begin.
-use Rattle.std.proofs.Common.{◌≡◌, ℕ, zero, suc, ◌+◌, ◌<◌, ◌≤◌, Bool, true, false, not, ◌||◌, cond, List, [], ◌∷◌, take, Option, Some, None, option_map, refl, sym, ap, subst, ◌∙◌, arith}
+use Rattle.std.proofs.Common.{◌≡◌, ℕ, zero, suc, ◌+◌, ◌<◌, ◌≤◌, Bool, true, false, not, ◌||◌, cond, List, [], ◌∷◌, take, Option, Some, None, option_map}
+use Rattle.std.proofs.Common.{refl, sym, ap, subst, ◌∙◌, arith}
 use Rattle.std.specs.Prelude.{filter, nat_le, nat_lt}
 use Rattle.std.specs.List.{list_all, list_any, filter_map, enumerate_from, cons_option}
 use Rattle.std.proofs.lemmas.Bool.Decides.{nat_tests}
@@ -11,7 +12,8 @@ use Rattle.check_sched.specs.declared.call.Reply.{Reply}
 use Rattle.check_sched.specs.declared.call.Reply.TheVariants as reply
 use Rattle.check_sched.specs.State.{State, has_room, is_host}
 use Rattle.check_sched.specs.Step.{candidates, due, eligible, is_open, waiting_reply}
-use Rattle.check_sched.proofs.CandidateLaws.{FoundLeast, IsLeast, all_at_least, any_filtered, both_and, if_due, is_same, least_due, least_is_found, none_filtered, same_is}
+use Rattle.check_sched.proofs.CandidateLaws.{FoundLeast, IsLeast, all_at_least, any_filtered, both_and, if_due, is_same, least_due, least_is_found}
+use Rattle.check_sched.proofs.CandidateLaws.{none_filtered, same_is}
 
 -- ---- filters
 

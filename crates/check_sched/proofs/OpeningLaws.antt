@@ -1,5 +1,6 @@
 -- Laws of the opening.
-use Rattle.std.proofs.Common.{◌≡◌, ℕ, zero, suc, ◌+◌, ◌<◌, ◌^◌, Bool, true, List, [], ◌∷◌, ◌++◌, length, map, take, get_or, min, Option, Some, None, option_map, refl, sym, ap, subst, ◌∙◌, arith, IfSome}
+use Rattle.std.proofs.Common.{◌≡◌, ℕ, zero, suc, ◌+◌, ◌<◌, ◌^◌, Bool, true, List, [], ◌∷◌, ◌++◌, length, map, take, get_or, min, Option, Some, None}
+use Rattle.std.proofs.Common.{option_map, refl, sym, ap, subst, ◌∙◌, arith, IfSome}
 use Rattle.std.specs.Prelude.{slice_get, zip, All}
 use Rattle.std.specs.List.{list_all, enumerate_from}
 use Rattle.std.proofs.lemmas.Bool.Decides.{nat_tests}
@@ -13,7 +14,8 @@ use Rattle.check_rules.specs.Standing.{pending_standing}
 use Rattle.check_rules.proofs.VerdictLaws.{pending_is_lawful, pending_sort}
 use Rattle.check_sched.specs.Scheduling.{Scheduling, opening_object}
 use Rattle.check_spread.specs.Spread.{initial_times}
-use Rattle.check_sched.specs.State.{State, IsState, IsStandingOf, IsWithinLimit, is_host, is_in_time, is_time, objects_at, opening, opening_objects, opening_standings}
+use Rattle.check_sched.specs.State.{State, IsState, IsStandingOf, IsWithinLimit, is_host, is_in_time, is_time, objects_at, opening, opening_objects}
+use Rattle.check_sched.specs.State.{opening_standings}
 use Rattle.check_sched.proofs.CandidateLaws.{both_and}
 use Rattle.check_sched.proofs.LimitLaws.{services_none}
 use Rattle.check_sched.proofs.ReportLaws.{some_attempts}
@@ -29,7 +31,8 @@ times_in_time : (times : List (Option ℕ)) (os : List Named) → All (λ first.
 times_in_time [] os h = refl
 times_in_time (first ∷ times) [] h = refl
 times_in_time (first ∷ times) (o ∷ os) h =
-    both_and _ _ (both_and (is_time first) true (first_in_time first (h 0 None (omega arith))) refl) (times_in_time times os (λ k d l. h (suc k) d (omega arith)))
+    both_and _ _ (both_and (is_time first) true (first_in_time first (h 0 None (omega arith))) refl)
+    (times_in_time times os (λ k d l. h (suc k) d (omega arith)))
 
 -- the standing at a place of the opening is pending
 pub pending_at : (setup : Configuration) (k : ℕ) (os : List Named) (n : ℕ) (t : Standing)
@@ -47,7 +50,12 @@ standings_opening : (setup : Configuration) (k : ℕ) (os : List Named) → IsSe
     → slice_get (map (λ p. pending_standing (is_host setup p.0)) (enumerate_from k os)) n ≡ Some t → IsStandingOf setup (k + n) t
 standings_opening setup k os h n t e =
     subst (λ x. IsStandingOf setup (k + n) x) (pending_at setup k os n t e)
-    (record { lawful = pending_is_lawful (is_host setup (k + n)) _ (some_attempts setup (k + n) h); sort = pending_sort (is_host setup (k + n)); until_checked = λ never. refl })
+    (record {
+      lawful = pending_is_lawful (is_host setup (k + n)) _ (some_attempts setup (k + n) h);
+      sort = pending_sort
+          (is_host setup (k + n));
+      until_checked = λ never. refl;
+    })
 
 pub length-objects_at : (setup : Configuration) (times : List (Option ℕ)) → length times ≡ object_count setup
     → length (objects_at setup times) ≡ object_count setup
@@ -127,5 +135,6 @@ pub standing_seen : (setup : Configuration) (n : ℕ) (made : Standing) (host : 
     → host ≡ is_host setup n → take n (opening_standings setup) ++ made ∷ [] ≡ take (n + 1) (opening_standings setup)
 standing_seen setup n made host h m e =
     let less : n < length (opening_standings setup) = let l = length-opening_standings setup in omega (arith, h, l) in
-    let is : made ≡ get_or (opening_standings setup) n made = m ∙ ap pending_standing e ∙ sym (standing_at_opening setup 0 n (objects_of setup) made h ∙ ap (λ j. pending_standing (is_host setup j)) (let z : 0 + n ≡ n = omega arith in z)) in
+    let is : made ≡ get_or (opening_standings setup) n made = m ∙ ap pending_standing e ∙ sym
+    (standing_at_opening setup 0 n (objects_of setup) made h ∙ ap (λ j. pending_standing (is_host setup j)) (let z : 0 + n ≡ n = omega arith in z)) in
     ap (λ x. take n (opening_standings setup) ++ x ∷ []) is ∙ sym (take_more (opening_standings setup) n made less)

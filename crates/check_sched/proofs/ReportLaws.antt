@@ -1,5 +1,6 @@
 -- Laws of reports: the standing and the next time that a result gives are within their limits.
-use Rattle.std.proofs.Common.{◌≡◌, ℕ, zero, suc, ◌+◌, ◌-◌, ◌*◌, ◌<◌, ◌≤◌, ◌^◌, Bool, true, false, not, ◌==◌, cond, List, [], ◌∷◌, length, get_or, Option, Some, None, Ok, option_map, refl, sym, ap, subst, ◌∙◌, arith, IfSome}
+use Rattle.std.proofs.Common.{◌≡◌, ℕ, zero, suc, ◌+◌, ◌-◌, ◌*◌, ◌<◌, ◌≤◌, ◌^◌, Bool, true, false, not, ◌==◌, cond, List, [], ◌∷◌, length, get_or, Option}
+use Rattle.std.proofs.Common.{Some, None, Ok, option_map, refl, sym, ap, subst, ◌∙◌, arith, IfSome}
 use Rattle.std.specs.Prelude.{nat_lt, option_and_then, slice_get, unwrap_or}
 use Rattle.std.specs.Option.{option_map_or}
 use Rattle.std.proofs.Math.Nat.{mul-le-mul_left}
@@ -112,7 +113,8 @@ judged_is_standing_by setup standings n c None h l e b = record {
 }
 judged_is_standing_by setup standings n c (Some host) h l e b = record {
   lawful =
-      verdict_is_lawful (standing_at standings n) (service_state_of c) (max_attempts_of setup n) (not (is_down (standing_at standings host))) (some_attempts setup n h) b.lawful;
+      verdict_is_lawful (standing_at standings n) (service_state_of c) (max_attempts_of setup n) (not (is_down (standing_at standings host)))
+      (some_attempts setup n h) b.lawful;
   sort = service_sort c ∙ sym (is_host-some setup n host e);
   until_checked = λ never. cc;
 }
@@ -160,7 +162,8 @@ interval_next_by : (setup : Configuration) (n : ℕ) (standing : Standing) (star
     → is_time (option_and_then (λ o. time_after setup start (interval_after o.object standing)) found) ≡ true
 interval_next_by setup n standing start None h l e = refl
 interval_next_by setup n standing start (Some o) h l e =
-    let bound = milliseconds_bound (interval_after o.object standing) setup.options.interval_length (interval_bound o.object standing (object_in_range setup n o h e)) h.interval_length in
+    let bound = milliseconds_bound (interval_after o.object standing) setup.options.interval_length
+    (interval_bound o.object standing (object_in_range setup n o h e)) h.interval_length in
     time_by (interval_after o.object standing == 0) (start + milliseconds setup (interval_after o.object standing)) (omega (arith, bound, l))
 
 next_by : (setup : Configuration) (n : ℕ) (standing : Standing) (start : ℕ) (already : Option ℕ) → IsSetup setup → start ≤ 2 ^ 60
@@ -230,7 +233,8 @@ report_standing n c o s is_state e =
 pub report_next : (n : ℕ) (c : Code) (o : Scheduling) (r : OpenRun) (s : State) → IsState s → slice_get s.objects n ≡ Some o → o.run ≡ Some r
     → is_time (next_after s.setup n (judged s.setup s.standings n c) r.start o.next) ≡ true
 report_next n c o r s is_state e f =
-    next_in_time s.setup n (judged s.setup s.standings n c) r.start o.next is_state.valid_setup (start_of_state s n o r is_state e f) (next_of_state s n o is_state e)
+    next_in_time s.setup n (judged s.setup s.standings n c) r.start o.next is_state.valid_setup (start_of_state s n o r is_state e f)
+    (next_of_state s n o is_state e)
 
 -- a time that passes the test is at most 2^61
 pub is_time_reads : (next : Option ℕ) → is_time next ≡ true → IfSome next (λ time. time ≤ 2 ^ 61)
@@ -286,13 +290,15 @@ is_time_holds (Some time) h = grind (arith, nat_tests, h)
 
 -- ---- the standing that the code makes
 
-pub judged_when_host : (setup : Configuration) (standings : List Standing) (n : ℕ) (c : Code) (before : Standing) (max : ℕ) (found : rules.State) (made : Standing)
+pub judged_when_host : (setup : Configuration) (standings : List Standing) (n : ℕ) (c : Code) (before : Standing) (max : ℕ) (found : rules.State)
+    (made : Standing)
     → host_of setup n ≡ None → standing_at standings n ≡ before
     → max ≡ max_attempts_of setup n → found ≡ host_state_of setup standings n c → made ≡ verdict_on before found max true → made ≡ judged setup standings n c
 judged_when_host setup standings n c before max found made e b m f v =
     v ∙ (λ i. verdict_on (sym b i) (f i) (m i) true) ∙ sym (ap (λ h. judged_by h setup standings n c) e)
 
-pub judged_when_service : (setup : Configuration) (standings : List Standing) (n host : ℕ) (c : Code) (before : Standing) (max : ℕ) (found : rules.State) (up : Bool) (made : Standing)
+pub judged_when_service : (setup : Configuration) (standings : List Standing) (n host : ℕ) (c : Code) (before : Standing) (max : ℕ)
+    (found : rules.State) (up : Bool) (made : Standing)
     → host_of setup n ≡ Some host → standing_at standings n ≡ before
     → max ≡ max_attempts_of setup n → found ≡ service_state_of c → up ≡ not (is_down (standing_at standings host))
     → made ≡ verdict_on before found max up → made ≡ judged setup standings n c

@@ -1,5 +1,6 @@
 -- No object is taken while it runs: what a history alone says of runs is what the state says that its calls leave.
-use Rattle.std.proofs.Common.{◌≡◌, ◌≢◌, ℕ, zero, suc, ◌+◌, ◌<◌, ◌==◌, ◌&&◌, ◌||◌, Bool, true, false, not, cond, List, [], ◌∷◌, ◌++◌, length, Option, Some, None, Ok, Err, option_map, refl, sym, ap, ◌∙◌, arith, inl, inr}
+use Rattle.std.proofs.Common.{◌≡◌, ◌≢◌, ℕ, zero, suc, ◌+◌, ◌<◌, ◌==◌, ◌&&◌, ◌||◌, Bool, true, false, not, cond, List, [], ◌∷◌, ◌++◌, length, Option, Some}
+use Rattle.std.proofs.Common.{None, Ok, Err, option_map, refl, sym, ap, ◌∙◌, arith, inl, inr}
 use Rattle.std.specs.Prelude.{is_none, nat_le, nat_lt, option_and_then, slice_get}
 use Rattle.std.specs.List.{cons_option, enumerate_from, filter_map, list_all, list_any}
 use Rattle.std.proofs.lemmas.Bool.Decides.{nat_tests}
@@ -238,7 +239,8 @@ runs_by : (s : State) (e : Entry Call Reply) (h : List (Entry Call Reply)) (o r 
     → (runs_under o r h ≡ true → run_in o (replay step (step s e.call).0 h).objects ≡ Some r)
     → run_in o (replay step (step s e.call).0 h).objects ≡ Some r
 runs_by s e h o r true is any legal more =
-    keeps_running (step s e.call).0 h o r legal.1 (begun_by s e o r legal.0 (and_left (begins o r e) _ is)).running (not_false (list_any (ends o r) h) (and_right (begins o r e) _ is))
+    keeps_running (step s e.call).0 h o r legal.1 (begun_by s e o r legal.0 (and_left (begins o r e) _ is)).running
+    (not_false (list_any (ends o r) h) (and_right (begins o r e) _ is))
 runs_by s e h o r false is any legal more = more any
 
 -- what runs by the history alone runs in the state that it leaves
@@ -285,7 +287,8 @@ pub taken_once : (s : State) (front back : List (Entry Call Reply)) (e : Entry C
     → begins o r e ≡ true → runs_under o other front ≡ false
 taken_once s front back e o r other legal is =
     let begun = begun_by (replay step s front) e o r (legal_back s front (e ∷ back) legal).0 is in
-    not_running other (run_in o (replay step s front).objects) (runs_under o other front) begun.free (runs_in_state s front o other (legal_front s front (e ∷ back) legal))
+    not_running other (run_in o (replay step s front).objects) (runs_under o other front) begun.free
+    (runs_in_state s front o other (legal_front s front (e ∷ back) legal))
 
 -- its run has the next number
 pub taken_next : (s : State) (front back : List (Entry Call Reply)) (e : Entry Call Reply) (o r : ℕ) → s.runs ≡ 0

@@ -1,5 +1,6 @@
 -- The least candidate, found object by object.
-use Rattle.std.proofs.Common.{◌≡◌, ℕ, suc, ◌+◌, ◌<◌, ◌≤◌, Bool, true, false, cond, List, [], ◌∷◌, ◌++◌, length, take, get_or, Option, Some, None, refl, ap, ◌∙◌, arith, append-nil, length-take-le}
+use Rattle.std.proofs.Common.{◌≡◌, ℕ, suc, ◌+◌, ◌<◌, ◌≤◌, Bool, true, false, cond, List, [], ◌∷◌, ◌++◌, length, take, get_or, Option, Some, None, refl, ap}
+use Rattle.std.proofs.Common.{◌∙◌, arith, append-nil, length-take-le}
 use Rattle.std.specs.Prelude.{MatchOption, nat_lt, nat_le}
 use Rattle.std.specs.List.{list_any, list_all, filter_map, enumerate_from, cons_option}
 use Rattle.std.proofs.lemmas.Bool.Decides.{nat_tests}
@@ -9,7 +10,8 @@ use Rattle.std.proofs.lemmas.List.Folds.{list_all-append, list_any-append}
 use Rattle.check_sched.specs.Scheduling.{Scheduling, candidate_time}
 use Rattle.check_sched.specs.Candidate.{Candidate, candidate, candidates_among}
 use Rattle.check_sched.specs.Order.{least}
-use Rattle.check_sched.proofs.CandidateLaws.{or_true, is_same, is_same_itself, is_no_later, no_later_holds, no_later_time, all_weaker, all_at, IsLeast, FoundLeast, least_found}
+use Rattle.check_sched.proofs.CandidateLaws.{or_true, is_same, is_same_itself, is_no_later, no_later_holds, no_later_time, all_weaker, all_at, IsLeast}
+use Rattle.check_sched.proofs.CandidateLaws.{FoundLeast, least_found}
 
 -- ---- one candidate more
 
@@ -40,7 +42,12 @@ next_by b cs c false t h below =
     record {
       among = list_any-append (is_same c) cs (c ∷ []) ∙ or_true (list_any (is_same c) cs) (list_any (is_same c) (c ∷ [])) (rw (is_same_itself c) refl);
       first =
-          rw (list_all-append (is_no_later c) cs (c ∷ []), all_weaker (is_no_later b) (is_no_later c) cs (λ x e. no_later_holds c x (let r = no_later_time b x e in omega (arith, r)) (λ s. let r = no_later_time b x e in absurd (omega (arith, r)))) h.first, no_later_holds c c (omega arith) (λ s. omega arith)) refl;
+          rw (
+            list_all-append (is_no_later c) cs (c ∷ []),
+            all_weaker (is_no_later b) (is_no_later c) cs
+                (λ x e. no_later_holds c x (let r = no_later_time b x e in omega (arith, r)) (λ s. let r = no_later_time b x e in absurd (omega (arith, r)))) h.first,
+            no_later_holds c c (omega arith) (λ s. omega arith),
+          ) refl;
     }
 
 found_next : (least_so_far : Option Candidate) (cs : List Candidate) (c : Candidate) → FoundLeast least_so_far cs
@@ -77,7 +84,8 @@ pub record Scanned (least_so_far : Option Candidate) (n : ℕ) (objects : List S
 pub scanned_skip : (least_so_far : Option Candidate) (n : ℕ) (objects : List Scheduling) (d : Scheduling) → n < length objects
     → None ≡ candidate_time (get_or objects n d) → Scanned least_so_far n objects → Scanned least_so_far (n + 1) objects
 scanned_skip least_so_far n objects d h e s =
-    let same : candidates_among (take (n + 1) objects) ≡ candidates_among (take n objects) = candidates_at objects n d h ∙ rw (← e) (append-nil (candidates_among (take n objects))) in
+    let same : candidates_among (take (n + 1) objects) ≡ candidates_among (take n objects) = candidates_at objects n d h ∙ rw (← e)
+    (append-nil (candidates_among (take n objects))) in
     record { found = rw same s.found; below = rw same (below_next n _ s.below) }
 
 pub scanned_add : (least_so_far : Option Candidate) (n t : ℕ) (objects : List Scheduling) (d : Scheduling) → n < length objects

@@ -12,7 +12,8 @@ use Rattle.check_sched.specs.Report.{put_off_until}
 use Rattle.check_sched.specs.Reply.{OnRefused, NamesObjectOf, TellsTimesUpTo}
 use Rattle.check_sched.specs.Step.{step, replies, after}
 use Rattle.check_sched.proofs.EligibleLaws.{eligible_open, waiting_cases}
-use Rattle.check_sched.proofs.OperatorLaws.{abandon_cases, ended_in_time, enable_cases, freed_in_time, reschedule_cases, rescheduled_in_time, status_cases, with_object_is_state}
+use Rattle.check_sched.proofs.OperatorLaws.{abandon_cases, ended_in_time, enable_cases, freed_in_time, reschedule_cases, rescheduled_in_time, status_cases}
+use Rattle.check_sched.proofs.OperatorLaws.{with_object_is_state}
 use Rattle.check_sched.proofs.TakeLaws.{take_cases, eligible_within, least_time, put_off_is_state, taken_is_state}
 use Rattle.check_sched.proofs.ReportLaws.{next_of_state, put_off_in_time, report_cases, report_next, report_standing, reported_is_state, is_time_reads}
 

@@ -1,5 +1,6 @@
 -- Laws of Take: its answers, and the state that it leaves.
-use Rattle.std.proofs.Common.{◌≡◌, ℕ, ◌+◌, ◌<◌, ◌≤◌, ◌^◌, Bool, true, false, cond, length, get_or, set, Option, Some, None, option_map, refl, sym, ap, ◌∙◌, arith, IfSome}
+use Rattle.std.proofs.Common.{◌≡◌, ℕ, ◌+◌, ◌<◌, ◌≤◌, ◌^◌, Bool, true, false, cond, length, get_or, set, Option, Some, None, option_map, refl, sym, ap, ◌∙◌}
+use Rattle.std.proofs.Common.{arith, IfSome}
 use Rattle.std.specs.Prelude.{nat_lt, nat_le}
 use Rattle.std.proofs.lemmas.Bool.Decides.{nat_tests}
 use Rattle.check_objects.specs.Configuration.{object_count}
@@ -114,7 +115,8 @@ taken_left now n s o new h e g i = record {
   setup = s.setup;
   start = s.start;
   objects =
-      set_is_update n (running_from (record { number = s.runs + 1; start = now })) s.objects o new h (g ∙ ap (running_from (record { number = s.runs + 1; start = now })) e) i;
+      set_is_update n (running_from (record { number = s.runs + 1; start = now })) s.objects o new h
+      (g ∙ ap (running_from (record { number = s.runs + 1; start = now })) e) i;
   standings = s.standings;
   runs = s.runs + 1;
 }

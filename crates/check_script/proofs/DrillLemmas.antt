@@ -1,5 +1,6 @@
 -- The members of a drill's commands, and what the commands say together.
-use Rattle.std.proofs.Common.{◌≡◌, ℕ, suc, zero, ◌+◌, ◌≤◌, ◌<◌, ◌==◌, true, false, cond, ◌&&◌, List, [], ◌∷◌, ◌++◌, length, map, replicate, Option, Some, None, get_or, refl, sym, ◌∙◌, ap, append-nil, inl, inr, arith, Result, Ok, Err}
+use Rattle.std.proofs.Common.{◌≡◌, ℕ, suc, zero, ◌+◌, ◌≤◌, ◌<◌, ◌==◌, true, false, cond, ◌&&◌, List, [], ◌∷◌, ◌++◌, length, map, replicate, Option, Some}
+use Rattle.std.proofs.Common.{None, get_or, refl, sym, ◌∙◌, ap, append-nil, inl, inr, arith, Result, Ok, Err}
 use Rattle.std.specs.Prelude.{is_some, unwrap_or, filter_map, IfOk}
 use Rattle.std.specs.List.{list_all, last_or, range_with_len, cons_option}
 use Rattle.std.proofs.Math.ListN.{set}
@@ -125,10 +126,12 @@ returns_next count done (PluginOf named r) =
     let old = returns_below count done in
     let all = done ++ PluginOf named r ∷ [] in
     let size : length (set old named r) ≡ count = length-set old named r ∙ length-returns_below count done in
-    ext_get_or [] (set old named r) (returns_below count all) (size ∙ sym (length-returns_below count all)) (λ o l. let below : o < count = omega (arith, l, size) in elim (cases_eq o named) [
+    ext_get_or [] (set old named r) (returns_below count all) (size ∙ sym (length-returns_below count all))
+    (λ o l. let below : o < count = omega (arith, l, size) in elim (cases_eq o named) [
       | inl e ↦ ap (λ k. get_or (set old named r) k []) e ∙ get_or-set_same old named r [] (omega (arith, length-returns_below count done, below, e))
           ∙ sym (returns_own done named o r (eq-eqb named o (sym e))) ∙ sym (returns_at count o all below)
-      | inr n ↦ get_or-set_other old named o r [] n ∙ returns_at count o done below ∙ sym (returns_other done named o r (ne_eqb named o (λ e. n (sym e)))) ∙ sym (returns_at count o all below)
+      | inr n ↦ get_or-set_other old named o r [] n ∙ returns_at count o done below ∙ sym
+          (returns_other done named o r (ne_eqb named o (λ e. n (sym e)))) ∙ sym (returns_at count o all below)
     ])
 
 -- ---- the whole script

@@ -1,5 +1,6 @@
 -- The lines of a script.
-use Rattle.std.proofs.Common.{ℕ, suc, ◌≡◌, ◌==◌, ◌+◌, ◌≤◌, Bool, true, false, not, if◌then◌else◌, cond, List, [], ◌∷◌, length, map, Option, Some, None, Result, Ok, Err, ◌<◌, ◌++◌, refl, ap, arith, Bor, inl, inr, ◌⊎◌}
+use Rattle.std.proofs.Common.{ℕ, suc, ◌≡◌, ◌==◌, ◌+◌, ◌≤◌, Bool, true, false, not, if◌then◌else◌, cond, List, [], ◌∷◌, length, map, Option, Some, None}
+use Rattle.std.proofs.Common.{Result, Ok, Err, ◌<◌, ◌++◌, refl, ap, arith, Bor, inl, inr, ◌⊎◌}
 use Rattle.std.specs.Prelude.{nat_lt, IfOk}
 use Rattle.std.proofs.lemmas.Bool.{cases_lt}
 use Rattle.std.proofs.lemmas.Bool.Decides.{nat_tests}
@@ -82,13 +83,15 @@ over_setup_fails meaning errors.Memory document ls f = tt
 over_setup_fails meaning (errors.Refused r) document ls f = rw f refl
 
 -- a line is refused
-pub over_commands_fail : {K : Type 0} (meaning : Configuration → List ℕ → Items → Result K LineFault) (e : ScriptError) (c : Configuration) (document : List ℕ) (ls : List (List ℕ))
+pub over_commands_fail : {K : Type 0} (meaning : Configuration → List ℕ → Items → Result K LineFault) (e : ScriptError) (c : Configuration)
+    (document : List ℕ) (ls : List (List ℕ))
     → in_setup (setup_of document) ≡ Ok c → Fails e (commands_of (meaning c) ls) → Fails e (script_over meaning document ls)
 over_commands_fail meaning errors.Memory c document ls s f = tt
 over_commands_fail meaning (errors.Refused r) c document ls s f = rw (s, f) refl
 
 -- nothing is refused
-pub over_reads : {K : Type 0} (meaning : Configuration → List ℕ → Items → Result K LineFault) (c : Configuration) (all : List K) (document : List ℕ) (ls : List (List ℕ))
+pub over_reads : {K : Type 0} (meaning : Configuration → List ℕ → Items → Result K LineFault) (c : Configuration) (all : List K) (document : List ℕ)
+    (ls : List (List ℕ))
     → in_setup (setup_of document) ≡ Ok c → commands_of (meaning c) ls ≡ Ok all → script_over meaning document ls ≡ Ok (record { setup = c; commands = all })
 over_reads meaning c all document ls s f = rw (s, f) refl
 

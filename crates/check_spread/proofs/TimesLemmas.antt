@@ -1,5 +1,6 @@
 -- The times of first checks, object by object.
-use Rattle.std.proofs.Common.{◌≡◌, ℕ, zero, suc, ◌+◌, ◌<◌, ◌≤◌, ◌++◌, true, false, List, [], ◌∷◌, length, map, take, drop, get_or, Option, Some, None, option_map, refl, sym, ap, ◌∙◌, arith, All, append_assoc, length-append}
+use Rattle.std.proofs.Common.{◌≡◌, ℕ, zero, suc, ◌+◌, ◌<◌, ◌≤◌, ◌++◌, true, false, List, [], ◌∷◌, length, map, take, drop, get_or, Option, Some, None}
+use Rattle.std.proofs.Common.{option_map, refl, sym, ap, ◌∙◌, arith, All, append_assoc, length-append}
 use Rattle.std.specs.Prelude.{slice_get, nat_lt, nat_le}
 use Rattle.std.specs.List.{enumerate_from, list_all}
 use Rattle.std.proofs.lemmas.Bool.Decides.{nat_tests}
@@ -7,7 +8,8 @@ use Rattle.std.proofs.lemmas.List.{take_more, length-map, map-append, get_or-map
 use Rattle.std.proofs.Math.Seq.{take-append_seam, drop-append_seam}
 use Rattle.std.proofs.lemmas.List.FromFn.{length-enumerate_from, get_or-enumerate_from}
 use Rattle.check_objects.specs.declared.object.Object.{Object}
-use Rattle.check_objects.specs.Configuration.{Configuration, Named, Host, Service, named_host, named_service, objects_of, object_count, is_object_in_range, IsSetup}
+use Rattle.check_objects.specs.Configuration.{Configuration, Named, Host, Service, named_host, named_service, objects_of, object_count, is_object_in_range}
+use Rattle.check_objects.specs.Configuration.{IsSetup}
 use Rattle.check_objects.proofs.DepthLemmas.{and_first, and_second}
 use Rattle.check_spread.specs.declared.spread.Load.{Load}
 use Rattle.check_spread.specs.declared.spread.Spread.{Spread}
@@ -47,7 +49,8 @@ range_at : (os : List Named) → list_all (λ o. is_object_in_range o.object) os
     → (get_or (map (λ o. o.object) os) k d).check_interval ≤ 525600
 range_at [] h k d l = absurd (omega arith)
 range_at (o ∷ os) h zero d l =
-    let in_range : nat_le o.object.check_interval 525600 ≡ true = and_first _ _ (and_first _ _ (and_first _ _ (and_first (is_object_in_range o.object) _ h))) in grind (arith, nat_tests, in_range)
+    let in_range : nat_le o.object.check_interval 525600 ≡ true = and_first _ _
+    (and_first _ _ (and_first _ _ (and_first (is_object_in_range o.object) _ h))) in grind (arith, nat_tests, in_range)
 range_at (o ∷ os) h (suc k) d l = range_at os (and_second (is_object_in_range o.object) _ h) k d (omega arith)
 
 pub intervals_in_range : (c : Configuration) → IsSetup c → All (λ o. o.check_interval ≤ 525600) (all_objects c)
@@ -80,8 +83,11 @@ pub first_times_more : (spread : Spread) (objects : List Object) (n : ℕ) (d : 
     → take (n + 1) (first_times spread objects) ≡ take n (first_times spread objects) ++ first_time spread objects n (get_or objects n d) ∷ []
 first_times_more spread objects n d h =
     let f : ℕ × Object → Option ℕ = λ p. first_time spread objects p.0 p.1 in
-    let at : get_or (first_times spread objects) n (f (n, d)) ≡ f (n, get_or objects n d) = get_or-map f (enumerate_from 0 objects) n (n, d) (f (n, d)) (let l = length-enumerate_from 0 objects in omega (arith, l)) ∙ ap f (get_or-enumerate_from 0 objects n (n, d) h ∙ ap (λ k. (k, get_or objects n d)) (let e : 0 + n ≡ n = omega arith in e)) in
-    take_more (first_times spread objects) n (f (n, d)) (let l = length-first_times spread objects in omega (arith, l)) ∙ ap (λ y. take n (first_times spread objects) ++ y ∷ []) at
+    let at : get_or (first_times spread objects) n (f (n, d)) ≡ f (n, get_or objects n d) = get_or-map f (enumerate_from 0 objects) n (n, d) (f (n, d))
+    (let l = length-enumerate_from 0 objects in omega (arith, l)) ∙ ap f
+    (get_or-enumerate_from 0 objects n (n, d) h ∙ ap (λ k. (k, get_or objects n d)) (let e : 0 + n ≡ n = omega arith in e)) in
+    take_more (first_times spread objects) n (f (n, d)) (let l = length-first_times spread objects in omega (arith, l)) ∙ ap
+    (λ y. take n (first_times spread objects) ++ y ∷ []) at
 
 pub first_time_is : (spread : Spread) (objects : List Object) (n r : ℕ) (o : Object) (load : Load) → is_scheduled o ≡ true
     → load ≡ load_of spread.interval_length objects → r ≡ rank spread.factor objects n

@@ -1,5 +1,6 @@
 -- Counts of visits, position by position and remainder by remainder.
-use Rattle.std.proofs.Common.{◌≡◌, ◌≢◌, ℕ, zero, suc, ◌+◌, ◌%◌, ◌<◌, ◌≤◌, ◌==◌, ◌&&◌, ◌||◌, Bool, true, false, cond, List, [], ◌∷◌, length, take, get_or, replicate, sum, refl, sym, ap, ◌∙◌, arith, inl, inr, Result, Ok, Err, IfOk}
+use Rattle.std.proofs.Common.{◌≡◌, ◌≢◌, ℕ, zero, suc, ◌+◌, ◌%◌, ◌<◌, ◌≤◌, ◌==◌, ◌&&◌, ◌||◌, Bool, true, false, cond, List, [], ◌∷◌, length, take, get_or}
+use Rattle.std.proofs.Common.{replicate, sum, refl, sym, ap, ◌∙◌, arith, inl, inr, Result, Ok, Err, IfOk}
 use Rattle.std.specs.Prelude.{nat_lt, count_by}
 use Rattle.std.specs.List.{enumerate_from}
 use Rattle.std.proofs.lemmas.Bool.{eqb-true, eq-eqb, ne_eqb, cases_lt, cases_eq}
@@ -108,11 +109,13 @@ counts_add t u factor p xs d counts f w l s same more has = record {
       elim (cases_eq (p % factor) r) [
         | inl e ↦
             let b : one (is_scheduled (get_or xs p d) && (p % factor == r)) ≡ 1 = rw (s, eq-eqb (p % factor) r e) refl in
-            let new : count_at (set counts (p % factor) (count_at counts (p % factor) + 1)) r ≡ count_at counts r + 1 = rw e (get_or-set_same counts r (count_at counts r + 1) 0 (omega (arith, has.size))) in
+            let new : count_at (set counts (p % factor) (count_at counts (p % factor) + 1)) r ≡ count_at counts r + 1 = rw e
+            (get_or-set_same counts r (count_at counts r + 1) 0 (omega (arith, has.size))) in
             omega (arith, step, was, b, new)
         | inr n ↦
             let b : one (is_scheduled (get_or xs p d) && (p % factor == r)) ≡ 0 = rw (s, ne_eqb (p % factor) r n) refl in
-            let new : count_at (set counts (p % factor) (count_at counts (p % factor) + 1)) r ≡ count_at counts r = get_or-set_other counts (p % factor) r (count_at counts (p % factor) + 1) 0 (λ e. n (sym e)) in
+            let new : count_at (set counts (p % factor) (count_at counts (p % factor) + 1)) r ≡ count_at counts r = get_or-set_other counts
+            (p % factor) r (count_at counts (p % factor) + 1) 0 (λ e. n (sym e)) in
             omega (arith, step, was, b, new)
       ];
 }
@@ -136,7 +139,8 @@ less_next j p h = elim (cases_lt j p) [
   | inl l ↦ let a : nat_lt j p ≡ true = grind (arith, nat_tests) in let b : nat_lt j (p + 1) ≡ true = grind (arith, nat_tests) in a ∙ sym b
   | inr g ↦ elim (cases_eq j p) [
     | inl e ↦ absurd (h e)
-    | inr n ↦ let a : nat_lt j p ≡ false = grind (arith, nat_tests) in let l : p < j = omega (arith, g, n) in let b : nat_lt j (p + 1) ≡ false = grind (arith, nat_tests) in a ∙ sym b
+    | inr n ↦ let a : nat_lt j p ≡ false = grind (arith, nat_tests) in let l : p < j = omega (arith, g, n) in let b : nat_lt j (p + 1) ≡ false = grind
+        (arith, nat_tests) in a ∙ sym b
   ]
 ]
 
@@ -203,7 +207,8 @@ counts_all factor n xs counts e has = record {
   size = has.size;
   at =
       λ r h. has.at r h
-      ∙ visits_same (has_remainder_before factor n r) (has_remainder factor r) 0 xs (λ j l m. let below : nat_lt j n ≡ true = (let k : j < n = omega (arith, e) in grind (arith, nat_tests)) in rw below (true_second (j % factor == r)));
+      ∙ visits_same (has_remainder_before factor n r) (has_remainder factor r) 0 xs
+      (λ j l m. let below : nat_lt j n ≡ true = (let k : j < n = omega (arith, e) in grind (arith, nat_tests)) in rw below (true_second (j % factor == r)));
 }
 
 -- ---- the ranks at which the remainders begin
@@ -222,10 +227,12 @@ length-sums_before start (c ∷ cs) = ap suc (length-sums_before (start + c) cs)
 
 less_or_same : (j r : ℕ) → one (nat_lt j r) + one (j == r) ≡ one (nat_lt j (r + 1))
 less_or_same j r = elim (cases_lt j r) [
-  | inl l ↦ let a : nat_lt j r ≡ true = grind (arith, nat_tests) in let b : nat_lt j (r + 1) ≡ true = grind (arith, nat_tests) in rw (a, b, ne_eqb j r (λ e. absurd (omega (arith, e, l)))) refl
+  | inl l ↦ let a : nat_lt j r ≡ true = grind (arith, nat_tests) in let b : nat_lt j (r + 1) ≡ true = grind
+      (arith, nat_tests) in rw (a, b, ne_eqb j r (λ e. absurd (omega (arith, e, l)))) refl
   | inr g ↦ elim (cases_eq j r) [
     | inl e ↦ rw (e, not_less_itself r, less_one_more r, eq-eqb r r refl) refl
-    | inr n ↦ let m : r < j = omega (arith, g, n) in let a : nat_lt j r ≡ false = grind (arith, nat_tests) in let b : nat_lt j (r + 1) ≡ false = grind (arith, nat_tests) in rw (a, b, ne_eqb j r n) refl
+    | inr n ↦ let m : r < j = omega (arith, g, n) in let a : nat_lt j r ≡ false = grind (arith, nat_tests) in let b : nat_lt j (r + 1) ≡ false = grind
+        (arith, nat_tests) in rw (a, b, ne_eqb j r n) refl
   ]
 ]
 
@@ -243,8 +250,10 @@ sums_less factor xs counts has (suc r) h =
     let before = sums_less factor xs counts has r (omega arith) in
     let more = sum_more counts r (omega (arith, has.size)) in
     let here = has.at r (omega arith) in
-    let either = visits_either (has_less_remainder factor r) (has_remainder factor r) (has_less_remainder factor (r + 1)) 0 xs (λ j. less_or_same (j % factor) r) in
-    rw (one_more r) (more ∙ (let sums : sum (take r counts) + count_at counts r ≡ visits (has_less_remainder factor r) 0 xs + visits (has_remainder factor r) 0 xs = omega (arith, before, here) in sums) ∙ either)
+    let either = visits_either (has_less_remainder factor r) (has_remainder factor r) (has_less_remainder factor (r + 1)) 0 xs
+    (λ j. less_or_same (j % factor) r) in
+    rw (one_more r) (more ∙ (let sums : sum (take r counts) + count_at counts r ≡ visits (has_less_remainder factor r) 0 xs + visits
+    (has_remainder factor r) 0 xs = omega (arith, before, here) in sums) ∙ either)
 
 pub few_in_all : (factor : ℕ) (xs : List Object) (counts : List ℕ) → HasCounts (has_remainder factor) factor xs counts → sum counts ≤ length xs
 few_in_all factor xs counts has =
@@ -314,7 +323,8 @@ earlier_first factor xs ranks has = record {
   size = has.size;
   at =
       λ r h. has.at r h
-      ∙ visits_same (has_less_remainder factor r) (is_visited_earlier factor 0 r) 0 xs (λ j l m. sym (rw (nothing_below j, false_second (j % factor == r)) (or_false (nat_lt (j % factor) r))));
+      ∙ visits_same (has_less_remainder factor r) (is_visited_earlier factor 0 r) 0 xs
+      (λ j l m. sym (rw (nothing_below j, false_second (j % factor == r)) (or_false (nat_lt (j % factor) r))));
 }
 
 pub ok_weaker : {A E : Type 0} {P Q : A → Type 0} (r : Result A E) → ((x : A) → P x → Q x) → IfOk r P → IfOk r Q

@@ -22,7 +22,8 @@ pub text_of_drill : (start workers room : ℕ) (input : List ℕ) (s : DrillScri
 text_of_drill start workers room input s history refused e d = rw e (record { history = history; refused = refused; drill = d; text_is = refl })
 
 -- a front of it was written
-pub front_of_drill : (r : Result Outcome DriveError) (start workers room : ℕ) (input : List ℕ) (s : DrillScript) (history : List (Entry Call Reply)) (refused : ℕ) (held holds : Option (List ℕ))
+pub front_of_drill : (r : Result Outcome DriveError) (start workers room : ℕ) (input : List ℕ) (s : DrillScript) (history : List (Entry Call Reply))
+    (refused : ℕ) (held holds : Option (List ℕ))
     → drill_script_of input ≡ Ok s → IsDrill s start workers room history refused → OnErr r (WroteFront held holds (drill_text s.setup history refused))
     → OnErr r (Keeps held holds ⊎ WroteDrillFront start workers room input held holds)
 front_of_drill (Ok x) start workers room input s history refused held holds e d f = tt
@@ -97,7 +98,8 @@ pub drill_flush_fault : (e : DriveError) (start workers room : ℕ) (had left he
     → Consumes had left input → WroteDrill start workers room input held mid → Keeps mid holds → e ≡ errors.Write
     → AfterDrillFault e start workers room had left held holds
 drill_flush_fault e start workers room had left held mid holds input all c w k u =
-    rw u (drill_write_fault errors.Write start workers room had left held holds input (λ q. cc) all c (inr (written_front start workers room input held mid holds w k)))
+    rw u (drill_write_fault errors.Write start workers room had left held holds input
+    (λ q. cc) all c (inr (written_front start workers room input held mid holds w k)))
 
 -- ---- the input of a drill, whatever is known of its reader
 
@@ -127,7 +129,14 @@ unwritten_drill e start workers room had held =
 pub cut_drill : (e : DriveError) (start workers room : ℕ) (had held holds : Option (List ℕ)) (read : List ℕ) → IfSome had (λ bytes. read ≡ take 67108865 bytes)
     → Keeps held holds ⊎ WroteDrillFront start workers room read held holds → IsDrillOnInput start workers room (Err e) had held holds
 cut_drill e start workers room had held holds read all f =
-    record { input = input_of had read; is_input = input_of-is had read; outcome_is = tt; written = tt; front = front_of_read start workers room had held holds read all f }
+    record {
+      input = input_of had read;
+      is_input = input_of-is had read;
+      outcome_is = tt;
+      written = tt;
+      front = front_of_read start workers room had
+          held holds read all f;
+    }
 
 -- a drill that came to its flush, which failed
 pub unflushed_drill : (e : DriveError) (start workers room : ℕ) (had held mid holds : Option (List ℕ)) (read : List ℕ)
@@ -145,6 +154,11 @@ flushed_drill start workers room had held mid holds given read all w k g = recor
   is_input = input_of-is had read;
   outcome_is = g ∙ ap outcome_by (input_of-script had read all);
   written =
-      record { text = w.text; is_text = text_of_read start workers room had read w.text all w.is_text; written = Appends-Keeps held mid holds w.text w.written k };
+      record {
+        text = w.text;
+        is_text = text_of_read start workers room had read w.text all w.is_text;
+        written = Appends-Keeps held mid holds w.text
+            w.written k;
+      };
   front = tt;
 }

@@ -128,7 +128,8 @@ one_stop room recorded left before calls moments (Some stop.NoMemory) r e short 
 one_stop room recorded left before calls moments (Some stop.Spent) r e short many = absurd (omega (arith, r, e, short, many))
 
 -- the calls without an answer are the shifts that stopped
-stops_counted : (allows : ℕ → ℕ → ℕ → Code → Type 0) (moments : List ℕ) (room : ℕ) (history : List (Entry Call Reply)) (desk : Desk) (n : ℕ) (ps : List Pass) (ss : List Shift)
+stops_counted : (allows : ℕ → ℕ → ℕ → Code → Type 0) (moments : List ℕ) (room : ℕ) (history : List (Entry Call Reply)) (desk : Desk) (n : ℕ)
+    (ps : List Pass) (ss : List Shift)
     → length moments ≤ 67108864 → AreNewPasses desk n ps → AreShiftsOf allows moments room history ps ss → unanswered_in ss ≡ stopped_in ss
 unfolding unanswered_in
 stops_counted allows moments room history desk n [] [] few new are = refl
@@ -138,7 +139,8 @@ stops_counted allows moments room history desk n (p ∷ ps) (s ∷ ss) few new a
     let h = are.0 in
     let brought : (pass_of p).left ≡ 4294967295 = ap (λ c. c.left) new.1 in
     let short = shift_short s moments h.shift.in_order in
-    let here = one_stop room (length history) h.left (pass_of p).left (length (shift_entries s)) (length moments) s.stopped h.reason h.left_is short (omega arith) in
+    let here = one_stop room (length history) h.left (pass_of p).left (length (shift_entries s)) (length moments) s.stopped h.reason h.left_is short
+    (omega arith) in
     let rest = stops_counted allows moments room history desk (n + 1) ps ss few new.2 are.1 in
     let sum = sum_by-cons (λ v. unanswered v.stopped) s ss in
     let stops = length_cons s.stopped (filter_map (λ v. v.stopped) ss) in
@@ -147,7 +149,8 @@ stops_counted allows moments room history desk n (p ∷ ps) (s ∷ ss) few new a
 -- ---- counts
 
 -- the histories of the passes together are as long as the shifts
-shifts_length : (allows : ℕ → ℕ → ℕ → Code → Type 0) (moments : List ℕ) (room : ℕ) (history : List (Entry Call Reply)) (desk : Desk) (n : ℕ) (ps : List Pass) (ss : List Shift)
+shifts_length : (allows : ℕ → ℕ → ℕ → Code → Type 0) (moments : List ℕ) (room : ℕ) (history : List (Entry Call Reply)) (desk : Desk) (n : ℕ)
+    (ps : List Pass) (ss : List Shift)
     → AreNewPasses desk n ps
     → AreShiftsOf allows moments room history ps ss → sum_by (λ p. length (of p history)) (counted n (length ps)) ≡ sum_by (λ s. length (shift_entries s)) ss
 shifts_length allows moments room history desk n [] [] new are = refl
@@ -208,7 +211,8 @@ answered_below allows moments room history (p ∷ ps) (s ∷ ss) are below =
     omega arith
 
 -- what is refused are the calls without an answer
-refused_is : (allows : ℕ → ℕ → ℕ → Code → Type 0) (moments : List ℕ) (room : ℕ) (history : List (Entry Call Reply)) (refused : ℕ) (desk : Desk) (ps : List Pass) (ss : List Shift) (t : Tally)
+refused_is : (allows : ℕ → ℕ → ℕ → Code → Type 0) (moments : List ℕ) (room : ℕ) (history : List (Entry Call Reply)) (refused : ℕ) (desk : Desk)
+    (ps : List Pass) (ss : List Shift) (t : Tally)
     → AreNewPasses desk 0 ps → AreShiftsOf allows moments room history ps ss → t ≡ tally_of_all ss
     → ((number : ℕ) → length ps ≤ number → of number history ≡ [])
     → length history + refused ≡ calls_in ps + t.takes + t.reports + t.unanswered → refused ≡ unanswered_in ss
@@ -223,7 +227,8 @@ refused_is allows moments room history refused desk ps ss t new are sum numbers 
     omega arith
 
 -- what a crew of new passes leaves
-pub drill_is : (s : DrillScript) (start workers room : ℕ) (history : List (Entry Call Reply)) (refused : ℕ) (desk : Desk) (ps : List Pass) (ss : List Shift) (t : Tally)
+pub drill_is : (s : DrillScript) (start workers room : ℕ) (history : List (Entry Call Reply)) (refused : ℕ) (desk : Desk) (ps : List Pass)
+    (ss : List Shift) (t : Tally)
     → length s.moments ≤ 67108864
     → length ps ≡ workers → AreNewPasses desk 0 ps → AreShiftsOf (gives_scripted s.returns) s.moments room history ps ss → t ≡ tally_of_all ss
     → ((number : ℕ) → workers ≤ number → of number history ≡ [])

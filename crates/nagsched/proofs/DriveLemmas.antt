@@ -1,5 +1,6 @@
 -- A whole run, and what its faults leave.
-use Rattle.std.proofs.Common.{◌≡◌, ◌≢◌, ℕ, ◌<◌, ◌≤◌, ◌≡◌, true, List, [], ◌++◌, length, take, Option, Some, None, Result, Ok, Err, refl, sym, ap, ◌∙◌, arith, length-take, inl, inr, ◌⊎◌}
+use Rattle.std.proofs.Common.{◌≡◌, ◌≢◌, ℕ, ◌<◌, ◌≤◌, ◌≡◌, true, List, [], ◌++◌, length, take, Option, Some, None, Result, Ok, Err, refl, sym, ap, ◌∙◌}
+use Rattle.std.proofs.Common.{arith, length-take, inl, inr, ◌⊎◌}
 use Rattle.std.specs.Prelude.{nat_lt, IfSome, IfOk, IfErr, OnErr, OnOk, IsOkUnless}
 use Rattle.nagsched.specs.declared.drive.Outcome.{Outcome}
 use Rattle.std.specs.Io.KnownBytes.{Appends, Keeps, Consumes}
@@ -105,7 +106,8 @@ pub flush_fault : (e : DriveError) (start : ℕ) (had left held mid holds : Opti
     → IfSome had (λ bytes. input ≡ take 67108865 bytes) → Consumes had left input
     → Appends held mid (text start input) → Keeps mid holds → e ≡ errors.Write → AfterFault e start had left held holds
 flush_fault e start had left held mid holds input all c a k u =
-    rw u (write_fault errors.Write start had left held holds input (λ q. cc) all c (front_all held holds (text start input) (Appends-Keeps held mid holds (text start input) a k)))
+    rw u (write_fault errors.Write start had left held holds input
+    (λ q. cc) all c (front_all held holds (text start input) (Appends-Keeps held mid holds (text start input) a k)))
 
 -- ---- the input of a run, whatever is known of its reader
 

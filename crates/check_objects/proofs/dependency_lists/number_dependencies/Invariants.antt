@@ -6,4 +6,5 @@ use Rattle.check_objects.proofs.dependency_lists.number_dependencies.Given as go
 
 abbrev pub invariant-loop-draft : goal.invariant-loop-draft
 invariant-loop-draft l =
-    l.numbered.items ≡ l.initial.numbered.items ++ map (numbered_dependency (objects_in l.hosts.entries l.services.entries)) (map dependency (take l.draft-index l.drafts))
+    l.numbered.items ≡ l.initial.numbered.items ++ map (numbered_dependency (objects_in l.hosts.entries l.services.entries))
+    (map dependency (take l.draft-index l.drafts))

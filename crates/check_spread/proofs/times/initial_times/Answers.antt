@@ -14,8 +14,10 @@ push_first_times-requires-2-clause-intervals c =
 
 pub returns-clause-one_each : goal.returns-clause-one_each
 returns-clause-one_each c =
-    let hosts = ap length c.in_ok-push_first_times.ensures.times ∙ length-append c.in_ok-times.times.items (first_times c.host_spread.result c.split_at.result.0.now) in
-    let services = ap length c.in_ok-push_first_times-2.ensures.times ∙ length-append c.push_first_times.new.times.items (first_times c.service_spread.result c.split_at.result.1.now) in
+    let hosts = ap length c.in_ok-push_first_times.ensures.times ∙ length-append c.in_ok-times.times.items
+    (first_times c.host_spread.result c.split_at.result.0.now) in
+    let services = ap length c.in_ok-push_first_times-2.ensures.times ∙ length-append c.push_first_times.new.times.items
+    (first_times c.service_spread.result c.split_at.result.1.now) in
     let host_times = length-first_times c.host_spread.result c.split_at.result.0.now in
     let service_times = length-first_times c.service_spread.result c.split_at.result.1.now in
     let none = ap length c.in_ok-times.ensures.items in
