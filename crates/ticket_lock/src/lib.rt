@@ -9,7 +9,6 @@
 //! - `lock`: the lock and its calls.
 //! - `tokens`: seats, turns and holds; `counts`: what they tell at run time.
 //! - `views`: what seats know in proofs, and the rule; `plays`: the kinds of step.
-//! - `turns`: a turn over the counter book, as a layer above takes it.
 //! - `steps`: the law that each kind of step is one event of the core.
 
 mod counts;
@@ -19,7 +18,6 @@ mod steps;
 #[cfg(test)]
 mod tests;
 mod tokens;
-mod turns;
 mod views;
 
 pub use lock::{Look, TicketLock};

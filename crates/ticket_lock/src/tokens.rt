@@ -77,7 +77,9 @@ impl<K: Kept> Seat<K> {
 
     /// How many numbers it stands for now, its own included.
     pub fn count(&self) -> u32
-        ensures { result ≡ length (seat_of self.now).numbers }
+        ensures numbers { result ≡ length (seat_of self.now).numbers }
+        ensures some { 0 < result }
+        ensures few { result ≤ 1024 }
     {
         self.counts.count
     }
