@@ -15,11 +15,11 @@ use Rattle.check_sched.specs.declared.call.Reply.{Reply}
 use Rattle.check_desk.specs.declared.desk.Desk.{Desk}
 use Rattle.check_desk.specs.declared.passes.Pass.{Pass}
 use Rattle.check_desk.specs.Desks.{AreNewPasses, IsHistoryOf, IsPassOf, passes_of}
-use Rattle.check_desk.specs.Passes.{pass_of, new_pass}
+use Rattle.check_desk.specs.Passes.{opening_calls, pass_of, new_pass}
 
 -- a caller for the numbers from this one on
 abbrev pub rest_from : ℕ → ℕ → Caller Call Reply
-rest_from n count = caller n (counted n count) (count * (2 ^ 32 - 1)) 0 true []
+rest_from n count = caller n (counted n count) (count * opening_calls) 0 true []
 
 length-counted : (n k : ℕ) → length (counted n k) ≡ k
 length-counted n zero = refl
@@ -40,7 +40,7 @@ pub rest_size : (n count : ℕ) (rest : Caller Call Reply) → rest ≡ rest_fro
 rest_size n count rest e = ap (λ r. length r.numbers) e ∙ length-counted n count
 
 -- the seat of one pass, split off the front of the rest
-pub own_is : (n count : ℕ) (rest : Caller Call Reply) → 1 < count → rest ≡ rest_from n count → keeping 4294967295 (length rest.numbers - 1) rest ≡ new_pass n
+pub own_is : (n count : ℕ) (rest : Caller Call Reply) → 1 < count → rest ≡ rest_from n count → keeping opening_calls (length rest.numbers - 1) rest ≡ new_pass n
 own_is n zero rest h e = absurd (omega arith)
 own_is n (suc k) rest h e =
     let size : length (counted (n + 1) k) ≡ k = length-counted (n + 1) k in
@@ -48,7 +48,7 @@ own_is n (suc k) rest h e =
     rw (e, one) refl
 
 -- and what is left
-pub more_is : (n count : ℕ) (rest : Caller Call Reply) → 1 < count → rest ≡ rest_from n count → given 4294967295 (length rest.numbers - 1) rest ≡ rest_from (n + 1) (count - 1)
+pub more_is : (n count : ℕ) (rest : Caller Call Reply) → 1 < count → rest ≡ rest_from n count → given opening_calls (length rest.numbers - 1) rest ≡ rest_from (n + 1) (count - 1)
 more_is n zero rest h e = absurd (omega arith)
 more_is n (suc k) rest h e =
     let size : length (counted (n + 1) k) ≡ k = length-counted (n + 1) k in

@@ -3,7 +3,7 @@
 //! They have no bytes of their own beyond their counts. What a caller has seen, which is always a
 //! beginning of the one history, exists in contracts alone.
 
-ghost use Rattle.std.specs.Prelude.{◌≡◌, ◌+◌, ◌<◌, ◌^◌, length};
+ghost use Rattle.std.specs.Prelude.{◌≡◌, ◌+◌, ◌<◌, ◌≤◌, ◌^◌, length};
 ghost use Rattle.check_sched.specs.Books.{entries_of, refused_of};
 ghost use Rattle.ticket_lock.specs.Tokens.{held_ticket_of, hold_of, refused_before};
 
@@ -50,7 +50,9 @@ impl Pass {
 
     /// How many passes it stands for, itself included.
     pub fn gathered(&self) -> u32
-        ensures { result ≡ length (pass_of self.now).numbers }
+        ensures numbers { result ≡ length (pass_of self.now).numbers }
+        ensures some { 0 < result }
+        ensures few { result ≤ 1024 }
     {
         self.seat.count()
     }
