@@ -10,6 +10,7 @@ ghost use Rattle.ticket_steps.specs.Books.{calls_taken};
 ghost use Rattle.ticket_steps.specs.Happenings.{calls_made, recorded_by};
 ghost use Rattle.ticket_steps.specs.History.{of, replay, IsLegal};
 ghost use Rattle.ticket_steps.specs.Schedules.{Schedule};
+ghost use Rattle.ticket_steps.specs.Sums.{times};
 ghost use Rattle.check_objects.specs.Configuration.{Configuration};
 ghost use Rattle.check_sched.specs.declared.call.Call.{Call};
 ghost use Rattle.check_sched.specs.declared.call.Reply.{Reply};
@@ -70,12 +71,13 @@ pub fn headline()
 
 /// What is so of every pass, at any time.
 ///
-/// What it has seen is a history of its desk (`legal`). It answers for at least one number (`some`)
-/// and for at most 1,024 (`few`), and has made fewer than 2^42 calls (`few_calls`). Passes as they
-/// are handed out are of their desk (`new`).
+/// What it has seen is a history of its desk (`legal`). It answers for its own number (`own`), for at
+/// least one (`some`) and for at most 1,024 (`few`), and has made fewer than 2^42 calls
+/// (`few_calls`). Passes as they are handed out are of their desk (`new`).
 pub fn every_pass()
     ensures legal { (desk : Desk) → (pass : Pass) → IsPassOf desk pass
         → IsHistoryOf desk (pass_of pass).seen }
+    ensures own { (pass : Pass) → 0 < times (pass_of pass).own (pass_of pass).numbers }
     ensures some { (pass : Pass) → 0 < length (pass_of pass).numbers }
     ensures few { (pass : Pass) → length (pass_of pass).numbers ≤ 1024 }
     ensures few_calls { (pass : Pass) → (pass_of pass).calls < 2 ^ 42 }

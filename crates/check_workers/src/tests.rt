@@ -8,7 +8,6 @@ ghost use Rattle.check_sched.specs.Books.{entries_of, refused_of};
 ghost use Rattle.check_desk.specs.Desks.{AreNewPasses, IsPassOf};
 
 mod embedding;
-mod visiting;
 
 use crate::{CrewError, Plugin, Tally, crew, work};
 use check_desk::{Desk, Pass};
