@@ -27,6 +27,7 @@ use Rattle.check_workers.specs.declared.tally.Tally.{Tally}
 use Rattle.check_workers.specs.Crews.{AreShiftsOf, AreWorked, HaveLeft, MatchCrewError, IsShiftOf, IsTallied, IsWithin, IsWorked, calls_counted, calls_in, numbers_in, numbers_of, sum_of, tally_of_all}
 use Rattle.check_workers.specs.Shifts.{IsReason, Open, Round, Shift, open_entries, open_moments, round_entries, shift_entries, shift_moments, stops_of, unanswered}
 use Rattle.check_workers.specs.Tallies.{IsSum, plus, tally_of}
+use Rattle.check_workers.proofs.CallerLemmas.{prefix_trans}
 use Rattle.check_workers.proofs.ShiftLemmas.{rounds_entries, shift_calls, unanswered_count}
 use Rattle.check_workers.proofs.SumLemmas.{sum_plus}
 use Rattle.check_workers.proofs.TallyLemmas.{tally_append, tally_within}
@@ -128,6 +129,17 @@ module _ (allows : ℕ → ℕ → ℕ → Code → Type 0) (moments : List ℕ)
     one_shift allows moments desk p w.0 w.1 history (first_worked p ps w ws h) (All-head (λ v. Follows (pass_of v.0).numbers (pass_of v.0).seen history) w ws f),
     are_shifts history ps ws (rest_worked p ps w ws h) (All-tail (λ v. Follows (pass_of v.0).numbers (pass_of v.0).seen history) w ws f),
   )
+
+  -- the history begins with what each pass had seen when it was brought
+  pub all_begin : (history : List (Entry Call Reply)) (ps : List Pass) (ws : List (Pass × Tally)) → AreWorked allows moments desk ps ws
+      → All (λ w. Follows (pass_of w.0).numbers (pass_of w.0).seen history) ws → All (λ p. IsPrefix (pass_of p).seen history) ps
+  all_begin history [] ws h f k d lt = absurd (omega arith)
+  all_begin history (p ∷ ps) [] h f k d lt = absurd (let c = h.count in omega arith)
+  all_begin history (p ∷ ps) (w ∷ ws) h f zero d lt =
+      let later = All-head (λ v. Follows (pass_of v.0).numbers (pass_of v.0).seen history) w ws f in
+      prefix_trans (pass_of p).seen (pass_of w.0).seen history (first_worked p ps w ws h).worked.made.seen later.0
+  all_begin history (p ∷ ps) (w ∷ ws) h f (suc k) d lt =
+      all_begin history ps ws (rest_worked p ps w ws h) (All-tail (λ v. Follows (pass_of v.0).numbers (pass_of v.0).seen history) w ws f) k d (omega arith)
 
   pub all_tallied : (ps : List Pass) (ws : List (Pass × Tally)) → AreWorked allows moments desk ps ws → All (λ w. IsTallied desk w.0 w.1) ws
   all_tallied [] [] h k d lt = absurd (omega arith)

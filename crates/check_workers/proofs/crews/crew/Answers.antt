@@ -3,7 +3,7 @@ use Rattle.check_sched.specs.Books.{entries_of}
 use Rattle.check_desk.specs.Passes.{pass_of}
 use Rattle.check_desk.proofs.PassLemmas.{seen_history}
 use Rattle.check_workers.specs.Tallies.{IsSum}
-use Rattle.check_workers.proofs.CrewLemmas.{all_numbers, all_tallied, are_shifts, crew_error, failed_then_so, made_then_so, missing_calls, none_brought, same_numbers, shifts_from, sum_calls, sum_is, sum_stops, sum_sums}
+use Rattle.check_workers.proofs.CrewLemmas.{all_begin, all_numbers, all_tallied, are_shifts, crew_error, failed_then_so, made_then_so, missing_calls, none_brought, same_numbers, shifts_from, sum_calls, sum_is, sum_stops, sum_sums}
 use Rattle.check_workers.proofs.crews.crew.Goals as goal
 
 pub close-requires : goal.close-requires
@@ -17,6 +17,10 @@ returns-in-Ok-clause-shifts g c =
       are_shifts allows c.args.moments.now c.args.desk (entries_of made.0) c.args.passes.items c.in-Ok.worked.items c.in-Ok.ensures (rw x.2 x.1.seen),
       x.1.sum ∙ sum_is allows c.args.moments.now c.args.desk c.args.passes.items c.in-Ok.worked.items c.in-Ok.ensures,
     ))
+
+pub returns-in-Ok-clause-begins : goal.returns-in-Ok-clause-begins
+returns-in-Ok-clause-begins g c = made_then_so c.close.result c.close.ensures.gathered (λ made x.
+    all_begin (g.P.Plugin.allows c.args.plugin.now) c.args.moments.now c.args.desk (entries_of made.0) c.args.passes.items c.in-Ok.worked.items c.in-Ok.ensures (rw x.2 x.1.seen))
 
 pub returns-in-Ok-clause-sums : goal.returns-in-Ok-clause-sums
 returns-in-Ok-clause-sums g c = made_then_so c.close.result c.close.ensures.gathered (λ made x.

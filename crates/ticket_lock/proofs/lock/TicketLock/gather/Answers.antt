@@ -1,4 +1,6 @@
-use Rattle.std.proofs.Common.{rules, arith, sym, ap, ◌∙◌, subst, length, length-append}
+use Rattle.std.proofs.Common.{rules, ◌<◌, arith, sym, ap, ◌∙◌, subst, length, length-append}
+use Rattle.ticket_steps.specs.Sums.{times}
+use Rattle.ticket_steps.proofs.Totals.{times-append}
 use Rattle.ticket_lock.specs.Legal.{IsLegalFrom}
 use Rattle.ticket_lock.specs.Views.{longer}
 use Rattle.ticket_lock.proofs.Obligations.{joins, second_loads}
@@ -42,7 +44,10 @@ invariant_of-result g c =
         some_number = omega (arith, s.told.some_number);
         few_numbers = omega (arith, t.3, ap (λ m. length m.0.seat.numbers) j, length-append s.table_seat.me.0.seat.numbers o.table_seat.me.0.seat.numbers, s.told.count, o.told.count);
         few_calls = omega (arith, t.4, ap (λ m. m.0.seat.calls) j, s.told.calls, o.told.calls);
+        among = subst (λ m. 0 < times m.0.seat.own m.0.seat.numbers) (sym e) (subst (λ m. 0 < times m.0.seat.own m.0.seat.numbers) (sym j)
+            (omega (arith, s.told.among, times-append s.table_seat.me.0.seat.own s.table_seat.me.0.seat.numbers o.table_seat.me.0.seat.numbers)));
       };
       fresh_is = ap (λ m. m.0.seat.fresh) e ∙ ap (λ m. m.0.seat.fresh) j;
       range = λ h. absurd (cc);
+      row = λ h. absurd (cc);
     }

@@ -1,6 +1,7 @@
-use Rattle.std.proofs.Common.{rules, ◌≡◌, ℕ, ◌*◌, ◌∷◌, [], Some, arith, sym, ap, ◌∙◌, subst, length}
+use Rattle.std.proofs.Common.{rules, ◌≡◌, ℕ, ◌<◌, ◌*◌, ◌∷◌, [], Some, arith, sym, ap, ◌∙◌, subst, length}
 use Rattle.atomic_table.specs.Table.{opening}
-use Rattle.ticket_steps.proofs.Totals.{length-counted}
+use Rattle.ticket_steps.specs.Sums.{times}
+use Rattle.ticket_steps.proofs.Totals.{counted_first, length-counted}
 use Rattle.ticket_lock.specs.Legal.{IsLegalFrom}
 use Rattle.ticket_lock.specs.Rule.{IsRuled}
 use Rattle.ticket_lock.specs.Views.{first_view}
@@ -30,7 +31,9 @@ invariant_of-seat g c =
         some_number = c.requires.numbers.0;
         few_numbers = c.requires.numbers.1;
         few_calls = omega arith;
+        among = subst (λ m. 0 < times m.0.seat.own m.0.seat.numbers) (sym e) (counted_first 0 c.args.numbers c.requires.numbers.0);
       };
       fresh_is = ap (λ m. m.0.seat.fresh) e;
       range = λ _. omega (arith, c.requires.numbers);
+      row = λ _. ap (λ m. m.0.seat.numbers) e;
     }
