@@ -1,5 +1,6 @@
 -- The passes of a desk, handed out one after another.
-use Rattle.std.proofs.Common.{◌≡◌, ◌≤◌, ℕ, zero, suc, ◌+◌, ◌-◌, ◌*◌, ◌<◌, ◌^◌, List, [], ◌∷◌, ◌++◌, length, Bool, true, false, cond, ◌==◌, refl, sym, ap, subst, ◌∙◌, arith, get_or, eq-eqb}
+use Rattle.std.proofs.Common.{◌≡◌, ◌≤◌, ℕ, zero, suc, ◌+◌, ◌-◌, ◌*◌, ◌<◌, ◌^◌, List, [], ◌∷◌, ◌++◌, length, Bool, true, false, cond, ◌==◌, refl, sym, ap}
+use Rattle.std.proofs.Common.{subst, ◌∙◌, arith, get_or, eq-eqb}
 use Rattle.std.specs.List.{All}
 use Rattle.std.proofs.lemmas.List.Elements.{All-cons, All-nil}
 use mathlib.Core.Logic.{dite}
@@ -24,9 +25,11 @@ length-counted : (n k : ℕ) → length (counted n k) ≡ k
 length-counted n zero = refl
 length-counted n (suc k) = ap suc (length-counted (n + 1) k)
 
-pub new_push : (desk : Desk) (n : ℕ) (ps : List Pass) (p : Pass) → AreNewPasses desk n ps → IsPassOf desk p → pass_of p ≡ new_pass (n + length ps) → AreNewPasses desk n (ps ++ p ∷ [])
+pub new_push : (desk : Desk) (n : ℕ) (ps : List Pass) (p : Pass) → AreNewPasses desk n ps → IsPassOf desk p → pass_of p ≡ new_pass (n + length ps)
+    → AreNewPasses desk n (ps ++ p ∷ [])
 new_push desk n [] p h is e = (is, e ∙ ap new_pass (let s : n + 0 ≡ n = omega arith in s), tt)
-new_push desk n (q ∷ ps) p h is e = (h.0, h.1, new_push desk (n + 1) ps p h.2 is (e ∙ ap new_pass (let s : n + suc (length ps) ≡ n + 1 + length ps = omega arith in s)))
+new_push desk n (q ∷ ps) p h is e =
+    (h.0, h.1, new_push desk (n + 1) ps p h.2 is (e ∙ ap new_pass (let s : n + suc (length ps) ≡ n + 1 + length ps = omega arith in s)))
 
 -- so many passes are handed out, and the rest is in one seat
 pub record IsHandingOut (desk : Desk) (n : ℕ) (rest : Caller Call Reply) (ps : List Pass) : Type 0 where
@@ -47,7 +50,8 @@ own_is n (suc k) rest h e =
     rw (e, one) refl
 
 -- and what is left
-pub more_is : (n count : ℕ) (rest : Caller Call Reply) → 1 < count → rest ≡ rest_from n count → given opening_calls (length rest.numbers - 1) rest ≡ rest_from (n + 1) (count - 1)
+pub more_is : (n count : ℕ) (rest : Caller Call Reply) → 1 < count → rest ≡ rest_from n count
+    → given opening_calls (length rest.numbers - 1) rest ≡ rest_from (n + 1) (count - 1)
 more_is n zero rest h e = absurd (omega arith)
 more_is n (suc k) rest h e =
     let size : length (counted (n + 1) k) ≡ k = length-counted (n + 1) k in

@@ -14,7 +14,8 @@ new-requires g c =
     let k = g.K.Kept in
     subst (λ xs. IsRuled k record { book = c.of.result.value; numbers = c.args.numbers; draws = c.args.draws }
     (opening (0 ∷ 0 ∷ []) xs (first_view record { book = c.of.result.value; numbers = c.args.numbers; draws = c.args.draws })))
-    (sym items) (starts k _ c.args.book (ap k.opening (sym c.of.ensures)) c.requires.empty.0 c.requires.empty.1 c.requires.numbers.0 c.requires.numbers.1 (omega arith))
+    (sym items) (starts k _ c.args.book (ap k.opening (sym c.of.ensures)) c.requires.empty.0 c.requires.empty.1 c.requires.numbers.0
+    c.requires.numbers.1 (omega arith))
 
 pub invariant_of-seat : goal.invariant_of-seat
 invariant_of-seat g c =
