@@ -1,33 +1,35 @@
 -- The passes of a desk, handed out one after another.
-use Rattle.std.proofs.Common.{◌≡◌, ◌≤◌, ℕ, zero, suc, ◌+◌, ◌-◌, ◌*◌, ◌<◌, ◌^◌, List, [], ◌∷◌, ◌++◌, length, Bool, true, false, cond, ◌==◌, refl, sym, ap, subst, ◌∙◌, arith, get_or, eq-eqb}
+use Rattle.std.proofs.Common.{◌≡◌, ◌≤◌, ℕ, zero, suc, ◌+◌, ◌-◌, ◌*◌, ◌<◌, ◌^◌, List, [], ◌∷◌, ◌++◌, length, Bool, true, false, cond, ◌==◌, refl, sym, ap}
+use Rattle.std.proofs.Common.{subst, ◌∙◌, arith, get_or, eq-eqb}
 use Rattle.std.specs.List.{All}
 use Rattle.std.proofs.lemmas.List.Elements.{All-cons, All-nil}
 use mathlib.Core.Logic.{dite}
 use native.Mathlib.Decide.{dec_le}
 use Rattle.ticket_steps.specs.declared.kept.Entry.{Entry}
 use Rattle.ticket_steps.specs.History.{of}
-use Rattle.ticket_steps.specs.Sums.{counted}
+use Rattle.ticket_steps.specs.Sums.{counted, times}
 use Rattle.ticket_lock.specs.Callers.{Caller, caller, keeping, given}
-use Rattle.ticket_lock.specs.Legal.{IsLegalFrom}
-use Rattle.check_sched.specs.contracts.book.BookKept.TheImpl as book
+use Rattle.ticket_lock.proofs.SeatLaws as seat
 use Rattle.check_sched.specs.declared.call.Call.{Call}
 use Rattle.check_sched.specs.declared.call.Reply.{Reply}
 use Rattle.check_desk.specs.declared.desk.Desk.{Desk}
 use Rattle.check_desk.specs.declared.passes.Pass.{Pass}
 use Rattle.check_desk.specs.Desks.{AreNewPasses, IsHistoryOf, IsPassOf, passes_of}
-use Rattle.check_desk.specs.Passes.{pass_of, new_pass}
+use Rattle.check_desk.specs.Passes.{opening_calls, pass_of, new_pass}
 
 -- a caller for the numbers from this one on
 abbrev pub rest_from : ℕ → ℕ → Caller Call Reply
-rest_from n count = caller n (counted n count) (count * (2 ^ 32 - 1)) 0 true []
+rest_from n count = caller n (counted n count) (count * opening_calls) 0 true []
 
 length-counted : (n k : ℕ) → length (counted n k) ≡ k
 length-counted n zero = refl
 length-counted n (suc k) = ap suc (length-counted (n + 1) k)
 
-pub new_push : (desk : Desk) (n : ℕ) (ps : List Pass) (p : Pass) → AreNewPasses desk n ps → IsPassOf desk p → pass_of p ≡ new_pass (n + length ps) → AreNewPasses desk n (ps ++ p ∷ [])
+pub new_push : (desk : Desk) (n : ℕ) (ps : List Pass) (p : Pass) → AreNewPasses desk n ps → IsPassOf desk p → pass_of p ≡ new_pass (n + length ps)
+    → AreNewPasses desk n (ps ++ p ∷ [])
 new_push desk n [] p h is e = (is, e ∙ ap new_pass (let s : n + 0 ≡ n = omega arith in s), tt)
-new_push desk n (q ∷ ps) p h is e = (h.0, h.1, new_push desk (n + 1) ps p h.2 is (e ∙ ap new_pass (let s : n + suc (length ps) ≡ n + 1 + length ps = omega arith in s)))
+new_push desk n (q ∷ ps) p h is e =
+    (h.0, h.1, new_push desk (n + 1) ps p h.2 is (e ∙ ap new_pass (let s : n + suc (length ps) ≡ n + 1 + length ps = omega arith in s)))
 
 -- so many passes are handed out, and the rest is in one seat
 pub record IsHandingOut (desk : Desk) (n : ℕ) (rest : Caller Call Reply) (ps : List Pass) : Type 0 where
@@ -40,7 +42,7 @@ pub rest_size : (n count : ℕ) (rest : Caller Call Reply) → rest ≡ rest_fro
 rest_size n count rest e = ap (λ r. length r.numbers) e ∙ length-counted n count
 
 -- the seat of one pass, split off the front of the rest
-pub own_is : (n count : ℕ) (rest : Caller Call Reply) → 1 < count → rest ≡ rest_from n count → keeping 4294967295 (length rest.numbers - 1) rest ≡ new_pass n
+pub own_is : (n count : ℕ) (rest : Caller Call Reply) → 1 < count → rest ≡ rest_from n count → keeping opening_calls (length rest.numbers - 1) rest ≡ new_pass n
 own_is n zero rest h e = absurd (omega arith)
 own_is n (suc k) rest h e =
     let size : length (counted (n + 1) k) ≡ k = length-counted (n + 1) k in
@@ -48,7 +50,8 @@ own_is n (suc k) rest h e =
     rw (e, one) refl
 
 -- and what is left
-pub more_is : (n count : ℕ) (rest : Caller Call Reply) → 1 < count → rest ≡ rest_from n count → given 4294967295 (length rest.numbers - 1) rest ≡ rest_from (n + 1) (count - 1)
+pub more_is : (n count : ℕ) (rest : Caller Call Reply) → 1 < count → rest ≡ rest_from n count
+    → given opening_calls (length rest.numbers - 1) rest ≡ rest_from (n + 1) (count - 1)
 more_is n zero rest h e = absurd (omega arith)
 more_is n (suc k) rest h e =
     let size : length (counted (n + 1) k) ≡ k = length-counted (n + 1) k in
@@ -76,18 +79,21 @@ new_last desk n (q ∷ ps) p h = new_last desk (n + 1) ps p h.2
 
 -- it has made fewer than 2^42 calls
 pub few_calls : (pass : Pass) → (pass_of pass).calls < 2 ^ 42
-few_calls pass = omega (arith, pass.seat.told.calls, pass.seat.told.few_calls)
+few_calls pass = seat.few_calls pass.seat
 
 -- what it has seen is a history of its desk
 pub seen_history : (desk : Desk) (pass : Pass) → IsPassOf desk pass → IsHistoryOf desk (pass_of pass).seen
-seen_history desk pass is = subst (λ start. IsLegalFrom book.ghosts start (pass_of pass).seen) is.1 pass.seat.legal
+seen_history desk pass is = seat.legal_history desk.lock pass.seat is
 
--- it stands for at least one number, and for at most 1,024
+-- it answers for its own number, for at least one, and for at most 1,024
+pub own_number : (pass : Pass) → 0 < times (pass_of pass).own (pass_of pass).numbers
+own_number pass = seat.own_number pass.seat
+
 pub some_number : (pass : Pass) → 0 < length (pass_of pass).numbers
-some_number pass = omega (arith, pass.seat.told.count, pass.seat.told.some_number)
+some_number pass = seat.some_number pass.seat
 
 pub few_numbers : (pass : Pass) → length (pass_of pass).numbers ≤ 1024
-few_numbers pass = omega (arith, pass.seat.told.count, pass.seat.told.few_numbers)
+few_numbers pass = seat.few_numbers pass.seat
 
 -- ---- histories all of whose numbers were given out
 

@@ -26,7 +26,8 @@ module _ (setup : Configuration) (start room : ℕ) (s : Schedule BookState Call
   pub legal_here : IsLegal step (opening setup start) s.end.book.entries
   legal_here = book_is_legal (opening setup start) room s.end.book.entries lawful.legal
 
-  pub legal_parts : (front back : List (Entry Call Reply)) (e : Entry Call Reply) → s.end.book.entries ≡ front ++ e ∷ back → IsLegal step (opening setup start) (front ++ e ∷ back)
+  pub legal_parts : (front back : List (Entry Call Reply)) (e : Entry Call Reply) → s.end.book.entries ≡ front ++ e ∷ back
+      → IsLegal step (opening setup start) (front ++ e ∷ back)
   legal_parts front back e parts = subst (IsLegal step (opening setup start)) parts legal_here
 
   pub sched_here : s.end.book.state.sched ≡ replay step (opening setup start) s.end.book.entries

@@ -17,7 +17,7 @@ use Rattle.check_desk.specs.declared.desk.Poll.TheVariants as found
 use Rattle.check_desk.specs.declared.passes.Pass.{Pass}
 use Rattle.check_desk.specs.declared.passes.Turn.{Turn}
 use Rattle.check_desk.specs.declared.passes.Hold.{Hold}
-use Rattle.check_desk.specs.Passes.{pass_of, new_pass}
+use Rattle.check_desk.specs.Passes.{book_in_hand, pass_of, new_pass}
 
 -- the state of the book that the desk was opened with: the setup and the start of its scheduler, and its room
 abbrev pub opened_with : Desk → BookState
@@ -35,7 +35,7 @@ abbrev pub IsWaitingAt : Desk → Turn → Type 0
 IsWaitingAt desk turn = IsTurnOf desk.lock turn.turn
 
 abbrev pub IsHolderAt : Desk → Hold → Type 0
-IsHolderAt desk hold = IsHoldOf desk.lock hold.hold × (opening_of hold.book ≡ opened_with desk)
+IsHolderAt desk hold = IsHoldOf desk.lock hold.hold × (opening_of (book_in_hand hold) ≡ opened_with desk)
 
 -- a history of the desk: each reply is the scheduler's at its place
 abbrev pub IsHistoryOf : Desk → List (Entry Call Reply) → Type 0

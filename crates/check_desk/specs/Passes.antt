@@ -2,7 +2,8 @@
 -- the calls it has left and has made, and the history it has seen.
 use Rattle.std.specs.Prelude.{ℕ, ◌-◌, ◌^◌, [], ◌∷◌, true}
 use Rattle.ticket_lock.specs.Callers.{Caller, caller}
-use Rattle.ticket_lock.specs.Tokens.{seat_of, turn_of, hold_of}
+use Rattle.ticket_lock.specs.Tokens.{seat_of, turn_of, hold_of, ticket_of}
+use Rattle.check_sched.specs.declared.book.Book.{Book}
 use Rattle.check_sched.specs.declared.call.Call.{Call}
 use Rattle.check_sched.specs.declared.call.Reply.{Reply}
 use Rattle.check_desk.specs.declared.passes.Pass.{Pass}
@@ -18,6 +19,18 @@ waiting_of turn = turn_of turn.turn
 abbrev pub holder_of : Hold → Caller Call Reply
 holder_of hold = hold_of hold.hold
 
--- the pass of this number as a desk hands it out: it answers for itself, has 2^32 - 1 calls left and has seen nothing
+-- the ticket with which a turn waits: how many calls end before its own
+abbrev pub drawn_ticket : Turn → ℕ
+drawn_ticket turn = ticket_of turn.turn
+
+-- the book that a holder has in hand
+abbrev pub book_in_hand : Hold → Book
+book_in_hand hold = hold.book
+
+-- how many calls a pass has left as a desk hands it out
+abbrev pub opening_calls : ℕ
+opening_calls = 2 ^ 32 - 1
+
+-- the pass of this number as a desk hands it out: it answers for itself, has made no call and has seen nothing
 abbrev pub new_pass : ℕ → Caller Call Reply
-new_pass number = caller number (number ∷ []) (2 ^ 32 - 1) 0 true []
+new_pass number = caller number (number ∷ []) opening_calls 0 true []

@@ -5,10 +5,11 @@ ghost use Rattle.std.specs.List.{All};
 ghost use Rattle.ticket_steps.specs.History.{of};
 ghost use Rattle.ticket_steps.specs.Books.{book_state, IsLawfulBook};
 ghost use Rattle.ticket_lock.specs.Callers.{Caller, drawn, ended, first_caller, having_seen, joined};
-ghost use Rattle.ticket_lock.specs.Tokens.{seat_of, start_of, ticket_of, IsSeatOf};
+ghost use Rattle.ticket_lock.specs.Tokens.{seat_of, start_of, IsSeatOf};
 ghost use Rattle.ticket_lock.specs.Views.{Follows};
 ghost use Rattle.check_sched.specs.BookState.{book_step};
 ghost use Rattle.check_sched.specs.Books.{entries_of, opening_of, refused_of, room_of, state_of};
+ghost use Rattle.check_desk.specs.Passes.{opening_calls};
 
 use crate::passes::{Hold, Pass, Turn};
 use check_sched::{Book, Call, Reply};
@@ -26,7 +27,7 @@ pub struct Desk {
     pub(crate) lock: TicketLock<Book>,
     pub(crate) passes: u32,
     ghost passes_are: { (start_of lock).numbers ≡ passes },
-    ghost draws_are: { (start_of lock).draws ≡ 4294967295 },
+    ghost draws_are: { (start_of lock).draws ≡ opening_calls },
 }
 
 /// What a poll finds.
@@ -50,7 +51,7 @@ pub enum Answer {
 
 impl Desk {
     ghost use Rattle.check_desk.specs.Desks.{AreNewPasses, HasNoMemory, HasRecorded, IsHistoryOf, IsHolderAt, IsPassOf, IsWaitingAt, MatchAnswer, MatchPoll, opened_with, passes_of, recorded};
-    ghost use Rattle.check_desk.specs.Passes.{holder_of, pass_of, waiting_of};
+    ghost use Rattle.check_desk.specs.Passes.{book_in_hand, drawn_ticket, holder_of, pass_of, waiting_of};
 
     /// A desk over the book, and its passes in the order of their numbers, from 0. Each has 2^32 - 1
     /// calls, stands for itself alone, and has made no call and seen nothing.
@@ -118,8 +119,8 @@ impl Desk {
     /// Looks whether the turn has come. It always has where the pass answers for all passes.
     ///
     /// With the book in hand the caller has seen its history: it begins with all that the caller had
-    /// seen, and has nothing new of the numbers that the pass answers for. Entries and refusals
-    /// together are the ticket, so that calls end in the order of their tickets.
+    /// seen, and has nothing new of the numbers that the pass answers for. Its entries and the
+    /// refusals together are the ticket, so that calls end in the order of their tickets.
     pub fn poll(&self, turn: Turn) -> Poll
         requires { IsWaitingAt self.now turn }
         ensures desk { MatchPoll result (λ hold. IsHolderAt self.now hold)
@@ -133,8 +134,11 @@ impl Desk {
             (λ hold. holder_of hold ≡ having_seen (holder_of hold).seen (waiting_of turn))
             (λ back. length (waiting_of turn).numbers < passes_of self.now) }
         ensures ticket { MatchPoll result
-            (λ hold. length (entries_of hold.book) + refused_of hold.book ≡ ticket_of turn.turn)
-            (λ back. ticket_of back.turn ≡ ticket_of turn.turn) }
+            (λ hold. length (holder_of hold).seen + refused_of (book_in_hand hold)
+            ≡ drawn_ticket turn)
+            (λ back. drawn_ticket back ≡ drawn_ticket turn) }
+        ensures seen { MatchPoll result
+            (λ hold. (holder_of hold).seen ≡ entries_of (book_in_hand hold)) (λ back. ⊤) }
     {
         let Turn { turn } = turn;
         match self.lock.look(turn) {

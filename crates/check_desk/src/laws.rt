@@ -1,6 +1,7 @@
-//! The law of the whole: what is so of the history that all callers share.
+//! Laws without code: what is so of the history that all callers share, and of every pass.
 
-ghost use Rattle.std.specs.Prelude.{ℕ, ◌≡◌, ◌+◌, ◌≤◌, List, [], ◌∷◌, ◌++◌, length, true, false};
+ghost use Rattle.std.specs.Prelude.{ℕ, ◌≡◌, ◌+◌, ◌<◌, ◌≤◌, ◌^◌, List, [], ◌∷◌, ◌++◌, length, true, false};
+ghost use Rattle.std.specs.List.{All};
 ghost use mathlib.Core.Option.{some};
 ghost use lib.ListN.{get_elem?};
 ghost use Rattle.ticket_steps.specs.declared.kept.Entry.{Entry};
@@ -9,6 +10,7 @@ ghost use Rattle.ticket_steps.specs.Books.{calls_taken};
 ghost use Rattle.ticket_steps.specs.Happenings.{calls_made, recorded_by};
 ghost use Rattle.ticket_steps.specs.History.{of, replay, IsLegal};
 ghost use Rattle.ticket_steps.specs.Schedules.{Schedule};
+ghost use Rattle.ticket_steps.specs.Sums.{times};
 ghost use Rattle.check_objects.specs.Configuration.{Configuration};
 ghost use Rattle.check_sched.specs.declared.call.Call.{Call};
 ghost use Rattle.check_sched.specs.declared.call.Reply.{Reply};
@@ -16,6 +18,10 @@ ghost use Rattle.check_sched.specs.BookState.{BookState};
 ghost use Rattle.check_sched.specs.Runs.{begins, runs_begun, runs_under};
 ghost use Rattle.check_sched.specs.State.{opening};
 ghost use Rattle.check_sched.specs.Step.{step};
+ghost use Rattle.check_desk.specs.declared.desk.Desk.{Desk};
+ghost use Rattle.check_desk.specs.declared.passes.Pass.{Pass};
+ghost use Rattle.check_desk.specs.Desks.{AreNewPasses, IsHistoryOf, IsPassOf};
+ghost use Rattle.check_desk.specs.Passes.{pass_of};
 ghost use Rattle.check_desk.specs.Schedules.{IsScheduleOver};
 
 /// A law without code: whatever callers do, and in whatever order the steps of their passes come,
@@ -61,4 +67,20 @@ pub fn headline()
         → IsScheduleOver setup start room s
         → (i : ℕ) (p : CoreSeat) → get_elem? s.end.seats i ≡ some p
         → length p.numbers ≡ s.numbers → calls_taken s.end.book ≡ p.calls }
+{}
+
+/// What is so of every pass, at any time.
+///
+/// What it has seen is a history of its desk (`legal`). It answers for its own number (`own`), for at
+/// least one (`some`) and for at most 1,024 (`few`), and has made fewer than 2^42 calls
+/// (`few_calls`). Passes as they are handed out are of their desk (`new`).
+pub fn every_pass()
+    ensures legal { (desk : Desk) → (pass : Pass) → IsPassOf desk pass
+        → IsHistoryOf desk (pass_of pass).seen }
+    ensures own { (pass : Pass) → 0 < times (pass_of pass).own (pass_of pass).numbers }
+    ensures some { (pass : Pass) → 0 < length (pass_of pass).numbers }
+    ensures few { (pass : Pass) → length (pass_of pass).numbers ≤ 1024 }
+    ensures few_calls { (pass : Pass) → (pass_of pass).calls < 2 ^ 42 }
+    ensures new { (desk : Desk) → (number : ℕ) → (passes : List Pass)
+        → AreNewPasses desk number passes → All (IsPassOf desk) passes }
 {}

@@ -11,7 +11,7 @@
 //! own profile.
 //!
 //! The modules: `passes` has the passes, turns and holds, `desk` the desk and its calls, `laws` what is
-//! so of the history that all callers share.
+//! so of the history that all callers share, and of every pass.
 
 mod desk;
 pub mod laws;

@@ -3,7 +3,8 @@
 //! They have no bytes of their own beyond their counts. What a caller has seen, which is always a
 //! beginning of the one history, exists in contracts alone.
 
-ghost use Rattle.std.specs.Prelude.{◌≡◌, ◌+◌, ◌<◌, ◌^◌, length};
+ghost use Rattle.std.specs.Prelude.{◌≡◌, ◌+◌, ◌<◌, ◌≤◌, ◌^◌, length};
+ghost use Rattle.ticket_steps.specs.Sums.{times};
 ghost use Rattle.check_sched.specs.Books.{entries_of, refused_of};
 ghost use Rattle.ticket_lock.specs.Tokens.{held_ticket_of, hold_of, refused_before};
 
@@ -41,16 +42,20 @@ pub struct Hold {
 impl Pass {
     ghost use Rattle.check_desk.specs.Passes.{pass_of};
 
-    /// Its own number: the name under which its calls are recorded.
+    /// Its own number: the name under which its calls are recorded, and one of those that it answers
+    /// for.
     pub fn number(&self) -> u32
-        ensures { result ≡ (pass_of self.now).own }
+        ensures own { result ≡ (pass_of self.now).own }
+        ensures among { 0 < times result (pass_of self.now).numbers }
     {
         self.seat.number()
     }
 
     /// How many passes it stands for, itself included.
     pub fn gathered(&self) -> u32
-        ensures { result ≡ length (pass_of self.now).numbers }
+        ensures numbers { result ≡ length (pass_of self.now).numbers }
+        ensures some { 0 < result }
+        ensures few { result ≤ 1024 }
     {
         self.seat.count()
     }

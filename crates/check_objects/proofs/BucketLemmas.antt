@@ -4,7 +4,8 @@ use Rattle.std.specs.Prelude.{nat_lt}
 use Rattle.std.specs.List.{list_all, filter, flat_map, range_with_len}
 use Rattle.std.specs.List.Sorted.{IsPermutation}
 use Rattle.std.proofs.lemmas.Bool.Decides.{nat_tests}
-use Rattle.std.proofs.lemmas.List.Sorted.{IsPermutation-refl, IsPermutation-sym, IsPermutation-trans, IsPermutation-cons, IsPermutation-middle, IsPermutation-append_right}
+use Rattle.std.proofs.lemmas.List.Sorted.{IsPermutation-refl, IsPermutation-sym, IsPermutation-trans, IsPermutation-cons, IsPermutation-middle}
+use Rattle.std.proofs.lemmas.List.Sorted.{IsPermutation-append_right}
 use Rattle.check_objects.proofs.DepthLemmas.{and_first, and_second}
 
 module _ {A : Type 0} (number : A → ℕ) where
@@ -29,7 +30,8 @@ module _ {A : Type 0} (number : A → ℕ) where
       λ i. here i ++ more i
 
   bucket_insert_by : (x : A) (xs : List A) (a n : ℕ) (b : Bool) → (number x == a) ≡ b → a ≤ number x → number x < a + suc n
-      → (a + 1 ≤ number x → number x < (a + 1) + n → IsPermutation (x ∷ buckets xs (a + 1) n) (buckets (x ∷ xs) (a + 1) n)) → IsPermutation (x ∷ buckets xs a (suc n)) (buckets (x ∷ xs) a (suc n))
+      → (a + 1 ≤ number x → number x < (a + 1) + n → IsPermutation (x ∷ buckets xs (a + 1) n) (buckets (x ∷ xs) (a + 1) n))
+      → IsPermutation (x ∷ buckets xs a (suc n)) (buckets (x ∷ xs) a (suc n))
   bucket_insert_by x xs a n true e low high more =
       let below : number x < a + 1 = grind (arith, nat_tests, e) in
       let here = bucket_same x xs a e in
@@ -64,7 +66,8 @@ module _ {A : Type 0} (number : A → ℕ) where
       (bucket_insert x xs 0 n (omega arith) high)
 
 -- lists that agree on a range are together the same
-pub joined_same : {B : Type 0} (f g : ℕ → List B) (a n : ℕ) → ((k : ℕ) → a ≤ k → k < a + n → f k ≡ g k) → flat_map f (range_with_len a n) ≡ flat_map g (range_with_len a n)
+pub joined_same : {B : Type 0} (f g : ℕ → List B) (a n : ℕ) → ((k : ℕ) → a ≤ k → k < a + n → f k ≡ g k)
+    → flat_map f (range_with_len a n) ≡ flat_map g (range_with_len a n)
 joined_same f g a zero agree = refl
 joined_same f g a (suc n) agree =
     let here = agree a (omega arith) (omega arith) in

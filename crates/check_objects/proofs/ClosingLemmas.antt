@@ -1,5 +1,6 @@
 -- How an order grows.
-use Rattle.std.proofs.Common.{◌≡◌, ◌≢◌, ℕ, zero, suc, ◌+◌, ◌-◌, ◌<◌, ◌≤◌, ◌==◌, ◌&&◌, ◌||◌, Bool, true, false, not, cond, List, [], ◌∷◌, ◌++◌, length, take, drop, map, get_or, refl, sym, ap, ◌∙◌, arith, append_assoc, append-nil, inl, inr}
+use Rattle.std.proofs.Common.{◌≡◌, ◌≢◌, ℕ, zero, suc, ◌+◌, ◌-◌, ◌<◌, ◌≤◌, ◌==◌, ◌&&◌, ◌||◌, Bool, true, false, not, cond, List, [], ◌∷◌, ◌++◌, length, take}
+use Rattle.std.proofs.Common.{drop, map, get_or, refl, sym, ap, ◌∙◌, arith, append_assoc, append-nil, inl, inr}
 use Rattle.std.specs.Prelude.{nat_lt}
 use Rattle.std.specs.List.{list_any, list_all}
 use Rattle.std.proofs.Math.ListN.{set}
@@ -128,14 +129,17 @@ closed_none left order = record {
 at_other : (left' : List ℕ) (d w o : ℕ) → o ≢ d → open_at (set left' d w) o ≡ open_at left' o
 at_other left' d w o n = get_or-set_other left' d o w 0 n
 
-counts_more : (closing left left' : List ℕ) (d w o : ℕ) → d < length left' → open_at left' d ≡ w + 1 → open_at left' o + times o closing ≡ open_at left o → open_at (set left' d w) o + times o (closing ++ d ∷ []) ≡ open_at left o
+counts_more : (closing left left' : List ℕ) (d w o : ℕ) → d < length left' → open_at left' d ≡ w + 1
+    → open_at left' o + times o closing ≡ open_at left o → open_at (set left' d w) o + times o (closing ++ d ∷ []) ≡ open_at left o
 counts_more closing left left' d w o h v e = elim (cases_eq o d) [
-  | inl s ↦ rw (s, get_or-set_same left' d w 0 h, times-append d closing (d ∷ []), times-same d) (let e2 : open_at left' d + times d closing ≡ open_at left d = rw (← s) e in omega arith)
+  | inl s ↦ rw (s, get_or-set_same left' d w 0 h, times-append d closing (d ∷ []), times-same d)
+      (let e2 : open_at left' d + times d closing ≡ open_at left d = rw (← s) e in omega arith)
   | inr n ↦ rw (at_other left' d w o n, times-append o closing (d ∷ []), times-other o d (λ x. n (sym x))) (omega arith)
 ]
 
 -- a link was closed that wasn't the object's last
-pub closed_link : (closing left order left' order' : List ℕ) (d w : ℕ) → Closed closing left order left' order' → d < length left → open_at left' d ≡ w + 1 → 0 < w → Closed (closing ++ d ∷ []) left order (set left' d w) order'
+pub closed_link : (closing left order left' order' : List ℕ) (d w : ℕ) → Closed closing left order left' order' → d < length left
+    → open_at left' d ≡ w + 1 → 0 < w → Closed (closing ++ d ∷ []) left order (set left' d w) order'
 closed_link closing left order left' order' d w c h v p =
     let within : d < length left' = rw c.size h in
     record {
@@ -144,19 +148,24 @@ closed_link closing left order left' order' d w c h v p =
       size = length-set left' d w ∙ c.size;
       counts = λ o l. counts_more closing left left' d w o within v (c.counts o l);
       once = λ o l. elim (cases_eq o d) [
-        | inl s ↦ rw (s, get_or-set_same left' d w 0 within, one_at_zero_none w p) (rw (← s) (c.once o l ∙ ap one_at_zero (ap (open_at left') s ∙ v) ∙ one_at_zero_none (w + 1) (omega arith)))
+        | inl s ↦ rw (s, get_or-set_same left' d w 0 within, one_at_zero_none w p)
+            (rw (← s) (c.once o l ∙ ap one_at_zero (ap (open_at left') s ∙ v) ∙ one_at_zero_none (w + 1) (omega arith)))
         | inr n ↦ rw (at_other left' d w o n) (c.once o l)
       ];
       within = c.within;
       free = all_weaker (λ o. open_at left' o == 0) (λ o. open_at (set left' d w) o == 0) (λ o z. elim (cases_eq o d) [
-        | inl s ↦ absurd (let zero_now : open_at left' o ≡ 0 = eqb-true (open_at left' o) 0 z in let now : open_at left' o ≡ w + 1 = ap (open_at left') s ∙ v in omega arith)
+        | inl s ↦ absurd (let zero_now : open_at left' o ≡ 0 = eqb-true (open_at left' o) 0 z in let now : open_at left' o ≡ w + 1 = ap
+            (open_at left') s ∙ v in omega arith)
         | inr n ↦ rw (at_other left' d w o n) z
       ]) c.joined c.free;
-      total = let w1 = waiting_objects-set left' d w within in let a : waits (open_at left' d) ≡ 1 = rw (v, ne_eqb (w + 1) 0 (λ e. absurd (omega arith))) refl in let b : waits w ≡ 1 = rw (ne_eqb w 0 (λ e. absurd (omega arith))) refl in let t = c.total in omega arith;
+      total =
+          let w1 = waiting_objects-set left' d w within in let a : waits (open_at left' d)
+          ≡ 1 = rw (v, ne_eqb (w + 1) 0 (λ e. absurd (omega arith))) refl in let b : waits w ≡ 1 = rw (ne_eqb w 0 (λ e. absurd (omega arith))) refl in let t = c.total in omega arith;
     }
 
 -- the object's last link was closed, and it joined the order
-pub closed_last_link : (closing left order left' order' : List ℕ) (d : ℕ) → Closed closing left order left' order' → d < length left → open_at left' d ≡ 1 → Closed (closing ++ d ∷ []) left order (set left' d 0) (order' ++ d ∷ [])
+pub closed_last_link : (closing left order left' order' : List ℕ) (d : ℕ) → Closed closing left order left' order' → d < length left
+    → open_at left' d ≡ 1 → Closed (closing ++ d ∷ []) left order (set left' d 0) (order' ++ d ∷ [])
 closed_last_link closing left order left' order' d c h v =
     let within : d < length left' = rw c.size h in
     record {
@@ -165,22 +174,28 @@ closed_last_link closing left order left' order' d c h v =
       size = length-set left' d 0 ∙ c.size;
       counts = λ o l. counts_more closing left left' d 0 o within v (c.counts o l);
       once = λ o l. elim (cases_eq o d) [
-        | inl s ↦ rw (s, get_or-set_same left' d 0 0 within, times-append d c.joined (d ∷ []), times-same d) (let before : times d c.joined + one_at_zero (open_at left d) ≡ 0 = rw (← s) (c.once o l ∙ ap one_at_zero (ap (open_at left') s ∙ v)) in omega arith)
+        | inl s ↦ rw (s, get_or-set_same left' d 0 0 within, times-append d c.joined (d ∷ []), times-same d)
+            (let before : times d c.joined + one_at_zero (open_at left d) ≡ 0 = rw (← s) (c.once o l ∙ ap one_at_zero (ap (open_at left') s ∙ v)) in omega arith)
         | inr n ↦ rw (at_other left' d 0 o n, times-append o c.joined (d ∷ []), times-other o d (λ x. n (sym x))) (let before = c.once o l in omega arith)
       ];
-      within = rw (list_all-append (λ o. nat_lt o (length left)) c.joined (d ∷ [])) (and_both _ _ c.within (and_both _ _ (let t : nat_lt d (length left) ≡ true = grind (arith, nat_tests, h) in t) refl));
+      within =
+          rw (list_all-append (λ o. nat_lt o (length left)) c.joined (d ∷ [])) (and_both _ _ c.within (and_both _ _ (let t : nat_lt d (length left) ≡ true = grind (arith, nat_tests, h) in t) refl));
       free = rw (list_all-append (λ o. open_at (set left' d 0) o == 0) c.joined (d ∷ [])) (and_both _ _
           (all_weaker (λ o. open_at left' o == 0) (λ o. open_at (set left' d 0) o == 0) (λ o z. elim (cases_eq o d) [
-            | inl s ↦ absurd (let zero_now : open_at left' o ≡ 0 = eqb-true (open_at left' o) 0 z in let now : open_at left' o ≡ 1 = ap (open_at left') s ∙ v in omega arith)
+            | inl s ↦ absurd (let zero_now : open_at left' o ≡ 0 = eqb-true (open_at left' o) 0 z in let now : open_at left' o ≡ 1 = ap
+                (open_at left') s ∙ v in omega arith)
             | inr n ↦ rw (at_other left' d 0 o n) z
           ]) c.joined c.free)
           (and_both _ _ (rw (get_or-set_same left' d 0 0 within) refl) refl));
-      total = let w1 = waiting_objects-set left' d 0 within in let a : waits (open_at left' d) ≡ 1 = rw v refl in let t = c.total in let l : length (c.joined ++ d ∷ []) ≡ length c.joined + 1 = grind (arith, common_steps) in omega arith;
+      total =
+          let w1 = waiting_objects-set left' d 0 within in let a : waits (open_at left' d) ≡ 1 = rw v refl in let t = c.total in let l : length
+          (c.joined ++ d ∷ []) ≡ length c.joined + 1 = grind (arith, common_steps) in omega arith;
     }
 
 -- ---- orders
 
-pub follows-append : (links : List (List ℕ)) (placed xs ys : List ℕ) → follows links placed xs ≡ true → follows links (placed ++ xs) ys ≡ true → follows links placed (xs ++ ys) ≡ true
+pub follows-append : (links : List (List ℕ)) (placed xs ys : List ℕ) → follows links placed xs ≡ true → follows links (placed ++ xs) ys ≡ true
+    → follows links placed (xs ++ ys) ≡ true
 follows-append links placed [] ys h k = rw (← append-nil placed) k
 follows-append links placed (x ∷ xs) ys h k =
     and_both _ _ (and_first _ _ h) (follows-append links (placed ++ x ∷ []) xs ys (and_second _ _ h) (rw (append_assoc placed (x ∷ []) xs) k))
@@ -189,14 +204,16 @@ among_more : (placed more : List ℕ) (l : ℕ) → is_among placed l ≡ true �
 among_more placed more l h = rw (list_any-append (λ x. x == l) placed more, h) refl
 
 -- objects that link to placed ones alone come behind all that they link to
-pub follows_placed : (links : List (List ℕ)) (placed xs : List ℕ) → list_all (λ o. list_all (is_among placed) (links_of links o)) xs ≡ true → follows links placed xs ≡ true
+pub follows_placed : (links : List (List ℕ)) (placed xs : List ℕ) → list_all (λ o. list_all (is_among placed) (links_of links o)) xs ≡ true
+    → follows links placed xs ≡ true
 follows_placed links placed [] h = refl
 follows_placed links placed (x ∷ xs) h =
     and_both _ _ (and_first _ _ h) (follows_placed links (placed ++ x ∷ []) xs
     (all_weaker (λ o. list_all (is_among placed) (links_of links o)) (λ o. list_all (is_among (placed ++ x ∷ [])) (links_of links o))
     (λ o a. all_weaker (is_among placed) (is_among (placed ++ x ∷ [])) (among_more placed (x ∷ [])) (links_of links o) a) xs (and_second _ _ h)))
 
-all_and : (p q r : ℕ → Bool) → ((x : ℕ) → p x ≡ true → q x ≡ true → r x ≡ true) → (xs : List ℕ) → list_all p xs ≡ true → list_all q xs ≡ true → list_all r xs ≡ true
+all_and : (p q r : ℕ → Bool) → ((x : ℕ) → p x ≡ true → q x ≡ true → r x ≡ true) → (xs : List ℕ) → list_all p xs ≡ true → list_all q xs ≡ true
+    → list_all r xs ≡ true
 all_and p q r f [] h k = refl
 all_and p q r f (x ∷ xs) h k = and_both _ _ (f x (and_first _ _ h) (and_first _ _ k)) (all_and p q r f xs (and_second _ _ h) (and_second _ _ k))
 
@@ -248,7 +265,8 @@ times_free_other x k v rest h = elim (v == 0) as (λ b. times x (cond b (k ∷ r
 -- an object without an open link stands once among the first, and no other does
 pub times_free : (j k : ℕ) (left : List ℕ) → j < length left → times (k + j) (free_from k left) ≡ one_at_zero (open_at left j)
 times_free j k [] h = absurd (omega arith)
-times_free zero k (v ∷ left) h = let same : k + 0 ≡ k = omega arith in rw same (times_free_first k v (free_from (k + 1) left) (times_free_before k (k + 1) left (omega arith)))
+times_free zero k (v ∷ left) h =
+    let same : k + 0 ≡ k = omega arith in rw same (times_free_first k v (free_from (k + 1) left) (times_free_before k (k + 1) left (omega arith)))
 times_free (suc j) k (v ∷ left) h =
     let shift : k + 1 + j ≡ k + suc j = omega arith in
     times_free_other (k + suc j) k v (free_from (k + 1) left) (omega arith) ∙ rw (← shift) (times_free j (k + 1) left (omega arith))
@@ -260,7 +278,8 @@ free_all_by p k v rest f h = elim (cases_eq v 0) [
 ]
 
 -- what holds of each object without an open link holds of all the first
-pub free_all : (p : ℕ → Bool) (k : ℕ) (left : List ℕ) → ((j : ℕ) → j < length left → open_at left j ≡ 0 → p (k + j) ≡ true) → list_all p (free_from k left) ≡ true
+pub free_all : (p : ℕ → Bool) (k : ℕ) (left : List ℕ) → ((j : ℕ) → j < length left → open_at left j ≡ 0 → p (k + j) ≡ true)
+    → list_all p (free_from k left) ≡ true
 free_all p k [] f = refl
 free_all p k (v ∷ left) f =
     free_all_by p k v (free_from (k + 1) left)
@@ -273,7 +292,9 @@ free_total_by k false rest n w h = omega arith
 
 pub free_total : (k : ℕ) (left : List ℕ) → length (free_from k left) + waiting_objects left ≡ length left
 free_total k [] = refl
-free_total k (v ∷ left) = free_total_by k (v == 0) (free_from (k + 1) left) (length left) (waiting_objects left) (free_total (k + 1) left) ∙ (let e : length left + 1 ≡ suc (length left) = omega arith in e)
+free_total k (v ∷ left) =
+    free_total_by k (v == 0) (free_from (k + 1) left) (length left) (waiting_objects left) (free_total (k + 1) left)
+    ∙ (let e : length left + 1 ≡ suc (length left) = omega arith in e)
 
 zero_plus : (o : ℕ) → o ≡ 0 + o
 zero_plus o = omega arith
@@ -288,7 +309,9 @@ under_way_first links left is =
       counts = λ o h. counts o h ∙ sym (open_links-nothing (links_of links o));
       once = λ o h. ap (λ x. times x (free_from 0 left)) (zero_plus o) ∙ times_free o 0 left (rw size h);
       within = free_all (λ o. nat_lt o (length links)) 0 left (λ j h e. let t : nat_lt (0 + j) (length links) ≡ true = grind (arith, nat_tests, h, size) in t);
-      behind_links = follows_placed links [] (free_from 0 left) (free_all (λ o. list_all (is_among []) (links_of links o)) 0 left (λ j h e. open_links_none [] (links_of links (0 + j)) (open_links-nothing (links_of links (0 + j)) ∙ sym (counts (0 + j) (omega arith)) ∙ (let s : 0 + j ≡ j = omega arith in rw s e))));
+      behind_links =
+          follows_placed links [] (free_from 0 left) (free_all
+          (λ o. list_all (is_among []) (links_of links o)) 0 left (λ j h e. open_links_none [] (links_of links (0 + j)) (open_links-nothing (links_of links (0 + j)) ∙ sym (counts (0 + j) (omega arith)) ∙ (let s : 0 + j ≡ j = omega arith in rw s e))));
       total = free_total 0 left ∙ size;
     }
 
@@ -298,7 +321,9 @@ pub drop_get : (xs : List ℕ) (i d : ℕ) → i < length xs → take (i + 1) xs
 drop_get xs i d h = grind (arith, common_steps)
 
 times_take : (o : ℕ) (xs : List ℕ) (k : ℕ) → times o (take k xs) ≤ times o xs
-times_take o xs k = let whole : take k xs ++ drop k xs ≡ xs = grind (arith, common_steps) in let e = times-append o (take k xs) (drop k xs) in let f : times o (take k xs ++ drop k xs) ≡ times o xs = ap (times o) whole in omega arith
+times_take o xs k =
+    let whole : take k xs ++ drop k xs ≡ xs = grind (arith, common_steps) in let e = times-append o (take k xs) (drop k xs) in let f : times o
+    (take k xs ++ drop k xs) ≡ times o xs = ap (times o) whole in omega arith
 
 one_at_zero-le : (v : ℕ) → one_at_zero v ≤ 1
 one_at_zero-le v = elim (cases_eq v 0) [
@@ -307,21 +332,26 @@ one_at_zero-le v = elim (cases_eq v 0) [
 ]
 
 -- an object stands once in the order, and so not before itself
-not_yet : (links : List (List ℕ)) (place : ℕ) (left order : List ℕ) (d : ℕ) → IsUnderWay links place left order → place < length order → is_among (take place order) (get_or order place d) ≡ false
+not_yet : (links : List (List ℕ)) (place : ℕ) (left order : List ℕ) (d : ℕ) → IsUnderWay links place left order → place < length order
+    → is_among (take place order) (get_or order place d) ≡ false
 not_yet links place left order d u h =
     let m : ℕ = get_or order place d in
-    let within : get_or order place d < length links = below_holds (get_or order place d) (length links) (all_among (λ o. nat_lt o (length links)) order (get_or order place d) u.within (at_place order place d h)) in
+    let within : get_or order place d < length links = below_holds (get_or order place d) (length links)
+    (all_among (λ o. nat_lt o (length links)) order (get_or order place d) u.within (at_place order place d h)) in
     let once = u.once (get_or order place d) within in
     let few = one_at_zero-le (open_at left (get_or order place d)) in
     let next = drop_get order place d h in
-    let a : times (get_or order place d) (take (place + 1) order) ≡ times (get_or order place d) (take place order) + 1 = ap (times (get_or order place d)) next ∙ times-append (get_or order place d) (take place order) (get_or order place d ∷ []) ∙ ap (λ n. times (get_or order place d) (take place order) + n) (times-same (get_or order place d)) in
+    let a : times (get_or order place d) (take (place + 1) order) ≡ times (get_or order place d) (take place order) + 1 = ap
+    (times (get_or order place d)) next ∙ times-append (get_or order place d) (take place order) (get_or order place d ∷ []) ∙ ap
+    (λ n. times (get_or order place d) (take place order) + n) (times-same (get_or order place d)) in
     let b = times_take (get_or order place d) order (place + 1) in
     among_none (take place order) (get_or order place d) (omega arith)
 
 front_kept : (place : ℕ) (order order' joined : List ℕ) → order' ≡ order ++ joined → place < length order → take (place + 1) order' ≡ take (place + 1) order
 front_kept place order order' joined is h = rw is (take-append-le (place + 1) order joined (omega arith))
 
-placed_next : (place : ℕ) (order order' joined : List ℕ) (d : ℕ) → order' ≡ order ++ joined → place < length order → take (place + 1) order' ≡ take place order ++ get_or order place d ∷ []
+placed_next : (place : ℕ) (order order' joined : List ℕ) (d : ℕ) → order' ≡ order ++ joined → place < length order
+    → take (place + 1) order' ≡ take place order ++ get_or order place d ∷ []
 placed_next place order order' joined d is h = front_kept place order order' joined is h ∙ drop_get order place d h
 
 -- each of them has an open link to the object
@@ -337,7 +367,8 @@ enough_open links place left order dependents d u h deps o l =
     omega arith
 
 -- the order when they were looked at
-pub under_way_next : (links : List (List ℕ)) (place : ℕ) (left order dependents left' order' : List ℕ) (d : ℕ) → IsUnderWay links place left order → place < length order
+pub under_way_next : (links : List (List ℕ)) (place : ℕ) (left order dependents left' order' : List ℕ) (d : ℕ) → IsUnderWay links place left order
+    → place < length order
     → ((o : ℕ) → o < length links → times o dependents ≡ times (get_or order place d) (links_of links o))
     → Closed dependents left order left' order' → IsUnderWay links (place + 1) left' order'
 under_way_next links place left order dependents left' order' d u h deps c =
@@ -361,7 +392,9 @@ under_way_next links place left order dependents left' order' d u h deps c =
           (rw (← front_kept place order order' c.joined c.order_is h) (open_links_none (take (place + 1) order') (links_of links o)
           (sym (counts o (rw (← u.size) (below_holds o (length left) w))) ∙ eqb-true (open_at left' o) 0 z))))
           c.joined c.within c.free)));
-      total = rw c.order_is (let l : length (order ++ c.joined) ≡ length order + length c.joined = grind (arith, common_steps) in let a = u.total in let b = c.total in omega arith);
+      total =
+          rw c.order_is (let l : length (order ++ c.joined) ≡ length order + length c.joined = grind
+          (arith, common_steps) in let a = u.total in let b = c.total in omega arith);
     }
 
 -- ---- the end
@@ -390,11 +423,13 @@ open_within [] o h = absurd (omega arith)
 open_within (v ∷ left) zero h = omega arith
 open_within (v ∷ left) (suc o) h = let again = open_within left o h in omega arith
 
-any_and_by : (a b c rest all more : Bool) → (a ≡ true → b ≡ true → c ≡ true) → (rest ≡ true → all ≡ true → more ≡ true) → (a || rest) ≡ true → (b && all) ≡ true → (c || more) ≡ true
+any_and_by : (a b c rest all more : Bool) → (a ≡ true → b ≡ true → c ≡ true) → (rest ≡ true → all ≡ true → more ≡ true) → (a || rest) ≡ true
+    → (b && all) ≡ true → (c || more) ≡ true
 any_and_by true b c rest all more f g h k = rw (f refl (and_first b all k)) refl
 any_and_by false b c rest all more f g h k = or_second c more (g h (and_second b all k))
 
-any_and : (p q r : ℕ → Bool) → ((x : ℕ) → p x ≡ true → q x ≡ true → r x ≡ true) → (xs : List ℕ) → list_any p xs ≡ true → list_all q xs ≡ true → list_any r xs ≡ true
+any_and : (p q r : ℕ → Bool) → ((x : ℕ) → p x ≡ true → q x ≡ true → r x ≡ true) → (xs : List ℕ) → list_any p xs ≡ true → list_all q xs ≡ true
+    → list_any r xs ≡ true
 any_and p q r f [] h k = h
 any_and p q r f (x ∷ xs) h k = any_and_by (p x) (q x) (r x) (list_any p xs) (list_all q xs) (list_any r xs) (f x) (any_and p q r f xs) h k
 
@@ -408,7 +443,8 @@ not_among_false true h = cc
 not_among_false false h = refl
 
 -- an object that isn't placed has an open link
-still_open : (left order : List ℕ) (m n : ℕ) → ((o : ℕ) → o < n → times o order ≡ one_at_zero (open_at left o)) → m < n → not (is_among order m) ≡ true → nat_lt 0 (open_at left m) ≡ true
+still_open : (left order : List ℕ) (m n : ℕ) → ((o : ℕ) → o < n → times o order ≡ one_at_zero (open_at left o)) → m < n
+    → not (is_among order m) ≡ true → nat_lt 0 (open_at left m) ≡ true
 still_open left order m n once h a =
     let none = times_none order m (not_among_false (is_among order m) a) in
     elim (cases_eq (open_at left m) 0) [
@@ -417,7 +453,8 @@ still_open left order m n once h a =
     ]
 
 -- no link is open: the order is whole
-pub order_whole : (links : List (List ℕ)) (place : ℕ) (left order : List ℕ) → IsUnderWay links place left order → list_all (λ v. v == 0) left ≡ true → IsOrder links order
+pub order_whole : (links : List (List ℕ)) (place : ℕ) (left order : List ℕ) → IsUnderWay links place left order → list_all (λ v. v == 0) left ≡ true
+    → IsOrder links order
 order_whole links place left order u z =
     let none : waiting_objects left ≡ 0 = waiting_none left z in
     record {
@@ -428,7 +465,8 @@ order_whole links place left order u z =
     }
 
 -- some link is open, and the dependents of all placed objects were looked at: there is a cycle
-pub cycle_left : (links : List (List ℕ)) (place : ℕ) (left order : List ℕ) → IsUnderWay links place left order → length order ≤ place → are_within (length links) links ≡ true
+pub cycle_left : (links : List (List ℕ)) (place : ℕ) (left order : List ℕ) → IsUnderWay links place left order → length order ≤ place
+    → are_within (length links) links ≡ true
     → list_all (λ v. v == 0) left ≡ false → has_cycle links ≡ true
 cycle_left links place left order u e w z =
     let found : (o : ℕ) × (o < length left) × (0 < open_at left o) = some_open left z in
@@ -449,17 +487,21 @@ below_at n xs i d h all = below_holds (get_or xs i d) n (all_among (λ x. nat_lt
 
 -- the next dependent still has an open link
 pub still_to_close : (dependents left order left' order' : List ℕ) (j d : ℕ) → Closed (take j dependents) left order left' order' → j < length dependents
-    → list_all (λ o. nat_lt o (length left)) dependents ≡ true → ((o : ℕ) → o < length left → times o dependents ≤ open_at left o) → 0 < open_at left' (get_or dependents j d)
+    → list_all (λ o. nat_lt o (length left)) dependents ≡ true → ((o : ℕ) → o < length left → times o dependents ≤ open_at left o)
+    → 0 < open_at left' (get_or dependents j d)
 still_to_close dependents left order left' order' j d c h all enough =
     let l : get_or dependents j d < length left = below_at (length left) dependents j d h all in
     let a = c.counts (get_or dependents j d) l in
     let b = enough (get_or dependents j d) l in
     let next = drop_get dependents j d h in
-    let more : times (get_or dependents j d) (take (j + 1) dependents) ≡ times (get_or dependents j d) (take j dependents) + 1 = ap (times (get_or dependents j d)) next ∙ times-append (get_or dependents j d) (take j dependents) (get_or dependents j d ∷ []) ∙ ap (λ n. times (get_or dependents j d) (take j dependents) + n) (times-same (get_or dependents j d)) in
+    let more : times (get_or dependents j d) (take (j + 1) dependents) ≡ times (get_or dependents j d) (take j dependents) + 1 = ap
+    (times (get_or dependents j d)) next ∙ times-append (get_or dependents j d) (take j dependents) (get_or dependents j d ∷ []) ∙ ap
+    (λ n. times (get_or dependents j d) (take j dependents) + n) (times-same (get_or dependents j d)) in
     let few = times_take (get_or dependents j d) dependents (j + 1) in
     omega arith
 
-pub closed_next : (dependents left order left' order' left'' order'' : List ℕ) (j d : ℕ) → Closed (take j dependents) left order left' order' → j < length dependents
+pub closed_next : (dependents left order left' order' left'' order'' : List ℕ) (j d : ℕ) → Closed (take j dependents) left order left' order'
+    → j < length dependents
     → list_all (λ o. nat_lt o (length left)) dependents ≡ true → 0 < open_at left' (get_or dependents j d)
     → left'' ≡ set left' (get_or dependents j d) (open_at left' (get_or dependents j d) - 1)
     → order'' ≡ cond (open_at left' (get_or dependents j d) - 1 == 0) (order' ++ get_or dependents j d ∷ []) order'
@@ -468,11 +510,14 @@ closed_next dependents left order left' order' left'' order'' j d c h all pos l 
     let within : get_or dependents j d < length left = below_at (length left) dependents j d h all in
     rw (drop_get dependents j d h) (elim (cases_eq (open_at left' (get_or dependents j d) - 1) 0) [
       | inl e ↦ rw (l, o, e) (closed_last_link (take j dependents) left order left' order' (get_or dependents j d) c within (omega arith))
-      | inr n ↦ rw (l, o, ne_eqb (open_at left' (get_or dependents j d) - 1) 0 n) (closed_link (take j dependents) left order left' order' (get_or dependents j d) (open_at left' (get_or dependents j d) - 1) c within (omega arith) (omega arith))
+      | inr n ↦ rw (l, o, ne_eqb (open_at left' (get_or dependents j d) - 1) 0 n)
+          (closed_link (take j dependents) left order left' order' (get_or dependents j d)
+          (open_at left' (get_or dependents j d) - 1) c within (omega arith) (omega arith))
     ])
 
 -- an object of the order is one of the objects
-pub placed_below : (links : List (List ℕ)) (place w : ℕ) (left order : List ℕ) → IsUnderWay links place left order → place < length order → w ≡ get_or order place w → w < length links
+pub placed_below : (links : List (List ℕ)) (place w : ℕ) (left order : List ℕ) → IsUnderWay links place left order → place < length order
+    → w ≡ get_or order place w → w < length links
 placed_below links place w left order u h e = rw e (below_at (length links) order place w h u.within)
 
 -- a slice that was written back whole

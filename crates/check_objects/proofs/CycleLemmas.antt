@@ -8,7 +8,8 @@ use Rattle.check_objects.specs.LoadError.{◌>>=◌, Fails}
 use Rattle.check_objects.specs.Setup.{no_parent_cycle, without_parent_cycle, without_cycles}
 
 -- an error that one answer has is the other's too, want of memory aside
-pub fails_later : {A B : Type 0} (e : LoadError) (r : Result A LoadError) (s : Result B LoadError) → Fails e r → ((x : LoadError) → r ≡ Err x → s ≡ Err x) → Fails e s
+pub fails_later : {A B : Type 0} (e : LoadError) (r : Result A LoadError) (s : Result B LoadError) → Fails e r
+    → ((x : LoadError) → r ≡ Err x → s ≡ Err x) → Fails e s
 fails_later errors.Memory r s h f = tt
 fails_later e r s h f = f e h
 
@@ -22,14 +23,16 @@ same_error false c x h = cc
 after_dependencies : (c : Configuration) → has_cycle (masters_of c) ≡ false → without_cycles c ≡ without_parent_cycle c
 after_dependencies c free = ap (λ b. cond b (Err errors.DependencyCycle) (Ok c) >>= without_parent_cycle) free
 
-pub cyclic_parents : (c : Configuration) (hosts : List Host) (x : LoadError) → hosts ≡ c.hosts → has_cycle (masters_of c) ≡ false → no_parent_cycle hosts ≡ Err x → without_cycles c ≡ Err x
+pub cyclic_parents : (c : Configuration) (hosts : List Host) (x : LoadError) → hosts ≡ c.hosts → has_cycle (masters_of c) ≡ false
+    → no_parent_cycle hosts ≡ Err x → without_cycles c ≡ Err x
 cyclic_parents c hosts x are free h = after_dependencies c free ∙ same_error (has_cycle (parents_by_host c)) c x (ap no_parent_cycle (sym are) ∙ h)
 
 no_cycle_by : (b : Bool) (u : Unit {0}) → told b ≡ Ok u → b ≡ false
 no_cycle_by true u h = cc
 no_cycle_by false u h = refl
 
-pub no_cycle_of : (c : Configuration) (hosts : List Host) (u : Unit {0}) → hosts ≡ c.hosts → no_parent_cycle hosts ≡ Ok u → has_cycle (parents_by_host c) ≡ false
+pub no_cycle_of : (c : Configuration) (hosts : List Host) (u : Unit {0}) → hosts ≡ c.hosts → no_parent_cycle hosts ≡ Ok u
+    → has_cycle (parents_by_host c) ≡ false
 no_cycle_of c hosts u are h = no_cycle_by (has_cycle (parents_by_host c)) u (ap no_parent_cycle (sym are) ∙ h)
 
 pub acyclic_setup : (c : Configuration) → has_cycle (masters_of c) ≡ false → has_cycle (parents_by_host c) ≡ false → without_cycles c ≡ Ok c

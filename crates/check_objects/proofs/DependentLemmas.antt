@@ -1,11 +1,13 @@
 -- Who links to whom.
-use Rattle.std.proofs.Common.{◌≡◌, ℕ, zero, suc, ◌+◌, ◌<◌, ◌≤◌, ◌==◌, Bool, true, false, cond, List, [], ◌∷◌, ◌++◌, length, take, map, get_or, refl, sym, ap, ◌∙◌, arith, inl, inr}
+use Rattle.std.proofs.Common.{◌≡◌, ℕ, zero, suc, ◌+◌, ◌<◌, ◌≤◌, ◌==◌, Bool, true, false, cond, List, [], ◌∷◌, ◌++◌, length, take, map, get_or, refl, sym}
+use Rattle.std.proofs.Common.{ap, ◌∙◌, arith, inl, inr}
 use Rattle.std.specs.Prelude.{nat_lt, replicate}
 use Rattle.std.specs.List.{list_all}
 use Rattle.std.proofs.Math.ListN.{set}
 use Rattle.std.proofs.lemmas.Bool.{eq-eqb, ne_eqb, cases_eq, cases_lt}
 use Rattle.std.proofs.lemmas.Bool.Decides.{nat_tests}
-use Rattle.std.proofs.lemmas.List.{get_or-set_same, get_or-set_other, length-set, get_or-replicate, length-replicate, get_or_past, length-take, get_or_append_left, get_or-take, take_all, get_or-map, map-set}
+use Rattle.std.proofs.lemmas.List.{get_or-set_same, get_or-set_other, length-set, get_or-replicate, length-replicate, get_or_past, length-take}
+use Rattle.std.proofs.lemmas.List.{get_or_append_left, get_or-take, take_all, get_or-map, map-set}
 use Rattle.std.proofs.lemmas.List.Folds.{list_all-append}
 use Rattle.std.proofs.lemmas.Grind.{common_steps}
 use Rattle.check_objects.specs.Depth.{links_of, times}
@@ -25,7 +27,8 @@ adds_none object lists = record {
   within = λ n h w. w;
 }
 
-within_set : (n : ℕ) (lists : List (List ℕ)) (place : ℕ) (ls : List ℕ) → are_within n lists ≡ true → list_all (λ l. nat_lt l n) ls ≡ true → are_within n (set lists place ls) ≡ true
+within_set : (n : ℕ) (lists : List (List ℕ)) (place : ℕ) (ls : List ℕ) → are_within n lists ≡ true → list_all (λ l. nat_lt l n) ls ≡ true
+    → are_within n (set lists place ls) ≡ true
 within_set n [] place ls h k = refl
 within_set n (xs ∷ lists) zero ls h k = and_both _ _ k (and_second _ _ h)
 within_set n (xs ∷ lists) (suc place) ls h k = and_both _ _ (and_first _ _ h) (within_set n lists place ls (and_second _ _ h) k)
@@ -36,7 +39,8 @@ within_at n (xs ∷ lists) zero h = and_first _ _ h
 within_at n (xs ∷ lists) (suc place) h = within_at n lists place (and_second _ _ h)
 
 within_push : (n object : ℕ) (ls : List ℕ) → object < n → list_all (λ l. nat_lt l n) ls ≡ true → list_all (λ l. nat_lt l n) (ls ++ object ∷ []) ≡ true
-within_push n object ls h k = rw (list_all-append (λ l. nat_lt l n) ls (object ∷ [])) (and_both _ _ k (and_both _ _ (let t : nat_lt object n ≡ true = grind (arith, nat_tests, h) in t) refl))
+within_push n object ls h k =
+    rw (list_all-append (λ l. nat_lt l n) ls (object ∷ [])) (and_both _ _ k (and_both _ _ (let t : nat_lt object n ≡ true = grind (arith, nat_tests, h) in t) refl))
 
 times_pushed : (other object : ℕ) (ls : List ℕ) → times other (ls ++ object ∷ []) ≡ times other ls + cond (other == object) 1 0
 times_pushed other object ls = elim (cases_eq other object) [
@@ -51,19 +55,28 @@ cond_plus false t x y e = omega arith
 cond_same : (b : Bool) (t x y z : ℕ) → z ≡ y → x ≡ t + cond b y 0 → x ≡ t + cond b z 0
 cond_same b t x y z q e = rw q e
 
-pub adds_more : (object : ℕ) (done : List ℕ) (old mid new : List (List ℕ)) (link : ℕ) → AddsDependent object done old mid → link < length old → new ≡ set mid link (links_of mid link ++ object ∷ [])
+pub adds_more : (object : ℕ) (done : List ℕ) (old mid new : List (List ℕ)) (link : ℕ) → AddsDependent object done old mid → link < length old
+    → new ≡ set mid link (links_of mid link ++ object ∷ [])
     → AddsDependent object (done ++ link ∷ []) old new
 adds_more object done old mid new link a h is = rw is (record {
   size = length-set mid link (links_of mid link ++ object ∷ []) ∙ a.size;
   counts = λ at other l. elim (cases_eq at link) [
-    | inl e ↦ rw (e, get_or-set_same mid link (links_of mid link ++ object ∷ []) [] (rw a.size h), times_pushed other object (links_of mid link), times-append link done (link ∷ []), times-same link)
+    | inl e ↦ rw (
+      e,
+      get_or-set_same mid link (links_of mid link ++ object ∷ []) [] (rw a.size h),
+      times_pushed other object
+          (links_of mid link),
+      times-append link done (link ∷ []),
+      times-same link,
+    )
         (cond_plus (other == object) (times other (links_of old link)) (times other (links_of mid link)) (times link done) (a.counts link other h))
     | inr n ↦ rw (get_or-set_other mid link at (links_of mid link ++ object ∷ []) [] n)
         (cond_same (other == object) (times other (links_of old at)) (times other (links_of mid at)) (times at done) (times at (done ++ link ∷ []))
         (times-append at done (link ∷ []) ∙ ap (λ k. times at done + k) (times-other at link (λ x. n (sym x))) ∙ (let z : times at done + 0 ≡ times at done = omega arith in z))
         (a.counts at other l))
   ];
-  within = λ n o w. let mids = a.within n o w in within_set n mid link (links_of mid link ++ object ∷ []) mids (within_push n object (links_of mid link) o (within_at n mid link mids));
+  within =
+      λ n o w. let mids = a.within n o w in within_set n mid link (links_of mid link ++ object ∷ []) mids (within_push n object (links_of mid link) o (within_at n mid link mids));
 })
 
 -- ---- the dependents of all objects
@@ -93,7 +106,8 @@ drop_get_lists : (xs : List (List ℕ)) (i : ℕ) → i < length xs → take (i 
 drop_get_lists xs i h = grind (arith, common_steps)
 
 take_before : (links : List (List ℕ)) (k i : ℕ) → i < k → k < length links → links_of (take (k + 1) links) i ≡ links_of (take k links) i
-take_before links k i h l = let e = drop_get_lists links k l in rw e (get_or_append_left (take k links) (links_of links k ∷ []) [] i (let t = length-take k links in omega arith))
+take_before links k i h l =
+    let e = drop_get_lists links k l in rw e (get_or_append_left (take k links) (links_of links k ∷ []) [] i (let t = length-take k links in omega arith))
 
 take_here : (links : List (List ℕ)) (k : ℕ) → k < length links → links_of (take (k + 1) links) k ≡ links_of links k
 take_here links k h = get_or-take (k + 1) links k [] (omega arith)
@@ -127,14 +141,16 @@ counts_next links old new k link object n h a b = elim (cases_eq object k) [
 ]
 
 -- one more object's links were looked at
-pub dependents_next : (n k : ℕ) (links old new : List (List ℕ)) → k < length links → n ≡ length links → HasDependents n (take k links) old → AddsDependent k (links_of links k) old new → HasDependents n (take (k + 1) links) new
+pub dependents_next : (n k : ℕ) (links old new : List (List ℕ)) → k < length links → n ≡ length links → HasDependents n (take k links) old
+    → AddsDependent k (links_of links k) old new → HasDependents n (take (k + 1) links) new
 dependents_next n k links old new h is d a = record {
   size = a.size ∙ d.size;
   counts = λ link object l. counts_next links old new k link object n h (a.counts link object (rw d.size l)) (d.counts link object l);
   within = a.within n (omega arith) d.within;
 }
 
-pub dependents_all : (n : ℕ) (links dependents : List (List ℕ)) → length links ≤ n → HasDependents n (take n links) dependents → HasDependents n links dependents
+pub dependents_all : (n : ℕ) (links dependents : List (List ℕ)) → length links ≤ n → HasDependents n (take n links) dependents
+    → HasDependents n links dependents
 dependents_all n links dependents h d = rw (← take_all n links h) d
 
 -- ---- lists in a vector
@@ -143,7 +159,8 @@ pub push_in : {X Y : Type 0} (f : X → List Y) (xs : List X) (i : ℕ) (object 
     → map f (set xs i v) ≡ set (map f xs) i (get_or (map f xs) i [] ++ object ∷ [])
 push_in f xs i object v w d h e p = map-set f xs i v ∙ ap (set (map f xs) i) (p ∙ ap (λ l. l ++ object ∷ []) (ap f e ∙ sym (get_or-map f xs i d [] h)))
 
-pub adds_next : (object n j d : ℕ) (links : List ℕ) (old mid new : List (List ℕ)) → AddsDependent object (take j links) old mid → j < length links → list_all (λ link. nat_lt link n) links ≡ true → n ≡ length old
+pub adds_next : (object n j d : ℕ) (links : List ℕ) (old mid new : List (List ℕ)) → AddsDependent object (take j links) old mid → j < length links
+    → list_all (λ link. nat_lt link n) links ≡ true → n ≡ length old
     → new ≡ set mid (get_or links j d) (links_of mid (get_or links j d) ++ object ∷ []) → AddsDependent object (take (j + 1) links) old new
 adds_next object n j d links old mid new a h all e is =
     let below = below_at n links j d h all in

@@ -1,6 +1,7 @@
 -- Chains of links: an order has none as long as it is, and objects that each link to another of them have chains of
 -- every length.
-use Rattle.std.proofs.Common.{◌≡◌, ℕ, zero, suc, ◌+◌, ◌<◌, ◌==◌, ◌&&◌, ◌||◌, Bool, true, false, not, cond, List, [], ◌∷◌, ◌++◌, length, refl, ap, arith, append_assoc, append-nil, inl, inr, ◌⊎◌}
+use Rattle.std.proofs.Common.{◌≡◌, ℕ, zero, suc, ◌+◌, ◌<◌, ◌==◌, ◌&&◌, ◌||◌, Bool, true, false, not, cond, List, [], ◌∷◌, ◌++◌, length, refl, ap, arith}
+use Rattle.std.proofs.Common.{append_assoc, append-nil, inl, inr, ◌⊎◌}
 use Rattle.std.specs.List.{list_any, list_all}
 use Rattle.std.proofs.lemmas.Bool.{eqb-true, cases_lt}
 use Rattle.std.proofs.lemmas.List.Folds.{list_all-append}
@@ -35,7 +36,8 @@ not_true : (a : Bool) → not a ≡ true → a ≡ false
 not_true true h = cc
 not_true false h = refl
 
-pub any_weaker_by : (p q : ℕ → Bool) (a b : Bool) (xs : List ℕ) → (a ≡ true → b ≡ true) → (list_any p xs ≡ true → list_any q xs ≡ true) → (a || list_any p xs) ≡ true → (b || list_any q xs) ≡ true
+pub any_weaker_by : (p q : ℕ → Bool) (a b : Bool) (xs : List ℕ) → (a ≡ true → b ≡ true) → (list_any p xs ≡ true → list_any q xs ≡ true)
+    → (a || list_any p xs) ≡ true → (b || list_any q xs) ≡ true
 any_weaker_by p q true b xs f g h = or_first b _ (f refl)
 any_weaker_by p q false b xs f g h = or_second b _ (g h)
 
@@ -86,7 +88,8 @@ none_by true b h k = h
 none_by false b h k = k
 
 -- links to shallow objects alone
-pub shallow_links : (links : List (List ℕ)) (k : ℕ) (placed ls : List ℕ) → list_all (is_among placed) ls ≡ true → list_all (shallow links k) placed ≡ true → not (list_any (λ m. deep links m k) ls) ≡ true
+pub shallow_links : (links : List (List ℕ)) (k : ℕ) (placed ls : List ℕ) → list_all (is_among placed) ls ≡ true
+    → list_all (shallow links k) placed ≡ true → not (list_any (λ m. deep links m k) ls) ≡ true
 shallow_links links k placed [] h s = refl
 shallow_links links k placed (l ∷ ls) h s =
     none_by (deep links l k) (list_any (λ m. deep links m k) ls)
@@ -104,8 +107,10 @@ shallow_order links placed [] h s = rw (append-nil placed) s
 shallow_order links placed (o ∷ os) h s =
     let first : list_all (is_among placed) (links_of links o) ≡ true = and_first _ _ h in
     let here : shallow links (suc (length placed)) o ≡ true = shallow_links links (length placed) placed (links_of links o) first s in
-    let before : list_all (shallow links (suc (length placed))) placed ≡ true = all_weaker (shallow links (length placed)) (shallow links (suc (length placed))) (shallow_more links (length placed)) placed s in
-    let both : list_all (shallow links (suc (length placed))) (placed ++ o ∷ []) ≡ true = rw (list_all-append (shallow links (suc (length placed))) placed (o ∷ [])) (and_both _ _ before (and_both _ _ here refl)) in
+    let before : list_all (shallow links (suc (length placed))) placed ≡ true = all_weaker (shallow links (length placed))
+    (shallow links (suc (length placed))) (shallow_more links (length placed)) placed s in
+    let both : list_all (shallow links (suc (length placed))) (placed ++ o ∷ [])
+    ≡ true = rw (list_all-append (shallow links (suc (length placed))) placed (o ∷ [])) (and_both _ _ before (and_both _ _ here refl)) in
     let pushed : list_all (shallow links (length (placed ++ o ∷ []))) (placed ++ o ∷ []) ≡ true = rw (length_push placed o) both in
     let rest = shallow_order links (placed ++ o ∷ []) os (and_second _ _ h) pushed in
     rw (← append_assoc placed (o ∷ []) os) rest
@@ -143,11 +148,13 @@ order_has_no_cycle links order is =
 
 -- ---- chains among objects that each link to another of them
 
-pub chains : (links : List (List ℕ)) (stuck : ℕ → Bool) → ((o : ℕ) → stuck o ≡ true → list_any stuck (links_of links o) ≡ true) → (k o : ℕ) → stuck o ≡ true → deep links o k ≡ true
+pub chains : (links : List (List ℕ)) (stuck : ℕ → Bool) → ((o : ℕ) → stuck o ≡ true → list_any stuck (links_of links o) ≡ true) → (k o : ℕ)
+    → stuck o ≡ true → deep links o k ≡ true
 chains links stuck f zero o h = refl
 chains links stuck f (suc k) o h = any_weaker stuck (λ m. deep links m k) (chains links stuck f k) (links_of links o) (f o h)
 
 -- one of them shows that there is a cycle
-pub stuck_has_cycle : (links : List (List ℕ)) (stuck : ℕ → Bool) → ((o : ℕ) → stuck o ≡ true → list_any stuck (links_of links o) ≡ true) → (o : ℕ) → o < length links → stuck o ≡ true → has_cycle links ≡ true
+pub stuck_has_cycle : (links : List (List ℕ)) (stuck : ℕ → Bool) → ((o : ℕ) → stuck o ≡ true → list_any stuck (links_of links o) ≡ true) → (o : ℕ)
+    → o < length links → stuck o ≡ true → has_cycle links ≡ true
 unfolding has_cycle
 stuck_has_cycle links stuck f o l h = some_below (λ m. deep links m (length links)) (length links) o l (chains links stuck f (length links) o h)

@@ -1,5 +1,6 @@
 -- The drafts of a list, item by item.
-use Rattle.std.proofs.Common.{◌≡◌, ℕ, ◌+◌, ◌<◌, ◌≤◌, List, [], ◌∷◌, ◌++◌, length, drop, get_or, Option, Some, None, refl, sym, ap, append_assoc, append-nil, Result, Ok, Err, arith}
+use Rattle.std.proofs.Common.{◌≡◌, ℕ, ◌+◌, ◌<◌, ◌≤◌, List, [], ◌∷◌, ◌++◌, length, drop, get_or, Option, Some, None, refl, sym, ap, append_assoc, append-nil}
+use Rattle.std.proofs.Common.{Result, Ok, Err, arith}
 use Rattle.std.proofs.lemmas.Grind.{common_steps}
 use Rattle.std.proofs.lemmas.List.{drop_all}
 use Rattle.serde_json.specs.Data.{Data}
@@ -12,12 +13,14 @@ use Rattle.check_objects.specs.Draft.{items_from}
 use Rattle.check_objects.specs.LoadError.{◌>>=◌, with_front}
 
 module _ {A : Type 0} (shape : Data → Option A) (place : ℕ → Place) where
-  with_front-more : (front : List A) (x : A) (rest : Result (List A) LoadError) → with_front front (rest >>= λ xs. Ok (x ∷ xs)) ≡ with_front (front ++ x ∷ []) rest
+  with_front-more : (front : List A) (x : A) (rest : Result (List A) LoadError)
+      → with_front front (rest >>= λ xs. Ok (x ∷ xs)) ≡ with_front (front ++ x ∷ []) rest
   with_front-more front x (Ok xs) = ap Ok (sym (append_assoc front (x ∷ []) xs))
   with_front-more front x (Err e) = refl
 
   pub items_next : (front : List A) (i : ℕ) (vs : List Value) (v : Value) (x : A) → i < length vs → v ≡ get_or vs i v → shape (view v) ≡ Some x
-      → with_front front (items_from shape place i (items_view (drop i vs))) ≡ with_front (front ++ x ∷ []) (items_from shape place (i + 1) (items_view (drop (i + 1) vs)))
+      → with_front front (items_from shape place i (items_view (drop i vs))) ≡ with_front (front ++ x ∷ [])
+      (items_from shape place (i + 1) (items_view (drop (i + 1) vs)))
   items_next front i vs v x below is read =
       let e : drop i vs ≡ v ∷ drop (i + 1) vs = grind (arith, common_steps, is) in
       rw (e, read) (with_front-more front x _)

@@ -1,5 +1,6 @@
 -- The first fault of a list, the parents counted, and the first key that stood before.
-use Rattle.std.proofs.Common.{◌≡◌, ℕ, Bor, bytes_eq, ◌||◌, ◌&&◌, ◌+◌, ◌<◌, ◌≤◌, not, Bool, true, false, cond, List, [], ◌∷◌, ◌++◌, map, length, drop, get_or, Option, Some, None, refl, sym, ap, ◌∙◌, Ok, Err, append_assoc, arith}
+use Rattle.std.proofs.Common.{◌≡◌, ℕ, Bor, bytes_eq, ◌||◌, ◌&&◌, ◌+◌, ◌<◌, ◌≤◌, not, Bool, true, false, cond, List, [], ◌∷◌, ◌++◌, map, length, drop}
+use Rattle.std.proofs.Common.{get_or, Option, Some, None, refl, sym, ap, ◌∙◌, Ok, Err, append_assoc, arith}
 use Rattle.std.specs.Prelude.{sum_by}
 use Rattle.std.specs.List.{list_any, position}
 use Rattle.std.proofs.lemmas.Grind.{common_steps}
@@ -92,14 +93,16 @@ module _ {D K L : Type 0} (same : L → L → Bool) (seen : K → L) (keys : Lis
       → repeat_after same (map seen ks) i (keys (drop i ds)) ≡ Some i
   repeat_here ks ds i d e known = rw (first_dropped ds i d e, was_seen ks d true known) refl
 
-  pub repeat_later : (ks more : List K) (ds : List D) (i : ℕ) (d : D) → drop i ds ≡ d ∷ drop (i + 1) ds → list_any (λ k. same (seen (key d)) (seen k)) ks ≡ false → more ≡ ks ++ key d ∷ []
+  pub repeat_later : (ks more : List K) (ds : List D) (i : ℕ) (d : D) → drop i ds ≡ d ∷ drop (i + 1) ds
+      → list_any (λ k. same (seen (key d)) (seen k)) ks ≡ false → more ≡ ks ++ key d ∷ []
       → repeat_after same (map seen ks) i (keys (drop i ds)) ≡ repeat_after same (map seen more) (i + 1) (keys (drop (i + 1) ds))
   repeat_later ks more ds i d e new longer =
       let m : map seen more ≡ map seen ks ++ seen (key d) ∷ [] = ap (map seen) longer ∙ map-append seen ks (key d ∷ []) in
       rw (first_dropped ds i d e, was_seen ks d false new, m) refl
 
   -- the keys so far and those to come
-  pub keys_later : (ks more : List K) (ds : List D) (i : ℕ) (d : D) → drop i ds ≡ d ∷ drop (i + 1) ds → more ≡ ks ++ key d ∷ [] → map seen ks ++ keys (drop i ds) ≡ map seen more ++ keys (drop (i + 1) ds)
+  pub keys_later : (ks more : List K) (ds : List D) (i : ℕ) (d : D) → drop i ds ≡ d ∷ drop (i + 1) ds → more ≡ ks ++ key d ∷ []
+      → map seen ks ++ keys (drop i ds) ≡ map seen more ++ keys (drop (i + 1) ds)
   keys_later ks more ds i d e longer =
       let m : map seen more ≡ map seen ks ++ seen (key d) ∷ [] = ap (map seen) longer ∙ map-append seen ks (key d ∷ []) in
       rw (first_dropped ds i d e, m) (sym (append_assoc (map seen ks) (seen (key d) ∷ []) (keys (drop (i + 1) ds))))
@@ -127,17 +130,20 @@ or_same false true h = h refl
 or_same false false h = refl
 
 -- a text is known among the keys with one more where it was before, or is that one
-pub known_more : (keys new : List (Bor (List ℕ))) (key : Bor (List ℕ)) (before : List (List ℕ)) (t : List ℕ) (b : Bool) → key.now ≡ t → list_any (λ n. bytes_eq key.now n.now) keys ≡ b → new ≡ cond b keys (keys ++ key ∷ [])
+pub known_more : (keys new : List (Bor (List ℕ))) (key : Bor (List ℕ)) (before : List (List ℕ)) (t : List ℕ) (b : Bool) → key.now ≡ t
+    → list_any (λ n. bytes_eq key.now n.now) keys ≡ b → new ≡ cond b keys (keys ++ key ∷ [])
     → ((name : List ℕ) → is_known (texts keys) name ≡ is_known before name) → (name : List ℕ) → is_known (texts new) name ≡ is_known (before ++ t ∷ []) name
 known_more keys new key before t true same known is agree name =
-    let there : is_known before t ≡ true = sym (agree t) ∙ list_any-map (bytes_eq t) (λ n. n.now) keys ∙ ap (λ x. list_any (λ n. bytes_eq x n.now) keys) (sym same) ∙ known in
+    let there : is_known before t ≡ true = sym (agree t) ∙ list_any-map (bytes_eq t)
+    (λ n. n.now) keys ∙ ap (λ x. list_any (λ n. bytes_eq x n.now) keys) (sym same) ∙ known in
     ap (λ ks. is_known (texts ks) name) is ∙ agree name ∙ or_same (is_known before name) (bytes_eq name t) (λ e. ap (is_known before) ((bytes_eq-Decides name t).0 e) ∙ there) ∙ sym (known_push before t name)
 known_more keys new key before t false same known is agree name =
     ap (λ ks. is_known (texts ks) name) is ∙ ap (λ l. is_known l name) (map-append (λ n. n.now) keys (key ∷ []))
     ∙ known_push (texts keys) key.now name ∙ ap (λ b. b || (bytes_eq name key.now || false)) (agree name) ∙ ap (λ x. is_known before name || (bytes_eq name x || false)) same ∙ sym (known_push before t name)
 
 -- the same dependencies have unknown ends, where the same texts are known
-pub same_ends : (p : Part) (names others : List (List ℕ)) (ds : List spec.DependencyDraft) → ((name : List ℕ) → is_known names name ≡ is_known others name) → known_ends p names ds ≡ known_ends p others ds
+pub same_ends : (p : Part) (names others : List (List ℕ)) (ds : List spec.DependencyDraft)
+    → ((name : List ℕ) → is_known names name ≡ is_known others name) → known_ends p names ds ≡ known_ends p others ds
 same_ends p names others ds same =
     ap (refused_at (λ i. errors.UnknownMaster (item_of_part p i)))
     (position-same (λ (d : spec.DependencyDraft). not (is_known names d.dependent && is_known names d.master)) (λ d. not (is_known others d.dependent && is_known others d.master)) (λ d i. not (same d.dependent i && same d.master i)) ds)

@@ -1,5 +1,6 @@
 -- The links of a document without a fault, by number and back by name.
-use Rattle.std.proofs.Common.{◌≡◌, ℕ, ◌<◌, ◌==◌, ◌&&◌, ◌||◌, Bool, true, false, cond, List, [], ◌∷◌, map, option_map, bytes_eq, refl, sym, ap, subst, ◌∙◌, Ok, arith}
+use Rattle.std.proofs.Common.{◌≡◌, ℕ, ◌<◌, ◌==◌, ◌&&◌, ◌||◌, Bool, true, false, cond, List, [], ◌∷◌, map, option_map, bytes_eq, refl, sym, ap, subst, ◌∙◌}
+use Rattle.std.proofs.Common.{Ok, arith}
 use Rattle.std.specs.Prelude.{nat_lt, unwrap_or}
 use Rattle.std.specs.List.{list_any, list_all, filter}
 use Rattle.std.specs.List.Sorted.{IsPermutation}
@@ -11,7 +12,8 @@ use Rattle.check_objects.specs.Configuration.{Configuration, named_host, named_s
 use Rattle.check_objects.specs.Draft.{Drafts, HostDraft, DependencyDraft}
 use Rattle.check_objects.specs.Fault.{is_faultless, is_known, names_of, full_names}
 use Rattle.check_objects.specs.Links.{named_parents, named_dependency, named_dependencies, all_named_dependencies}
-use Rattle.check_objects.specs.Numbering.{number_in, numbered_host, numbered_dependency, all_dependencies, dependencies_among, body_of, object_of, hosts_in_order, services_in_order, names_in_order, configuration}
+use Rattle.check_objects.specs.Numbering.{number_in, numbered_host, numbered_dependency, all_dependencies, dependencies_among, body_of, object_of}
+use Rattle.check_objects.specs.Numbering.{hosts_in_order, services_in_order, names_in_order, configuration}
 use Rattle.check_objects.proofs.ListLemmas.{list_any-map, list_all-map}
 use Rattle.check_objects.proofs.BucketLemmas.{bucket, in_buckets, joined_same}
 use Rattle.check_objects.proofs.DepthLemmas.{and_first, and_second, and_both, or_second}
@@ -44,7 +46,8 @@ same_by false true f g = g refl
 same_by false false f g = refl
 
 -- whose number it is, has the name
-pub number_is_name : (c : Configuration) → HasNames c → (name : List ℕ) (n : ℕ) → n < object_count c → is_object c name ≡ true → (number_or_none c name == n) ≡ bytes_eq name (name_of c n)
+pub number_is_name : (c : Configuration) → HasNames c → (name : List ℕ) (n : ℕ) → n < object_count c → is_object c name ≡ true
+    → (number_or_none c name == n) ≡ bytes_eq name (name_of c n)
 number_is_name c names name n below known = same_by (number_or_none c name == n) (bytes_eq name (name_of c n))
     (λ e. (bytes_eq-Decides name (name_of c n)).1 (sym (back_to_name c name known) ∙ ap (name_of c) (eqb-true (number_or_none c name) n e)))
     (λ e. eq-eqb (number_or_none c name) n (ap (number_or_none c) ((bytes_eq-Decides name (name_of c n)).0 e) ∙ ap (λ o. unwrap_or o 0) (name_leads_back c names n below)))
@@ -63,7 +66,8 @@ host_is_object ds e name known =
     ∙ ap (λ l. is_known l name) (host_names_are ns hs) ∙ sym (known_in_order ds.hosts body_of hs (hosts_all ds e) name) ∙ known in
     list_any-append (λ o. bytes_eq name o.name) (map named_host c.hosts) (map named_service c.services) ∙ or_front _ _ there
 
-service_is_object : (ds : Drafts) → is_faultless ds ≡ Ok tt → (name : List ℕ) → is_known (full_names ds.services) name ≡ true → is_object (configuration ds) name ≡ true
+service_is_object : (ds : Drafts) → is_faultless ds ≡ Ok tt → (name : List ℕ) → is_known (full_names ds.services) name ≡ true
+    → is_object (configuration ds) name ≡ true
 service_is_object ds e name known =
     let c = configuration ds in
     let there : list_any (λ o. bytes_eq name o.name) (map named_service c.services) ≡ true =
@@ -74,24 +78,28 @@ service_is_object ds e name known =
 abbrev pub has_ends : Configuration → DependencyDraft → Bool
 has_ends c d = is_object c d.dependent && is_object c d.master
 
-ends_are_objects : (c : Configuration) (names : List (List ℕ)) → ((name : List ℕ) → is_known names name ≡ true → is_object c name ≡ true) → (ds : List DependencyDraft)
+ends_are_objects : (c : Configuration) (names : List (List ℕ)) → ((name : List ℕ) → is_known names name ≡ true → is_object c name ≡ true)
+    → (ds : List DependencyDraft)
     → list_all (λ d. is_known names d.dependent && is_known names d.master) ds ≡ true → list_all (has_ends c) ds ≡ true
 ends_are_objects c names known [] h = refl
 ends_are_objects c names known (d ∷ ds) h =
     let here = and_first _ _ h in
-    and_both _ _ (and_both _ _ (known d.dependent (and_first _ _ here)) (known d.master (and_second _ _ here))) (ends_are_objects c names known ds (and_second _ _ h))
+    and_both _ _ (and_both _ _ (known d.dependent (and_first _ _ here)) (known d.master (and_second _ _ here)))
+    (ends_are_objects c names known ds (and_second _ _ h))
 
 pub all_have_ends : (ds : Drafts) → is_faultless ds ≡ Ok tt → list_all (has_ends (configuration ds)) (all_dependencies ds) ≡ true
 all_have_ends ds e =
     let c = configuration ds in
     let f = faultless ds e in
     list_all-append (has_ends c) ds.service_dependencies ds.host_dependencies
-    ∙ and_both _ _ (ends_are_objects c (full_names ds.services) (service_is_object ds e) ds.service_dependencies f.service_ends) (ends_are_objects c (names_of ds.hosts) (host_is_object ds e) ds.host_dependencies f.host_ends)
+    ∙ and_both _ _ (ends_are_objects c (full_names ds.services) (service_is_object ds e) ds.service_dependencies f.service_ends)
+    (ends_are_objects c (names_of ds.hosts) (host_is_object ds e) ds.host_dependencies f.host_ends)
 
 -- ---- dependencies
 
 module _ (c : Configuration) where
-  there_and_back : (d : DependencyDraft) (n : ℕ) → has_ends c d ≡ true → number_or_none c d.dependent ≡ n → named_dependency c n (numbered_dependency (objects_of c) d).1 ≡ d
+  there_and_back : (d : DependencyDraft) (n : ℕ) → has_ends c d ≡ true → number_or_none c d.dependent ≡ n
+      → named_dependency c n (numbered_dependency (objects_of c) d).1 ≡ d
   there_and_back d n h is =
       let dependent = ap (name_of c) (sym is) ∙ back_to_name c d.dependent (and_first _ _ h) in
       let master = back_to_name c d.master (and_second _ _ h) in
@@ -117,15 +125,18 @@ module _ (c : Configuration) where
       let more = by_name names n below ds (and_second _ _ h) in
       λ i. cond (test i) (d ∷ more i) (more i)
 
-named_at : (ds : Drafts) → is_faultless ds ≡ Ok tt → (n : ℕ) → n < object_count (configuration ds) → named_dependencies (configuration ds) n ≡ filter (λ x. number_or_none (configuration ds) x.dependent == n) (all_dependencies ds)
+named_at : (ds : Drafts) → is_faultless ds ≡ Ok tt → (n : ℕ) → n < object_count (configuration ds)
+    → named_dependencies (configuration ds) n ≡ filter (λ x. number_or_none (configuration ds) x.dependent == n) (all_dependencies ds)
 named_at ds e n below =
     let c = configuration ds in
-    ap (map (named_dependency c n)) (list_of_object (object_count c) n (map (numbered_dependency (objects_of c)) (all_dependencies ds)) below) ∙ listed_back c n (all_dependencies ds) (all_have_ends ds e)
+    ap (map (named_dependency c n)) (list_of_object (object_count c) n (map (numbered_dependency (objects_of c)) (all_dependencies ds)) below)
+    ∙ listed_back c n (all_dependencies ds) (all_have_ends ds e)
 
 -- the dependencies of an object are those of the document with its name, in the same order
 pub dependencies_by_name : (ds : Drafts) (n : ℕ) → is_faultless ds ≡ Ok tt → n < object_count (configuration ds)
     → named_dependencies (configuration ds) n ≡ filter (λ d. bytes_eq d.dependent (name_of (configuration ds) n)) (all_dependencies ds)
-dependencies_by_name ds n e below = named_at ds e n below ∙ by_name (configuration ds) (names_of_document ds e) n below (all_dependencies ds) (all_have_ends ds e)
+dependencies_by_name ds n e below =
+    named_at ds e n below ∙ by_name (configuration ds) (names_of_document ds e) n below (all_dependencies ds) (all_have_ends ds e)
 
 -- and all of them are the document's
 pub dependencies_together : (ds : Drafts) → is_faultless ds ≡ Ok tt → IsPermutation (all_dependencies ds) (all_named_dependencies (configuration ds))
@@ -134,19 +145,22 @@ dependencies_together ds e =
     let number = λ (d : DependencyDraft). number_or_none c d.dependent in
     let below : list_all (λ d. nat_lt (number d) (object_count c)) (all_dependencies ds) ≡ true =
     sym (list_all-map (λ d. nat_lt d.0 (object_count c)) (numbered_dependency (objects_of c)) (all_dependencies ds)) ∙ dependents_within ds e in
-    subst (IsPermutation (all_dependencies ds)) (joined_same (bucket number (all_dependencies ds)) (named_dependencies c) 0 (object_count c) (λ k low high. sym (named_at ds e k (omega (arith, high)))))
+    subst (IsPermutation (all_dependencies ds)) (joined_same (bucket number (all_dependencies ds)) (named_dependencies c) 0 (object_count c)
+    (λ k low high. sym (named_at ds e k (omega (arith, high)))))
     (in_buckets number (object_count c) (all_dependencies ds) below)
 
 -- ---- parents
 
-parents_named : (c : Configuration) (hs : List HostEntry) → c.hosts ≡ map (numbered_host (map (λ h. h.0) hs)) hs → (ps : List (List ℕ)) → list_all (is_known (map (λ h. h.0) hs)) ps ≡ true → map (name_of c) (map (number_in (map (λ h. h.0) hs)) ps) ≡ ps
+parents_named : (c : Configuration) (hs : List HostEntry) → c.hosts ≡ map (numbered_host (map (λ h. h.0) hs)) hs → (ps : List (List ℕ))
+    → list_all (is_known (map (λ h. h.0) hs)) ps ≡ true → map (name_of c) (map (number_in (map (λ h. h.0) hs)) ps) ≡ ps
 parents_named c hs are [] h = refl
 parents_named c hs are (p ∷ ps) h =
     let here = host_named c (map (λ x. x.0) hs) hs are p (and_first _ _ h) in
     let more = parents_named c hs are ps (and_second _ _ h) in
     λ i. here i ∷ more i
 
-hosts_named : (c : Configuration) (all : List HostEntry) → c.hosts ≡ map (numbered_host (map (λ h. h.0) all)) all → (hs : List HostEntry) → list_all (λ e. list_all (is_known (map (λ h. h.0) all)) e.1.1) hs ≡ true
+hosts_named : (c : Configuration) (all : List HostEntry) → c.hosts ≡ map (numbered_host (map (λ h. h.0) all)) all → (hs : List HostEntry)
+    → list_all (λ e. list_all (is_known (map (λ h. h.0) all)) e.1.1) hs ≡ true
     → map (named_parents c) (map (numbered_host (map (λ h. h.0) all)) hs) ≡ map (λ e. (e.0, e.1.1)) hs
 hosts_named c all are [] h = refl
 hosts_named c all are (e ∷ hs) h =
@@ -155,7 +169,8 @@ hosts_named c all are (e ∷ hs) h =
     λ i. (e.0, here i) ∷ more i
 
 -- the hosts and their parents are the document's
-pub parents_together : (ds : Drafts) → is_faultless ds ≡ Ok tt → IsPermutation (map (λ h. (h.name, h.parents)) ds.hosts) (map (named_parents (configuration ds)) (configuration ds).hosts)
+pub parents_together : (ds : Drafts) → is_faultless ds ≡ Ok tt
+    → IsPermutation (map (λ h. (h.name, h.parents)) ds.hosts) (map (named_parents (configuration ds)) (configuration ds).hosts)
 parents_together ds e =
     let c = configuration ds in
     let hs = hosts_in_order ds.hosts in

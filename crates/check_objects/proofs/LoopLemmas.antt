@@ -1,5 +1,6 @@
 -- A chain of as many links as there are objects passes one of them twice, and who leads back to itself has chains of every length.
-use Rattle.std.proofs.Common.{◌≡◌, ℕ, zero, suc, ◌+◌, ◌<◌, ◌≤◌, ◌==◌, ◌&&◌, ◌||◌, Bool, true, false, not, cond, List, [], ◌∷◌, length, refl, sym, ap, ◌∙◌, arith, inl, inr}
+use Rattle.std.proofs.Common.{◌≡◌, ℕ, zero, suc, ◌+◌, ◌<◌, ◌≤◌, ◌==◌, ◌&&◌, ◌||◌, Bool, true, false, not, cond, List, [], ◌∷◌, length, refl, sym, ap, ◌∙◌}
+use Rattle.std.proofs.Common.{arith, inl, inr}
 use Rattle.std.specs.Prelude.{nat_lt}
 use Rattle.std.specs.List.{list_any, list_all, filter}
 use Rattle.std.proofs.lemmas.Bool.{eqb-true, eq-eqb, cases_lt}
@@ -10,15 +11,18 @@ use Rattle.check_objects.proofs.DepthLemmas.{and_first, and_second, and_both, or
 
 -- ---- from a way back to a cycle
 
-chains_on : (links : List (List ℕ)) (object back : ℕ) → leads links (suc back) object object ≡ true → (j o k : ℕ) → leads links (suc k) o object ≡ true → deep links o j ≡ true
+chains_on : (links : List (List ℕ)) (object back : ℕ) → leads links (suc back) object object ≡ true → (j o k : ℕ)
+    → leads links (suc k) o object ≡ true → deep links o j ≡ true
 chains_on links object back h zero o k e = refl
 chains_on links object back h (suc j) o zero e =
     any_weaker (λ l. l == object) (λ l. deep links l j) (λ l x. ap (λ m. deep links m j) (eqb-true l object x) ∙ chains_on links object back h j object back h) (links_of links o) e
-chains_on links object back h (suc j) o (suc k) e = any_weaker (λ l. leads links (suc k) l object) (λ l. deep links l j) (λ l x. chains_on links object back h j l k x) (links_of links o) e
+chains_on links object back h (suc j) o (suc k) e =
+    any_weaker (λ l. leads links (suc k) l object) (λ l. deep links l j) (λ l x. chains_on links object back h j l k x) (links_of links o) e
 
 pub back_is_cycle : (links : List (List ℕ)) (object : ℕ) → object < length links → LeadsBack links object → has_cycle links ≡ true
 unfolding has_cycle
-back_is_cycle links object below back = some_below (λ o. deep links o (length links)) (length links) object below (chains_on links object back.0 back.1 (length links) object back.0 back.1)
+back_is_cycle links object below back =
+    some_below (λ o. deep links o (length links)) (length links) object below (chains_on links object back.0 back.1 (length links) object back.0 back.1)
 
 -- ---- chains
 
@@ -31,7 +35,8 @@ record Witness (p : ℕ → Bool) (xs : List ℕ) : Type 0 where
   among : is_among xs item ≡ true
   passes : p item ≡ true
 
-witness_by : (p : ℕ → Bool) (x : ℕ) (xs : List ℕ) (b : Bool) → p x ≡ b → (b || list_any p xs) ≡ true → (list_any p xs ≡ true → Witness p xs) → Witness p (x ∷ xs)
+witness_by : (p : ℕ → Bool) (x : ℕ) (xs : List ℕ) (b : Bool) → p x ≡ b → (b || list_any p xs) ≡ true → (list_any p xs ≡ true → Witness p xs)
+    → Witness p (x ∷ xs)
 witness_by p x xs true e h more = record { item = x; among = rw (eq-eqb x x refl) refl; passes = e }
 witness_by p x xs false e h more = let w = more h in record { item = w.item; among = or_second (x == w.item) _ w.among; passes = w.passes }
 
@@ -67,7 +72,8 @@ chain_of links n h (suc k) o e =
 abbrev pub others : ℕ → List ℕ → List ℕ
 others n xs = filter (λ x. not (x == n)) xs
 
-others_counted_by : (n x : ℕ) (xs : List ℕ) (b : Bool) → length xs ≡ length (others n xs) + times n xs → suc (length xs) ≡ length (cond (not b) (x ∷ others n xs) (others n xs)) + (cond b 1 0 + times n xs)
+others_counted_by : (n x : ℕ) (xs : List ℕ) (b : Bool) → length xs ≡ length (others n xs) + times n xs
+    → suc (length xs) ≡ length (cond (not b) (x ∷ others n xs) (others n xs)) + (cond b 1 0 + times n xs)
 others_counted_by n x xs true e = omega (arith, e)
 others_counted_by n x xs false e = omega (arith, e)
 
@@ -75,7 +81,8 @@ others_counted : (n : ℕ) (xs : List ℕ) → length xs ≡ length (others n xs
 others_counted n [] = refl
 others_counted n (x ∷ xs) = others_counted_by n x xs (x == n) (others_counted n xs)
 
-times_fewer_by : (n y x : ℕ) (xs : List ℕ) (b : Bool) → times y (others n xs) ≤ times y xs → times y (cond b (x ∷ others n xs) (others n xs)) ≤ cond (x == y) 1 0 + times y xs
+times_fewer_by : (n y x : ℕ) (xs : List ℕ) (b : Bool) → times y (others n xs) ≤ times y xs
+    → times y (cond b (x ∷ others n xs) (others n xs)) ≤ cond (x == y) 1 0 + times y xs
 times_fewer_by n y x xs true h = omega (arith, h)
 times_fewer_by n y x xs false h = omega (arith, h)
 
@@ -87,7 +94,8 @@ below_by : (n x : ℕ) (b : Bool) → (x == n) ≡ b → nat_lt x (suc n) ≡ tr
 below_by n x true e h k = cc
 below_by n x false e h k = grind (arith, nat_tests, e, h)
 
-others_below_by : (n x : ℕ) (xs : List ℕ) (b : Bool) → (x == n) ≡ b → nat_lt x (suc n) ≡ true → list_all (λ y. nat_lt y n) (others n xs) ≡ true → list_all (λ y. nat_lt y n) (cond (not b) (x ∷ others n xs) (others n xs)) ≡ true
+others_below_by : (n x : ℕ) (xs : List ℕ) (b : Bool) → (x == n) ≡ b → nat_lt x (suc n) ≡ true → list_all (λ y. nat_lt y n) (others n xs) ≡ true
+    → list_all (λ y. nat_lt y n) (cond (not b) (x ∷ others n xs) (others n xs)) ≡ true
 others_below_by n x xs true e h more = more
 others_below_by n x xs false e h more = and_both _ _ (below_by n x false e h refl) more
 
@@ -104,12 +112,14 @@ pigeon zero [] h l = absurd (omega (arith, l))
 pigeon zero (x ∷ xs) h l = absurd (nothing_below x (and_first _ (list_all (λ y. nat_lt y 0) xs) h))
 pigeon (suc n) xs h l = elim (cases_lt 1 (times n xs)) [
   | inl twice ↦ (n, twice)
-  | inr once ↦ let p = pigeon n (others n xs) (others_below n xs h) (omega (arith, l, once, others_counted n xs)) in (p.0, omega (arith, p.1, times_fewer n p.0 xs))
+  | inr once ↦ let p = pigeon n (others n xs) (others_below n xs h)
+      (omega (arith, l, once, others_counted n xs)) in (p.0, omega (arith, p.1, times_fewer n p.0 xs))
 ]
 
 -- ---- from a chain that passes an object twice to the way back
 
-some_among_by : (p : ℕ → Bool) (x m : ℕ) (xs : List ℕ) (b : Bool) → (x == m) ≡ b → (b || is_among xs m) ≡ true → p m ≡ true → (is_among xs m ≡ true → list_any p xs ≡ true) → (p x || list_any p xs) ≡ true
+some_among_by : (p : ℕ → Bool) (x m : ℕ) (xs : List ℕ) (b : Bool) → (x == m) ≡ b → (b || is_among xs m) ≡ true → p m ≡ true
+    → (is_among xs m ≡ true → list_any p xs ≡ true) → (p x || list_any p xs) ≡ true
 some_among_by p x m xs true e h k more = rw (ap p (eqb-true x m e) ∙ k) refl
 some_among_by p x m xs false e h k more = or_second (p x) _ (more h)
 
@@ -120,14 +130,17 @@ some_among p (x ∷ xs) m h k = some_among_by p x m xs (x == m) refl h k (λ e. 
 reached_by : (links : List (List ℕ)) (o x m : ℕ) (n : ℕ) (b : Bool) → (m == x) ≡ b → is_among (links_of links o) m ≡ true → 0 < cond b 1 0 + n
     → (0 < n → (k : ℕ) × (leads links (suc k) m x ≡ true)) → (k : ℕ) × (leads links (suc k) o x ≡ true)
 reached_by links o x m n true e linked h more = (0, ap (is_among (links_of links o)) (sym (eqb-true m x e)) ∙ linked)
-reached_by links o x m n false e linked h more = let later = more (omega (arith, h)) in (suc later.0, some_among (λ l. leads links (suc later.0) l x) (links_of links o) m linked later.1)
+reached_by links o x m n false e linked h more =
+    let later = more (omega (arith, h)) in (suc later.0, some_among (λ l. leads links (suc later.0) l x) (links_of links o) m linked later.1)
 
 reached : (links : List (List ℕ)) (x o : ℕ) (ms : List ℕ) → is_chain links o ms ≡ true → 0 < times x ms → (k : ℕ) × (leads links (suc k) o x ≡ true)
 reached links x o [] c h = absurd (omega (arith, h))
 reached links x o (m ∷ ms) c h = reached_by links o x m (times x ms) (m == x) refl (and_first _ _ c) h (reached links x m ms (and_second _ _ c))
 
-looped_by : (links : List (List ℕ)) (x o : ℕ) (ms : List ℕ) (b : Bool) → (o == x) ≡ b → is_chain links o ms ≡ true → 1 < cond b 1 0 + times x ms → (1 < times x ms → LeadsBack links x) → LeadsBack links x
-looped_by links x o ms true e c h more = let r = reached links x o ms c (omega (arith, h)) in (r.0, ap (λ y. leads links (suc r.0) y x) (sym (eqb-true o x e)) ∙ r.1)
+looped_by : (links : List (List ℕ)) (x o : ℕ) (ms : List ℕ) (b : Bool) → (o == x) ≡ b → is_chain links o ms ≡ true → 1 < cond b 1 0 + times x ms
+    → (1 < times x ms → LeadsBack links x) → LeadsBack links x
+looped_by links x o ms true e c h more =
+    let r = reached links x o ms c (omega (arith, h)) in (r.0, ap (λ y. leads links (suc r.0) y x) (sym (eqb-true o x e)) ∙ r.1)
 looped_by links x o ms false e c h more = more (omega (arith, h))
 
 looped : (links : List (List ℕ)) (x o : ℕ) (ms : List ℕ) → is_chain links o ms ≡ true → 1 < times x (o ∷ ms) → LeadsBack links x

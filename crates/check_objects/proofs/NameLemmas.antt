@@ -1,5 +1,6 @@
 -- Full names lead to numbers and back: names that ascend are different, and a service's name has a semicolon.
-use Rattle.std.proofs.Common.{◌≡◌, ℕ, zero, suc, get_or, ◌+◌, ◌-◌, ◌<◌, ◌==◌, ◌&&◌, ◌||◌, not, Bool, true, false, List, [], ◌∷◌, ◌++◌, map, take, drop, length, Some, None, option_map, bytes_eq, refl, sym, ap, subst, ◌∙◌, Less, inl, inr, arith}
+use Rattle.std.proofs.Common.{◌≡◌, ℕ, zero, suc, get_or, ◌+◌, ◌-◌, ◌<◌, ◌==◌, ◌&&◌, ◌||◌, not, Bool, true, false, List, [], ◌∷◌, ◌++◌, map, take, drop}
+use Rattle.std.proofs.Common.{length, Some, None, option_map, bytes_eq, refl, sym, ap, subst, ◌∙◌, Less, inl, inr, arith}
 use Rattle.std.specs.Prelude.{nat_lt, unwrap_or, slice_get, All}
 use Rattle.std.specs.List.{AllByRecursion, list_any, list_all, position}
 use Rattle.std.specs.List.Sorted.{IsPermutation, IsStrictlySortedBy}
@@ -11,7 +12,8 @@ use Rattle.std.proofs.lemmas.List.Sorted.{All-permutation}
 use Rattle.std.proofs.lemmas.List.Sums.{AllPass-from_list_all, list_all-from_AllPass}
 use Rattle.std.proofs.lemmas.Option.{slice_get-map}
 use Rattle.std.proofs.lemmas.Slice.Eq.{bytes_eq-Decides}
-use Rattle.check_objects.specs.Configuration.{Configuration, Host, Service, IsSetup, named_host, named_service, object_count, host_count, number_of, name_of, full_name, pair_of}
+use Rattle.check_objects.specs.Configuration.{Configuration, Host, Service, IsSetup, named_host, named_service, object_count, host_count, number_of}
+use Rattle.check_objects.specs.Configuration.{name_of, full_name, pair_of}
 use Rattle.check_objects.specs.Name.{is_name, is_name_byte, text_order, pair_order}
 use Rattle.check_objects.specs.Numbering.{is_host_name}
 use Rattle.check_objects.proofs.ListLemmas.{position-map}
@@ -42,7 +44,8 @@ one_more : (n : ℕ) → 1 + n ≡ suc n
 one_more n = omega arith
 
 -- the place of an element before which nothing passes
-pub first_at : {A : Type 0} (p : A → Bool) (xs : List A) (n : ℕ) (x : A) → slice_get xs n ≡ Some x → p x ≡ true → list_any p (take n xs) ≡ false → position p xs ≡ Some n
+pub first_at : {A : Type 0} (p : A → Bool) (xs : List A) (n : ℕ) (x : A) → slice_get xs n ≡ Some x → p x ≡ true → list_any p (take n xs) ≡ false
+    → position p xs ≡ Some n
 first_at p [] n x at e new = cc
 first_at p (y ∷ xs) zero x at e new = let same : y ≡ x = cc in position-front p (y ∷ []) xs 0 (one_found p y (ap p same ∙ e))
 first_at p (y ∷ xs) (suc n) x at e new =
@@ -58,8 +61,10 @@ pub record Found {A : Type 0} (p : A → Bool) (xs : List A) : Type 0 where
   pub passes : p item ≡ true
   pub below : index < length xs
 
-found_by : {A : Type 0} (p : A → Bool) (x : A) (xs : List A) (b : Bool) → p x ≡ b → (b || list_any p xs) ≡ true → (list_any p xs ≡ true → Found p xs) → Found p (x ∷ xs)
-found_by p x xs true e h more = record { index = 0; item = x; place = position-front p (x ∷ []) xs 0 (one_found p x e); at = refl; passes = e; below = omega arith }
+found_by : {A : Type 0} (p : A → Bool) (x : A) (xs : List A) (b : Bool) → p x ≡ b → (b || list_any p xs) ≡ true
+    → (list_any p xs ≡ true → Found p xs) → Found p (x ∷ xs)
+found_by p x xs true e h more =
+    record { index = 0; item = x; place = position-front p (x ∷ []) xs 0 (one_found p x e); at = refl; passes = e; below = omega arith }
 found_by p x xs false e h more =
     let f = more h in
     record {
@@ -107,7 +112,9 @@ same_text a = (bytes_eq-Decides a a).1 refl
 
 semicolon_free : (bytes : List ℕ) → list_all is_name_byte bytes ≡ true → is_host_name bytes ≡ true
 semicolon_free [] h = refl
-semicolon_free (b ∷ bytes) h = and_both _ _ (and_second _ _ (and_first (is_name_byte b) (list_all is_name_byte bytes) h)) (semicolon_free bytes (and_second (is_name_byte b) (list_all is_name_byte bytes) h))
+semicolon_free (b ∷ bytes) h =
+    and_both _ _ (and_second _ _ (and_first (is_name_byte b) (list_all is_name_byte bytes) h))
+    (semicolon_free bytes (and_second (is_name_byte b) (list_all is_name_byte bytes) h))
 
 -- a name has no semicolon
 pub parted_name : (name : List ℕ) → is_name name ≡ true → is_host_name name ≡ true
@@ -128,7 +135,8 @@ apart_from_hosts [] b (y ∷ name) h = rw (not_semicolon_by y (y == 59) refl (an
 apart_from_hosts (x ∷ a) b [] h = refl
 apart_from_hosts (x ∷ a) b (y ∷ name) h = never_both (x == y) _ (apart_from_hosts a b name (and_second _ (is_host_name name) h))
 
-pub no_host_has : {A : Type 0} (name : A → List ℕ) (text : List ℕ) (key : List ℕ × List ℕ) (xs : List A) → text ≡ full_name key → list_all (λ x. is_host_name (name x)) xs ≡ true → list_any (λ x. bytes_eq text (name x)) xs ≡ false
+pub no_host_has : {A : Type 0} (name : A → List ℕ) (text : List ℕ) (key : List ℕ × List ℕ) (xs : List A) → text ≡ full_name key
+    → list_all (λ x. is_host_name (name x)) xs ≡ true → list_any (λ x. bytes_eq text (name x)) xs ≡ false
 no_host_has name text key [] e h = refl
 no_host_has name text key (x ∷ xs) e h =
     let here : bytes_eq text (name x) ≡ false = ap (λ t. bytes_eq t (name x)) e ∙ apart_from_hosts key.0 key.1 (name x) (and_first _ _ h) in
@@ -139,7 +147,8 @@ no_host_has name text key (x ∷ xs) e h =
 pub name_of_host : (c : Configuration) (n : ℕ) (h : Host) → slice_get c.hosts n ≡ Some h → name_of c n ≡ h.name
 name_of_host c n h at =
     ap (λ o. unwrap_or (option_map (λ x. x.name) o) [])
-    (slice_get-front (map named_host c.hosts) (map named_service c.services) n (named_host h) (slice_get-map named_host c.hosts n ∙ ap (option_map named_host) at))
+    (slice_get-front (map named_host c.hosts) (map named_service c.services) n (named_host h)
+    (slice_get-map named_host c.hosts n ∙ ap (option_map named_host) at))
 
 pub name_of_service : (c : Configuration) (j : ℕ) (s : Service) → slice_get c.services j ≡ Some s → name_of c (host_count c + j) ≡ s.name
 name_of_service c j s at =
@@ -157,10 +166,12 @@ pub record HasNames (c : Configuration) : Type 0 where
   pub hosted : list_all (λ s. nat_lt s.host (length c.hosts)) c.services ≡ true
 
 pub names_of_setup : (c : Configuration) → IsSetup c → HasNames c
-names_of_setup c is = record { host_names = is.host_names; full_names = is.full_names; hosts_ascend = is.hosts_ascend; services_ascend = is.services_ascend; hosted = is.hosted }
+names_of_setup c is =
+    record { host_names = is.host_names; full_names = is.full_names; hosts_ascend = is.hosts_ascend; services_ascend = is.services_ascend; hosted = is.hosted }
 
 good_hosts : (c : Configuration) → HasNames c → list_all (λ h. is_host_name h.name) c.hosts ≡ true
-good_hosts c is = list_all-from_AllPass (λ h. is_host_name h.name) c.hosts (λ k d below. parted_name (get_or c.hosts k d).name (AllPass-from_list_all (λ h. is_name h.name) c.hosts is.host_names k d below))
+good_hosts c is =
+    list_all-from_AllPass (λ h. is_host_name h.name) c.hosts (λ k d below. parted_name (get_or c.hosts k d).name (AllPass-from_list_all (λ h. is_name h.name) c.hosts is.host_names k d below))
 
 module _ (c : Configuration) (is : HasNames c) where
   host_number : (n : ℕ) → n < host_count c → number_of c (name_of c n) ≡ Some n
@@ -183,7 +194,8 @@ module _ (c : Configuration) (is : HasNames c) where
   is_named : Service → Bool
   is_named s = is_host_name (pair_of c s).0 && bytes_eq s.name (full_name (pair_of c s))
 
-  all_named : (ss : List Service) → list_all (λ s. nat_lt s.host (length c.hosts)) ss ≡ true → AllByRecursion (λ s. s.name ≡ full_name (pair_of c s)) ss → list_all is_named ss ≡ true
+  all_named : (ss : List Service) → list_all (λ s. nat_lt s.host (length c.hosts)) ss ≡ true
+      → AllByRecursion (λ s. s.name ≡ full_name (pair_of c s)) ss → list_all is_named ss ≡ true
   unfolding is_named
   all_named [] h k = refl
   all_named (s ∷ ss) h k =
@@ -205,7 +217,8 @@ module _ (c : Configuration) (is : HasNames c) where
       let i = item_at c.services j below in
       let s = i.item in
       let named = recursion_from_All (λ t. t.name ≡ full_name (pair_of c t)) c.services is.full_names in
-      let good : list_all is_named (take j c.services ++ s ∷ drop (suc j) c.services) ≡ true = ap (list_all is_named) (sym i.split) ∙ all_named c.services is.hosted named in
+      let good : list_all is_named (take j c.services ++ s ∷ drop (suc j) c.services) ≡ true = ap (list_all is_named) (sym i.split)
+      ∙ all_named c.services is.hosted named in
       let sorted = subst (λ l. IsStrictlySortedBy pair_order (map (pair_of c) l)) i.split is.services_ascend in
       let new : list_any (λ x. bytes_eq s.name x.name) (take j c.services) ≡ false =
       new_by_order pair_order (pair_of c) (λ x. x.name) is_named services_apart (take j c.services) s (drop (suc j) c.services) sorted good in
@@ -225,6 +238,14 @@ module _ (c : Configuration) (is : HasNames c) where
     | inl l ↦ host_number n l
     | inr l ↦ let j = n - host_count c in
         let whole : n ≡ host_count c + j = omega (arith, l) in
-        let within : j < length c.services = omega (arith, l, below, length-append (map named_host c.hosts) (map named_service c.services), length-map c.hosts named_host, length-map c.services named_service) in
+        let within : j < length c.services = omega (
+          arith,
+          l,
+          below,
+          length-append (map named_host c.hosts)
+              (map named_service c.services),
+          length-map c.hosts named_host,
+          length-map c.services named_service,
+        ) in
         ap (λ k. number_of c (name_of c k)) whole ∙ service_number j within ∙ ap Some (sym whole)
   ]

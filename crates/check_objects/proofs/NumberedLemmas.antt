@@ -1,5 +1,6 @@
 -- Hosts, services and dependencies by number keep their names, and a dependency is between objects of one sort.
-use Rattle.std.proofs.Common.{◌≡◌, ℕ, zero, suc, ◌+◌, ◌<◌, ◌≤◌, ◌==◌, ◌&&◌, Bool, true, false, cond, List, [], ◌∷◌, ◌++◌, map, length, Some, None, option_map, bytes_eq, refl, sym, ap, ◌∙◌, arith}
+use Rattle.std.proofs.Common.{◌≡◌, ℕ, zero, suc, ◌+◌, ◌<◌, ◌≤◌, ◌==◌, ◌&&◌, Bool, true, false, cond, List, [], ◌∷◌, ◌++◌, map, length, Some, None}
+use Rattle.std.proofs.Common.{option_map, bytes_eq, refl, sym, ap, ◌∙◌, arith}
 use Rattle.std.specs.Prelude.{nat_lt, unwrap_or, slice_get, sum_by}
 use Rattle.std.specs.List.{AllByRecursion, list_any, list_all, position, filter, range_with_len}
 use Rattle.std.specs.List.Sorted.{IsPermutation}
@@ -12,7 +13,8 @@ use Rattle.std.proofs.lemmas.Option.{slice_get-map}
 use Rattle.std.proofs.lemmas.Slice.Eq.{bytes_eq-Decides}
 use Rattle.check_objects.specs.declared.dependency.Dependency.{Dependency}
 use Rattle.check_objects.specs.declared.object.Object.{Object}
-use Rattle.check_objects.specs.Configuration.{Configuration, Host, Service, Named, named_host, named_service, host_count, number_of, name_of, full_name, pair_of}
+use Rattle.check_objects.specs.Configuration.{Configuration, Host, Service, Named, named_host, named_service, host_count, number_of, name_of, full_name}
+use Rattle.check_objects.specs.Configuration.{pair_of}
 use Rattle.check_objects.specs.Draft.{HostDraft, ServiceDraft, DependencyDraft}
 use Rattle.check_objects.specs.Fault.{is_known, names_of, key_of, full_names}
 use Rattle.check_objects.specs.Numbering.{number_in, numbered_host, numbered_service, numbered_dependency, dependencies_among, dependency_lists, is_host_name}
@@ -41,17 +43,20 @@ module _ (c : Configuration) (ns : List (List ℕ)) (hs : List HostEntry) (are :
   host_named name known =
       let f = found (λ (h : HostEntry). bytes_eq name h.0) hs (sym (list_any-map (bytes_eq name) (λ h. h.0) hs) ∙ known) in
       let number : number_in (map (λ h. h.0) hs) name ≡ f.index = ap (λ o. unwrap_or o 0) (position-map (bytes_eq name) (λ h. h.0) hs ∙ f.place) in
-      let at : slice_get c.hosts f.index ≡ Some (numbered_host ns f.item) = ap (λ l. slice_get l f.index) are ∙ slice_get-map (numbered_host ns) hs f.index ∙ ap (option_map (numbered_host ns)) f.at in
+      let at : slice_get c.hosts f.index ≡ Some (numbered_host ns f.item) = ap
+      (λ l. slice_get l f.index) are ∙ slice_get-map (numbered_host ns) hs f.index ∙ ap (option_map (numbered_host ns)) f.at in
       ap (name_of c) number ∙ name_of_host c f.index (numbered_host ns f.item) at ∙ sym ((bytes_eq-Decides name f.item.0).0 f.passes)
 
-  pub pairs_are : (ss : List ServiceEntry) → list_all (λ e. is_known (map (λ h. h.0) hs) e.0.0) ss ≡ true → map (pair_of c) (map (numbered_service (map (λ h. h.0) hs)) ss) ≡ map (λ e. e.0) ss
+  pub pairs_are : (ss : List ServiceEntry) → list_all (λ e. is_known (map (λ h. h.0) hs) e.0.0) ss ≡ true
+      → map (pair_of c) (map (numbered_service (map (λ h. h.0) hs)) ss) ≡ map (λ e. e.0) ss
   pairs_are [] known = refl
   pairs_are (e ∷ ss) known =
       let host = host_named e.0.0 (and_first _ _ known) in
       let more = pairs_are ss (and_second _ _ known) in
       λ i. (host i, e.0.1) ∷ more i
 
-  pub full_names_are : (ss : List ServiceEntry) → list_all (λ e. is_known (map (λ h. h.0) hs) e.0.0) ss ≡ true → AllByRecursion (λ s. s.name ≡ full_name (pair_of c s)) (map (numbered_service (map (λ h. h.0) hs)) ss)
+  pub full_names_are : (ss : List ServiceEntry) → list_all (λ e. is_known (map (λ h. h.0) hs) e.0.0) ss ≡ true
+      → AllByRecursion (λ s. s.name ≡ full_name (pair_of c s)) (map (numbered_service (map (λ h. h.0) hs)) ss)
   full_names_are [] known = tt
   full_names_are (e ∷ ss) known =
       let host = host_named e.0.0 (and_first _ _ known) in
@@ -68,7 +73,8 @@ module _ (hosts : List HostDraft) (body : HostDraft → Object × List (List ℕ
 
 module _ (services : List ServiceDraft) (body : ServiceDraft → Object) (ss : List ServiceEntry) (moved : IsPermutation (map (λ s. (key_of s, body s)) services) ss) where
   -- a full name of the document is one of those in order
-  pub full_name_in_order : (ns : List (List ℕ)) (name : List ℕ) → is_known (full_names services) name ≡ true → list_any (λ s. bytes_eq name s.name) (map (numbered_service ns) ss) ≡ true
+  pub full_name_in_order : (ns : List (List ℕ)) (name : List ℕ) → is_known (full_names services) name ≡ true
+      → list_any (λ s. bytes_eq name s.name) (map (numbered_service ns) ss) ≡ true
   full_name_in_order ns name known =
       list_any-map (λ s. bytes_eq name s.name) (numbered_service ns) ss
       ∙ sym (list_any-IsPermutation (λ (e : ServiceEntry). bytes_eq name (full_name e.0)) (map (λ s. (key_of s, body s)) services) ss moved)
@@ -78,7 +84,8 @@ module _ (services : List ServiceDraft) (body : ServiceDraft → Object) (ss : L
 -- ---- counts
 
 -- as many parents by number as by name
-pub parents_counted : (hosts : List HostDraft) (object : HostDraft → Object) (hs : List HostEntry) (ns : List (List ℕ)) → IsPermutation (map (λ h. (h.name, (object h, h.parents))) hosts) hs
+pub parents_counted : (hosts : List HostDraft) (object : HostDraft → Object) (hs : List HostEntry) (ns : List (List ℕ))
+    → IsPermutation (map (λ h. (h.name, (object h, h.parents))) hosts) hs
     → sum_by (λ h. length h.parents) (map (numbered_host ns) hs) ≡ sum_by (λ h. length h.parents) hosts
 parents_counted hosts object hs ns moved =
     let sizes : (λ (e : HostEntry). length (map (number_in ns) e.1.1)) ≡ (λ e. length e.1.1) = λ i e. length-map e.1.1 (number_in ns) i in
@@ -93,10 +100,12 @@ listed_from a count ds = sum_by (λ l. length l) (map (dependencies_among ds) (r
 listed_step : (a count : ℕ) (ds : List (ℕ × Dependency)) → listed_from a (suc count) ds ≡ length (dependencies_among ds a) + listed_from (a + 1) count ds
 listed_step a count ds = sum_by-cons (λ l. length l) (dependencies_among ds a) (map (dependencies_among ds) (range_with_len (a + 1) count))
 
-among_other : (d : ℕ × Dependency) (ds : List (ℕ × Dependency)) (object : ℕ) (b : Bool) → (d.0 == object) ≡ b → b ≡ false → dependencies_among (d ∷ ds) object ≡ dependencies_among ds object
+among_other : (d : ℕ × Dependency) (ds : List (ℕ × Dependency)) (object : ℕ) (b : Bool) → (d.0 == object) ≡ b → b ≡ false
+    → dependencies_among (d ∷ ds) object ≡ dependencies_among ds object
 among_other d ds object b e f = rw (e ∙ f) refl
 
-among_same : (d : ℕ × Dependency) (ds : List (ℕ × Dependency)) (object : ℕ) → (d.0 == object) ≡ true → length (dependencies_among (d ∷ ds) object) ≡ 1 + length (dependencies_among ds object)
+among_same : (d : ℕ × Dependency) (ds : List (ℕ × Dependency)) (object : ℕ) → (d.0 == object) ≡ true
+    → length (dependencies_among (d ∷ ds) object) ≡ 1 + length (dependencies_among ds object)
 among_same d ds object e = rw e (omega arith)
 
 passed_by : (d : ℕ × Dependency) (ds : List (ℕ × Dependency)) (a count : ℕ) → d.0 < a → listed_from a count (d ∷ ds) ≡ listed_from a count ds
@@ -106,11 +115,13 @@ passed_by d ds a (suc count) h =
     listed_step a count (d ∷ ds) ∙ ap (λ l. length l + listed_from (a + 1) count (d ∷ ds)) (among_other d ds a false other refl)
     ∙ ap (λ n. length (dependencies_among ds a) + n) (passed_by d ds (a + 1) count (omega (arith, h))) ∙ sym (listed_step a count ds)
 
-listed_once_by : (d : ℕ × Dependency) (ds : List (ℕ × Dependency)) (a count : ℕ) (b : Bool) → (d.0 == a) ≡ b → listed_from (a + 1) count (d ∷ ds) ≤ 1 + listed_from (a + 1) count ds → listed_from a (suc count) (d ∷ ds) ≤ 1 + listed_from a (suc count) ds
+listed_once_by : (d : ℕ × Dependency) (ds : List (ℕ × Dependency)) (a count : ℕ) (b : Bool) → (d.0 == a) ≡ b
+    → listed_from (a + 1) count (d ∷ ds) ≤ 1 + listed_from (a + 1) count ds → listed_from a (suc count) (d ∷ ds) ≤ 1 + listed_from a (suc count) ds
 listed_once_by d ds a count true e more =
     let below : d.0 < a + 1 = grind (arith, nat_tests, e) in
     omega (arith, listed_step a count (d ∷ ds), listed_step a count ds, among_same d ds a e, passed_by d ds (a + 1) count below)
-listed_once_by d ds a count false e more = omega (arith, more, listed_step a count (d ∷ ds), listed_step a count ds, ap (λ l. length l) (among_other d ds a false e refl))
+listed_once_by d ds a count false e more =
+    omega (arith, more, listed_step a count (d ∷ ds), listed_step a count ds, ap (λ l. length l) (among_other d ds a false e refl))
 
 -- a dependency is listed at most once
 listed_once : (d : ℕ × Dependency) (ds : List (ℕ × Dependency)) (a count : ℕ) → listed_from a count (d ∷ ds) ≤ 1 + listed_from a count ds
@@ -141,7 +152,8 @@ module _ (c : Configuration) where
       ap (λ o. nat_lt (unwrap_or o 0) (host_count c)) place ∙ grind (arith, nat_tests, below)
 
   -- a service's full name has a service's number
-  pub service_end : (name : List ℕ) (key : List ℕ × List ℕ) → name ≡ full_name key → list_all (λ h. is_host_name h.name) c.hosts ≡ true → list_any (λ s. bytes_eq name s.name) c.services ≡ true
+  pub service_end : (name : List ℕ) (key : List ℕ × List ℕ) → name ≡ full_name key → list_all (λ h. is_host_name h.name) c.hosts ≡ true
+      → list_any (λ s. bytes_eq name s.name) c.services ≡ true
       → nat_lt (unwrap_or (number_of c name) 0) (host_count c) ≡ false
   service_end name key is good known =
       let f = found (λ (s : Service). bytes_eq name s.name) c.services known in
@@ -158,8 +170,10 @@ abbrev pub AreAlike : ℕ → ℕ × Dependency → Type 0
 AreAlike n d = nat_lt d.1.master n ≡ nat_lt d.0 n
 
 -- where the ends of each dependency are among names whose numbers are all below n, or all aren't, the numbers are alike
-pub ends_alike : (objects : List Named) (names : List (List ℕ)) (n : ℕ) (b : Bool) → ((name : List ℕ) → is_known names name ≡ true → nat_lt (unwrap_or (position (λ o. bytes_eq name o.name) objects) 0) n ≡ b)
-    → (ds : List DependencyDraft) → list_all (λ d. is_known names d.dependent && is_known names d.master) ds ≡ true → AllByRecursion (AreAlike n) (map (numbered_dependency objects) ds)
+pub ends_alike : (objects : List Named) (names : List (List ℕ)) (n : ℕ) (b : Bool)
+    → ((name : List ℕ) → is_known names name ≡ true → nat_lt (unwrap_or (position (λ o. bytes_eq name o.name) objects) 0) n ≡ b)
+    → (ds : List DependencyDraft) → list_all (λ d. is_known names d.dependent && is_known names d.master) ds ≡ true
+    → AllByRecursion (AreAlike n) (map (numbered_dependency objects) ds)
 ends_alike objects names n b number [] h = tt
 ends_alike objects names n b number (d ∷ ds) h =
     let here = and_first _ _ h in
@@ -169,12 +183,14 @@ pub both_hold : {A : Type 0} (P : A → Type 0) (xs ys : List A) → AllByRecurs
 both_hold P [] ys h k = k
 both_hold P (x ∷ xs) ys h k = (h.0, both_hold P xs ys h.1 k)
 
-alike_among_by : (n object : ℕ) (b : Bool) (d : ℕ × Dependency) (rest : List (ℕ × Dependency)) → (d.0 == object) ≡ b → AreAlike n d → AllByRecursion (λ x. nat_lt x.master n ≡ nat_lt object n) (map (λ x. x.1) rest)
+alike_among_by : (n object : ℕ) (b : Bool) (d : ℕ × Dependency) (rest : List (ℕ × Dependency)) → (d.0 == object) ≡ b → AreAlike n d
+    → AllByRecursion (λ x. nat_lt x.master n ≡ nat_lt object n) (map (λ x. x.1) rest)
     → AllByRecursion (λ x. nat_lt x.master n ≡ nat_lt object n) (map (λ x. x.1) (cond b (d ∷ rest) rest))
 alike_among_by n object true d rest e h more = (h ∙ ap (λ k. nat_lt k n) (eqb-true d.0 object e), more)
 alike_among_by n object false d rest e h more = more
 
 -- an object's dependencies are on objects of its sort
-pub alike_among : (n object : ℕ) (ds : List (ℕ × Dependency)) → AllByRecursion (AreAlike n) ds → AllByRecursion (λ x. nat_lt x.master n ≡ nat_lt object n) (dependencies_among ds object)
+pub alike_among : (n object : ℕ) (ds : List (ℕ × Dependency)) → AllByRecursion (AreAlike n) ds
+    → AllByRecursion (λ x. nat_lt x.master n ≡ nat_lt object n) (dependencies_among ds object)
 alike_among n object [] h = tt
 alike_among n object (d ∷ ds) h = alike_among_by n object (d.0 == object) d (filter (λ x. x.0 == object) ds) refl h.0 (alike_among n object ds h.1)

@@ -1,5 +1,7 @@
 -- Objects put in the order of their names.
-use Rattle.std.proofs.Common.{◌≡◌, ℕ, ◌+◌, ◌≤◌, ◌==◌, ◌&&◌, ◌||◌, not, Bool, true, false, cond, List, [], ◌∷◌, ◌++◌, map, drop, Bor, String, Global, string_bytes, bytes_eq, refl, sym, ap, subst, ◌∙◌, append_assoc, append-nil, Ordering, Less, Equal, Greater, nat_cmp, is_eq, arith}
+use Rattle.std.proofs.Common.{◌≡◌, ℕ, ◌+◌, ◌≤◌, ◌==◌, ◌&&◌, ◌||◌, not, Bool, true, false, cond, List, [], ◌∷◌, ◌++◌, map, drop, Bor, String, Global}
+use Rattle.std.proofs.Common.{string_bytes, bytes_eq, refl, sym, ap, subst, ◌∙◌, append_assoc, append-nil, Ordering, Less, Equal, Greater, nat_cmp, is_eq}
+use Rattle.std.proofs.Common.{arith}
 use Rattle.std.proofs.lemmas.Bool.Decides.{nat_tests}
 use Rattle.std.proofs.lemmas.Cmp.{nat_list_cmp_total}
 use Rattle.std.proofs.lemmas.List.{map-append}
@@ -37,8 +39,10 @@ module _ {K L X Y : Type 0} (order : K → K → Ordering) (order' : L → L →
       ∙ ap (λ l. match_ordering (order' (f k) (f e.0)) (view (k, v) ∷ view e ∷ map view es) ((f e.0, g v) ∷ map view es) (view e ∷ l)) (map-insert es k v)
 
   -- a loop's step: what is kept of the draft d goes into the map behind its key
-  pub placed_next : {D E : Type 0} (key : E → L) (value : E → Y) (drafts : List D → List E) (one : D → E) (step : (d : D) (ds : List D) → drafts (d ∷ ds) ≡ one d ∷ drafts ds)
-      (old new : List (K × X)) (k : K) (v : X) (ds : List D) (i : ℕ) (d : D) → drop i ds ≡ d ∷ drop (i + 1) ds → new ≡ insert_entry order old k v → f k ≡ key (one d) → g v ≡ value (one d)
+  pub placed_next : {D E : Type 0} (key : E → L) (value : E → Y) (drafts : List D → List E) (one : D → E)
+      (step : (d : D) (ds : List D) → drafts (d ∷ ds) ≡ one d ∷ drafts ds)
+      (old new : List (K × X)) (k : K) (v : X) (ds : List D) (i : ℕ) (d : D) → drop i ds ≡ d ∷ drop (i + 1) ds → new ≡ insert_entry order old k v → f k
+      ≡ key (one d) → g v ≡ value (one d)
       → placed order' key value (map view old) (drafts (drop i ds)) ≡ placed order' key value (map view new) (drafts (drop (i + 1) ds))
   placed_next key value drafts one step old new k v ds i d e put same_key same_value =
       let m : map view new ≡ insert_entry order' (map view old) (key (one d)) (value (one d)) =
@@ -60,7 +64,8 @@ pub record Built {E Y : Type 0} (one : E → Y) (all rest : List E) (made : List
 pub built_none : {E Y : Type 0} (one : E → Y) (all : List E) → Built one all all []
 built_none one all = record { done = []; whole = refl; same = refl }
 
-pub built_next : {E Y : Type 0} (one : E → Y) (all rest more : List E) (made : List Y) (e : E) → Built one all rest made → rest ≡ e ∷ more → Built one all more (made ++ one e ∷ [])
+pub built_next : {E Y : Type 0} (one : E → Y) (all rest more : List E) (made : List Y) (e : E) → Built one all rest made → rest ≡ e ∷ more
+    → Built one all more (made ++ one e ∷ [])
 built_next one all rest more made e b r = record {
   done = b.done ++ e ∷ [];
   whole = b.whole ∙ ap (λ l. b.done ++ l) r ∙ sym (append_assoc b.done (e ∷ []) more);
@@ -90,7 +95,8 @@ at_end good [] e more h = (both_true (good e) (list_all good more) h).0
 at_end good (x ∷ done) e more h = at_end good done e more (both_true (good x) (list_all good (done ++ e ∷ more)) h).1
 
 -- what is true of all is true of the next
-pub good_next : {E Y : Type 0} (one : E → Y) (good : E → Bool) (all rest more : List E) (made : List Y) (e : E) → Built one all rest made → rest ≡ e ∷ more → list_all good all ≡ true → good e ≡ true
+pub good_next : {E Y : Type 0} (one : E → Y) (good : E → Bool) (all rest more : List E) (made : List Y) (e : E) → Built one all rest made
+    → rest ≡ e ∷ more → list_all good all ≡ true → good e ≡ true
 good_next one good all rest more made e b r h = at_end good b.done e more (ap (list_all good) (sym (b.whole ∙ ap (λ l. b.done ++ l) r)) ∙ h)
 
 -- a full name's description stands behind its first semicolon
@@ -108,7 +114,8 @@ all_good (x ∷ xs) = all_good xs
 
 module _ {K E : Type 0} (order : K → K → Ordering) (key : E → K) (text : E → List ℕ) (good : E → Bool)
     (apart : (x e : E) → good x ≡ true → good e ≡ true → order (key x) (key e) ≡ Less → bytes_eq (text e) (text x) ≡ false) where
-  below_later : (x : E) (done : List E) (e : E) (more : List E) → AllByRecursion (λ y. order (key x) y ≡ Less) (map key (done ++ e ∷ more)) → order (key x) (key e) ≡ Less
+  below_later : (x : E) (done : List E) (e : E) (more : List E) → AllByRecursion (λ y. order (key x) y ≡ Less) (map key (done ++ e ∷ more))
+      → order (key x) (key e) ≡ Less
   below_later x [] e more h = h.0
   below_later x (y ∷ done) e more h = below_later x done e more h.1
 
@@ -116,7 +123,8 @@ module _ {K E : Type 0} (order : K → K → Ordering) (key : E → K) (text : E
   good_later [] e more h = (both_true (good e) (list_all good more) h).0
   good_later (x ∷ done) e more h = good_later done e more (both_true (good x) (list_all good (done ++ e ∷ more)) h).1
 
-  pub new_by_order : (done : List E) (e : E) (more : List E) → IsStrictlySortedBy order (map key (done ++ e ∷ more)) → list_all good (done ++ e ∷ more) ≡ true → list_any (λ x. bytes_eq (text e) (text x)) done ≡ false
+  pub new_by_order : (done : List E) (e : E) (more : List E) → IsStrictlySortedBy order (map key (done ++ e ∷ more))
+      → list_all good (done ++ e ∷ more) ≡ true → list_any (λ x. bytes_eq (text e) (text x)) done ≡ false
   unfolding IsStrictlySortedBy
   new_by_order [] e more h g = refl
   new_by_order (x ∷ done) e more h g =
@@ -125,7 +133,8 @@ module _ {K E : Type 0} (order : K → K → Ordering) (key : E → K) (text : E
 
   -- what comes next has a text that nothing made so far has
   pub new_among : {Y : Type 0} (one : E → Y) (name : Y → List ℕ) (agree : (e : E) → name (one e) ≡ text e) (all rest more : List E) (made : List Y) (e : E)
-      → IsStrictlySortedBy order (map key all) → list_all good all ≡ true → Built one all rest made → rest ≡ e ∷ more → list_any (λ y. bytes_eq (text e) (name y)) made ≡ false
+      → IsStrictlySortedBy order (map key all) → list_all good all ≡ true → Built one all rest made → rest ≡ e ∷ more
+      → list_any (λ y. bytes_eq (text e) (name y)) made ≡ false
   new_among one name agree all rest more made e sorted fine b r =
       let whole : all ≡ b.done ++ e ∷ more = b.whole ∙ ap (λ l. b.done ++ l) r in
       let new : list_any (λ x. bytes_eq (text e) (text x)) b.done ≡ false =
@@ -139,7 +148,8 @@ texts_apart a b less =
     let above : slice_cmp nat_cmp b a ≡ Greater = nat_list_cmp_total.antisymm b a ∙ ap ordering_reverse less in
     sym (is_eq-slice_cmp b a) ∙ ap is_eq above
 
-pairs_by : (first second : Ordering) (a b : Bool) → ordering_then first second ≡ Less → (first ≡ Less → a ≡ false) → (second ≡ Less → b ≡ false) → (a && b) ≡ false
+pairs_by : (first second : Ordering) (a b : Bool) → ordering_then first second ≡ Less → (first ≡ Less → a ≡ false) → (second ≡ Less → b ≡ false)
+    → (a && b) ≡ false
 pairs_by Less second a b e f g = rw (f refl) refl
 pairs_by Equal second true b e f g = g e
 pairs_by Equal second false b e f g = refl
@@ -162,7 +172,8 @@ full_same (x ∷ a) (y ∷ b) d e p q =
     ∙ sym (and_assoc (x == y) (bytes_eq a b) (bytes_eq d e))
 
 -- full names of pairs that rise are different
-pub names_apart : (a b : List ℕ × List ℕ) → is_host_name a.0 ≡ true → is_host_name b.0 ≡ true → pair_order a b ≡ Less → bytes_eq (full_name b) (full_name a) ≡ false
+pub names_apart : (a b : List ℕ × List ℕ) → is_host_name a.0 ≡ true → is_host_name b.0 ≡ true → pair_order a b ≡ Less
+    → bytes_eq (full_name b) (full_name a) ≡ false
 names_apart a b p q less =
     full_same b.0 a.0 b.1 a.1 q p
     ∙ pairs_by (text_order a.0 b.0) (text_order a.1 b.1) (bytes_eq b.0 a.0) (bytes_eq b.1 a.1) less (texts_apart a.0 b.0) (texts_apart a.1 b.1)
@@ -173,7 +184,8 @@ neither : (a b : Bool) → (a || b) ≡ false → (a ≡ false) × (b ≡ false)
 neither true b e = cc
 neither false b e = (refl, e)
 
-pub insert_new : {X : Type 0} (es : List (String Global × X)) (k : String Global) (v : X) → list_any (λ e. bytes_eq (string_bytes k) (string_bytes e.0)) es ≡ false → insert_entry_by string_eq es k v ≡ es ++ (k, v) ∷ []
+pub insert_new : {X : Type 0} (es : List (String Global × X)) (k : String Global) (v : X)
+    → list_any (λ e. bytes_eq (string_bytes k) (string_bytes e.0)) es ≡ false → insert_entry_by string_eq es k v ≡ es ++ (k, v) ∷ []
 insert_new [] k v new = refl
 insert_new (e ∷ es) k v new =
     let b = neither (bytes_eq (string_bytes k) (string_bytes e.0)) (list_any (λ e. bytes_eq (string_bytes k) (string_bytes e.0)) es) new in

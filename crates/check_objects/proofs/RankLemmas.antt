@@ -1,5 +1,6 @@
 -- In an ascending list the place of a key is how many keys are smaller, so that the list is its items by that number.
-use Rattle.std.proofs.Common.{◌≡◌, ℕ, zero, suc, get_or, ◌+◌, ◌<◌, ◌≤◌, ◌==◌, Bool, true, false, cond, List, [], ◌∷◌, ◌++◌, map, length, Some, refl, sym, ap, subst, ◌∙◌, append_assoc, Ordering, Less, arith}
+use Rattle.std.proofs.Common.{◌≡◌, ℕ, zero, suc, get_or, ◌+◌, ◌<◌, ◌≤◌, ◌==◌, Bool, true, false, cond, List, [], ◌∷◌, ◌++◌, map, length, Some, refl, sym}
+use Rattle.std.proofs.Common.{ap, subst, ◌∙◌, append_assoc, Ordering, Less, arith}
 use Rattle.std.specs.Prelude.{nat_lt, slice_get, All}
 use Rattle.std.specs.Cmp.{IsTotalOrder}
 use Rattle.std.specs.List.{AllByRecursion, list_all, count_by, filter, flat_map, range_with_len}
@@ -35,7 +36,9 @@ none_past n a (suc len) h =
     let other : (a == n) ≡ false = grind (arith, nat_tests, h) in
     omega (arith, counted (λ k. k == n) a (range_with_len (a + 1) len) false other, none_past n (a + 1) len (omega (arith, h)))
 
-once_by : (n a len : ℕ) (b : Bool) → (a == n) ≡ b → a ≤ n → n < a + suc len → (a + 1 ≤ n → n < (a + 1) + len → count_by (λ k. k == n) (range_with_len (a + 1) len) ≡ 1) → count_by (λ k. k == n) (range_with_len a (suc len)) ≡ 1
+once_by : (n a len : ℕ) (b : Bool) → (a == n) ≡ b → a ≤ n → n < a + suc len
+    → (a + 1 ≤ n → n < (a + 1) + len → count_by (λ k. k == n) (range_with_len (a + 1) len) ≡ 1)
+    → count_by (λ k. k == n) (range_with_len a (suc len)) ≡ 1
 once_by n a len true e low high more =
     let past : n < a + 1 = grind (arith, nat_tests, e) in
     omega (arith, counted (λ k. k == n) a (range_with_len (a + 1) len) true e, none_past n (a + 1) len past)
@@ -57,7 +60,8 @@ module _ {K : Type 0} (order : K → K → Ordering) (total : IsTotalOrder order
   none_smaller x [] h = refl
   none_smaller x (y ∷ ys) h = counted (λ k. is_lt (order k x)) y ys false (greater x y h.0) ∙ (let e = none_smaller x ys h.1 in omega (arith, e))
 
-  raised : (k : K) (all ys : List K) → AllByRecursion (λ y. order k y ≡ Less) ys → map (smaller_among order (k ∷ all)) ys ≡ map (λ n. 1 + n) (map (smaller_among order all) ys)
+  raised : (k : K) (all ys : List K) → AllByRecursion (λ y. order k y ≡ Less) ys
+      → map (smaller_among order (k ∷ all)) ys ≡ map (λ n. 1 + n) (map (smaller_among order all) ys)
   raised k all [] h = refl
   raised k all (y ∷ ys) h =
       let here : smaller_among order (k ∷ all) y ≡ 1 + smaller_among order all y = counted (λ x. is_lt (order x y)) k all true (ap is_lt h.0) in
@@ -69,21 +73,24 @@ module _ {K : Type 0} (order : K → K → Ordering) (total : IsTotalOrder order
   unfolding IsStrictlySortedBy
   ranks [] s = refl
   ranks (k ∷ ks) s =
-      let here : smaller_among order (k ∷ ks) k ≡ 0 = counted (λ x. is_lt (order x k)) k ks false (ap is_lt (tied_itself total k)) ∙ (let e = none_smaller k ks s.0 in omega (arith, e)) in
+      let here : smaller_among order (k ∷ ks) k ≡ 0 = counted
+      (λ x. is_lt (order x k)) k ks false (ap is_lt (tied_itself total k)) ∙ (let e = none_smaller k ks s.0 in omega (arith, e)) in
       let more = raised k ks ks s.0 ∙ ap (map (λ n. 1 + n)) (ranks ks s.1) ∙ shifted 0 (length ks) in
       λ i. here i ∷ more i
 
   -- the key at a place has that many smaller ones
   pub rank_at : (ks : List K) (n : ℕ) (d : K) → IsStrictlySortedBy order ks → n < length ks → smaller_among order ks (get_or ks n d) ≡ n
   rank_at ks n d s below =
-      sym (get_or-map (smaller_among order ks) ks n d 0 below) ∙ ap (λ l. get_or l n 0) (ranks ks s) ∙ get_or-range_with_len 0 (length ks) n 0 below ∙ (let e : 0 + n ≡ n = omega arith in e)
+      sym (get_or-map (smaller_among order ks) ks n d 0 below) ∙ ap
+      (λ l. get_or l n 0) (ranks ks s) ∙ get_or-range_with_len 0 (length ks) n 0 below ∙ (let e : 0 + n ≡ n = omega arith in e)
 
 one_item : {A : Type 0} (xs : List A) → length xs ≡ 1 → (x : A) × (xs ≡ x ∷ [])
 one_item [] e = absurd (omega (arith, e))
 one_item (x ∷ []) e = (x, refl)
 one_item (x ∷ y ∷ xs) e = absurd (omega (arith, e))
 
-joined : {A : Type 0} (f : ℕ → List A) (xs : List A) (a : ℕ) → ((n : ℕ) → n < length xs → (x : A) × (f (a + n) ≡ x ∷ []) × (slice_get xs n ≡ Some x)) → flat_map f (range_with_len a (length xs)) ≡ xs
+joined : {A : Type 0} (f : ℕ → List A) (xs : List A) (a : ℕ)
+    → ((n : ℕ) → n < length xs → (x : A) × (f (a + n) ≡ x ∷ []) × (slice_get xs n ≡ Some x)) → flat_map f (range_with_len a (length xs)) ≡ xs
 joined f [] a each = refl
 joined f (y ∷ xs) a each =
     let first = each 0 (omega arith) in
@@ -124,7 +131,9 @@ module _ {K V A : Type 0} (order : K → K → Ordering) (total : IsTotalOrder o
       (λ k d below. ap (slice_get es) (at_rank k d below) ∙ slice_get-get_or es k d below)
 
   ranks_here : map rank es ≡ range_with_len 0 (length es)
-  ranks_here = map_twice (smaller_among order (map (λ e. e.0) es)) (λ (e : K × V). e.0) es ∙ ranks order total (map (λ e. e.0) es) sorted ∙ ap (range_with_len 0) (length-map es (λ (e : K × V). e.0))
+  ranks_here =
+      map_twice (smaller_among order (map (λ e. e.0) es)) (λ (e : K × V). e.0) es ∙ ranks order total (map (λ e. e.0) es) sorted
+      ∙ ap (range_with_len 0) (length-map es (λ (e : K × V). e.0))
 
   -- one entry has each number
   one_with : (n : ℕ) → n < length es → length (filter (λ e. rank e == n) entries) ≡ 1
@@ -171,7 +180,8 @@ module _ {K A : Type 0} (order : K → K → Ordering) (total : IsTotalOrder ord
       let keys : map key (done ++ x ∷ more) ≡ map key done ++ key x ∷ map key more = map-append key done (x ∷ more) in
       let below = count_below (λ k. is_lt (order k (key x))) (map key done) (key x) (map key more) (ap is_lt (tied_itself total (key x))) in
       let size : length (map key done ++ key x ∷ map key more) ≡ length (done ++ x ∷ more) = ap length (sym keys) ∙ length-map (done ++ x ∷ more) key in
-      let counts : smaller_among order (map key (done ++ x ∷ more)) (key x) < length (done ++ x ∷ more) = omega (arith, below, size, ap (λ l. smaller_among order l (key x)) keys) in
+      let counts : smaller_among order (map key (done ++ x ∷ more)) (key x) < length (done ++ x ∷ more) = omega
+      (arith, below, size, ap (λ l. smaller_among order l (key x)) keys) in
       let here = is_below (smaller_among order (map key (done ++ x ∷ more)) (key x)) (length (done ++ x ∷ more)) counts in
       let later = subst (λ l. list_all (λ y. nat_lt (smaller_among order (map key l) (key y)) (length l)) more ≡ true) (append_assoc done (x ∷ []) more) (ranked (done ++ x ∷ []) more) in
       and_both _ _ here later
@@ -180,7 +190,8 @@ joined_map : {A B : Type 0} (f : A → B) (g : ℕ → List A) (ns : List ℕ) �
 joined_map f g [] = refl
 joined_map f g (n ∷ ns) = map-append f (g n) (flat_map g ns) ∙ ap (λ l. map f (g n) ++ l) (joined_map f g ns)
 
-pub in_order_all : {K V A : Type 0} (order : K → K → Ordering) (total : IsTotalOrder order) (key : A → K) (value : A → V) (xs : List A) → IsPermutation (map (λ x. (key x, value x)) xs) (in_order order key value xs)
+pub in_order_all : {K V A : Type 0} (order : K → K → Ordering) (total : IsTotalOrder order) (key : A → K) (value : A → V) (xs : List A)
+    → IsPermutation (map (λ x. (key x, value x)) xs) (in_order order key value xs)
 in_order_all {A = A} order total key value xs =
     let number : A → ℕ = λ x. smaller_among order (map key xs) (key x) in
     let moved = in_buckets number (length xs) xs (ranked order total key [] xs) in

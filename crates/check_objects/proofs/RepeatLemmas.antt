@@ -1,5 +1,6 @@
 -- The first key that is the same as an earlier one is at the least place whose key stands before it.
-use Rattle.std.proofs.Common.{◌≡◌, ℕ, suc, ◌+◌, Bool, true, false, cond, List, [], ◌∷◌, ◌++◌, length, take, Option, Some, None, option_map, refl, sym, ap, ◌∙◌, append_assoc, arith}
+use Rattle.std.proofs.Common.{◌≡◌, ℕ, suc, ◌+◌, Bool, true, false, cond, List, [], ◌∷◌, ◌++◌, length, take, Option, Some, None, option_map, refl, sym, ap}
+use Rattle.std.proofs.Common.{◌∙◌, append_assoc, arith}
 use Rattle.std.specs.Prelude.{slice_get, unwrap_or}
 use Rattle.std.specs.List.{list_any, position, range_with_len}
 use Rattle.check_objects.specs.Fault.{stands_before, first_repeat}
@@ -15,7 +16,8 @@ front_of : {K : Type 0} (before more : List K) (i : ℕ) → i ≡ length before
 front_of [] more i e = ap (λ k. take k more) e
 front_of (x ∷ before) more i e = ap (λ k. take k (x ∷ (before ++ more))) e ∙ ap (λ l. x ∷ l) (front_of before more (length before) refl)
 
-stands_by : {K : Type 0} (same : K → K → Bool) (before : List K) (key : K) (keys : List K) (i : ℕ) → i ≡ length before → stands_before same (before ++ key ∷ keys) i ≡ list_any (same key) before
+stands_by : {K : Type 0} (same : K → K → Bool) (before : List K) (key : K) (keys : List K) (i : ℕ) → i ≡ length before
+    → stands_before same (before ++ key ∷ keys) i ≡ list_any (same key) before
 stands_by same before key keys i e =
     ap (λ o. unwrap_or (option_map (λ k. list_any (same k) (take i (before ++ key ∷ keys))) o) false) (next_at before key keys i e)
     ∙ ap (list_any (same key)) (front_of before (key ∷ keys) i e)
@@ -34,9 +36,12 @@ length_more (x ∷ before) key = ap suc (length_more before key)
 zero_more : (i : ℕ) → i + 0 ≡ i
 zero_more i = omega arith
 
-repeats_by : {K : Type 0} (same : K → K → Bool) (before : List K) (i : ℕ) (key : K) (keys : List K) (b : Bool) → i ≡ length before → list_any (same key) before ≡ b
-    → repeat_after same (before ++ key ∷ []) (i + 1) keys ≡ option_map (λ j. (i + 1) + j) (position (stands_before same ((before ++ key ∷ []) ++ keys)) (range_with_len (i + 1) (length keys)))
-    → cond b (Some i) (repeat_after same (before ++ key ∷ []) (i + 1) keys) ≡ option_map (λ j. i + j) (position (stands_before same (before ++ key ∷ keys)) (range_with_len i (suc (length keys))))
+repeats_by : {K : Type 0} (same : K → K → Bool) (before : List K) (i : ℕ) (key : K) (keys : List K) (b : Bool) → i ≡ length before
+    → list_any (same key) before ≡ b
+    → repeat_after same (before ++ key ∷ []) (i + 1) keys ≡ option_map
+    (λ j. (i + 1) + j) (position (stands_before same ((before ++ key ∷ []) ++ keys)) (range_with_len (i + 1) (length keys)))
+    → cond b (Some i) (repeat_after same (before ++ key ∷ []) (i + 1) keys) ≡ option_map
+    (λ j. i + j) (position (stands_before same (before ++ key ∷ keys)) (range_with_len i (suc (length keys))))
 repeats_by same before i key keys true e there more =
     let p = stands_before same (before ++ key ∷ keys) in
     ap Some (sym (zero_more i)) ∙ ap (option_map (λ j. i + j)) (sym (position-front p (i ∷ []) (range_with_len (i + 1) (length keys)) 0 (one_found p i (stands_by same before key keys i e ∙ there))))
@@ -50,7 +55,8 @@ repeats_from : {K : Type 0} (same : K → K → Bool) (before : List K) (i : ℕ
     → repeat_after same before i keys ≡ option_map (λ j. i + j) (position (stands_before same (before ++ keys)) (range_with_len i (length keys)))
 repeats_from same before i [] e = refl
 repeats_from same before i (key ∷ keys) e =
-    repeats_by same before i key keys (list_any (same key) before) e refl (repeats_from same (before ++ key ∷ []) (i + 1) keys (last_counted (length before) i e ∙ sym (length_more before key)))
+    repeats_by same before i key keys (list_any (same key) before) e refl
+    (repeats_from same (before ++ key ∷ []) (i + 1) keys (last_counted (length before) i e ∙ sym (length_more before key)))
 
 from_zero : (o : Option ℕ) → option_map (λ j. 0 + j) o ≡ o
 from_zero None = refl

@@ -1,5 +1,6 @@
 -- What a document without a fault gives: few objects, links to hosts, and full names in two parts.
-use Rattle.std.proofs.Common.{◌≡◌, ℕ, suc, ◌+◌, ◌<◌, ◌≤◌, ◌==◌, ◌&&◌, ◌||◌, not, Bool, true, false, cond, List, [], ◌∷◌, map, length, Bor, Option, Some, None, bytes_eq, refl, sym, ap, subst, ◌∙◌, Result, Ok, Err, inl, inr, arith}
+use Rattle.std.proofs.Common.{◌≡◌, ℕ, suc, ◌+◌, ◌<◌, ◌≤◌, ◌==◌, ◌&&◌, ◌||◌, not, Bool, true, false, cond, List, [], ◌∷◌, map, length, Bor, Option, Some}
+use Rattle.std.proofs.Common.{None, bytes_eq, refl, sym, ap, subst, ◌∙◌, Result, Ok, Err, inl, inr, arith}
 use Rattle.std.specs.Prelude.{nat_lt, nat_le, unwrap_or, All}
 use Rattle.std.specs.List.{AllByRecursion, list_any, list_all, position, position_or_len, prefix_len}
 use Rattle.std.specs.List.Sorted.{IsStrictlySortedBy}
@@ -20,20 +21,27 @@ use Rattle.check_objects.specs.declared.options.InterleaveFactor.{InterleaveFact
 use Rattle.check_objects.specs.declared.options.InterleaveFactor.TheVariants as factor
 use Rattle.check_objects.specs.declared.options.Options.{Options}
 use Rattle.check_objects.specs.declared.object.Object.{Object}
-use Rattle.check_objects.specs.Configuration.{Configuration, Host, IsSetup, IsWithin, IsDelayInRange, IsFactorInRange, is_object_in_range, named_host, named_service, objects_of, object_count, masters_in, masters_of, parents_by_host, host_count, full_name, pair_of, IsSameSort}
+use Rattle.check_objects.specs.Configuration.{Configuration, Host, IsSetup, IsWithin, IsDelayInRange, IsFactorInRange, is_object_in_range, named_host}
+use Rattle.check_objects.specs.Configuration.{named_service, objects_of, object_count, masters_in, masters_of, parents_by_host, host_count, full_name}
+use Rattle.check_objects.specs.Configuration.{pair_of, IsSameSort}
 use Rattle.check_objects.specs.Depth.{has_cycle}
 use Rattle.check_objects.specs.Closing.{are_within}
 use Rattle.check_objects.specs.Drafted.{texts}
 use Rattle.check_objects.specs.Draft.{Drafts, HostDraft, ServiceDraft, DependencyDraft}
-use Rattle.check_objects.specs.Fault.{is_faultless, few_items, few_dependencies, full_names, known_ends, known_links, is_known, names_of, few_objects, has_few_parents, key_of, good_names, good_host_names, good_descriptions, host_names, first_repeat, no_repeated_services, known_parents, known_hosts, good_ranges, good_host_ranges, good_options, good_service_ranges, is_in_range, is_within, is_delay_in_range, is_factor_in_range, are_options_in_range}
+use Rattle.check_objects.specs.Fault.{is_faultless, few_items, few_dependencies, full_names, known_ends, known_links, is_known, names_of, few_objects}
+use Rattle.check_objects.specs.Fault.{has_few_parents, key_of, good_names, good_host_names, good_descriptions, host_names, first_repeat}
+use Rattle.check_objects.specs.Fault.{no_repeated_services, known_parents, known_hosts, good_ranges, good_host_ranges, good_options, good_service_ranges}
+use Rattle.check_objects.specs.Fault.{is_in_range, is_within, is_delay_in_range, is_factor_in_range, are_options_in_range}
 use Rattle.check_objects.specs.LoadError.{◌>>=◌, refused_at}
 use Rattle.check_objects.specs.Place.{host_at, service_at, item_of_part}
-use Rattle.check_objects.specs.Numbering.{number_in, dependencies_among, numbered_host, numbered_service, hosts_in_order, services_in_order, names_in_order, numbered, configuration, numbered_dependency, all_dependencies, is_host_name, object_of, body_of}
+use Rattle.check_objects.specs.Numbering.{number_in, dependencies_among, numbered_host, numbered_service, hosts_in_order, services_in_order, names_in_order}
+use Rattle.check_objects.specs.Numbering.{numbered, configuration, numbered_dependency, all_dependencies, is_host_name, object_of, body_of}
 use Rattle.check_objects.specs.Name.{is_name, is_name_byte, text_order, pair_order}
 use Rattle.check_objects.proofs.ListLemmas.{list_all-map, list_any-map}
 use Rattle.check_objects.proofs.NumberLaws.{hosts_all, services_all, hosts_ascend, services_ascend}
 use Rattle.check_objects.proofs.NameLemmas.{HasNames, found, all_moved}
-use Rattle.check_objects.proofs.NumberedLemmas.{AreAlike, host_names_are, pairs_are, full_names_are, known_in_order, full_name_in_order, parents_counted, listed_few, host_end, service_end, ends_alike, both_hold, alike_among}
+use Rattle.check_objects.proofs.NumberedLemmas.{AreAlike, host_names_are, pairs_are, full_names_are, known_in_order, full_name_in_order, parents_counted}
+use Rattle.check_objects.proofs.NumberedLemmas.{listed_few, host_end, service_end, ends_alike, both_hold, alike_among}
 use Rattle.check_objects.proofs.DependencyLemmas.{dependents_below, masters_below, masters_within_lists, length-dependency_lists, list_of_object}
 use Rattle.std.proofs.lemmas.List.Sorted.{length_permutation}
 
@@ -98,7 +106,8 @@ name_is_host_name name e =
     all_weaker is_name_byte (λ b. not (b == 59)) (λ b h. name_byte_parts (nat_le 32 b) (not (b == 127)) (not (b == 59)) h) name
     (name_parts (nat_le 1 (length name)) (nat_le (length name) 255) (list_all is_name_byte name) e)
 
-known_by : (q : List ℕ → Bool) (name other : List ℕ) (names : List (List ℕ)) (b : Bool) → bytes_eq name other ≡ b → q other ≡ true → (b || list_any (bytes_eq name) names) ≡ true → (list_any (bytes_eq name) names ≡ true → q name ≡ true) → q name ≡ true
+known_by : (q : List ℕ → Bool) (name other : List ℕ) (names : List (List ℕ)) (b : Bool) → bytes_eq name other ≡ b → q other ≡ true
+    → (b || list_any (bytes_eq name) names) ≡ true → (list_any (bytes_eq name) names ≡ true → q name ≡ true) → q name ≡ true
 known_by q name other names true same good e more = ap q ((bytes_eq-Decides name other).0 same) ∙ good
 known_by q name other names false same good e more = more e
 
@@ -116,24 +125,33 @@ number_by true i n e h = e
 number_by false i n e h = grind (arith, nat_tests, h)
 
 number_below : (names : List (List ℕ)) (name : List ℕ) → 0 < length names → nat_lt (number_in names name) (length names) ≡ true
-number_below names name h = number_by (nat_lt (position_or_len (bytes_eq name) names) (length names)) (position_or_len (bytes_eq name) names) (length names) refl h
+number_below names name h =
+    number_by (nat_lt (position_or_len (bytes_eq name) names) (length names)) (position_or_len (bytes_eq name) names) (length names) refl h
 
-numbers_below : (names : List (List ℕ)) (n : ℕ) → n ≡ length names → 0 < length names → (ts : List (List ℕ)) → list_all (λ p. nat_lt p n) (map (number_in names) ts) ≡ true
+numbers_below : (names : List (List ℕ)) (n : ℕ) → n ≡ length names → 0 < length names → (ts : List (List ℕ))
+    → list_all (λ p. nat_lt p n) (map (number_in names) ts) ≡ true
 numbers_below names n e h [] = refl
-numbers_below names n e h (t ∷ ts) = let here : nat_lt (number_in names t) n ≡ true = ap (nat_lt (number_in names t)) e ∙ number_below names t h in rw (here, numbers_below names n e h ts) refl
+numbers_below names n e h (t ∷ ts) =
+    let here : nat_lt (number_in names t) n ≡ true = ap (nat_lt (number_in names t)) e
+    ∙ number_below names t h in rw (here, numbers_below names n e h ts) refl
 
-hosts_linked : (names : List (List ℕ)) (n : ℕ) → n ≡ length names → 0 < length names → (hs : List (List ℕ × (Object × List (List ℕ)))) → list_all (λ h. list_all (λ p. nat_lt p n) h.parents) (map (numbered_host names) hs) ≡ true
+hosts_linked : (names : List (List ℕ)) (n : ℕ) → n ≡ length names → 0 < length names → (hs : List (List ℕ × (Object × List (List ℕ))))
+    → list_all (λ h. list_all (λ p. nat_lt p n) h.parents) (map (numbered_host names) hs) ≡ true
 hosts_linked names n e h [] = refl
 hosts_linked names n e h (x ∷ hs) = rw (numbers_below names n e h x.1.1, hosts_linked names n e h hs) refl
 
-services_hosted : (names : List (List ℕ)) (n : ℕ) → n ≡ length names → 0 < length names → (ss : List ((List ℕ × List ℕ) × Object)) → list_all (λ s. nat_lt s.host n) (map (numbered_service names) ss) ≡ true
+services_hosted : (names : List (List ℕ)) (n : ℕ) → n ≡ length names → 0 < length names → (ss : List ((List ℕ × List ℕ) × Object))
+    → list_all (λ s. nat_lt s.host n) (map (numbered_service names) ss) ≡ true
 services_hosted names n e h [] = refl
-services_hosted names n e h (x ∷ ss) = let here : nat_lt (number_in names x.0.0) n ≡ true = ap (nat_lt (number_in names x.0.0)) e ∙ number_below names x.0.0 h in rw (here, services_hosted names n e h ss) refl
+services_hosted names n e h (x ∷ ss) =
+    let here : nat_lt (number_in names x.0.0) n ≡ true = ap (nat_lt (number_in names x.0.0)) e
+    ∙ number_below names x.0.0 h in rw (here, services_hosted names n e h ss) refl
 
 names_length : (hs : List (List ℕ × (Object × List (List ℕ)))) → length (map (numbered_host (map (λ h. h.0) hs)) hs) ≡ length (map (λ h. h.0) hs)
 names_length hs = length-map hs (numbered_host (map (λ h. h.0) hs)) ∙ sym (length-map hs (λ h. h.0))
 
-linked_by : (hs : List (List ℕ × (Object × List (List ℕ)))) → list_all (λ h. list_all (λ p. nat_lt p (length (map (numbered_host (map (λ x. x.0) hs)) hs))) h.parents) (map (numbered_host (map (λ x. x.0) hs)) hs) ≡ true
+linked_by : (hs : List (List ℕ × (Object × List (List ℕ))))
+    → list_all (λ h. list_all (λ p. nat_lt p (length (map (numbered_host (map (λ x. x.0) hs)) hs))) h.parents) (map (numbered_host (map (λ x. x.0) hs)) hs) ≡ true
 linked_by [] = refl
 linked_by (x ∷ hs) = hosts_linked (map (λ y. y.0) (x ∷ hs)) _ (names_length (x ∷ hs)) (omega arith) (x ∷ hs)
 
@@ -169,7 +187,8 @@ few_parents_by true b y o h = cc
 few_parents_by false true y o h = refl
 few_parents_by false false y o h = cc
 
-few_dependencies_by : (a : Bool) (n : ℕ) (y : Result (Unit {0}) LoadError) → y ≡ Ok tt → nat_lt 16384 n ≡ a → cond a (Err errors.TooMany) (Ok tt) ≡ y → n ≤ 16384
+few_dependencies_by : (a : Bool) (n : ℕ) (y : Result (Unit {0}) LoadError) → y ≡ Ok tt → nat_lt 16384 n ≡ a
+    → cond a (Err errors.TooMany) (Ok tt) ≡ y → n ≤ 16384
 few_dependencies_by true n y o e h = cc
 few_dependencies_by false n y o e h = grind (arith, nat_tests, e)
 
@@ -185,10 +204,12 @@ abbrev pub repeats_and_more : Drafts → List (List ℕ) → Result (Unit {0}) L
 repeats_and_more ds names = no_repeated_services ds.services >>= λ _. links_and_limits ds names
 
 abbrev pub both_ends : Drafts → List (List ℕ) → Result (Unit {0}) LoadError
-both_ends ds names = known_ends part.ServiceDependencies (full_names ds.services) ds.service_dependencies >>= λ _. known_ends part.HostDependencies names ds.host_dependencies
+both_ends ds names =
+    known_ends part.ServiceDependencies (full_names ds.services) ds.service_dependencies >>= λ _. known_ends part.HostDependencies names ds.host_dependencies
 
 ends_ok : (p : Part) (names : List (List ℕ)) (ds : List DependencyDraft) → known_ends p names ds ≡ Ok tt → have_known_ends names ds ≡ true
-ends_ok p names ds e = all_by_position (λ d. is_known names d.dependent && is_known names d.master) ds (nowhere (λ i. errors.UnknownMaster (item_of_part p i)) _ e)
+ends_ok p names ds e =
+    all_by_position (λ d. is_known names d.dependent && is_known names d.master) ds (nowhere (λ i. errors.UnknownMaster (item_of_part p i)) _ e)
 
 pub faultless : (ds : Drafts) → is_faultless ds ≡ Ok tt → IsFaultless ds
 unfolding is_faultless
@@ -197,7 +218,8 @@ faultless ds e =
     let names_and_more = λ (u : Unit {0}). good_names ds.hosts ds.services >>= λ _. (host_names ds.hosts >>= repeats_and_more ds) in
     let counted : few_items ds ≡ Ok tt = first_ok (few_items ds) names_and_more tt e in
     let after_counts = rest_ok (few_items ds) names_and_more tt e in
-    let named : good_names ds.hosts ds.services ≡ Ok tt = first_ok (good_names ds.hosts ds.services) (λ _. host_names ds.hosts >>= repeats_and_more ds) tt after_counts in
+    let named : good_names ds.hosts ds.services ≡ Ok tt = first_ok (good_names ds.hosts ds.services)
+    (λ _. host_names ds.hosts >>= repeats_and_more ds) tt after_counts in
     let after_names = rest_ok (good_names ds.hosts ds.services) (λ _. host_names ds.hosts >>= repeats_and_more ds) tt after_counts in
     let after_repeats = names_ok (refused_at (λ i. errors.Duplicate (host_at i)) (first_repeat bytes_eq names)) names (repeats_and_more ds) tt after_names in
     let linked = rest_ok (no_repeated_services ds.services) (λ _. links_and_limits ds names) tt after_repeats in
@@ -209,13 +231,21 @@ faultless ds e =
     let hosts = known_ends part.HostDependencies names ds.host_dependencies in
     let dependencies = λ (u : Unit {0}). few_dependencies ds.service_dependencies ds.host_dependencies in
     record {
-      few = few_by (nat_lt 4096 (length ds.hosts + length ds.services)) (not (has_few_parents ds.hosts)) (length ds.hosts + length ds.services) (Ok tt) refl refl
+      few =
+          few_by (nat_lt 4096 (length ds.hosts + length ds.services)) (not (has_few_parents ds.hosts)) (length ds.hosts + length ds.services) (Ok tt) refl refl
           (first_ok (few_objects ds.hosts ds.services) dependencies tt counted);
-      few_parents = few_parents_by (nat_lt 4096 (length ds.hosts + length ds.services)) (has_few_parents ds.hosts) (Ok tt) refl (first_ok (few_objects ds.hosts ds.services) dependencies tt counted);
-      few_dependencies = few_dependencies_by _ (length ds.service_dependencies + length ds.host_dependencies) (Ok tt) refl refl (rest_ok (few_objects ds.hosts ds.services) dependencies tt counted);
-      described = all_by_position (λ s. is_name s.description) ds.services (nowhere (λ i. errors.BadName (service_at i)) _ (rest_ok (good_host_names ds.hosts) (λ _. good_descriptions ds.services) tt named));
-      named = all_by_position (λ h. is_name h.name) ds.hosts (nowhere (λ i. errors.BadName (host_at i)) _ (first_ok (good_host_names ds.hosts) (λ _. good_descriptions ds.services) tt named));
-      parented = all_by_position (λ h. list_all (is_known names) h.parents) ds.hosts (nowhere (λ i. errors.UnknownHost (host_at i)) _ (first_ok (known_parents names ds.hosts) (λ _. known_hosts names ds.services >>= λ _. both_ends ds names) tt links));
+      few_parents =
+          few_parents_by (nat_lt 4096 (length ds.hosts + length ds.services)) (has_few_parents ds.hosts) (Ok tt) refl
+          (first_ok (few_objects ds.hosts ds.services) dependencies tt counted);
+      few_dependencies =
+          few_dependencies_by _ (length ds.service_dependencies + length ds.host_dependencies) (Ok tt) refl refl
+          (rest_ok (few_objects ds.hosts ds.services) dependencies tt counted);
+      described =
+          all_by_position (λ s. is_name s.description) ds.services (nowhere (λ i. errors.BadName (service_at i)) _ (rest_ok (good_host_names ds.hosts) (λ _. good_descriptions ds.services) tt named));
+      named =
+          all_by_position (λ h. is_name h.name) ds.hosts (nowhere (λ i. errors.BadName (host_at i)) _ (first_ok (good_host_names ds.hosts) (λ _. good_descriptions ds.services) tt named));
+      parented =
+          all_by_position (λ h. list_all (is_known names) h.parents) ds.hosts (nowhere (λ i. errors.UnknownHost (host_at i)) _ (first_ok (known_parents names ds.hosts) (λ _. known_hosts names ds.services >>= λ _. both_ends ds names) tt links));
       known = all_by_position (λ s. is_known names s.host) ds.services (nowhere (λ i. errors.UnknownHost (service_at i)) _ known);
       service_ends = ends_ok part.ServiceDependencies (full_names ds.services) ds.service_dependencies (first_ok services (λ _. hosts) tt ended);
       host_ends = ends_ok part.HostDependencies names ds.host_dependencies (rest_ok services (λ _. hosts) tt ended);
@@ -236,7 +266,9 @@ parted ds e =
 
 -- as many hosts and services in order as in the document
 hosts_counted : (ds : Drafts) → is_faultless ds ≡ Ok tt → length (hosts_in_order ds.hosts) ≡ length ds.hosts
-hosts_counted ds e = length_permutation (map (λ h. (h.name, body_of h)) ds.hosts) (hosts_in_order ds.hosts) (hosts_all ds e) ∙ length-map ds.hosts (λ (h : HostDraft). (h.name, body_of h))
+hosts_counted ds e =
+    length_permutation (map (λ h. (h.name, body_of h)) ds.hosts) (hosts_in_order ds.hosts) (hosts_all ds e)
+    ∙ length-map ds.hosts (λ (h : HostDraft). (h.name, body_of h))
 
 services_counted : (ds : Drafts) → is_faultless ds ≡ Ok tt → length (services_in_order ds.services) ≡ length ds.services
 services_counted ds e =
@@ -250,7 +282,8 @@ few_hosts ds e =
 pub few_host_entries : (ds : Drafts) → is_faultless ds ≡ Ok tt → length (numbered ds).hosts ≤ 4096
 few_host_entries ds e = omega (arith, few_hosts ds e, length-map (hosts_in_order ds.hosts) (numbered_host (names_in_order ds.hosts)))
 
-hosted_by : (hosts : List HostDraft) (services : List ServiceDraft) → list_all (λ s. is_known (names_of hosts) s.host) services ≡ true → (ns : List (List ℕ)) (n : ℕ) → n ≡ length ns → (0 < length hosts → 0 < length ns)
+hosted_by : (hosts : List HostDraft) (services : List ServiceDraft) → list_all (λ s. is_known (names_of hosts) s.host) services ≡ true
+    → (ns : List (List ℕ)) (n : ℕ) → n ≡ length ns → (0 < length hosts → 0 < length ns)
     → list_all (λ s. nat_lt s.host n) (map (numbered_service ns) (services_in_order services)) ≡ true
 hosted_by hosts [] k ns n e some = refl
 hosted_by [] (s ∷ services) k ns n e some = cc
@@ -304,12 +337,15 @@ options_in_range o e =
       concurrent_checks = at_most o.max_concurrent_checks 1000000 a.1;
     }
 
-good_options_in_range : (options : Options) (hosts : List HostDraft) (services : List ServiceDraft) → good_ranges options hosts services ≡ Ok tt → HasOptionsInRange options
+good_options_in_range : (options : Options) (hosts : List HostDraft) (services : List ServiceDraft) → good_ranges options hosts services ≡ Ok tt
+    → HasOptionsInRange options
 good_options_in_range options hosts services e =
-    options_in_range options (options_by (are_options_in_range options) _ (Ok tt) refl (first_ok (good_options options) (λ _. good_host_ranges hosts >>= λ _. good_service_ranges services) tt e))
+    options_in_range options (options_by (are_options_in_range options) _ (Ok tt) refl
+    (first_ok (good_options options) (λ _. good_host_ranges hosts >>= λ _. good_service_ranges services) tt e))
 
 -- and so are the numbers of every object
-pub objects_in_range : (ds : Drafts) → is_faultless ds ≡ Ok tt → good_ranges ds.options ds.hosts ds.services ≡ Ok tt → list_all (λ o. is_object_in_range o.object) (objects_of (configuration ds)) ≡ true
+pub objects_in_range : (ds : Drafts) → is_faultless ds ≡ Ok tt → good_ranges ds.options ds.hosts ds.services ≡ Ok tt
+    → list_all (λ o. is_object_in_range o.object) (objects_of (configuration ds)) ≡ true
 objects_in_range ds faults e =
     let after_options = rest_ok (good_options ds.options) (λ _. good_host_ranges ds.hosts >>= λ _. good_service_ranges ds.services) tt e in
     let hosts : list_all (λ h. is_in_range h.check) ds.hosts ≡ true = all_by_position (λ h. is_in_range h.check) ds.hosts (nowhere (λ i. errors.Range (host_at i)) _ (first_ok (good_host_ranges ds.hosts) (λ _. good_service_ranges ds.services) tt after_options)) in
@@ -329,7 +365,16 @@ objects_in_range ds faults e =
 
 -- as many objects as hosts and services
 pub count_of : (c : Configuration) (hosts services : ℕ) → hosts ≡ length c.hosts → services ≡ length c.services → hosts + services ≡ object_count c
-count_of c hosts services h s = omega (arith, h, s, length-append (map named_host c.hosts) (map named_service c.services), length-map c.hosts named_host, length-map c.services named_service)
+count_of c hosts services h s =
+    omega (
+      arith,
+      h,
+      s,
+      length-append (map named_host c.hosts) (map named_service c.services),
+      length-map c.hosts named_host,
+      length-map c.services
+          named_service,
+    )
 
 pub few_in_all : (c : Configuration) → length c.hosts + length c.services ≤ 4096 → object_count c ≤ 4096
 few_in_all c h = omega (arith, h, count_of c (length c.hosts) (length c.services) refl refl)
@@ -368,7 +413,8 @@ some_object ds e h =
     ]
 
 -- the dependents are objects
-pub dependents_within : (ds : Drafts) → is_faultless ds ≡ Ok tt → list_all (λ d. nat_lt d.0 (object_count (numbered ds))) (map (numbered_dependency (objects_of (numbered ds))) (all_dependencies ds)) ≡ true
+pub dependents_within : (ds : Drafts) → is_faultless ds ≡ Ok tt
+    → list_all (λ d. nat_lt d.0 (object_count (numbered ds))) (map (numbered_dependency (objects_of (numbered ds))) (all_dependencies ds)) ≡ true
 dependents_within ds e = dependents_below (objects_of (numbered ds)) (all_dependencies ds) (some_object ds e)
 
 -- what is true of the lists of dependencies before their order is made
@@ -395,7 +441,9 @@ module _ {L : Type 0} (items : L → List Dependency) (lists : List L) (c : Conf
   few_lists = omega (arith, one_each, has.few)
 
   pub masters_within : are_within (length lists) (map masters_in (map items lists)) ≡ true
-  masters_within = ap (λ n. are_within n (map masters_in (map items lists))) one_each ∙ ap (λ l. are_within (object_count c) (map masters_in l)) are ∙ has.mastered
+  masters_within =
+      ap (λ n. are_within n (map masters_in (map items lists))) one_each ∙ ap (λ l. are_within (object_count c) (map masters_in l)) are
+      ∙ has.mastered
 
 -- ---- names, in order
 
@@ -420,7 +468,8 @@ parted_hosts ds e =
     ∙ all_weaker (λ x. is_name x.0) (λ x. is_host_name x.0) (λ x h. name_is_host_name x.0 h) (hosts_in_order ds.hosts) (named_in_order ds e)
 
 -- both ends of every dependency are of one sort
-same_sorts_of : (ds : Drafts) → is_faultless ds ≡ Ok tt → AllByRecursion (AreAlike (host_count (configuration ds))) (map (numbered_dependency (objects_of (numbered ds))) (all_dependencies ds))
+same_sorts_of : (ds : Drafts) → is_faultless ds ≡ Ok tt
+    → AllByRecursion (AreAlike (host_count (configuration ds))) (map (numbered_dependency (objects_of (numbered ds))) (all_dependencies ds))
 same_sorts_of ds e =
     let c = configuration ds in
     let f = faultless ds e in
@@ -430,7 +479,8 @@ same_sorts_of ds e =
     let ns = names_in_order ds.hosts in
     let services = ends_alike objects (full_names ds.services) n false (λ name known.
     let at = found (λ (s : ServiceDraft). bytes_eq name (full_name (key_of s))) ds.services (sym (list_any-map (bytes_eq name) (λ s. full_name (key_of s)) ds.services) ∙ known) in
-    service_end c name (key_of at.item) ((bytes_eq-Decides name (full_name (key_of at.item))).0 at.passes) (parted_hosts ds e) (full_name_in_order ds.services (λ s. object_of s.check) (services_in_order ds.services) (services_all ds e) ns name known))
+    service_end c name (key_of at.item) ((bytes_eq-Decides name (full_name (key_of at.item))).0 at.passes) (parted_hosts ds e)
+    (full_name_in_order ds.services (λ s. object_of s.check) (services_in_order ds.services) (services_all ds e) ns name known))
     ds.service_dependencies f.service_ends in
     let hosts = ends_alike objects (names_of ds.hosts) n true (λ name known.
     host_end c name (ap (λ l. is_known l name) (host_names_are ns hs) ∙ sym (known_in_order ds.hosts body_of hs (hosts_all ds e) name) ∙ known))
@@ -447,14 +497,17 @@ names_of_document ds e =
     let some : 0 < length ds.hosts → 0 < length ns = λ x. omega (arith, x, hosts_counted ds e, length-map hs (λ h. h.0)) in
     record {
       host_names = list_all-map (λ x. is_name x.name) (numbered_host ns) hs ∙ named_in_order ds e;
-      full_names = All-from_recursion (λ x. x.name ≡ full_name (pair_of c x)) c.services (full_names_are c ns hs refl (services_in_order ds.services) (services_known ds e));
+      full_names =
+          All-from_recursion (λ x. x.name ≡ full_name (pair_of c x)) c.services (full_names_are c ns hs refl (services_in_order ds.services) (services_known ds e));
       hosts_ascend = subst (IsStrictlySortedBy text_order) (sym (host_names_are ns hs)) (hosts_ascend ds e);
-      services_ascend = subst (IsStrictlySortedBy pair_order) (sym (pairs_are c ns hs refl (services_in_order ds.services) (services_known ds e))) (services_ascend ds e);
+      services_ascend =
+          subst (IsStrictlySortedBy pair_order) (sym (pairs_are c ns hs refl (services_in_order ds.services) (services_known ds e))) (services_ascend ds e);
       hosted = hosted_by ds.hosts ds.services (faultless ds e).known ns (length (map (numbered_host ns) hs)) (names_length hs) some;
     }
 
 -- what a document without a fault gives is a setup
-pub configuration_is_setup : (ds : Drafts) → is_faultless ds ≡ Ok tt → has_cycle (masters_of (configuration ds)) ≡ false → has_cycle (parents_by_host (configuration ds)) ≡ false → IsSetup (configuration ds)
+pub configuration_is_setup : (ds : Drafts) → is_faultless ds ≡ Ok tt → has_cycle (masters_of (configuration ds)) ≡ false
+    → has_cycle (parents_by_host (configuration ds)) ≡ false → IsSetup (configuration ds)
 configuration_is_setup ds e acyclic no_parent_cycle =
     let lists = has_lists ds e in
     let f = faultless ds e in
@@ -469,7 +522,14 @@ configuration_is_setup ds e acyclic no_parent_cycle =
       few_parents = subst (λ n. n ≤ 16384) (sym (parents_counted ds.hosts (λ h. object_of h.check) hs ns (hosts_all ds e))) (at_most _ 16384 f.few_parents);
       few_dependencies =
           let all = map (numbered_dependency (objects_of (numbered ds))) (all_dependencies ds) in
-          omega (arith, f.few_dependencies, listed_few (length (objects_of (numbered ds))) all, length-map (all_dependencies ds) (numbered_dependency (objects_of (numbered ds))), length-append ds.service_dependencies ds.host_dependencies);
+          omega (
+            arith,
+            f.few_dependencies,
+            listed_few (length (objects_of (numbered ds))) all,
+            length-map (all_dependencies ds)
+                (numbered_dependency (objects_of (numbered ds))),
+            length-append ds.service_dependencies ds.host_dependencies,
+          );
       host_names = names.host_names;
       descriptions = list_all-map (λ x. is_name x.description) (numbered_service ns) (services_in_order ds.services) ∙ described_in_order ds e;
       full_names = names.full_names;
@@ -498,11 +558,13 @@ configuration_is_setup ds e acyclic no_parent_cycle =
     }
 
 -- the names of few hosts are few
-pub few_names : (keys : List (Bor (List ℕ))) (sorted ordered : List (List ℕ × (Object × List (List ℕ)))) → texts keys ≡ map (λ e. e.0) sorted → sorted ≡ ordered → length ordered ≤ 4096 → length keys ≤ 4096
+pub few_names : (keys : List (Bor (List ℕ))) (sorted ordered : List (List ℕ × (Object × List (List ℕ)))) → texts keys ≡ map (λ e. e.0) sorted
+    → sorted ≡ ordered → length ordered ≤ 4096 → length keys ≤ 4096
 few_names keys sorted ordered e o h = omega (arith, length-map keys (λ k. k.now), ap length e, length-map sorted (λ x. x.0), ap length o)
 
 -- the links that are kept of hosts are to hosts
-pub links_within : {L : Type 0} (items : L → List ℕ) (hosts : List Host) (links : List L) → map items links ≡ map (λ h. h.parents) hosts → list_all (λ h. list_all (λ p. nat_lt p (length hosts)) h.parents) hosts ≡ true
+pub links_within : {L : Type 0} (items : L → List ℕ) (hosts : List Host) (links : List L) → map items links ≡ map (λ h. h.parents) hosts
+    → list_all (λ h. list_all (λ p. nat_lt p (length hosts)) h.parents) hosts ≡ true
     → are_within (length links) (map items links) ≡ true
 links_within items hosts links e linked =
     let n : length links ≡ length hosts = omega (arith, length-map links items, ap length e, length-map hosts (λ h. h.parents)) in

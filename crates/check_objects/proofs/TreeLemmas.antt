@@ -1,5 +1,6 @@
 -- From bytes to the tree that `serde_json` reads, and what stands in it.
-use Rattle.std.proofs.Common.{◌≡◌, ℕ, Bool, true, false, cond, ◌&&◌, ◌||◌, List, [], ◌∷◌, map, Option, Some, None, Bor, String, Global, string_bytes, bytes_eq, refl, sym, ap, ◌∙◌, Ok, Err}
+use Rattle.std.proofs.Common.{◌≡◌, ℕ, Bool, true, false, cond, ◌&&◌, ◌||◌, List, [], ◌∷◌, map, Option, Some, None, Bor, String, Global, string_bytes}
+use Rattle.std.proofs.Common.{bytes_eq, refl, sym, ap, ◌∙◌, Ok, Err}
 use Rattle.std.specs.Prelude.{ok_or, is_some, unwrap_or, IsUtf8}
 use Rattle.std.specs.Str.{is_utf8}
 use Rattle.std.specs.List.{list_any, list_all}
@@ -43,7 +44,8 @@ among_known [] key = refl
 among_known (n ∷ ns) key = ap (λ b. bytes_eq n.now key || b) (among_known ns key)
 
 -- the keys of the code's map are the members' names
-pub only_known : (names : List (Bor (List ℕ))) (es : List (String Global × Value)) → list_all (λ key. list_any (λ name. bytes_eq name.now (string_bytes key)) names) (keys_of es) ≡ only_members (map (λ name. name.now) names) (members_view es)
+pub only_known : (names : List (Bor (List ℕ))) (es : List (String Global × Value))
+    → list_all (λ key. list_any (λ name. bytes_eq name.now (string_bytes key)) names) (keys_of es) ≡ only_members (map (λ name. name.now) names) (members_view es)
 only_known names [] = refl
 only_known names (e ∷ es) = rw (among_known names (string_bytes e.0), only_known names es) refl
 

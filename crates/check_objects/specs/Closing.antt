@@ -45,7 +45,8 @@ pub record Closed (closing left order left' order' : List ℕ) : Type 0 where
 -- the object was added to the list of each that it links to, once for each link
 pub record AddsDependent (object : ℕ) (links : List ℕ) (old new : List (List ℕ)) : Type 0 where
   pub size : length new ≡ length old
-  pub counts : (link other : ℕ) → link < length old → times other (links_of new link) ≡ times other (links_of old link) + (if other == object then times link links else 0)
+  pub counts : (link other : ℕ) → link < length old
+      → times other (links_of new link) ≡ times other (links_of old link) + (if other == object then times link links else 0)
   pub within : (n : ℕ) → object < n → are_within n old ≡ true → are_within n new ≡ true
 
 -- Of n objects the dependents of each are those that link to it, once for each link.

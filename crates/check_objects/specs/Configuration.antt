@@ -1,5 +1,6 @@
 -- A setup as contracts see it: its options, its hosts and its services, in the order of their numbers.
-use Rattle.std.specs.Prelude.{◌≡◌, ℕ, ◌+◌, ◌-◌, ◌<◌, ◌≤◌, ◌&&◌, Bool, true, nat_le, List, [], ◌∷◌, ◌++◌, length, map, position, bytes_eq, slice_get, slice_index_or, sum_by, All, option_map, unwrap_or, nat_lt, Option, None, false, if◌then◌else◌}
+use Rattle.std.specs.Prelude.{◌≡◌, ℕ, ◌+◌, ◌-◌, ◌<◌, ◌≤◌, ◌&&◌, Bool, true, nat_le, List, [], ◌∷◌, ◌++◌, length, map, position, bytes_eq, slice_get}
+use Rattle.std.specs.Prelude.{slice_index_or, sum_by, All, option_map, unwrap_or, nat_lt, Option, None, false, if◌then◌else◌}
 use Rattle.std.specs.List.{list_all}
 use Rattle.std.specs.List.Sorted.{IsStrictlySortedBy}
 use Rattle.check_objects.specs.declared.dependency.Dependency.{Dependency}

@@ -1,5 +1,6 @@
 -- What a document says, by its tree, before its names and numbers are tested. A document that is not of this shape is refused.
-use Rattle.std.specs.Prelude.{ℕ, ◌+◌, Bool, true, false, List, [], ◌∷◌, Option, Some, None, option_and_then, Result, Ok, Err, ok_or, codes, bytes_eq, if◌then◌else◌}
+use Rattle.std.specs.Prelude.{ℕ, ◌+◌, Bool, true, false, List, [], ◌∷◌, Option, Some, None, option_and_then, Result, Ok, Err, ok_or, codes, bytes_eq}
+use Rattle.std.specs.Prelude.{if◌then◌else◌}
 use Rattle.serde_json.specs.Data.{Data, Items, no_items, item}
 use Rattle.serde_json.specs.Find.{get, as_bool, as_str, as_array}
 use Rattle.check_objects.specs.declared.dependency.Criteria.{Criteria}
@@ -133,7 +134,8 @@ dependencies_in p letters value = list_of (dependency_draft letters) (list_of_pa
 
 abbrev pub option_members : List (List ℕ)
 option_members =
-    codes "interval_length" ∷ codes "service_inter_check_delay_method" ∷ codes "max_service_check_spread" ∷ codes "service_interleave_factor" ∷ codes "host_inter_check_delay_method" ∷ codes "max_host_check_spread"
+    codes "interval_length" ∷ codes "service_inter_check_delay_method" ∷ codes "max_service_check_spread" ∷ codes "service_interleave_factor"
+    ∷ codes "host_inter_check_delay_method" ∷ codes "max_host_check_spread"
     ∷ codes "max_concurrent_checks" ∷ codes "soft_state_dependencies" ∷ codes "use_aggressive_host_checking" ∷ []
 
 -- options that are absent have no unknown member

@@ -1,5 +1,6 @@
 -- The tests after the shape, each over the whole document, in the order in which they are made.
-use Rattle.std.specs.Prelude.{ℕ, ◌+◌, ◌&&◌, ◌||◌, Bool, true, not, List, length, map, sum_by, position, Option, Result, Ok, Err, bytes_eq, nat_lt, nat_le, if◌then◌else◌, false, take, slice_get, option_map, unwrap_or}
+use Rattle.std.specs.Prelude.{ℕ, ◌+◌, ◌&&◌, ◌||◌, Bool, true, not, List, length, map, sum_by, position, Option, Result, Ok, Err, bytes_eq, nat_lt, nat_le}
+use Rattle.std.specs.Prelude.{if◌then◌else◌, false, take, slice_get, option_map, unwrap_or}
 use Rattle.std.specs.List.{list_any, list_all, range_with_len}
 use Rattle.check_objects.specs.declared.draft.CheckDraft.{CheckDraft}
 use Rattle.check_objects.specs.declared.error.LoadError.{LoadError}
@@ -95,7 +96,8 @@ full_names services = map (λ s. full_name (key_of s)) services
 
 -- the dependent and the master of every dependency have one of these names; else the first dependency with one that hasn't
 abbrev pub known_ends : Part → List (List ℕ) → List DependencyDraft → Result (Unit {0}) LoadError
-known_ends p names ds = refused_at (λ i. errors.UnknownMaster (item_of_part p i)) (position (λ d. not (is_known names d.dependent && is_known names d.master)) ds)
+known_ends p names ds =
+    refused_at (λ i. errors.UnknownMaster (item_of_part p i)) (position (λ d. not (is_known names d.dependent && is_known names d.master)) ds)
 
 -- what is named is there: parents, the hosts of services, and what depends and is depended on
 abbrev pub known_links : List (List ℕ) → Drafts → Result (Unit {0}) LoadError

@@ -6,7 +6,14 @@ use Rattle.check_objects.specs.Entries.{host_entry, service_entry}
 use Rattle.check_objects.specs.declared.setup.Setup.TheInside.{Inside}
 
 abbrev pub configuration_of : Inside → Configuration
-configuration_of s = record { options = s.options; hosts = map host_entry s.hosts.entries; services = map service_entry s.services.entries; dependencies = map (λ list. list.items) s.dependencies.items }
+configuration_of s =
+    record {
+      options = s.options;
+      hosts = map host_entry s.hosts.entries;
+      services = map service_entry s.services.entries;
+      dependencies = map
+          (λ list. list.items) s.dependencies.items;
+    }
 
 -- a setup, and an order that its dependencies agree with
 pub record IsKept (s : Inside) : Type 0 where

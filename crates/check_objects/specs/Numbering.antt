@@ -96,4 +96,11 @@ dependencies_by_number objects drafts = dependency_lists (length objects) (map (
 
 -- the setup of drafts without a fault
 abbrev pub configuration : Drafts → Configuration
-configuration drafts = let c = numbered drafts in record { options = c.options; hosts = c.hosts; services = c.services; dependencies = dependencies_by_number (objects_of c) drafts }
+configuration drafts =
+    let c = numbered drafts in record {
+      options = c.options;
+      hosts = c.hosts;
+      services = c.services;
+      dependencies = dependencies_by_number
+          (objects_of c) drafts;
+    }

@@ -23,14 +23,16 @@ none_second true b h = cc
 none_second false b h = h
 
 -- tests that agree where no chain of k masters begins
-any_same : (links : List (List ℕ)) (k : ℕ) (p q : Dependency → Bool) → ((d : Dependency) → deep links d.master k ≡ false → p d ≡ q d) → (ds : List Dependency) → list_any (λ m. deep links m k) (masters_in ds) ≡ false → list_any p ds ≡ list_any q ds
+any_same : (links : List (List ℕ)) (k : ℕ) (p q : Dependency → Bool) → ((d : Dependency) → deep links d.master k ≡ false → p d ≡ q d)
+    → (ds : List Dependency) → list_any (λ m. deep links m k) (masters_in ds) ≡ false → list_any p ds ≡ list_any q ds
 any_same links k p q f [] h = refl
 any_same links k p q f (d ∷ ds) h =
     ap (λ b. b || list_any p ds) (f d (none_first (deep links d.master k) _ h))
     ∙ ap (λ b. q d || b) (any_same links k p q f ds (none_second (deep links d.master k) _ h))
 
 -- where no chain of k masters begins, one step further says the same
-deep_enough : (c : Configuration) (standings : List Standing) (k n : ℕ) → deep (masters_of c) n k ≡ false → is_blocked_within (suc k) c standings n ≡ is_blocked_within k c standings n
+deep_enough : (c : Configuration) (standings : List Standing) (k n : ℕ) → deep (masters_of c) n k ≡ false
+    → is_blocked_within (suc k) c standings n ≡ is_blocked_within k c standings n
 deep_enough c standings zero n h = cc
 deep_enough c standings (suc k) n h =
     any_same (masters_of c) k (λ d. is_met c standings d || (d.inherits && is_blocked_within (suc k) c standings d.master)) (λ d. is_met c standings d || (d.inherits && is_blocked_within k c standings d.master))
@@ -57,7 +59,8 @@ short c n acyclic listed h =
 
 -- An object is blocked where a master of it is in one of its criteria, or a dependency of it inherits and its master is
 -- blocked.
-pub blocked_by_masters : (c : Configuration) (standings : List Standing) (n : ℕ) → IsSetup c → n < object_count c → is_blocked c standings n ≡ list_any (λ d. is_met c standings d || (d.inherits && is_blocked c standings d.master)) (dependencies_of c n)
+pub blocked_by_masters : (c : Configuration) (standings : List Standing) (n : ℕ) → IsSetup c → n < object_count c
+    → is_blocked c standings n ≡ list_any (λ d. is_met c standings d || (d.inherits && is_blocked c standings d.master)) (dependencies_of c n)
 blocked_by_masters c standings n is h = sym (deep_enough c standings (object_count c) n (short c n is.acyclic is.listed h))
 
 unblocked_within : (k : ℕ) (c : Configuration) (standings : List Standing) (n : ℕ) → dependencies_of c n ≡ [] → is_blocked_within k c standings n ≡ false

@@ -112,7 +112,8 @@ last_hard_after kind.Hard found before = found
 last_hard_after kind.Soft found before = before
 
 abbrev pub standing_after : Kind × ℕ → State → State → Standing
-standing_after after found last_hard = record { checked = true; state = found; kind = after.0; attempt = after.1; last_hard = last_hard_after after.0 found last_hard }
+standing_after after found last_hard =
+    record { checked = true; state = found; kind = after.0; attempt = after.1; last_hard = last_hard_after after.0 found last_hard }
 
 -- the standing after a result: its state is the result, and it is checked
 abbrev pub verdict_on : Standing → State → ℕ → Bool → Standing

@@ -1,5 +1,6 @@
 -- Laws of the candidates and of the least of them.
-use Rattle.std.proofs.Common.{◌≡◌, ℕ, ◌+◌, ◌<◌, ◌≤◌, ◌^◌, Bool, true, false, not, ◌&&◌, ◌||◌, ◌==◌, cond, List, [], ◌∷◌, ◌++◌, length, Option, Some, None, option_map, refl, sym, ap, subst, ◌∙◌, arith, append_assoc}
+use Rattle.std.proofs.Common.{◌≡◌, ℕ, ◌+◌, ◌<◌, ◌≤◌, ◌^◌, Bool, true, false, not, ◌&&◌, ◌||◌, ◌==◌, cond, List, [], ◌∷◌, ◌++◌, length, Option, Some, None}
+use Rattle.std.proofs.Common.{option_map, refl, sym, ap, subst, ◌∙◌, arith, append_assoc}
 use Rattle.std.specs.Prelude.{nat_lt, nat_le, find, filter}
 use Rattle.std.specs.List.{list_any, list_all, filter_map, enumerate_from, cons_option}
 use Rattle.std.proofs.lemmas.Bool.Decides.{nat_tests}
@@ -64,7 +65,8 @@ pub all_weaker : (f g : Candidate → Bool) (cs : List Candidate) → ((x : Cand
 all_weaker f g [] h e = refl
 all_weaker f g (c ∷ cs) h e = let p = and_both (f c) (list_all f cs) e in both_and (g c) (list_all g cs) (h c p.0) (all_weaker f g cs h p.1)
 
-all_at_by : (f : Candidate → Bool) (p c : Candidate) (cs : List Candidate) (b : Bool) → is_same p c ≡ b → (b || list_any (is_same p) cs) ≡ true → f c ≡ true → (list_any (is_same p) cs ≡ true → f p ≡ true) → f p ≡ true
+all_at_by : (f : Candidate → Bool) (p c : Candidate) (cs : List Candidate) (b : Bool) → is_same p c ≡ b → (b || list_any (is_same p) cs) ≡ true
+    → f c ≡ true → (list_any (is_same p) cs ≡ true → f p ≡ true) → f p ≡ true
 all_at_by f p c cs true s m here more = rw (same_is p c s) here
 all_at_by f p c cs false s m here more = more m
 
@@ -75,7 +77,8 @@ all_at f p (c ∷ cs) m e =
     let both = and_both (f c) (list_all f cs) e in
     all_at_by f p c cs (is_same p c) refl m both.0 (λ n. all_at f p cs n both.1)
 
-all_filtered_by : (f : Candidate → Bool) (c : Candidate) (cs : List Candidate) (b : Bool) → f c ≡ true → list_all f cs ≡ true → list_all f (cond b (c ∷ cs) cs) ≡ true
+all_filtered_by : (f : Candidate → Bool) (c : Candidate) (cs : List Candidate) (b : Bool) → f c ≡ true → list_all f cs ≡ true
+    → list_all f (cond b (c ∷ cs) cs) ≡ true
 all_filtered_by f c cs true h e = both_and (f c) (list_all f cs) h e
 all_filtered_by f c cs false h e = e
 
@@ -85,14 +88,16 @@ all_filtered f p (c ∷ cs) e =
     let both = and_both (f c) (list_all f cs) e in
     all_filtered_by f c (filter p cs) (p c) both.0 (all_filtered f p cs both.1)
 
-any_filtered_by : (c d : Candidate) (cs ds : List Candidate) (p : Candidate → Bool) (s b : Bool) → is_same c d ≡ s → p d ≡ b → p c ≡ true → (s || list_any (is_same c) cs) ≡ true → (list_any (is_same c) cs ≡ true → list_any (is_same c) ds ≡ true)
+any_filtered_by : (c d : Candidate) (cs ds : List Candidate) (p : Candidate → Bool) (s b : Bool) → is_same c d ≡ s → p d ≡ b → p c ≡ true
+    → (s || list_any (is_same c) cs) ≡ true → (list_any (is_same c) cs ≡ true → list_any (is_same c) ds ≡ true)
     → list_any (is_same c) (cond b (d ∷ ds) ds) ≡ true
 any_filtered_by c d cs ds p true true s b h m more = rw s refl
 any_filtered_by c d cs ds p true false s b h m more = let e = ap p (same_is c d s) in cc
 any_filtered_by c d cs ds p false true s b h m more = rw s (more m)
 any_filtered_by c d cs ds p false false s b h m more = more m
 
-pub any_filtered : (c : Candidate) (p : Candidate → Bool) (cs : List Candidate) → p c ≡ true → list_any (is_same c) cs ≡ true → list_any (is_same c) (filter p cs) ≡ true
+pub any_filtered : (c : Candidate) (p : Candidate → Bool) (cs : List Candidate) → p c ≡ true → list_any (is_same c) cs ≡ true
+    → list_any (is_same c) (filter p cs) ≡ true
 any_filtered c p [] h m = m
 any_filtered c p (d ∷ cs) h m = any_filtered_by c d cs (filter p cs) p (is_same c d) (p d) refl refl h m (any_filtered c p cs h)
 
@@ -123,16 +128,20 @@ agree p d a b =
     let y : d.1 ≡ p.1 = omega (arith, l.1 (sym x), m.1 x) in
     λ i. (x i, y i)
 
-not_first_by : (p d : Candidate) (cs ds : List Candidate) (b : Bool) → is_same p d ≡ b → list_all (is_no_later d) cs ≡ false → IsLeast p cs → (b || list_any (is_same p) ds) ≡ true → list_any (is_same p) ds ≡ true
+not_first_by : (p d : Candidate) (cs ds : List Candidate) (b : Bool) → is_same p d ≡ b → list_all (is_no_later d) cs ≡ false → IsLeast p cs
+    → (b || list_any (is_same p) ds) ≡ true → list_any (is_same p) ds ≡ true
 not_first_by p d cs ds true q s h m = let e = ap (λ x. list_all (is_no_later x) cs) (same_is p d q) in let f = h.first in cc
 not_first_by p d cs ds false q s h m = m
 
-found_by : (p d : Candidate) (cs ds : List Candidate) (b : Bool) → list_all (is_no_later d) cs ≡ b → IsLeast p cs → list_any (is_same p) (d ∷ ds) ≡ true → list_any (is_same d) cs ≡ true
-    → (list_any (is_same p) ds ≡ true → find (λ x. list_all (is_no_later x) cs) ds ≡ Some p) → cond b (Some d) (find (λ x. list_all (is_no_later x) cs) ds) ≡ Some p
+found_by : (p d : Candidate) (cs ds : List Candidate) (b : Bool) → list_all (is_no_later d) cs ≡ b → IsLeast p cs
+    → list_any (is_same p) (d ∷ ds) ≡ true → list_any (is_same d) cs ≡ true
+    → (list_any (is_same p) ds ≡ true → find (λ x. list_all (is_no_later x) cs) ds ≡ Some p)
+    → cond b (Some d) (find (λ x. list_all (is_no_later x) cs) ds) ≡ Some p
 found_by p d cs ds true s h m e more = ap Some (agree p d (all_at (is_no_later p) d cs e h.first) (all_at (is_no_later d) p cs h.among s))
 found_by p d cs ds false s h m e more = more (not_first_by p d cs ds (is_same p d) refl s h m)
 
-found_in : (p : Candidate) (cs ds : List Candidate) → IsLeast p cs → list_any (is_same p) ds ≡ true → list_all (λ d. list_any (is_same d) cs) ds ≡ true → find (λ d. list_all (is_no_later d) cs) ds ≡ Some p
+found_in : (p : Candidate) (cs ds : List Candidate) → IsLeast p cs → list_any (is_same p) ds ≡ true
+    → list_all (λ d. list_any (is_same d) cs) ds ≡ true → find (λ d. list_all (is_no_later d) cs) ds ≡ Some p
 found_in p cs [] h m e = cc
 found_in p cs (d ∷ ds) h m e =
     let both = and_both (list_any (is_same d) cs) (list_all (λ x. list_any (is_same x) cs) ds) e in
@@ -141,7 +150,8 @@ found_in p cs (d ∷ ds) h m e =
 each_among : (cs ds : List Candidate) → list_all (λ d. list_any (is_same d) (cs ++ ds)) ds ≡ true
 each_among cs [] = refl
 each_among cs (d ∷ ds) =
-    let here : list_any (is_same d) (cs ++ d ∷ ds) ≡ true = list_any-append (is_same d) cs (d ∷ ds) ∙ or_true (list_any (is_same d) cs) (list_any (is_same d) (d ∷ ds)) (rw (is_same_itself d) refl) in
+    let here : list_any (is_same d) (cs ++ d ∷ ds) ≡ true = list_any-append (is_same d) cs (d ∷ ds) ∙ or_true (list_any (is_same d) cs)
+    (list_any (is_same d) (d ∷ ds)) (rw (is_same_itself d) refl) in
     let more : list_all (λ x. list_any (is_same x) (cs ++ d ∷ ds)) ds ≡ true = ap (λ l. list_all (λ x. list_any (is_same x) l) ds) (sym (append_assoc cs (d ∷ []) ds)) ∙ each_among (cs ++ d ∷ []) ds in
     both_and _ _ here more
 
@@ -159,7 +169,9 @@ one_more_by c d cs true s h = (
   Some c,
   record {
     among = rw (is_same_itself c) refl;
-    first = both_and (is_no_later c c) _ (no_later_holds c c (omega arith) (λ s. omega arith)) (all_weaker (is_no_later d) (is_no_later c) cs (λ x e. no_later_chain c d x s e) h.first);
+    first =
+        both_and (is_no_later c c) _ (no_later_holds c c (omega arith)
+        (λ s. omega arith)) (all_weaker (is_no_later d) (is_no_later c) cs (λ x e. no_later_chain c d x s e) h.first);
   },
 )
 one_more_by c d cs false s h =
@@ -199,7 +211,8 @@ if_due now (Some c) = cond (nat_le c.0 now) (Some c) None
 late_by : (now : ℕ) (c d : Candidate) → now < c.0 → is_no_later c d ≡ true → not (nat_le d.0 now) ≡ true
 late_by now c d l e = let t = no_later_time c d e in grind (arith, nat_tests, l, t)
 
-found_due_by : (now : ℕ) (c : Candidate) (cs : List Candidate) (b : Bool) → nat_le c.0 now ≡ b → IsLeast c cs → FoundLeast (cond b (Some c) None) (due_among now cs)
+found_due_by : (now : ℕ) (c : Candidate) (cs : List Candidate) (b : Bool) → nat_le c.0 now ≡ b → IsLeast c cs
+    → FoundLeast (cond b (Some c) None) (due_among now cs)
 found_due_by now c cs true s h = record {
   among = any_filtered c (λ d. nat_le d.0 now) cs s h.among;
   first = all_filtered (is_no_later c) (λ d. nat_le d.0 now) cs h.first;
@@ -218,11 +231,13 @@ least_due now cs = least_found (if_due now (least cs)) (due_among now cs) (found
 
 -- ---- candidates and objects
 
-within_by : (k n : ℕ) (t : Option ℕ) (cs : List Candidate) → k < n → list_all (λ c. nat_lt c.1 n) cs ≡ true → list_all (λ c. nat_lt c.1 n) (cons_option (option_map (λ time. (time, k)) t) cs) ≡ true
+within_by : (k n : ℕ) (t : Option ℕ) (cs : List Candidate) → k < n → list_all (λ c. nat_lt c.1 n) cs ≡ true
+    → list_all (λ c. nat_lt c.1 n) (cons_option (option_map (λ time. (time, k)) t) cs) ≡ true
 within_by k n None cs l e = e
 within_by k n (Some t) cs l e = both_and (nat_lt k n) _ (grind (arith, nat_tests, l)) e
 
-within_from : (k n : ℕ) (objects : List Scheduling) → k + length objects ≤ n → list_all (λ c. nat_lt c.1 n) (filter_map (λ p. candidate p.0 p.1) (enumerate_from k objects)) ≡ true
+within_from : (k n : ℕ) (objects : List Scheduling) → k + length objects ≤ n
+    → list_all (λ c. nat_lt c.1 n) (filter_map (λ p. candidate p.0 p.1) (enumerate_from k objects)) ≡ true
 within_from k n [] l = refl
 within_from k n (o ∷ objects) l = within_by k n (candidate_time o) _ (omega arith) (within_from (k + 1) n objects (omega arith))
 
@@ -234,11 +249,13 @@ time_by : (b : Bool) (next : Option ℕ) → is_time next ≡ true → is_time (
 time_by true next e = e
 time_by false next e = refl
 
-times_by : (k : ℕ) (t : Option ℕ) (cs : List Candidate) → is_time t ≡ true → list_all (λ c. nat_le c.0 (2 ^ 61)) cs ≡ true → list_all (λ c. nat_le c.0 (2 ^ 61)) (cons_option (option_map (λ time. (time, k)) t) cs) ≡ true
+times_by : (k : ℕ) (t : Option ℕ) (cs : List Candidate) → is_time t ≡ true → list_all (λ c. nat_le c.0 (2 ^ 61)) cs ≡ true
+    → list_all (λ c. nat_le c.0 (2 ^ 61)) (cons_option (option_map (λ time. (time, k)) t) cs) ≡ true
 times_by k None cs l e = e
 times_by k (Some t) cs l e = both_and (nat_le t (2 ^ 61)) _ l e
 
-times_from : (k : ℕ) (objects : List Scheduling) → list_all is_in_time objects ≡ true → list_all (λ c. nat_le c.0 (2 ^ 61)) (filter_map (λ p. candidate p.0 p.1) (enumerate_from k objects)) ≡ true
+times_from : (k : ℕ) (objects : List Scheduling) → list_all is_in_time objects ≡ true
+    → list_all (λ c. nat_le c.0 (2 ^ 61)) (filter_map (λ p. candidate p.0 p.1) (enumerate_from k objects)) ≡ true
 times_from k [] e = refl
 times_from k (o ∷ objects) e =
     let both = and_both (is_in_time o) (list_all is_in_time objects) e in

@@ -1,5 +1,6 @@
 -- Laws of the candidates whose check may begin.
-use Rattle.std.proofs.Common.{◌≡◌, ℕ, zero, suc, ◌+◌, ◌<◌, ◌≤◌, Bool, true, false, not, ◌||◌, cond, List, [], ◌∷◌, take, Option, Some, None, option_map, refl, sym, ap, subst, ◌∙◌, arith}
+use Rattle.std.proofs.Common.{◌≡◌, ℕ, zero, suc, ◌+◌, ◌<◌, ◌≤◌, Bool, true, false, not, ◌||◌, cond, List, [], ◌∷◌, take, Option, Some, None, option_map}
+use Rattle.std.proofs.Common.{refl, sym, ap, subst, ◌∙◌, arith}
 use Rattle.std.specs.Prelude.{filter, nat_le, nat_lt}
 use Rattle.std.specs.List.{list_all, list_any, filter_map, enumerate_from, cons_option}
 use Rattle.std.proofs.lemmas.Bool.Decides.{nat_tests}
@@ -11,11 +12,13 @@ use Rattle.check_sched.specs.declared.call.Reply.{Reply}
 use Rattle.check_sched.specs.declared.call.Reply.TheVariants as reply
 use Rattle.check_sched.specs.State.{State, has_room, is_host}
 use Rattle.check_sched.specs.Step.{candidates, due, eligible, is_open, waiting_reply}
-use Rattle.check_sched.proofs.CandidateLaws.{FoundLeast, IsLeast, all_at_least, any_filtered, both_and, if_due, is_same, least_due, least_is_found, none_filtered, same_is}
+use Rattle.check_sched.proofs.CandidateLaws.{FoundLeast, IsLeast, all_at_least, any_filtered, both_and, if_due, is_same, least_due, least_is_found}
+use Rattle.check_sched.proofs.CandidateLaws.{none_filtered, same_is}
 
 -- ---- filters
 
-filtered_by : (p : Candidate → Bool) (c : Candidate) (cs : List Candidate) (b : Bool) → p c ≡ b → list_all p (filter p cs) ≡ true → list_all p (cond b (c ∷ filter p cs) (filter p cs)) ≡ true
+filtered_by : (p : Candidate → Bool) (c : Candidate) (cs : List Candidate) (b : Bool) → p c ≡ b → list_all p (filter p cs) ≡ true
+    → list_all p (cond b (c ∷ filter p cs) (filter p cs)) ≡ true
 filtered_by p c cs true e h = both_and (p c) _ e h
 filtered_by p c cs false e h = h
 
@@ -55,7 +58,8 @@ or_right false = refl
 abbrev numbered : ℕ → List Scheduling → List Candidate
 numbered k objects = filter_map (λ p. candidate p.0 p.1) (enumerate_from k objects)
 
-past_by : (k n : ℕ) (t : Option ℕ) (cs : List Candidate) → n ≤ k → list_all (λ c. not (nat_lt c.1 n)) cs ≡ true → list_all (λ c. not (nat_lt c.1 n)) (cons_option (option_map (λ time. (time, k)) t) cs) ≡ true
+past_by : (k n : ℕ) (t : Option ℕ) (cs : List Candidate) → n ≤ k → list_all (λ c. not (nat_lt c.1 n)) cs ≡ true
+    → list_all (λ c. not (nat_lt c.1 n)) (cons_option (option_map (λ time. (time, k)) t) cs) ≡ true
 past_by k n None cs l e = e
 past_by k n (Some t) cs l e = both_and (not (nat_lt k n)) _ (grind (arith, nat_tests, l)) e
 
@@ -84,7 +88,8 @@ open_by now setup objects false =
     ∙ ap (due_among now) (sym (numbered_first 0 (host_count setup) (host_count setup) objects (omega arith)))
 
 -- they are the due among all objects, or among the hosts, by whether there is room
-pub eligible_is : (now : ℕ) (s : State) (room : Bool) → has_room s ≡ room → eligible now s ≡ due_among now (candidates_among (cond room s.objects (take (host_count s.setup) s.objects)))
+pub eligible_is : (now : ℕ) (s : State) (room : Bool) → has_room s ≡ room
+    → eligible now s ≡ due_among now (candidates_among (cond room s.objects (take (host_count s.setup) s.objects)))
 eligible_is now s room e = ap (λ b. filter (λ c. is_host s.setup c.1 || b) (due_among now (candidates_among s.objects))) e ∙ open_by now s.setup s.objects room
 
 -- the check of the one that is chosen may begin
@@ -98,10 +103,12 @@ waiting_by P true next limit idle = limit
 waiting_by P false next limit idle = idle
 
 -- it is one of two
-pub waiting_cases : (P : Reply → Type 0) (now : ℕ) (s : State) → P reply.AtLimit → P (reply.Idle (option_map (λ c. c.0) (least (candidates s)))) → P (waiting_reply now s)
+pub waiting_cases : (P : Reply → Type 0) (now : ℕ) (s : State) → P reply.AtLimit → P (reply.Idle (option_map (λ c. c.0) (least (candidates s))))
+    → P (waiting_reply now s)
 waiting_cases P now s limit idle = waiting_by P (list_any (λ c. not (is_host s.setup c.1)) (due now s)) _ limit idle
 
-any_same_by : (p : Candidate → Bool) (c d : Candidate) (cs : List Candidate) (b : Bool) → is_same c d ≡ b → p c ≡ true → (b || list_any (is_same c) cs) ≡ true → (list_any (is_same c) cs ≡ true → list_any p cs ≡ true) → (p d || list_any p cs) ≡ true
+any_same_by : (p : Candidate → Bool) (c d : Candidate) (cs : List Candidate) (b : Bool) → is_same c d ≡ b → p c ≡ true
+    → (b || list_any (is_same c) cs) ≡ true → (list_any (is_same c) cs ≡ true → list_any p cs ≡ true) → (p d || list_any p cs) ≡ true
 any_same_by p c d cs true e h m more = let here : p d ≡ true = subst (λ x. p x ≡ true) (same_is c d e) h in rw here refl
 any_same_by p c d cs false e h m more = rw (more m) (or_right (p d))
 
@@ -121,7 +128,8 @@ due_least now s c e l =
     let is_due : nat_le c.0 now ≡ true = grind (arith, nat_tests, l) in
     sym (least_due now (candidates s)) ∙ ap (if_due now) e ∙ ap (λ b. cond b (Some c) None) is_due
 
-closed_by : (now : ℕ) (s : State) (c : Candidate) (host : Bool) → is_host s.setup c.1 ≡ host → eligible now s ≡ [] → list_any (is_same c) (due now s) ≡ true → host ≡ false
+closed_by : (now : ℕ) (s : State) (c : Candidate) (host : Bool) → is_host s.setup c.1 ≡ host → eligible now s ≡ []
+    → list_any (is_same c) (due now s) ≡ true → host ≡ false
 closed_by now s c false e none m = refl
 closed_by now s c true e none m =
     let here : is_open s c.1 ≡ true = rw e refl in
@@ -130,7 +138,8 @@ closed_by now s c true e none m =
     cc
 
 -- none may begin, and the least of all that wait is due: it is a service, and the limit is reached
-pub waiting_at_limit : (now : ℕ) (s : State) (c : Candidate) → least (eligible now s) ≡ None → least (candidates s) ≡ Some c → c.0 ≤ now → waiting_reply now s ≡ reply.AtLimit
+pub waiting_at_limit : (now : ℕ) (s : State) (c : Candidate) → least (eligible now s) ≡ None → least (candidates s) ≡ Some c → c.0 ≤ now
+    → waiting_reply now s ≡ reply.AtLimit
 waiting_at_limit now s c none e l =
     let among = (least_some c (due now s) (due_least now s c e l)).among in
     let service : is_host s.setup c.1 ≡ false = closed_by now s c (is_host s.setup c.1) refl (least_none (eligible now s) none) among in
@@ -138,7 +147,8 @@ waiting_at_limit now s c none e l =
     ap (λ b. cond b reply.AtLimit (reply.Idle (option_map (λ x. x.0) (least (candidates s))))) (any_same (λ x. not (is_host s.setup x.1)) c (due now s) here among)
 
 none_due : (now : ℕ) (s : State) → least (due now s) ≡ None → waiting_reply now s ≡ reply.Idle (option_map (λ x. x.0) (least (candidates s)))
-none_due now s e = ap (λ l. cond (list_any (λ c. not (is_host s.setup c.1)) l) reply.AtLimit (reply.Idle (option_map (λ x. x.0) (least (candidates s))))) (least_none (due now s) e)
+none_due now s e =
+    ap (λ l. cond (list_any (λ c. not (is_host s.setup c.1)) l) reply.AtLimit (reply.Idle (option_map (λ x. x.0) (least (candidates s))))) (least_none (due now s) e)
 
 -- the least of all that wait isn't due, and so none is
 pub waiting_early : (now : ℕ) (s : State) (c : Candidate) → least (candidates s) ≡ Some c → now < c.0 → waiting_reply now s ≡ reply.Idle (Some c.0)

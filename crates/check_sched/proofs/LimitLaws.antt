@@ -85,10 +85,13 @@ limit_taken now n s may within = taken_by now n s (is_host s.setup n) refl may w
 
 busy_none : {X : Type 0} (made : X → Scheduling) (xs : List X) → ((x : X) → is_some (made x).run ≡ false) → busy (map made xs) ≡ 0
 busy_none made [] h = refl
-busy_none made (x ∷ xs) h = busy_cons (made x) (map made xs) ∙ ap (λ b. cond b 1 0 + busy (map made xs)) (h x) ∙ (let zero_more : 0 + busy (map made xs) ≡ busy (map made xs) = omega arith in zero_more) ∙ busy_none made xs h
+busy_none made (x ∷ xs) h =
+    busy_cons (made x) (map made xs) ∙ ap (λ b. cond b 1 0 + busy (map made xs)) (h x)
+    ∙ (let zero_more : 0 + busy (map made xs) ≡ busy (map made xs) = omega arith in zero_more) ∙ busy_none made xs h
 
 -- no service runs among objects that are made without a run
-pub services_none : {X : Type 0} (hosts : ℕ) (made : X → Scheduling) (xs : List X) → ((x : X) → is_some (made x).run ≡ false) → busy (drop hosts (map made xs)) ≡ 0
+pub services_none : {X : Type 0} (hosts : ℕ) (made : X → Scheduling) (xs : List X) → ((x : X) → is_some (made x).run ≡ false)
+    → busy (drop hosts (map made xs)) ≡ 0
 services_none zero made xs h = busy_none made xs h
 services_none (suc hosts) made [] h = refl
 services_none (suc hosts) made (x ∷ xs) h = services_none hosts made xs h

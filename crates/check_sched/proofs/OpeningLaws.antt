@@ -1,5 +1,6 @@
 -- Laws of the opening.
-use Rattle.std.proofs.Common.{◌≡◌, ℕ, zero, suc, ◌+◌, ◌<◌, ◌^◌, Bool, true, List, [], ◌∷◌, ◌++◌, length, map, take, get_or, min, Option, Some, None, option_map, refl, sym, ap, subst, ◌∙◌, arith, IfSome}
+use Rattle.std.proofs.Common.{◌≡◌, ℕ, zero, suc, ◌+◌, ◌<◌, ◌^◌, Bool, true, List, [], ◌∷◌, ◌++◌, length, map, take, get_or, min, Option, Some, None}
+use Rattle.std.proofs.Common.{option_map, refl, sym, ap, subst, ◌∙◌, arith, IfSome}
 use Rattle.std.specs.Prelude.{slice_get, zip, All}
 use Rattle.std.specs.List.{list_all, enumerate_from}
 use Rattle.std.proofs.lemmas.Bool.Decides.{nat_tests}
@@ -13,7 +14,8 @@ use Rattle.check_rules.specs.Standing.{pending_standing}
 use Rattle.check_rules.proofs.VerdictLaws.{pending_is_lawful, pending_sort}
 use Rattle.check_sched.specs.Scheduling.{Scheduling, opening_object}
 use Rattle.check_spread.specs.Spread.{initial_times}
-use Rattle.check_sched.specs.State.{State, IsState, IsStandingOf, IsWithinLimit, is_host, is_in_time, is_time, objects_at, opening, opening_objects, opening_standings}
+use Rattle.check_sched.specs.State.{State, IsState, IsStandingOf, IsWithinLimit, is_host, is_in_time, is_time, objects_at, opening, opening_objects}
+use Rattle.check_sched.specs.State.{opening_standings}
 use Rattle.check_sched.proofs.CandidateLaws.{both_and}
 use Rattle.check_sched.proofs.LimitLaws.{services_none}
 use Rattle.check_sched.proofs.ReportLaws.{some_attempts}
@@ -24,10 +26,13 @@ first_in_time : (first : Option ℕ) → IfSome first (λ time. time < 2 ^ 61) �
 first_in_time None h = refl
 first_in_time (Some time) h = grind (arith, nat_tests, h)
 
-times_in_time : (times : List (Option ℕ)) (os : List Named) → All (λ first. IfSome first (λ time. time < 2 ^ 61)) times → list_all is_in_time (map (λ p. opening_object p.0 p.1.object.enabled) (zip times os)) ≡ true
+times_in_time : (times : List (Option ℕ)) (os : List Named) → All (λ first. IfSome first (λ time. time < 2 ^ 61)) times
+    → list_all is_in_time (map (λ p. opening_object p.0 p.1.object.enabled) (zip times os)) ≡ true
 times_in_time [] os h = refl
 times_in_time (first ∷ times) [] h = refl
-times_in_time (first ∷ times) (o ∷ os) h = both_and _ _ (both_and (is_time first) true (first_in_time first (h 0 None (omega arith))) refl) (times_in_time times os (λ k d l. h (suc k) d (omega arith)))
+times_in_time (first ∷ times) (o ∷ os) h =
+    both_and _ _ (both_and (is_time first) true (first_in_time first (h 0 None (omega arith))) refl)
+    (times_in_time times os (λ k d l. h (suc k) d (omega arith)))
 
 -- the standing at a place of the opening is pending
 pub pending_at : (setup : Configuration) (k : ℕ) (os : List Named) (n : ℕ) (t : Standing)
@@ -45,9 +50,15 @@ standings_opening : (setup : Configuration) (k : ℕ) (os : List Named) → IsSe
     → slice_get (map (λ p. pending_standing (is_host setup p.0)) (enumerate_from k os)) n ≡ Some t → IsStandingOf setup (k + n) t
 standings_opening setup k os h n t e =
     subst (λ x. IsStandingOf setup (k + n) x) (pending_at setup k os n t e)
-    (record { lawful = pending_is_lawful (is_host setup (k + n)) _ (some_attempts setup (k + n) h); sort = pending_sort (is_host setup (k + n)); until_checked = λ never. refl })
+    (record {
+      lawful = pending_is_lawful (is_host setup (k + n)) _ (some_attempts setup (k + n) h);
+      sort = pending_sort
+          (is_host setup (k + n));
+      until_checked = λ never. refl;
+    })
 
-pub length-objects_at : (setup : Configuration) (times : List (Option ℕ)) → length times ≡ object_count setup → length (objects_at setup times) ≡ object_count setup
+pub length-objects_at : (setup : Configuration) (times : List (Option ℕ)) → length times ≡ object_count setup
+    → length (objects_at setup times) ≡ object_count setup
 length-objects_at setup times e =
     let zipped = length-zip times (objects_of setup) in
     let less : min (length times) (object_count setup) ≡ object_count setup = omega arith in
@@ -63,7 +74,8 @@ opening_limit setup start some =
     omega (arith, none)
 
 -- a scheduler can be in the state that it opens with
-pub opening_is_state : (setup : Configuration) (start : ℕ) → IsSetup setup → length (initial_times setup start) ≡ object_count setup → All (λ first. IfSome first (λ time. time < 2 ^ 61)) (initial_times setup start) → IsState (opening setup start)
+pub opening_is_state : (setup : Configuration) (start : ℕ) → IsSetup setup → length (initial_times setup start) ≡ object_count setup
+    → All (λ first. IfSome first (λ time. time < 2 ^ 61)) (initial_times setup start) → IsState (opening setup start)
 opening_is_state setup start valid count within = record {
   valid_setup = valid;
   one_each = length-objects_at setup (initial_times setup start) count;
@@ -86,10 +98,12 @@ opened_is_state setup start times seen objects standings valid made count within
 -- ---- the opening, object by object
 
 -- the first of a list, and one more
-pub one_more : {X : Type 0} (n : ℕ) (all was more : List X) (x : X) → more ≡ was ++ x ∷ [] → was ≡ take n all → take n all ++ x ∷ [] ≡ take (n + 1) all → more ≡ take (n + 1) all
+pub one_more : {X : Type 0} (n : ℕ) (all was more : List X) (x : X) → more ≡ was ++ x ∷ [] → was ≡ take n all
+    → take n all ++ x ∷ [] ≡ take (n + 1) all → more ≡ take (n + 1) all
 one_more n all was more x e f g = e ∙ ap (λ xs. xs ++ x ∷ []) f ∙ g
 
-object_at : (n : ℕ) (times : List (Option ℕ)) (os : List Named) (o : Object) (first : Option ℕ) (d : Scheduling) → n < length times → option_map (λ x. x.object) (slice_get os n) ≡ Some o → first ≡ get_or times n None
+object_at : (n : ℕ) (times : List (Option ℕ)) (os : List Named) (o : Object) (first : Option ℕ) (d : Scheduling) → n < length times
+    → option_map (λ x. x.object) (slice_get os n) ≡ Some o → first ≡ get_or times n None
     → get_or (map (λ p. opening_object p.0 p.1.object.enabled) (zip times os)) n d ≡ opening_object first o.enabled
 object_at n [] os o first d l e f = absurd (omega arith)
 object_at n (time ∷ times) [] o first d l e f = cc
@@ -99,21 +113,28 @@ object_at zero (time ∷ times) (x ∷ os) o first d l e f =
 object_at (suc n) (time ∷ times) (x ∷ os) o first d l e f = object_at n times os o first d (omega arith) e f
 
 -- one object more of a scheduler that is being opened
-pub object_seen : (setup : Configuration) (times : List (Option ℕ)) (n : ℕ) (o : Object) (first : Option ℕ) (made : Scheduling) → length times ≡ object_count setup → n < length times → option_map (λ x. x.object) (slice_get (objects_of setup) n) ≡ Some o → first ≡ get_or times n None → made ≡ opening_object first o.enabled
+pub object_seen : (setup : Configuration) (times : List (Option ℕ)) (n : ℕ) (o : Object) (first : Option ℕ) (made : Scheduling)
+    → length times ≡ object_count setup → n < length times → option_map (λ x. x.object) (slice_get (objects_of setup) n) ≡ Some o
+    → first ≡ get_or times n None → made ≡ opening_object first o.enabled
     → take n (objects_at setup times) ++ made ∷ [] ≡ take (n + 1) (objects_at setup times)
 object_seen setup times n o first made c l e f m =
     let less : n < length (objects_at setup times) = let k = length-objects_at setup times c in omega (arith, l, k) in
     let is : made ≡ get_or (objects_at setup times) n made = m ∙ sym (object_at n times (objects_of setup) o first made l e f) in
     ap (λ x. take n (objects_at setup times) ++ x ∷ []) is ∙ sym (take_more (objects_at setup times) n made less)
 
-standing_at_opening : (setup : Configuration) (k n : ℕ) (os : List Named) (d : Standing) → n < length os → get_or (map (λ p. pending_standing (is_host setup p.0)) (enumerate_from k os)) n d ≡ pending_standing (is_host setup (k + n))
+standing_at_opening : (setup : Configuration) (k n : ℕ) (os : List Named) (d : Standing) → n < length os
+    → get_or (map (λ p. pending_standing (is_host setup p.0)) (enumerate_from k os)) n d ≡ pending_standing (is_host setup (k + n))
 standing_at_opening setup k n [] d h = absurd (omega arith)
 standing_at_opening setup k zero (o ∷ os) d h = ap (λ j. pending_standing (is_host setup j)) (let here : k ≡ k + 0 = omega arith in here)
-standing_at_opening setup k (suc n) (o ∷ os) d h = standing_at_opening setup (k + 1) n os d (omega arith) ∙ ap (λ j. pending_standing (is_host setup j)) (let here : k + 1 + n ≡ k + suc n = omega arith in here)
+standing_at_opening setup k (suc n) (o ∷ os) d h =
+    standing_at_opening setup (k + 1) n os d (omega arith)
+    ∙ ap (λ j. pending_standing (is_host setup j)) (let here : k + 1 + n ≡ k + suc n = omega arith in here)
 
 -- one standing more of a scheduler that is being opened
-pub standing_seen : (setup : Configuration) (n : ℕ) (made : Standing) (host : Bool) → n < object_count setup → made ≡ pending_standing host → host ≡ is_host setup n → take n (opening_standings setup) ++ made ∷ [] ≡ take (n + 1) (opening_standings setup)
+pub standing_seen : (setup : Configuration) (n : ℕ) (made : Standing) (host : Bool) → n < object_count setup → made ≡ pending_standing host
+    → host ≡ is_host setup n → take n (opening_standings setup) ++ made ∷ [] ≡ take (n + 1) (opening_standings setup)
 standing_seen setup n made host h m e =
     let less : n < length (opening_standings setup) = let l = length-opening_standings setup in omega (arith, h, l) in
-    let is : made ≡ get_or (opening_standings setup) n made = m ∙ ap pending_standing e ∙ sym (standing_at_opening setup 0 n (objects_of setup) made h ∙ ap (λ j. pending_standing (is_host setup j)) (let z : 0 + n ≡ n = omega arith in z)) in
+    let is : made ≡ get_or (opening_standings setup) n made = m ∙ ap pending_standing e ∙ sym
+    (standing_at_opening setup 0 n (objects_of setup) made h ∙ ap (λ j. pending_standing (is_host setup j)) (let z : 0 + n ≡ n = omega arith in z)) in
     ap (λ x. take n (opening_standings setup) ++ x ∷ []) is ∙ sym (take_more (opening_standings setup) n made less)

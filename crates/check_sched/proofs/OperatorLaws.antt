@@ -52,7 +52,8 @@ status_cases P n s refused tell = by_test P s (known n s) _ refused (λ o e. tel
 -- ---- the limits
 
 -- one object changed, within its limits, leaves the state one that a scheduler can be in
-pub with_object_is_state : (n : ℕ) (f : Scheduling → Scheduling) (s : State) → IsState s → ((o : Scheduling) → is_in_time o ≡ true → is_in_time (f o) ≡ true) → BeginsNone f → IsState (with_object n f s)
+pub with_object_is_state : (n : ℕ) (f : Scheduling → Scheduling) (s : State) → IsState s
+    → ((o : Scheduling) → is_in_time o ≡ true → is_in_time (f o) ≡ true) → BeginsNone f → IsState (with_object n f s)
 with_object_is_state n f s is_state h none = record {
   valid_setup = is_state.valid_setup;
   one_each = length-update_at n f s.objects ∙ is_state.one_each;
@@ -71,27 +72,32 @@ freed_by now None m e = moment_is_time now m
 freed_by now (Some time) m e = e
 
 -- the time of the check after a run that was given up is at most 2^61
-pub freed_in_time : (now n : ℕ) (o : Scheduling) (s : State) → IsState s → slice_get s.objects n ≡ Some o → now ≤ 2 ^ 60 → is_time (Some (freed_time now o)) ≡ true
+pub freed_in_time : (now n : ℕ) (o : Scheduling) (s : State) → IsState s → slice_get s.objects n ≡ Some o → now ≤ 2 ^ 60
+    → is_time (Some (freed_time now o)) ≡ true
 freed_in_time now n o s is_state e m = freed_by now o.next m (next_of_state s n o is_state e)
 
 pub ended_in_time : (next : Option ℕ) (o : Scheduling) → is_time next ≡ true → is_in_time (ended next o) ≡ true
 ended_in_time next o e = both_and (is_time next) true e refl
 
 pub rescheduled_in_time : (time : ℕ) (forced : Bool) (o : Scheduling) → time ≤ 2 ^ 60 → is_in_time o ≡ true → is_in_time (rescheduled time forced o) ≡ true
-rescheduled_in_time time forced o m e = both_and (is_time (Some time)) (is_moment o.run) (moment_is_time time m) (and_both (is_time o.next) (is_moment o.run) e).1
+rescheduled_in_time time forced o m e =
+    both_and (is_time (Some time)) (is_moment o.run) (moment_is_time time m) (and_both (is_time o.next) (is_moment o.run) e).1
 
 -- ---- what the code leaves and answers
 
 -- the state that a write to one object leaves
 pub written : (n : ℕ) (f : Scheduling → Scheduling) (s : State) (o new : Scheduling) → n < length s.objects → o ≡ get_or s.objects n o → new ≡ f o
-    → let left : State = record { setup = s.setup; start = s.start; objects = set s.objects n new; standings = s.standings; runs = s.runs } in left ≡ with_object n f s
-written n f s o new h e g i = record { setup = s.setup; start = s.start; objects = set_is_update n f s.objects o new h (g ∙ ap f e) i; standings = s.standings; runs = s.runs }
+    → let left : State =
+    record { setup = s.setup; start = s.start; objects = set s.objects n new; standings = s.standings; runs = s.runs } in left ≡ with_object n f s
+written n f s o new h e g i =
+    record { setup = s.setup; start = s.start; objects = set_is_update n f s.objects o new h (g ∙ ap f e) i; standings = s.standings; runs = s.runs }
 
 -- an object that was found is one of the objects
 pub known_within : (n : ℕ) (s : State) (o : Scheduling) → known n s ≡ Ok o → n < length s.objects
 known_within n s o e = slice_get_within s.objects n o (known_is n s o e)
 
-pub abandon_answers : (n run now : ℕ) (s : State) (o : Scheduling) (u : Unit {0}) (r : OpenRun) → known n s ≡ Ok o → within_range now ≡ Ok u → run_under run o.run ≡ Ok r
+pub abandon_answers : (n run now : ℕ) (s : State) (o : Scheduling) (u : Unit {0}) (r : OpenRun) → known n s ≡ Ok o → within_range now ≡ Ok u
+    → run_under run o.run ≡ Ok r
     → step s (call.Abandon n run now) ≡ (with_object n (ended (Some (freed_time now o))) s, reply.Freed (freed_time now o))
 abandon_answers n run now s o u r e f g = rw (e, f, g) refl
 
@@ -99,5 +105,6 @@ pub reschedule_answers : (n time : ℕ) (forced : Bool) (s : State) (o : Schedul
     → step s (call.Reschedule n time forced) ≡ (with_object n (rescheduled time forced) s, reply.Done)
 reschedule_answers n time forced s o u e f = rw (e, f) refl
 
-pub enable_answers : (n : ℕ) (on : Bool) (s : State) (o : Scheduling) → known n s ≡ Ok o → step s (call.Enable n on) ≡ (with_object n (enabled_as on) s, reply.Done)
+pub enable_answers : (n : ℕ) (on : Bool) (s : State) (o : Scheduling) → known n s ≡ Ok o
+    → step s (call.Enable n on) ≡ (with_object n (enabled_as on) s, reply.Done)
 enable_answers n on s o e = rw e refl

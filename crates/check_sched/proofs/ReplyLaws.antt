@@ -1,5 +1,6 @@
 -- Laws of replies: which replies a call can have in a history.
-use Rattle.std.proofs.Common.{◌≡◌, ℕ, ◌<◌, ◌^◌, Bool, true, false, ◌==◌, cond, List, [], ◌∷◌, ◌++◌, length, Option, Some, None, Result, Ok, Err, refl, sym, subst, ◌∙◌, arith}
+use Rattle.std.proofs.Common.{◌≡◌, ℕ, ◌<◌, ◌^◌, Bool, true, false, ◌==◌, cond, List, [], ◌∷◌, ◌++◌, length, Option, Some, None, Result, Ok, Err, refl, sym}
+use Rattle.std.proofs.Common.{subst, ◌∙◌, arith}
 use Rattle.std.specs.Prelude.{nat_lt, ok_or, slice_get}
 use Rattle.ticket_steps.specs.declared.kept.Entry.{Entry}
 use Rattle.ticket_steps.specs.History.{entry, replay, IsLegal}
@@ -127,7 +128,8 @@ taken_among s front back m now object run legal =
 -- In a book's history the report of an object that was taken before is answered by its standing, or
 -- refused since the object isn't running or runs under another run.
 pub report_reply : (s : BookState) (front back : List (Entry Call Reply)) (m n now object run : ℕ) (code : Code) (r : Reply)
-    → IsLegal book_step s (((front ++ entry m (call.Take now) (reply.Taken object run) ∷ []) ++ back) ++ entry n (call.Report object run code) r ∷ []) → IsReportReply r
+    → IsLegal book_step s (((front ++ entry m (call.Take now) (reply.Taken object run) ∷ []) ++ back) ++ entry n (call.Report object run code) r ∷ [])
+    → IsReportReply r
 report_reply s front back m n now object run code r legal =
     let before = (front ++ entry m (call.Take now) (reply.Taken object run) ∷ []) ++ back in
     let report = entry n (call.Report object run code) r in

@@ -1,5 +1,6 @@
 -- Laws of reports: the standing and the next time that a result gives are within their limits.
-use Rattle.std.proofs.Common.{◌≡◌, ℕ, zero, suc, ◌+◌, ◌-◌, ◌*◌, ◌<◌, ◌≤◌, ◌^◌, Bool, true, false, not, ◌==◌, cond, List, [], ◌∷◌, length, get_or, Option, Some, None, Ok, option_map, refl, sym, ap, subst, ◌∙◌, arith, IfSome}
+use Rattle.std.proofs.Common.{◌≡◌, ℕ, zero, suc, ◌+◌, ◌-◌, ◌*◌, ◌<◌, ◌≤◌, ◌^◌, Bool, true, false, not, ◌==◌, cond, List, [], ◌∷◌, length, get_or, Option}
+use Rattle.std.proofs.Common.{Some, None, Ok, option_map, refl, sym, ap, subst, ◌∙◌, arith, IfSome}
 use Rattle.std.specs.Prelude.{nat_lt, option_and_then, slice_get, unwrap_or}
 use Rattle.std.specs.Option.{option_map_or}
 use Rattle.std.proofs.Math.Nat.{mul-le-mul_left}
@@ -40,7 +41,8 @@ none_past [] i e = omega arith
 none_past (s ∷ services) zero e = cc
 none_past (s ∷ services) (suc i) e = let more = none_past services i e in omega (arith, more)
 
-no_host_by : (setup : Configuration) (n : ℕ) (b : Bool) → nat_lt n (host_count setup) ≡ b → n < object_count setup → cond b None (option_map (λ s. s.host) (slice_get setup.services (n - host_count setup))) ≡ None → b ≡ true
+no_host_by : (setup : Configuration) (n : ℕ) (b : Bool) → nat_lt n (host_count setup) ≡ b → n < object_count setup
+    → cond b None (option_map (λ s. s.host) (slice_get setup.services (n - host_count setup))) ≡ None → b ≡ true
 no_host_by setup n true e h f = refl
 no_host_by setup n false e h f =
     let past = none_past setup.services (n - host_count setup) f in
@@ -52,7 +54,8 @@ no_host_by setup n false e h f =
 pub is_host-none : (setup : Configuration) (n : ℕ) → n < object_count setup → host_of setup n ≡ None → is_host setup n ≡ true
 is_host-none setup n h e = no_host_by setup n (nat_lt n (host_count setup)) refl h e
 
-host_by : (setup : Configuration) (n host : ℕ) (b : Bool) → cond b None (option_map (λ s. s.host) (slice_get setup.services (n - host_count setup))) ≡ Some host → b ≡ false
+host_by : (setup : Configuration) (n host : ℕ) (b : Bool)
+    → cond b None (option_map (λ s. s.host) (slice_get setup.services (n - host_count setup))) ≡ Some host → b ≡ false
 host_by setup n host true e = cc
 host_by setup n host false e = refl
 
@@ -67,7 +70,8 @@ object_in_range setup n o h e = all_at_place (λ x. is_object_in_range x.object)
 pub one_attempt : (o : Object) → is_object_in_range o ≡ true → 1 ≤ o.max_check_attempts
 one_attempt o e = grind (arith, nat_tests, e)
 
-attempts_by : (setup : Configuration) (n : ℕ) (found : Option Named) → IsSetup setup → slice_get (objects_of setup) n ≡ found → 1 ≤ option_map_or (λ o. o.object.max_check_attempts) found 1
+attempts_by : (setup : Configuration) (n : ℕ) (found : Option Named) → IsSetup setup → slice_get (objects_of setup) n ≡ found
+    → 1 ≤ option_map_or (λ o. o.object.max_check_attempts) found 1
 attempts_by setup n None h e = omega arith
 attempts_by setup n (Some o) h e = one_attempt o.object (object_in_range setup n o h e)
 
@@ -76,7 +80,8 @@ pub some_attempts : (setup : Configuration) (n : ℕ) → IsSetup setup → 1 �
 some_attempts setup n h = attempts_by setup n (slice_get (objects_of setup) n) h refl
 
 -- the maximum of attempts of an object that is there
-pub max_attempts_at : (found : Option Named) (o : Object) → option_map (λ x. x.object) found ≡ Some o → o.max_check_attempts ≡ option_map_or (λ x. x.object.max_check_attempts) found 1
+pub max_attempts_at : (found : Option Named) (o : Object) → option_map (λ x. x.object) found ≡ Some o
+    → o.max_check_attempts ≡ option_map_or (λ x. x.object.max_check_attempts) found 1
 max_attempts_at None o e = cc
 max_attempts_at (Some x) o e = let same : x.object ≡ o = cc in ap (λ y. y.max_check_attempts) (sym same)
 
@@ -98,7 +103,8 @@ service_sort code.Warning = refl
 service_sort code.Critical = refl
 service_sort code.Unknown = refl
 
-judged_is_standing_by : (setup : Configuration) (standings : List Standing) (n : ℕ) (c : Code) (host : Option ℕ) → IsSetup setup → n < object_count setup → host_of setup n ≡ host → IsStandingOf setup n (standing_at standings n)
+judged_is_standing_by : (setup : Configuration) (standings : List Standing) (n : ℕ) (c : Code) (host : Option ℕ) → IsSetup setup
+    → n < object_count setup → host_of setup n ≡ host → IsStandingOf setup n (standing_at standings n)
     → IsStandingOf setup n (judged_by host setup standings n c)
 judged_is_standing_by setup standings n c None h l e b = record {
   lawful = verdict_is_lawful (standing_at standings n) (host_state_of setup standings n c) (max_attempts_of setup n) true (some_attempts setup n h) b.lawful;
@@ -106,13 +112,16 @@ judged_is_standing_by setup standings n c None h l e b = record {
   until_checked = λ never. cc;
 }
 judged_is_standing_by setup standings n c (Some host) h l e b = record {
-  lawful = verdict_is_lawful (standing_at standings n) (service_state_of c) (max_attempts_of setup n) (not (is_down (standing_at standings host))) (some_attempts setup n h) b.lawful;
+  lawful =
+      verdict_is_lawful (standing_at standings n) (service_state_of c) (max_attempts_of setup n) (not (is_down (standing_at standings host)))
+      (some_attempts setup n h) b.lawful;
   sort = service_sort c ∙ sym (is_host-some setup n host e);
   until_checked = λ never. cc;
 }
 
 -- an object can have the standing that a result gives it
-pub judged_is_standing : (setup : Configuration) (standings : List Standing) (n : ℕ) (c : Code) → IsSetup setup → n < object_count setup → IsStandingOf setup n (standing_at standings n) → IsStandingOf setup n (judged setup standings n c)
+pub judged_is_standing : (setup : Configuration) (standings : List Standing) (n : ℕ) (c : Code) → IsSetup setup → n < object_count setup
+    → IsStandingOf setup n (standing_at standings n) → IsStandingOf setup n (judged setup standings n c)
 judged_is_standing setup standings n c h l b = judged_is_standing_by setup standings n c (host_of setup n) h l refl b
 
 -- ---- the next time
@@ -134,34 +143,41 @@ interval_by o false e = grind (arith, nat_tests, e)
 pub interval_bound : (o : Object) (standing : Standing) → is_object_in_range o ≡ true → interval_after o standing ≤ 525600
 interval_bound o standing e = interval_by o (is_soft_problem standing) e
 
-read_by : (setup : Configuration) (n : ℕ) (o : Object) (found : Option Named) → IsSetup setup → slice_get (objects_of setup) n ≡ found → option_map (λ x. x.object) found ≡ Some o → is_object_in_range o ≡ true
+read_by : (setup : Configuration) (n : ℕ) (o : Object) (found : Option Named) → IsSetup setup → slice_get (objects_of setup) n ≡ found
+    → option_map (λ x. x.object) found ≡ Some o → is_object_in_range o ≡ true
 read_by setup n o None h e f = cc
 read_by setup n o (Some x) h e f = let same : x.object ≡ o = cc in subst (λ y. is_object_in_range y ≡ true) same (object_in_range setup n x h e)
 
 -- the same of an object that was read at its place
-pub object_read_in_range : (setup : Configuration) (n : ℕ) (o : Object) → IsSetup setup → option_map (λ x. x.object) (slice_get (objects_of setup) n) ≡ Some o → is_object_in_range o ≡ true
+pub object_read_in_range : (setup : Configuration) (n : ℕ) (o : Object) → IsSetup setup
+    → option_map (λ x. x.object) (slice_get (objects_of setup) n) ≡ Some o → is_object_in_range o ≡ true
 object_read_in_range setup n o h f = read_by setup n o (slice_get (objects_of setup) n) h refl f
 
 time_by : (none : Bool) (time : ℕ) → time ≤ 2 ^ 61 → is_time (cond none None (Some time)) ≡ true
 time_by true time h = refl
 time_by false time h = grind (arith, nat_tests, h)
 
-interval_next_by : (setup : Configuration) (n : ℕ) (standing : Standing) (start : ℕ) (found : Option Named) → IsSetup setup → start ≤ 2 ^ 60 → slice_get (objects_of setup) n ≡ found
+interval_next_by : (setup : Configuration) (n : ℕ) (standing : Standing) (start : ℕ) (found : Option Named) → IsSetup setup → start ≤ 2 ^ 60
+    → slice_get (objects_of setup) n ≡ found
     → is_time (option_and_then (λ o. time_after setup start (interval_after o.object standing)) found) ≡ true
 interval_next_by setup n standing start None h l e = refl
 interval_next_by setup n standing start (Some o) h l e =
-    let bound = milliseconds_bound (interval_after o.object standing) setup.options.interval_length (interval_bound o.object standing (object_in_range setup n o h e)) h.interval_length in
+    let bound = milliseconds_bound (interval_after o.object standing) setup.options.interval_length
+    (interval_bound o.object standing (object_in_range setup n o h e)) h.interval_length in
     time_by (interval_after o.object standing == 0) (start + milliseconds setup (interval_after o.object standing)) (omega (arith, bound, l))
 
-next_by : (setup : Configuration) (n : ℕ) (standing : Standing) (start : ℕ) (already : Option ℕ) → IsSetup setup → start ≤ 2 ^ 60 → is_time already ≡ true → is_time (next_after setup n standing start already) ≡ true
+next_by : (setup : Configuration) (n : ℕ) (standing : Standing) (start : ℕ) (already : Option ℕ) → IsSetup setup → start ≤ 2 ^ 60
+    → is_time already ≡ true → is_time (next_after setup n standing start already) ≡ true
 next_by setup n standing start None h l t = interval_next_by setup n standing start (slice_get (objects_of setup) n) h l refl
 next_by setup n standing start (Some time) h l t = t
 
 -- the next time after a report is at most 2^61
-pub next_in_time : (setup : Configuration) (n : ℕ) (standing : Standing) (start : ℕ) (already : Option ℕ) → IsSetup setup → start ≤ 2 ^ 60 → is_time already ≡ true → is_time (next_after setup n standing start already) ≡ true
+pub next_in_time : (setup : Configuration) (n : ℕ) (standing : Standing) (start : ℕ) (already : Option ℕ) → IsSetup setup → start ≤ 2 ^ 60
+    → is_time already ≡ true → is_time (next_after setup n standing start already) ≡ true
 next_in_time setup n standing start already h l t = next_by setup n standing start already h l t
 
-put_off_by : (setup : Configuration) (n now : ℕ) (found : Option Named) → IsSetup setup → now ≤ 2 ^ 60 → slice_get (objects_of setup) n ≡ found → is_time (option_and_then (λ o. time_after setup now o.object.check_interval) found) ≡ true
+put_off_by : (setup : Configuration) (n now : ℕ) (found : Option Named) → IsSetup setup → now ≤ 2 ^ 60 → slice_get (objects_of setup) n ≡ found
+    → is_time (option_and_then (λ o. time_after setup now o.object.check_interval) found) ≡ true
 put_off_by setup n now None h l e = refl
 put_off_by setup n now (Some o) h l e =
     let in_range : o.object.check_interval ≤ 525600 = check_in_range o.object (object_in_range setup n o h e) in
@@ -174,7 +190,8 @@ put_off_in_time setup n now h l = put_off_by setup n now (slice_get (objects_of 
 
 -- ---- the state
 
-standing_by : (s : State) (n : ℕ) (found : Option Standing) → IsState s → n < object_count s.setup → slice_get s.standings n ≡ found → IsStandingOf s.setup n (unwrap_or found (pending_standing true))
+standing_by : (s : State) (n : ℕ) (found : Option Standing) → IsState s → n < object_count s.setup → slice_get s.standings n ≡ found
+    → IsStandingOf s.setup n (unwrap_or found (pending_standing true))
 standing_by s n None is_state h e = let past = none_there s.standings n e in absurd (omega (arith, past, h, is_state.one_standing_each))
 standing_by s n (Some t) is_state h e = is_state.standings n t e
 
@@ -194,7 +211,8 @@ pub next_of_state : (s : State) (n : ℕ) (o : Scheduling) → IsState s → sli
 next_of_state s n o is_state e = (and_both (is_time o.next) (is_moment o.run) (all_at_place is_in_time s.objects n o is_state.times e)).0
 
 -- a report leaves the state one that a scheduler can be in
-pub reported_is_state : (n : ℕ) (standing : Standing) (next : Option ℕ) (s : State) → IsState s → is_time next ≡ true → IsStandingOf s.setup n standing → IsState (reported n standing next s)
+pub reported_is_state : (n : ℕ) (standing : Standing) (next : Option ℕ) (s : State) → IsState s → is_time next ≡ true
+    → IsStandingOf s.setup n standing → IsState (reported n standing next s)
 reported_is_state n standing next s is_state t new = record {
   valid_setup = is_state.valid_setup;
   one_each = length-update_at n _ s.objects ∙ is_state.one_each;
@@ -206,13 +224,17 @@ reported_is_state n standing next s is_state t new = record {
 }
 
 -- what a report makes of the standing and the next time is within the limits
-pub report_standing : (n : ℕ) (c : Code) (o : Scheduling) (s : State) → IsState s → slice_get s.objects n ≡ Some o → IsStandingOf s.setup n (judged s.setup s.standings n c)
+pub report_standing : (n : ℕ) (c : Code) (o : Scheduling) (s : State) → IsState s → slice_get s.objects n ≡ Some o
+    → IsStandingOf s.setup n (judged s.setup s.standings n c)
 report_standing n c o s is_state e =
     let within : n < object_count s.setup = let l = slice_get_within s.objects n o e in omega (arith, l, is_state.one_each) in
     judged_is_standing s.setup s.standings n c is_state.valid_setup within (standing_of_state s n is_state within)
 
-pub report_next : (n : ℕ) (c : Code) (o : Scheduling) (r : OpenRun) (s : State) → IsState s → slice_get s.objects n ≡ Some o → o.run ≡ Some r → is_time (next_after s.setup n (judged s.setup s.standings n c) r.start o.next) ≡ true
-report_next n c o r s is_state e f = next_in_time s.setup n (judged s.setup s.standings n c) r.start o.next is_state.valid_setup (start_of_state s n o r is_state e f) (next_of_state s n o is_state e)
+pub report_next : (n : ℕ) (c : Code) (o : Scheduling) (r : OpenRun) (s : State) → IsState s → slice_get s.objects n ≡ Some o → o.run ≡ Some r
+    → is_time (next_after s.setup n (judged s.setup s.standings n c) r.start o.next) ≡ true
+report_next n c o r s is_state e f =
+    next_in_time s.setup n (judged s.setup s.standings n c) r.start o.next is_state.valid_setup (start_of_state s n o r is_state e f)
+    (next_of_state s n o is_state e)
 
 -- a time that passes the test is at most 2^61
 pub is_time_reads : (next : Option ℕ) → is_time next ≡ true → IfSome next (λ time. time ≤ 2 ^ 61)
@@ -232,7 +254,8 @@ report_cases P n run c s refused take =
     (λ r f. take o r (known_is n s o e) (under_is run o.run r f)))
 
 -- what a Report answers, by the standing and the next time that it makes
-pub report_answers : (n run : ℕ) (c : Code) (s : State) (o : Scheduling) (r : OpenRun) (standing : Standing) (next : Option ℕ) → known n s ≡ Ok o → run_under run o.run ≡ Ok r
+pub report_answers : (n run : ℕ) (c : Code) (s : State) (o : Scheduling) (r : OpenRun) (standing : Standing) (next : Option ℕ) → known n s ≡ Ok o
+    → run_under run o.run ≡ Ok r
     → standing ≡ judged s.setup s.standings n c → next ≡ next_after s.setup n standing r.start o.next
     → step s (call.Report n run c) ≡ (reported n standing next s, standing_reply n standing next s)
 report_answers n run c s o r standing next e f j k =
@@ -253,7 +276,8 @@ pub read_at : {X : Type 0} (xs : List X) (n : ℕ) (x : X) → n < length xs →
 read_at xs n x h e = slice_get_read xs (length xs) n x refl h e
 
 -- the standing at a place, as the code reads it
-pub standing_read : (standings : List Standing) (n : ℕ) (before : Standing) → n < length standings → before ≡ get_or standings n before → standing_at standings n ≡ before
+pub standing_read : (standings : List Standing) (n : ℕ) (before : Standing) → n < length standings → before ≡ get_or standings n before
+    → standing_at standings n ≡ before
 standing_read standings n before h e = ap (λ found. unwrap_or found (pending_standing true)) (read_at standings n before h e)
 
 pub standing_index : (standings : List Standing) (n : ℕ) (d : Standing) → n < length standings → standing_at standings n ≡ get_or standings n d
@@ -266,10 +290,17 @@ is_time_holds (Some time) h = grind (arith, nat_tests, h)
 
 -- ---- the standing that the code makes
 
-pub judged_when_host : (setup : Configuration) (standings : List Standing) (n : ℕ) (c : Code) (before : Standing) (max : ℕ) (found : rules.State) (made : Standing) → host_of setup n ≡ None → standing_at standings n ≡ before
+pub judged_when_host : (setup : Configuration) (standings : List Standing) (n : ℕ) (c : Code) (before : Standing) (max : ℕ) (found : rules.State)
+    (made : Standing)
+    → host_of setup n ≡ None → standing_at standings n ≡ before
     → max ≡ max_attempts_of setup n → found ≡ host_state_of setup standings n c → made ≡ verdict_on before found max true → made ≡ judged setup standings n c
-judged_when_host setup standings n c before max found made e b m f v = v ∙ (λ i. verdict_on (sym b i) (f i) (m i) true) ∙ sym (ap (λ h. judged_by h setup standings n c) e)
+judged_when_host setup standings n c before max found made e b m f v =
+    v ∙ (λ i. verdict_on (sym b i) (f i) (m i) true) ∙ sym (ap (λ h. judged_by h setup standings n c) e)
 
-pub judged_when_service : (setup : Configuration) (standings : List Standing) (n host : ℕ) (c : Code) (before : Standing) (max : ℕ) (found : rules.State) (up : Bool) (made : Standing) → host_of setup n ≡ Some host → standing_at standings n ≡ before
-    → max ≡ max_attempts_of setup n → found ≡ service_state_of c → up ≡ not (is_down (standing_at standings host)) → made ≡ verdict_on before found max up → made ≡ judged setup standings n c
-judged_when_service setup standings n host c before max found up made e b m f u v = v ∙ (λ i. verdict_on (sym b i) (f i) (m i) (u i)) ∙ sym (ap (λ h. judged_by h setup standings n c) e)
+pub judged_when_service : (setup : Configuration) (standings : List Standing) (n host : ℕ) (c : Code) (before : Standing) (max : ℕ)
+    (found : rules.State) (up : Bool) (made : Standing)
+    → host_of setup n ≡ Some host → standing_at standings n ≡ before
+    → max ≡ max_attempts_of setup n → found ≡ service_state_of c → up ≡ not (is_down (standing_at standings host))
+    → made ≡ verdict_on before found max up → made ≡ judged setup standings n c
+judged_when_service setup standings n host c before max found up made e b m f u v =
+    v ∙ (λ i. verdict_on (sym b i) (f i) (m i) (u i)) ∙ sym (ap (λ h. judged_by h setup standings n c) e)

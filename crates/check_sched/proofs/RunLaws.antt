@@ -1,5 +1,6 @@
 -- No object is taken while it runs: what a history alone says of runs is what the state says that its calls leave.
-use Rattle.std.proofs.Common.{◌≡◌, ◌≢◌, ℕ, zero, suc, ◌+◌, ◌<◌, ◌==◌, ◌&&◌, ◌||◌, Bool, true, false, not, cond, List, [], ◌∷◌, ◌++◌, length, Option, Some, None, Ok, Err, option_map, refl, sym, ap, ◌∙◌, arith, inl, inr}
+use Rattle.std.proofs.Common.{◌≡◌, ◌≢◌, ℕ, zero, suc, ◌+◌, ◌<◌, ◌==◌, ◌&&◌, ◌||◌, Bool, true, false, not, cond, List, [], ◌∷◌, ◌++◌, length, Option, Some}
+use Rattle.std.proofs.Common.{None, Ok, Err, option_map, refl, sym, ap, ◌∙◌, arith, inl, inr}
 use Rattle.std.specs.Prelude.{is_none, nat_le, nat_lt, option_and_then, slice_get}
 use Rattle.std.specs.List.{cons_option, enumerate_from, filter_map, list_all, list_any}
 use Rattle.std.proofs.lemmas.Bool.Decides.{nat_tests}
@@ -65,11 +66,13 @@ waits_by false may next t e = cc
 waits_free : (x : Scheduling) (t : ℕ) → candidate_time x ≡ Some t → is_none x.run ≡ true
 waits_free x t e = waits_by (is_none x.run) (x.enabled || x.forced) x.next t e
 
-free_by : (test : ℕ → Bool) (k : ℕ) (t : Option ℕ) (cs : List Candidate) → ((time : ℕ) → t ≡ Some time → test k ≡ true) → list_all (λ c. test c.1) cs ≡ true → list_all (λ c. test c.1) (cons_option (option_map (λ time. (time, k)) t) cs) ≡ true
+free_by : (test : ℕ → Bool) (k : ℕ) (t : Option ℕ) (cs : List Candidate) → ((time : ℕ) → t ≡ Some time → test k ≡ true)
+    → list_all (λ c. test c.1) cs ≡ true → list_all (λ c. test c.1) (cons_option (option_map (λ time. (time, k)) t) cs) ≡ true
 free_by test k None cs f h = h
 free_by test k (Some t) cs f h = both_and (test k) _ (f t refl) h
 
-free_from : (test : ℕ → Bool) (k : ℕ) (xs : List Scheduling) → ((i : ℕ) → i < length xs → is_none (run_in i xs) ≡ true → test (k + i) ≡ true) → list_all (λ c. test c.1) (filter_map (λ p. candidate p.0 p.1) (enumerate_from k xs)) ≡ true
+free_from : (test : ℕ → Bool) (k : ℕ) (xs : List Scheduling) → ((i : ℕ) → i < length xs → is_none (run_in i xs) ≡ true → test (k + i) ≡ true)
+    → list_all (λ c. test c.1) (filter_map (λ p. candidate p.0 p.1) (enumerate_from k xs)) ≡ true
 free_from test k [] f = refl
 free_from test k (x ∷ xs) f =
     free_by test k (candidate_time x) _
@@ -116,7 +119,8 @@ some_same : (x : Option ℕ) (a b : ℕ) → x ≡ Some a → x ≡ Some b → a
 some_same x a b e f = let same : Some a ≡ Some b = sym e ∙ f in cc
 
 -- a run that isn't the one that ends goes on
-run_goes_on : (s : State) (n run o r : ℕ) (f : Scheduling → Scheduling) (x : Scheduling) (q : OpenRun) → slice_get s.objects n ≡ Some x → run_under run x.run ≡ Ok q → run_in o s.objects ≡ Some r → (n == o && (run == r)) ≡ false → run_in o (update_at n f s.objects) ≡ Some r
+run_goes_on : (s : State) (n run o r : ℕ) (f : Scheduling → Scheduling) (x : Scheduling) (q : OpenRun) → slice_get s.objects n ≡ Some x
+    → run_under run x.run ≡ Ok q → run_in o s.objects ≡ Some r → (n == o && (run == r)) ≡ false → run_in o (update_at n f s.objects) ≡ Some r
 run_goes_on s n run o r f x q there under h e = elim (cases_eq n o) [
   | inl same ↦
       let named : run_in o s.objects ≡ Some run = rw (← same) (run_named s n run x q there under) in
@@ -143,9 +147,12 @@ step_keeps_run s (call.Abandon n run now) o r h =
     (λ x k. by_test (λ a. ends_by o r (call.Abandon n run now) a.1 ≡ false → run_in o a.0.objects ≡ Some r) s (within_range now) _ (λ why e. h)
     (λ u m. by_test (λ a. ends_by o r (call.Abandon n run now) a.1 ≡ false → run_in o a.0.objects ≡ Some r) s (run_under run x.run) _ (λ why e. h)
     (λ q f e. run_goes_on s n run o r _ x q (known_is n s x k) f h e)))
-step_keeps_run s (call.Reschedule n time forced) o r h = reschedule_cases (λ a. ends_by o r (call.Reschedule n time forced) a.1 ≡ false → run_in o a.0.objects ≡ Some r) n time forced s (λ why e. h) (λ m e. run_kept n o _ s.objects (λ x. refl) ∙ h)
-step_keeps_run s (call.Enable n on) o r h = enable_cases (λ a. ends_by o r (call.Enable n on) a.1 ≡ false → run_in o a.0.objects ≡ Some r) n on s (λ why e. h) (λ e. run_kept n o _ s.objects (λ x. refl) ∙ h)
-step_keeps_run s (call.Status n) o r h = status_cases (λ a. ends_by o r (call.Status n) a.1 ≡ false → run_in o a.0.objects ≡ Some r) n s (λ why e. h) (λ x k e. h)
+step_keeps_run s (call.Reschedule n time forced) o r h =
+    reschedule_cases (λ a. ends_by o r (call.Reschedule n time forced) a.1 ≡ false → run_in o a.0.objects ≡ Some r) n time forced s (λ why e. h) (λ m e. run_kept n o _ s.objects (λ x. refl) ∙ h)
+step_keeps_run s (call.Enable n on) o r h =
+    enable_cases (λ a. ends_by o r (call.Enable n on) a.1 ≡ false → run_in o a.0.objects ≡ Some r) n on s (λ why e. h) (λ e. run_kept n o _ s.objects (λ x. refl) ∙ h)
+step_keeps_run s (call.Status n) o r h =
+    status_cases (λ a. ends_by o r (call.Status n) a.1 ≡ false → run_in o a.0.objects ≡ Some r) n s (λ why e. h) (λ x k e. h)
 
 -- The call before which the object was free and after which it runs under this number, the next one.
 record IsBegun (o r : ℕ) (before after : State) : Type 0 where
@@ -161,7 +168,8 @@ and_right : (a b : Bool) → (a && b) ≡ true → b ≡ true
 and_right true b h = h
 and_right false b h = cc
 
-taken_begins : (now : ℕ) (s : State) (c : Candidate) (o r : ℕ) → least (eligible now s) ≡ Some c → (c.1 == o && ((s.runs + 1) == r)) ≡ true → IsBegun o r s (taken now c.1 s)
+taken_begins : (now : ℕ) (s : State) (c : Candidate) (o r : ℕ) → least (eligible now s) ≡ Some c → (c.1 == o && ((s.runs + 1) == r)) ≡ true
+    → IsBegun o r s (taken now c.1 s)
 taken_begins now s c o r f e =
     let here : c.1 ≡ o = eqb-true c.1 o (and_left (c.1 == o) _ e) in
     let number : s.runs + 1 ≡ r = eqb-true (s.runs + 1) r (and_right (c.1 == o) _ e) in
@@ -186,7 +194,8 @@ step_begins s (call.Take now) o r =
     (λ f e. waiting_begins now s o r e)
 step_begins s (call.Report n run c) o r = report_cases (λ a. begins_by o r a.1 ≡ true → IsBegun o r s a.0) n run c s (λ why e. cc) (λ x q k f e. cc)
 step_begins s (call.Abandon n run now) o r = abandon_cases (λ a. begins_by o r a.1 ≡ true → IsBegun o r s a.0) n run now s (λ why e. cc) (λ x k m e. cc)
-step_begins s (call.Reschedule n time forced) o r = reschedule_cases (λ a. begins_by o r a.1 ≡ true → IsBegun o r s a.0) n time forced s (λ why e. cc) (λ m e. cc)
+step_begins s (call.Reschedule n time forced) o r =
+    reschedule_cases (λ a. begins_by o r a.1 ≡ true → IsBegun o r s a.0) n time forced s (λ why e. cc) (λ m e. cc)
 step_begins s (call.Enable n on) o r = enable_cases (λ a. begins_by o r a.1 ≡ true → IsBegun o r s a.0) n on s (λ why e. cc) (λ e. cc)
 step_begins s (call.Status n) o r = status_cases (λ a. begins_by o r a.1 ≡ true → IsBegun o r s a.0) n s (λ why e. cc) (λ x k e. cc)
 
@@ -215,7 +224,8 @@ waiting_runs : (now : ℕ) (s : State) → s.runs ≡ s.runs + cond (takes_by (w
 waiting_runs now s = waiting_runs_by (list_any (λ c. not (is_host s.setup c.1)) (due now s)) s (option_map (λ c. c.0) (least (candidates s)))
 
 -- a run goes on through a history that doesn't end it
-keeps_running : (s : State) (h : List (Entry Call Reply)) (o r : ℕ) → IsLegal step s h → run_in o s.objects ≡ Some r → list_any (ends o r) h ≡ false → run_in o (replay step s h).objects ≡ Some r
+keeps_running : (s : State) (h : List (Entry Call Reply)) (o r : ℕ) → IsLegal step s h → run_in o s.objects ≡ Some r → list_any (ends o r) h ≡ false
+    → run_in o (replay step s h).objects ≡ Some r
 keeps_running s [] o r legal runs none = runs
 keeps_running s (e ∷ h) o r legal runs none =
     let goes_on : ends_by o r e.call (step s e.call).1 ≡ false = rw (← legal.0) (none_first (ends o r e) _ none) in
@@ -224,21 +234,29 @@ keeps_running s (e ∷ h) o r legal runs none =
 begun_by : (s : State) (e : Entry Call Reply) (o r : ℕ) → e.reply ≡ (step s e.call).1 → begins o r e ≡ true → IsBegun o r s (step s e.call).0
 begun_by s e o r legal is = step_begins s e.call o r (rw (← legal) is)
 
-runs_by : (s : State) (e : Entry Call Reply) (h : List (Entry Call Reply)) (o r : ℕ) (first : Bool) → (begins o r e && not (list_any (ends o r) h)) ≡ first → (first || runs_under o r h) ≡ true → IsLegal step s (e ∷ h) → (runs_under o r h ≡ true → run_in o (replay step (step s e.call).0 h).objects ≡ Some r) → run_in o (replay step (step s e.call).0 h).objects ≡ Some r
-runs_by s e h o r true is any legal more = keeps_running (step s e.call).0 h o r legal.1 (begun_by s e o r legal.0 (and_left (begins o r e) _ is)).running (not_false (list_any (ends o r) h) (and_right (begins o r e) _ is))
+runs_by : (s : State) (e : Entry Call Reply) (h : List (Entry Call Reply)) (o r : ℕ) (first : Bool)
+    → (begins o r e && not (list_any (ends o r) h)) ≡ first → (first || runs_under o r h) ≡ true → IsLegal step s (e ∷ h)
+    → (runs_under o r h ≡ true → run_in o (replay step (step s e.call).0 h).objects ≡ Some r)
+    → run_in o (replay step (step s e.call).0 h).objects ≡ Some r
+runs_by s e h o r true is any legal more =
+    keeps_running (step s e.call).0 h o r legal.1 (begun_by s e o r legal.0 (and_left (begins o r e) _ is)).running
+    (not_false (list_any (ends o r) h) (and_right (begins o r e) _ is))
 runs_by s e h o r false is any legal more = more any
 
 -- what runs by the history alone runs in the state that it leaves
 runs_in_state : (s : State) (h : List (Entry Call Reply)) (o r : ℕ) → IsLegal step s h → runs_under o r h ≡ true → run_in o (replay step s h).objects ≡ Some r
 runs_in_state s [] o r legal runs = cc
-runs_in_state s (e ∷ h) o r legal runs = runs_by s e h o r (begins o r e && not (list_any (ends o r) h)) refl runs legal (runs_in_state (step s e.call).0 h o r legal.1)
+runs_in_state s (e ∷ h) o r legal runs =
+    runs_by s e h o r (begins o r e && not (list_any (ends o r) h)) refl runs legal (runs_in_state (step s e.call).0 h o r legal.1)
 
 -- the runs handed out are those begun
 step_runs : (s : State) (c : Call) → (step s c).0.runs ≡ s.runs + cond (takes_by (step s c).1) 1 0
-step_runs s (call.Take now) = take_cases (λ a. a.0.runs ≡ s.runs + cond (takes_by a.1) 1 0) now s (λ why. none_more s) (λ c m f. none_more s) (λ c m q f. refl) (λ f. waiting_runs now s)
+step_runs s (call.Take now) =
+    take_cases (λ a. a.0.runs ≡ s.runs + cond (takes_by a.1) 1 0) now s (λ why. none_more s) (λ c m f. none_more s) (λ c m q f. refl) (λ f. waiting_runs now s)
 step_runs s (call.Report n run c) = report_cases (λ a. a.0.runs ≡ s.runs + cond (takes_by a.1) 1 0) n run c s (λ why. none_more s) (λ x q k f. none_more s)
 step_runs s (call.Abandon n run now) = abandon_cases (λ a. a.0.runs ≡ s.runs + cond (takes_by a.1) 1 0) n run now s (λ why. none_more s) (λ x k m. none_more s)
-step_runs s (call.Reschedule n time forced) = reschedule_cases (λ a. a.0.runs ≡ s.runs + cond (takes_by a.1) 1 0) n time forced s (λ why. none_more s) (λ m. none_more s)
+step_runs s (call.Reschedule n time forced) =
+    reschedule_cases (λ a. a.0.runs ≡ s.runs + cond (takes_by a.1) 1 0) n time forced s (λ why. none_more s) (λ m. none_more s)
 step_runs s (call.Enable n on) = enable_cases (λ a. a.0.runs ≡ s.runs + cond (takes_by a.1) 1 0) n on s (λ why. none_more s) (none_more s)
 step_runs s (call.Status n) = status_cases (λ a. a.0.runs ≡ s.runs + cond (takes_by a.1) 1 0) n s (λ why. none_more s) (λ x k. none_more s)
 
@@ -265,13 +283,16 @@ not_running other x true free f = absurd (none_some x other free (f refl))
 not_running other x false free f = refl
 
 -- an object that is taken wasn't running before
-pub taken_once : (s : State) (front back : List (Entry Call Reply)) (e : Entry Call Reply) (o r other : ℕ) → IsLegal step s (front ++ e ∷ back) → begins o r e ≡ true → runs_under o other front ≡ false
+pub taken_once : (s : State) (front back : List (Entry Call Reply)) (e : Entry Call Reply) (o r other : ℕ) → IsLegal step s (front ++ e ∷ back)
+    → begins o r e ≡ true → runs_under o other front ≡ false
 taken_once s front back e o r other legal is =
     let begun = begun_by (replay step s front) e o r (legal_back s front (e ∷ back) legal).0 is in
-    not_running other (run_in o (replay step s front).objects) (runs_under o other front) begun.free (runs_in_state s front o other (legal_front s front (e ∷ back) legal))
+    not_running other (run_in o (replay step s front).objects) (runs_under o other front) begun.free
+    (runs_in_state s front o other (legal_front s front (e ∷ back) legal))
 
 -- its run has the next number
-pub taken_next : (s : State) (front back : List (Entry Call Reply)) (e : Entry Call Reply) (o r : ℕ) → s.runs ≡ 0 → IsLegal step s (front ++ e ∷ back) → begins o r e ≡ true → r ≡ runs_begun front + 1
+pub taken_next : (s : State) (front back : List (Entry Call Reply)) (e : Entry Call Reply) (o r : ℕ) → s.runs ≡ 0
+    → IsLegal step s (front ++ e ∷ back) → begins o r e ≡ true → r ≡ runs_begun front + 1
 taken_next s front back e o r none legal is =
     let begun = begun_by (replay step s front) e o r (legal_back s front (e ∷ back) legal).0 is in
     let count = runs_count s front (legal_front s front (e ∷ back) legal) in

@@ -12,7 +12,8 @@ use Rattle.check_sched.specs.Report.{put_off_until}
 use Rattle.check_sched.specs.Reply.{OnRefused, NamesObjectOf, TellsTimesUpTo}
 use Rattle.check_sched.specs.Step.{step, replies, after}
 use Rattle.check_sched.proofs.EligibleLaws.{eligible_open, waiting_cases}
-use Rattle.check_sched.proofs.OperatorLaws.{abandon_cases, ended_in_time, enable_cases, freed_in_time, reschedule_cases, rescheduled_in_time, status_cases, with_object_is_state}
+use Rattle.check_sched.proofs.OperatorLaws.{abandon_cases, ended_in_time, enable_cases, freed_in_time, reschedule_cases, rescheduled_in_time, status_cases}
+use Rattle.check_sched.proofs.OperatorLaws.{with_object_is_state}
 use Rattle.check_sched.proofs.TakeLaws.{take_cases, eligible_within, least_time, put_off_is_state, taken_is_state}
 use Rattle.check_sched.proofs.ReportLaws.{next_of_state, put_off_in_time, report_cases, report_next, report_standing, reported_is_state, is_time_reads}
 
@@ -34,7 +35,8 @@ step_keeps s (call.Take now) = take_cases (Keeps s) now s (refusal_keeps s) (λ 
     (λ e. record { setup = refl; start = refl; refused = waiting_cases (λ r. OnRefused r (s ≡ s)) now s tt tt })
 step_keeps s (call.Report n run c) = report_cases (Keeps s) n run c s (refusal_keeps s) (λ o r e f. record { setup = refl; start = refl; refused = tt })
 step_keeps s (call.Abandon n run now) = abandon_cases (Keeps s) n run now s (refusal_keeps s) (λ o e m. record { setup = refl; start = refl; refused = tt })
-step_keeps s (call.Reschedule n time forced) = reschedule_cases (Keeps s) n time forced s (refusal_keeps s) (λ m. record { setup = refl; start = refl; refused = tt })
+step_keeps s (call.Reschedule n time forced) =
+    reschedule_cases (Keeps s) n time forced s (refusal_keeps s) (λ m. record { setup = refl; start = refl; refused = tt })
 step_keeps s (call.Enable n on) = enable_cases (Keeps s) n on s (refusal_keeps s) (record { setup = refl; start = refl; refused = tt })
 step_keeps s (call.Status n) = status_cases (Keeps s) n s (refusal_keeps s) (λ o e. record { setup = refl; start = refl; refused = tt })
 
@@ -82,10 +84,14 @@ step_is_answer s (call.Status n) is_state =
 
 -- no call passes the limit
 pub step_limit : (s : State) (c : Call) → IsWithinLimit s → IsWithinLimit (step s c).0
-step_limit s (call.Take now) within = take_cases (λ a. IsWithinLimit a.0) now s (λ why. within) (λ c m e. limit_kept c.1 _ s (λ o b. b) within) (λ c m r e. limit_taken now c.1 s (eligible_open now s c e) within) (λ e. within)
-step_limit s (call.Report n run c) within = report_cases (λ a. IsWithinLimit a.0) n run c s (λ why. within) (λ o r e f. limit_kept n (ended _) s (λ x b. cc) within)
-step_limit s (call.Abandon n run now) within = abandon_cases (λ a. IsWithinLimit a.0) n run now s (λ why. within) (λ o e m. limit_kept n (ended (Some (freed_time now o))) s (λ x b. cc) within)
-step_limit s (call.Reschedule n time forced) within = reschedule_cases (λ a. IsWithinLimit a.0) n time forced s (λ why. within) (λ m. limit_kept n (rescheduled time forced) s (λ x b. b) within)
+step_limit s (call.Take now) within =
+    take_cases (λ a. IsWithinLimit a.0) now s (λ why. within) (λ c m e. limit_kept c.1 _ s (λ o b. b) within) (λ c m r e. limit_taken now c.1 s (eligible_open now s c e) within) (λ e. within)
+step_limit s (call.Report n run c) within =
+    report_cases (λ a. IsWithinLimit a.0) n run c s (λ why. within) (λ o r e f. limit_kept n (ended _) s (λ x b. cc) within)
+step_limit s (call.Abandon n run now) within =
+    abandon_cases (λ a. IsWithinLimit a.0) n run now s (λ why. within) (λ o e m. limit_kept n (ended (Some (freed_time now o))) s (λ x b. cc) within)
+step_limit s (call.Reschedule n time forced) within =
+    reschedule_cases (λ a. IsWithinLimit a.0) n time forced s (λ why. within) (λ m. limit_kept n (rescheduled time forced) s (λ x b. b) within)
 step_limit s (call.Enable n on) within = enable_cases (λ a. IsWithinLimit a.0) n on s (λ why. within) (limit_kept n (enabled_as on) s (λ x b. b) within)
 step_limit s (call.Status n) within = status_cases (λ a. IsWithinLimit a.0) n s (λ why. within) (λ o e. within)
 

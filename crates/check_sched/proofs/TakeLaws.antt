@@ -1,5 +1,6 @@
 -- Laws of Take: its answers, and the state that it leaves.
-use Rattle.std.proofs.Common.{◌≡◌, ℕ, ◌+◌, ◌<◌, ◌≤◌, ◌^◌, Bool, true, false, cond, length, get_or, set, Option, Some, None, option_map, refl, sym, ap, ◌∙◌, arith, IfSome}
+use Rattle.std.proofs.Common.{◌≡◌, ℕ, ◌+◌, ◌<◌, ◌≤◌, ◌^◌, Bool, true, false, cond, length, get_or, set, Option, Some, None, option_map, refl, sym, ap, ◌∙◌}
+use Rattle.std.proofs.Common.{arith, IfSome}
 use Rattle.std.specs.Prelude.{nat_lt, nat_le}
 use Rattle.std.proofs.lemmas.Bool.Decides.{nat_tests}
 use Rattle.check_objects.specs.Configuration.{object_count}
@@ -62,7 +63,8 @@ eligible_within now s c is_state e =
     omega (arith, less, is_state.one_each)
 
 -- the same of what was found, if anything was
-pub found_within : (now : ℕ) (s : State) (found : Option Candidate) → IsState s → found ≡ least (eligible now s) → IfSome found (λ c. c.1 < object_count s.setup)
+pub found_within : (now : ℕ) (s : State) (found : Option Candidate) → IsState s → found ≡ least (eligible now s)
+    → IfSome found (λ c. c.1 < object_count s.setup)
 found_within now s None is_state e = tt
 found_within now s (Some c) is_state e = eligible_within now s c is_state (sym e)
 
@@ -105,12 +107,16 @@ put_off_is_state now n s is_state m =
 -- ---- what the code leaves
 
 -- the state that the write to an object leaves whose check begins
-pub taken_left : (now n : ℕ) (s : State) (o new : Scheduling) → n < length s.objects → o ≡ get_or s.objects n o → new ≡ running_from (record { number = s.runs + 1; start = now }) o
-    → let left : State = record { setup = s.setup; start = s.start; objects = set s.objects n new; standings = s.standings; runs = s.runs + 1 } in left ≡ taken now n s
+pub taken_left : (now n : ℕ) (s : State) (o new : Scheduling) → n < length s.objects → o ≡ get_or s.objects n o
+    → new ≡ running_from (record { number = s.runs + 1; start = now }) o
+    → let left : State =
+    record { setup = s.setup; start = s.start; objects = set s.objects n new; standings = s.standings; runs = s.runs + 1 } in left ≡ taken now n s
 taken_left now n s o new h e g i = record {
   setup = s.setup;
   start = s.start;
-  objects = set_is_update n (running_from (record { number = s.runs + 1; start = now })) s.objects o new h (g ∙ ap (running_from (record { number = s.runs + 1; start = now })) e) i;
+  objects =
+      set_is_update n (running_from (record { number = s.runs + 1; start = now })) s.objects o new h
+      (g ∙ ap (running_from (record { number = s.runs + 1; start = now })) e) i;
   standings = s.standings;
   runs = s.runs + 1;
 }

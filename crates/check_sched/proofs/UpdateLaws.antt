@@ -16,13 +16,15 @@ set_is_update zero f (x ∷ xs) d y h e = ap (λ z. z ∷ xs) e
 set_is_update (suc n) f (x ∷ xs) d y h e = ap (λ l. x ∷ l) (set_is_update n f xs d y (omega arith) e)
 
 -- a test that each passes, and that what is put in the place passes
-pub all-update_at : {X : Type 0} (p : X → Bool) (n : ℕ) (f : X → X) (xs : List X) → list_all p xs ≡ true → ((x : X) → p x ≡ true → p (f x) ≡ true) → list_all p (update_at n f xs) ≡ true
+pub all-update_at : {X : Type 0} (p : X → Bool) (n : ℕ) (f : X → X) (xs : List X) → list_all p xs ≡ true → ((x : X) → p x ≡ true → p (f x) ≡ true)
+    → list_all p (update_at n f xs) ≡ true
 all-update_at p n f [] e h = refl
 all-update_at p zero f (x ∷ xs) e h = let b = and_both (p x) (list_all p xs) e in both_and (p (f x)) (list_all p xs) (h x b.0) b.1
 all-update_at p (suc n) f (x ∷ xs) e h = let b = and_both (p x) (list_all p xs) e in both_and (p x) _ b.0 (all-update_at p n f xs b.1 h)
 
 -- what is true of each, by its place, and of what is put in one place
-pub each-update_at : {X : Type 0} (P : ℕ → X → Type 0) (n : ℕ) (y : X) (xs : List X) → ((k : ℕ) (x : X) → slice_get xs k ≡ Some x → P k x) → P n y → (k : ℕ) (x : X) → slice_get (update_at n (λ before. y) xs) k ≡ Some x → P k x
+pub each-update_at : {X : Type 0} (P : ℕ → X → Type 0) (n : ℕ) (y : X) (xs : List X) → ((k : ℕ) (x : X) → slice_get xs k ≡ Some x → P k x) → P n y
+    → (k : ℕ) (x : X) → slice_get (update_at n (λ before. y) xs) k ≡ Some x → P k x
 each-update_at P n y [] each new k x e = each k x e
 each-update_at P zero y (z ∷ xs) each new zero x e = let same : y ≡ x = cc in subst (λ w. P 0 w) same new
 each-update_at P zero y (z ∷ xs) each new (suc k) x e = each (suc k) x e

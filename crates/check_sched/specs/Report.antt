@@ -15,7 +15,8 @@ use Rattle.check_sched.specs.State.{standing_at, max_attempts_of}
 -- state of a host goes by its parents, and the verdict on a service by whether its host isn't down now.
 -- ("Host Checks", "State Types"; that the host's current state counts is our own profile.)
 abbrev pub judged_by : Option ℕ → Configuration → List Standing → ℕ → Code → Standing
-judged_by None setup standings number code = verdict_on (standing_at standings number) (host_state_of setup standings number code) (max_attempts_of setup number) true
+judged_by None setup standings number code =
+    verdict_on (standing_at standings number) (host_state_of setup standings number code) (max_attempts_of setup number) true
 judged_by (Some host) setup standings number code =
     verdict_on (standing_at standings number) (service_state_of code) (max_attempts_of setup number) (not (is_down (standing_at standings host)))
 
@@ -39,7 +40,8 @@ time_after setup start interval = if interval == 0 then None else Some (start + 
 -- The next time after a report: one that was set while the check ran stays; else it goes by the
 -- interval. (Our own profile.)
 abbrev pub next_after : Configuration → ℕ → Standing → ℕ → Option ℕ → Option ℕ
-next_after setup number standing start already = option_or already (option_and_then (λ o. time_after setup start (interval_after o.object standing)) (slice_get (objects_of setup) number))
+next_after setup number standing start already =
+    option_or already (option_and_then (λ o. time_after setup start (interval_after o.object standing)) (slice_get (objects_of setup) number))
 
 -- The time to which an object is put off whose dependency fails: the check interval after the moment
 -- of the call; an interval of 0 gives none. (Our own profile.)

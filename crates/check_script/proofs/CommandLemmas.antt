@@ -69,6 +69,8 @@ three_many (v ∷ w ∷ x ∷ []) h = absurd (omega arith)
 three_many (v ∷ w ∷ x ∷ y ∷ vs) h = refl
 
 -- a word that is none of a script's
-pub call_by_other : (c : Configuration) (word : List ℕ) (ms : Items) → bytes_eq word (codes "take") ≡ false → bytes_eq word (codes "report") ≡ false → bytes_eq word (codes "abandon") ≡ false
-    → bytes_eq word (codes "reschedule") ≡ false → bytes_eq word (codes "enable") ≡ false → bytes_eq word (codes "status") ≡ false → call_by c word ms ≡ Err fault.Shape
+pub call_by_other : (c : Configuration) (word : List ℕ) (ms : Items) → bytes_eq word (codes "take") ≡ false → bytes_eq word (codes "report") ≡ false
+    → bytes_eq word (codes "abandon") ≡ false
+    → bytes_eq word (codes "reschedule") ≡ false → bytes_eq word (codes "enable") ≡ false → bytes_eq word (codes "status") ≡ false
+    → call_by c word ms ≡ Err fault.Shape
 call_by_other c word ms a b d e f g = rw (a, b, d, e, f, g) refl

@@ -1,5 +1,6 @@
 -- The members of a drill's commands, and what the commands say together.
-use Rattle.std.proofs.Common.{◌≡◌, ℕ, suc, zero, ◌+◌, ◌≤◌, ◌<◌, ◌==◌, true, false, cond, ◌&&◌, List, [], ◌∷◌, ◌++◌, length, map, replicate, Option, Some, None, get_or, refl, sym, ◌∙◌, ap, append-nil, inl, inr, arith, Result, Ok, Err}
+use Rattle.std.proofs.Common.{◌≡◌, ℕ, suc, zero, ◌+◌, ◌≤◌, ◌<◌, ◌==◌, true, false, cond, ◌&&◌, List, [], ◌∷◌, ◌++◌, length, map, replicate, Option, Some}
+use Rattle.std.proofs.Common.{None, get_or, refl, sym, ◌∙◌, ap, append-nil, inl, inr, arith, Result, Ok, Err}
 use Rattle.std.specs.Prelude.{is_some, unwrap_or, filter_map, IfOk}
 use Rattle.std.specs.List.{list_all, last_or, range_with_len, cons_option}
 use Rattle.std.proofs.Math.ListN.{set}
@@ -64,7 +65,8 @@ length-moments_in : (commands : List Command) → length (moments_in commands) �
 length-moments_in [] = omega arith
 length-moments_in (c ∷ commands) = length-cons_moment (moment_of c) (moments_in commands) (length commands) (length-moments_in commands)
 
-few_over_by : (r : Result (Script Command) InputRefusal) (s : DrillScript) (n : ℕ) → IfOk r (λ read. length read.commands ≤ n) → (r >>= λ read. Ok (drill_over read)) ≡ Ok s
+few_over_by : (r : Result (Script Command) InputRefusal) (s : DrillScript) (n : ℕ) → IfOk r (λ read. length read.commands ≤ n)
+    → (r >>= λ read. Ok (drill_over read)) ≡ Ok s
     → length s.moments ≤ n
 few_over_by (Ok read) s n h e = let k : drill_over read ≡ s = cc in rw (← k) (omega (arith, length-moments_in read.commands, h))
 few_over_by (Err r) s n h e =
@@ -90,7 +92,8 @@ returns_own done named object r e =
     ap (λ l. unwrap_or (last_or None l) []) (filter_map-append (returns_by object) done (PluginOf named r ∷ []) ∙ ap (λ b. given ++ cons_option (cond b (Some r) None) []) e)
     ∙ ap (λ o. unwrap_or o []) (last_or-more None given r)
 
-returns_other : (done : List Command) (named object : ℕ) (r : List Code) → (named == object) ≡ false → returns_of (done ++ PluginOf named r ∷ []) object ≡ returns_of done object
+returns_other : (done : List Command) (named object : ℕ) (r : List Code) → (named == object) ≡ false
+    → returns_of (done ++ PluginOf named r ∷ []) object ≡ returns_of done object
 returns_other done named object r e =
     let given = filter_map (returns_by object) done in
     ap (λ l. unwrap_or (last_or None l) []) (filter_map-append (returns_by object) done (PluginOf named r ∷ []) ∙ ap (λ b. given ++ cons_option (cond b (Some r) None) []) e ∙ append-nil given)
@@ -123,10 +126,12 @@ returns_next count done (PluginOf named r) =
     let old = returns_below count done in
     let all = done ++ PluginOf named r ∷ [] in
     let size : length (set old named r) ≡ count = length-set old named r ∙ length-returns_below count done in
-    ext_get_or [] (set old named r) (returns_below count all) (size ∙ sym (length-returns_below count all)) (λ o l. let below : o < count = omega (arith, l, size) in elim (cases_eq o named) [
+    ext_get_or [] (set old named r) (returns_below count all) (size ∙ sym (length-returns_below count all))
+    (λ o l. let below : o < count = omega (arith, l, size) in elim (cases_eq o named) [
       | inl e ↦ ap (λ k. get_or (set old named r) k []) e ∙ get_or-set_same old named r [] (omega (arith, length-returns_below count done, below, e))
           ∙ sym (returns_own done named o r (eq-eqb named o (sym e))) ∙ sym (returns_at count o all below)
-      | inr n ↦ get_or-set_other old named o r [] n ∙ returns_at count o done below ∙ sym (returns_other done named o r (ne_eqb named o (λ e. n (sym e)))) ∙ sym (returns_at count o all below)
+      | inr n ↦ get_or-set_other old named o r [] n ∙ returns_at count o done below ∙ sym
+          (returns_other done named o r (ne_eqb named o (λ e. n (sym e)))) ∙ sym (returns_at count o all below)
     ])
 
 -- ---- the whole script
@@ -134,6 +139,8 @@ returns_next count done (PluginOf named r) =
 abbrev pub drill_with : Configuration → List (List Code) → List ℕ → DrillScript
 drill_with setup lists moments = record { setup = setup; returns = lists; moments = moments }
 
-pub drill_is : (setup : Configuration) (commands : List DrillCommand) (lists : List (List Code)) (moments : List ℕ) → lists ≡ returns_below (object_count setup) (map drill_command commands)
-    → moments ≡ filter_map (λ c. moment_of (drill_command c)) commands → drill_with setup lists moments ≡ drill_over (record { setup = setup; commands = map drill_command commands })
+pub drill_is : (setup : Configuration) (commands : List DrillCommand) (lists : List (List Code)) (moments : List ℕ)
+    → lists ≡ returns_below (object_count setup) (map drill_command commands)
+    → moments ≡ filter_map (λ c. moment_of (drill_command c)) commands
+    → drill_with setup lists moments ≡ drill_over (record { setup = setup; commands = map drill_command commands })
 drill_is setup commands lists moments r m = rw (r, m, moments_seen commands) refl

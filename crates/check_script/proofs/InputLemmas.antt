@@ -1,5 +1,6 @@
 -- Reads one after another, and the first line of an input.
-use Rattle.std.proofs.Common.{◌≡◌, ℕ, suc, ◌+◌, ◌-◌, min, ◌==◌, Bool, true, false, not, cond, length, List, [], ◌∷◌, ◌++◌, take, drop, Option, None, Some, refl, sym, ◌∙◌, ap, append_assoc, arith, ◌≤◌}
+use Rattle.std.proofs.Common.{◌≡◌, ℕ, suc, ◌+◌, ◌-◌, min, ◌==◌, Bool, true, false, not, cond, length, List, [], ◌∷◌, ◌++◌, take, drop, Option, None, Some}
+use Rattle.std.proofs.Common.{refl, sym, ◌∙◌, ap, append_assoc, arith, ◌≤◌}
 use Rattle.std.specs.List.{position_or_len, position}
 use Rattle.std.proofs.lemmas.List.{take_rest, take_all, drop_min}
 use Rattle.std.proofs.Math.Seq.{take-append_seam}
@@ -53,12 +54,14 @@ first_line_of-take (b ∷ bs) =
 pub drop_next : (bs : List ℕ) (n : ℕ) → take (length bs - min (length bs) n) (drop (min (length bs) n) bs) ≡ drop n bs
 drop_next bs n = take_rest bs (min (length bs) n) ∙ drop_least n bs
 
-pub read_limit : (old new : Option (List ℕ)) (input : List ℕ) (limit : ℕ) → Consumes old new input → length input ≡ limit → IfSome old (λ bytes. input ≡ take limit bytes)
+pub read_limit : (old new : Option (List ℕ)) (input : List ℕ) (limit : ℕ) → Consumes old new input → length input ≡ limit
+    → IfSome old (λ bytes. input ≡ take limit bytes)
 read_limit None new input limit h e = tt
 read_limit (Some xs) None input limit h e = absurd h
 read_limit (Some xs) (Some ys) input limit h e = rw (h, ← e) (sym (take-append_seam input ys))
 
-pub read_end : (old mid new : Option (List ℕ)) (input piece : List ℕ) (n limit : ℕ) → Consumes old mid input → Consumes mid new (take n piece) → n ≡ 0 → IsAtEnd new → length input ≤ limit → IfSome old (λ bytes. input ≡ take limit bytes)
+pub read_end : (old mid new : Option (List ℕ)) (input piece : List ℕ) (n limit : ℕ) → Consumes old mid input → Consumes mid new (take n piece)
+    → n ≡ 0 → IsAtEnd new → length input ≤ limit → IfSome old (λ bytes. input ≡ take limit bytes)
 read_end None mid new input piece n limit h k e f l = tt
 read_end (Some xs) None new input piece n limit h k e f l = absurd h
 read_end (Some xs) (Some ys) None input piece n limit h k e f l = absurd k
@@ -84,6 +87,7 @@ line_end_none bs e =
     let past : length bs ≤ position_or_len (λ b. b == 10) bs = ltb-false _ _ n in
     sym (first_line_of-take bs ∙ take_all _ bs past)
 
-pub lines_next : (bs line : List ℕ) (n : ℕ) → (length bs == 0) ≡ false → line ≡ first_line_of bs → n ≡ min (length bs) (length line + 1) → lines_of bs ≡ line ∷ lines_of (take (length bs - n) (drop n bs))
+pub lines_next : (bs line : List ℕ) (n : ℕ) → (length bs == 0) ≡ false → line ≡ first_line_of bs → n ≡ min (length bs) (length line + 1)
+    → lines_of bs ≡ line ∷ lines_of (take (length bs - n) (drop n bs))
 lines_next [] line n e h k = cc
 lines_next (b ∷ bs) line n e h k = rw (h, k, h, drop_next (b ∷ bs) (length (first_line_of (b ∷ bs)) + 1)) (lines_first b bs)

@@ -1,5 +1,6 @@
 -- The lines of a script.
-use Rattle.std.proofs.Common.{ℕ, suc, ◌≡◌, ◌==◌, ◌+◌, ◌≤◌, Bool, true, false, not, if◌then◌else◌, cond, List, [], ◌∷◌, length, map, Option, Some, None, Result, Ok, Err, ◌<◌, ◌++◌, refl, ap, arith, Bor, inl, inr, ◌⊎◌}
+use Rattle.std.proofs.Common.{ℕ, suc, ◌≡◌, ◌==◌, ◌+◌, ◌≤◌, Bool, true, false, not, if◌then◌else◌, cond, List, [], ◌∷◌, length, map, Option, Some, None}
+use Rattle.std.proofs.Common.{Result, Ok, Err, ◌<◌, ◌++◌, refl, ap, arith, Bor, inl, inr, ◌⊎◌}
 use Rattle.std.specs.Prelude.{nat_lt, IfOk}
 use Rattle.std.proofs.lemmas.Bool.{cases_lt}
 use Rattle.std.proofs.lemmas.Bool.Decides.{nat_tests}
@@ -36,7 +37,8 @@ commands_from meaning n (line ∷ lines) = if is_blank line then commands_from m
 abbrev pub commands_at : {K : Type 0} → (List ℕ → Items → Result K LineFault) → List (ℕ × List ℕ) → Result (List K) InputRefusal
 commands_at meaning numbered = all_or_first (map (λ p. command_of meaning p.0 p.1) numbered)
 
-commands_numbered : {K : Type 0} (meaning : List ℕ → Items → Result K LineFault) (n : ℕ) (ls : List (List ℕ)) → commands_at meaning (numbered_from n ls) ≡ commands_from meaning n ls
+commands_numbered : {K : Type 0} (meaning : List ℕ → Items → Result K LineFault) (n : ℕ) (ls : List (List ℕ))
+    → commands_at meaning (numbered_from n ls) ≡ commands_from meaning n ls
 commands_numbered meaning n [] = refl
 commands_numbered meaning n (line ∷ ls) =
     let again = commands_numbered meaning (n + 1) ls in
@@ -67,7 +69,8 @@ length-lines_of (b ∷ bs) = let h = length_by b (lines_of bs) (length bs) (b ==
 pub few_lines : (bs : List ℕ) → length bs ≤ 67108864 → length (lines_of bs) ≤ 67108864
 few_lines bs h = omega (arith, length-lines_of bs, h)
 
-pub few_left : (s t : Lines) (r : Option (Bor (List ℕ))) (n : ℕ) → YieldsFirstRef (λ l. lines_of l.rest.now) s r t → length (lines_of s.rest.now) ≤ n → length (lines_of t.rest.now) ≤ n
+pub few_left : (s t : Lines) (r : Option (Bor (List ℕ))) (n : ℕ) → YieldsFirstRef (λ l. lines_of l.rest.now) s r t
+    → length (lines_of s.rest.now) ≤ n → length (lines_of t.rest.now) ≤ n
 few_left s t None n h b = omega (arith, ap length h.1)
 few_left s t (Some x) n h b = omega (arith, ap length h)
 
@@ -80,13 +83,15 @@ over_setup_fails meaning errors.Memory document ls f = tt
 over_setup_fails meaning (errors.Refused r) document ls f = rw f refl
 
 -- a line is refused
-pub over_commands_fail : {K : Type 0} (meaning : Configuration → List ℕ → Items → Result K LineFault) (e : ScriptError) (c : Configuration) (document : List ℕ) (ls : List (List ℕ))
+pub over_commands_fail : {K : Type 0} (meaning : Configuration → List ℕ → Items → Result K LineFault) (e : ScriptError) (c : Configuration)
+    (document : List ℕ) (ls : List (List ℕ))
     → in_setup (setup_of document) ≡ Ok c → Fails e (commands_of (meaning c) ls) → Fails e (script_over meaning document ls)
 over_commands_fail meaning errors.Memory c document ls s f = tt
 over_commands_fail meaning (errors.Refused r) c document ls s f = rw (s, f) refl
 
 -- nothing is refused
-pub over_reads : {K : Type 0} (meaning : Configuration → List ℕ → Items → Result K LineFault) (c : Configuration) (all : List K) (document : List ℕ) (ls : List (List ℕ))
+pub over_reads : {K : Type 0} (meaning : Configuration → List ℕ → Items → Result K LineFault) (c : Configuration) (all : List K) (document : List ℕ)
+    (ls : List (List ℕ))
     → in_setup (setup_of document) ≡ Ok c → commands_of (meaning c) ls ≡ Ok all → script_over meaning document ls ≡ Ok (record { setup = c; commands = all })
 over_reads meaning c all document ls s f = rw (s, f) refl
 
@@ -108,7 +113,8 @@ few_by true first (Err e) n h = tt
 few_by false first more n h = few_more first more n h
 
 -- no more commands than lines
-few_commands : {K : Type 0} (meaning : List ℕ → Items → Result K LineFault) (n : ℕ) (ls : List (List ℕ)) → IfOk (commands_from meaning n ls) (λ all. length all ≤ length ls)
+few_commands : {K : Type 0} (meaning : List ℕ → Items → Result K LineFault) (n : ℕ) (ls : List (List ℕ))
+    → IfOk (commands_from meaning n ls) (λ all. length all ≤ length ls)
 few_commands meaning n [] = omega arith
 few_commands meaning n (l ∷ ls) = few_by (is_blank l) (command_of meaning n l) (commands_from meaning (n + 1) ls) (length ls) (few_commands meaning (n + 1) ls)
 
@@ -117,17 +123,20 @@ few_with : {K : Type 0} (c : Configuration) (all : Result (List K) InputRefusal)
 few_with c (Ok l) n m b h = omega (arith, b, h)
 few_with c (Err e) n m b h = tt
 
-few_over : {K : Type 0} (meaning : Configuration → List ℕ → Items → Result K LineFault) (setup : Result Configuration InputRefusal) (ls : List (List ℕ)) (m : ℕ) → length ls ≤ m
+few_over : {K : Type 0} (meaning : Configuration → List ℕ → Items → Result K LineFault) (setup : Result Configuration InputRefusal) (ls : List (List ℕ)) (m : ℕ)
+    → length ls ≤ m
     → IfOk (setup >>= λ c. (commands_of (meaning c) ls >>= λ all. Ok (script_with c all))) (λ s. length s.commands ≤ m)
 few_over meaning (Err e) ls m b = tt
 few_over meaning (Ok c) ls m b =
     few_with c (commands_of (meaning c) ls) (length ls) m b (rw (commands_by_line (meaning c) ls) (few_commands (meaning c) 2 ls))
 
-few_in : {K : Type 0} (meaning : Configuration → List ℕ → Items → Result K LineFault) (ls : List (List ℕ)) (m : ℕ) → length ls ≤ m → IfOk (script_in meaning ls) (λ s. length s.commands ≤ m)
+few_in : {K : Type 0} (meaning : Configuration → List ℕ → Items → Result K LineFault) (ls : List (List ℕ)) (m : ℕ) → length ls ≤ m
+    → IfOk (script_in meaning ls) (λ s. length s.commands ≤ m)
 few_in meaning [] m b = few_over meaning (in_setup (setup_of [])) [] m b
 few_in meaning (l ∷ ls) m b = few_over meaning (in_setup (setup_of l)) ls m (omega (arith, b))
 
-few_script_by : {K : Type 0} (meaning : Configuration → List ℕ → Items → Result K LineFault) (input : List ℕ) → (67108864 < length input) ⊎ (length input ≤ 67108864)
+few_script_by : {K : Type 0} (meaning : Configuration → List ℕ → Items → Result K LineFault) (input : List ℕ)
+    → (67108864 < length input) ⊎ (length input ≤ 67108864)
     → IfOk (script_by meaning input) (λ s. length s.commands ≤ 67108864)
 unfolding script_by
 few_script_by meaning input (inl h) = let a : nat_lt 67108864 (length input) ≡ true = grind (arith, nat_tests, h) in rw a tt
@@ -136,5 +145,6 @@ few_script_by meaning input (inr h) =
     rw a (few_in meaning (lines_of input) 67108864 (few_lines input h))
 
 -- the script of an input has no more commands than an input may have bytes
-pub few_script : {K : Type 0} (meaning : Configuration → List ℕ → Items → Result K LineFault) (input : List ℕ) → IfOk (script_by meaning input) (λ s. length s.commands ≤ 67108864)
+pub few_script : {K : Type 0} (meaning : Configuration → List ℕ → Items → Result K LineFault) (input : List ℕ)
+    → IfOk (script_by meaning input) (λ s. length s.commands ≤ 67108864)
 few_script meaning input = few_script_by meaning input (cases_lt 67108864 (length input))

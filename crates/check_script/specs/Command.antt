@@ -33,7 +33,8 @@ name_and_switch members = two_of members >=> λ p. (as_str p.0 >=> λ name. (as_
 
 -- a name and two numbers
 abbrev pub name_and_numbers : Items → Option (List ℕ × ℕ × ℕ)
-name_and_numbers members = three_of members >=> λ p. (as_str p.0 >=> λ name. (whole_number p.1 >=> λ first. (whole_number p.2 >=> λ second. Some (name, first, second))))
+name_and_numbers members =
+    three_of members >=> λ p. (as_str p.0 >=> λ name. (whole_number p.1 >=> λ first. (whole_number p.2 >=> λ second. Some (name, first, second))))
 
 -- a name, a number, and true or false
 abbrev pub name_number_switch : Items → Option (List ℕ × ℕ × Bool)

@@ -1,5 +1,6 @@
 -- Counts of visits, position by position and remainder by remainder.
-use Rattle.std.proofs.Common.{◌≡◌, ◌≢◌, ℕ, zero, suc, ◌+◌, ◌%◌, ◌<◌, ◌≤◌, ◌==◌, ◌&&◌, ◌||◌, Bool, true, false, cond, List, [], ◌∷◌, length, take, get_or, replicate, sum, refl, sym, ap, ◌∙◌, arith, inl, inr, Result, Ok, Err, IfOk}
+use Rattle.std.proofs.Common.{◌≡◌, ◌≢◌, ℕ, zero, suc, ◌+◌, ◌%◌, ◌<◌, ◌≤◌, ◌==◌, ◌&&◌, ◌||◌, Bool, true, false, cond, List, [], ◌∷◌, length, take, get_or}
+use Rattle.std.proofs.Common.{replicate, sum, refl, sym, ap, ◌∙◌, arith, inl, inr, Result, Ok, Err, IfOk}
 use Rattle.std.specs.Prelude.{nat_lt, count_by}
 use Rattle.std.specs.List.{enumerate_from}
 use Rattle.std.proofs.lemmas.Bool.{eqb-true, eq-eqb, ne_eqb, cases_lt, cases_eq}
@@ -33,7 +34,8 @@ one_by true a b c h = h
 one_by false a b c h = refl
 
 -- a test that counts one position more
-pub visits_one : (t u : ℕ → Bool) (b : Bool) (p i k : ℕ) (xs : List Object) (d : Object) → p ≡ i + k → k < length xs → ((j : ℕ) → j ≢ p → t j ≡ u j) → one (u p) ≡ one (t p) + one b
+pub visits_one : (t u : ℕ → Bool) (b : Bool) (p i k : ℕ) (xs : List Object) (d : Object) → p ≡ i + k → k < length xs → ((j : ℕ) → j ≢ p → t j ≡ u j)
+    → one (u p) ≡ one (t p) + one b
     → visits u i xs ≡ visits t i xs + one (is_scheduled (get_or xs k d) && b)
 visits_one t u b p i k [] d e l h o = absurd (omega arith)
 visits_one t u b p i zero (x ∷ xs) d e l h o =
@@ -81,7 +83,8 @@ two_by true a b c h = h
 two_by false a b c h = refl
 
 -- a test that is either of two
-pub visits_either : (t u v : ℕ → Bool) (i : ℕ) (xs : List Object) → ((j : ℕ) → one (t j) + one (u j) ≡ one (v j)) → visits t i xs + visits u i xs ≡ visits v i xs
+pub visits_either : (t u v : ℕ → Bool) (i : ℕ) (xs : List Object) → ((j : ℕ) → one (t j) + one (u j) ≡ one (v j))
+    → visits t i xs + visits u i xs ≡ visits v i xs
 visits_either t u v i [] h = refl
 visits_either t u v i (x ∷ xs) h =
     let rest = visits_either t u v (i + 1) xs h in
@@ -94,7 +97,8 @@ visits_either t u v i (x ∷ xs) h =
 -- ---- counts by remainder
 
 -- the counts after a scheduled object at position p, where the tests differ there alone
-pub counts_add : (t u : ℕ → ℕ → Bool) (factor p : ℕ) (xs : List Object) (d : Object) (counts : List ℕ) → 0 < factor → p % factor < factor → p < length xs → is_scheduled (get_or xs p d) ≡ true
+pub counts_add : (t u : ℕ → ℕ → Bool) (factor p : ℕ) (xs : List Object) (d : Object) (counts : List ℕ) → 0 < factor → p % factor < factor
+    → p < length xs → is_scheduled (get_or xs p d) ≡ true
     → ((r j : ℕ) → j ≢ p → t r j ≡ u r j) → ((r : ℕ) → one (u r p) ≡ one (t r p) + one (p % factor == r))
     → HasCounts t factor xs counts → HasCounts u factor xs (set counts (p % factor) (count_at counts (p % factor) + 1))
 counts_add t u factor p xs d counts f w l s same more has = record {
@@ -105,11 +109,13 @@ counts_add t u factor p xs d counts f w l s same more has = record {
       elim (cases_eq (p % factor) r) [
         | inl e ↦
             let b : one (is_scheduled (get_or xs p d) && (p % factor == r)) ≡ 1 = rw (s, eq-eqb (p % factor) r e) refl in
-            let new : count_at (set counts (p % factor) (count_at counts (p % factor) + 1)) r ≡ count_at counts r + 1 = rw e (get_or-set_same counts r (count_at counts r + 1) 0 (omega (arith, has.size))) in
+            let new : count_at (set counts (p % factor) (count_at counts (p % factor) + 1)) r ≡ count_at counts r + 1 = rw e
+            (get_or-set_same counts r (count_at counts r + 1) 0 (omega (arith, has.size))) in
             omega (arith, step, was, b, new)
         | inr n ↦
             let b : one (is_scheduled (get_or xs p d) && (p % factor == r)) ≡ 0 = rw (s, ne_eqb (p % factor) r n) refl in
-            let new : count_at (set counts (p % factor) (count_at counts (p % factor) + 1)) r ≡ count_at counts r = get_or-set_other counts (p % factor) r (count_at counts (p % factor) + 1) 0 (λ e. n (sym e)) in
+            let new : count_at (set counts (p % factor) (count_at counts (p % factor) + 1)) r ≡ count_at counts r = get_or-set_other counts
+            (p % factor) r (count_at counts (p % factor) + 1) 0 (λ e. n (sym e)) in
             omega (arith, step, was, b, new)
       ];
 }
@@ -133,7 +139,8 @@ less_next j p h = elim (cases_lt j p) [
   | inl l ↦ let a : nat_lt j p ≡ true = grind (arith, nat_tests) in let b : nat_lt j (p + 1) ≡ true = grind (arith, nat_tests) in a ∙ sym b
   | inr g ↦ elim (cases_eq j p) [
     | inl e ↦ absurd (h e)
-    | inr n ↦ let a : nat_lt j p ≡ false = grind (arith, nat_tests) in let l : p < j = omega (arith, g, n) in let b : nat_lt j (p + 1) ≡ false = grind (arith, nat_tests) in a ∙ sym b
+    | inr n ↦ let a : nat_lt j p ≡ false = grind (arith, nat_tests) in let l : p < j = omega (arith, g, n) in let b : nat_lt j (p + 1) ≡ false = grind
+        (arith, nat_tests) in a ∙ sym b
   ]
 ]
 
@@ -181,7 +188,9 @@ nothing_below j = grind (arith, nat_tests)
 pub counts_first : (factor : ℕ) (xs : List Object) (counts : List ℕ) → counts ≡ replicate factor 0 → HasCounts (has_remainder_before factor 0) factor xs counts
 counts_first factor xs counts e = record {
   size = rw e (length-replicate factor 0);
-  at = λ r h. rw e (get_or-replicate factor r 0 0 h) ∙ sym (visits_none (has_remainder_before factor 0 r) 0 xs (λ j. rw (nothing_below j) (false_second (j % factor == r))));
+  at =
+      λ r h. rw e (get_or-replicate factor r 0 0 h)
+      ∙ sym (visits_none (has_remainder_before factor 0 r) 0 xs (λ j. rw (nothing_below j) (false_second (j % factor == r))));
 }
 
 or_false : (b : Bool) → (b || false) ≡ b
@@ -192,10 +201,14 @@ true_second : (b : Bool) → (b && true) ≡ b
 true_second true = refl
 true_second false = refl
 
-pub counts_all : (factor n : ℕ) (xs : List Object) (counts : List ℕ) → n ≡ length xs → HasCounts (has_remainder_before factor n) factor xs counts → HasCounts (has_remainder factor) factor xs counts
+pub counts_all : (factor n : ℕ) (xs : List Object) (counts : List ℕ) → n ≡ length xs → HasCounts (has_remainder_before factor n) factor xs counts
+    → HasCounts (has_remainder factor) factor xs counts
 counts_all factor n xs counts e has = record {
   size = has.size;
-  at = λ r h. has.at r h ∙ visits_same (has_remainder_before factor n r) (has_remainder factor r) 0 xs (λ j l m. let below : nat_lt j n ≡ true = (let k : j < n = omega (arith, e) in grind (arith, nat_tests)) in rw below (true_second (j % factor == r)));
+  at =
+      λ r h. has.at r h
+      ∙ visits_same (has_remainder_before factor n r) (has_remainder factor r) 0 xs
+      (λ j l m. let below : nat_lt j n ≡ true = (let k : j < n = omega (arith, e) in grind (arith, nat_tests)) in rw below (true_second (j % factor == r)));
 }
 
 -- ---- the ranks at which the remainders begin
@@ -214,10 +227,12 @@ length-sums_before start (c ∷ cs) = ap suc (length-sums_before (start + c) cs)
 
 less_or_same : (j r : ℕ) → one (nat_lt j r) + one (j == r) ≡ one (nat_lt j (r + 1))
 less_or_same j r = elim (cases_lt j r) [
-  | inl l ↦ let a : nat_lt j r ≡ true = grind (arith, nat_tests) in let b : nat_lt j (r + 1) ≡ true = grind (arith, nat_tests) in rw (a, b, ne_eqb j r (λ e. absurd (omega (arith, e, l)))) refl
+  | inl l ↦ let a : nat_lt j r ≡ true = grind (arith, nat_tests) in let b : nat_lt j (r + 1) ≡ true = grind
+      (arith, nat_tests) in rw (a, b, ne_eqb j r (λ e. absurd (omega (arith, e, l)))) refl
   | inr g ↦ elim (cases_eq j r) [
     | inl e ↦ rw (e, not_less_itself r, less_one_more r, eq-eqb r r refl) refl
-    | inr n ↦ let m : r < j = omega (arith, g, n) in let a : nat_lt j r ≡ false = grind (arith, nat_tests) in let b : nat_lt j (r + 1) ≡ false = grind (arith, nat_tests) in rw (a, b, ne_eqb j r n) refl
+    | inr n ↦ let m : r < j = omega (arith, g, n) in let a : nat_lt j r ≡ false = grind (arith, nat_tests) in let b : nat_lt j (r + 1) ≡ false = grind
+        (arith, nat_tests) in rw (a, b, ne_eqb j r n) refl
   ]
 ]
 
@@ -228,14 +243,17 @@ one_more : (r : ℕ) → suc r ≡ r + 1
 one_more r = omega arith
 
 -- the counts of the first r remainders add up to those with a smaller one
-sums_less : (factor : ℕ) (xs : List Object) (counts : List ℕ) → HasCounts (has_remainder factor) factor xs counts → (r : ℕ) → r ≤ factor → sum (take r counts) ≡ visits (has_less_remainder factor r) 0 xs
+sums_less : (factor : ℕ) (xs : List Object) (counts : List ℕ) → HasCounts (has_remainder factor) factor xs counts → (r : ℕ) → r ≤ factor
+    → sum (take r counts) ≡ visits (has_less_remainder factor r) 0 xs
 sums_less factor xs counts has zero h = sym (visits_none (has_less_remainder factor 0) 0 xs (λ j. nothing_below (j % factor)))
 sums_less factor xs counts has (suc r) h =
     let before = sums_less factor xs counts has r (omega arith) in
     let more = sum_more counts r (omega (arith, has.size)) in
     let here = has.at r (omega arith) in
-    let either = visits_either (has_less_remainder factor r) (has_remainder factor r) (has_less_remainder factor (r + 1)) 0 xs (λ j. less_or_same (j % factor) r) in
-    rw (one_more r) (more ∙ (let sums : sum (take r counts) + count_at counts r ≡ visits (has_less_remainder factor r) 0 xs + visits (has_remainder factor r) 0 xs = omega (arith, before, here) in sums) ∙ either)
+    let either = visits_either (has_less_remainder factor r) (has_remainder factor r) (has_less_remainder factor (r + 1)) 0 xs
+    (λ j. less_or_same (j % factor) r) in
+    rw (one_more r) (more ∙ (let sums : sum (take r counts) + count_at counts r ≡ visits (has_less_remainder factor r) 0 xs + visits
+    (has_remainder factor r) 0 xs = omega (arith, before, here) in sums) ∙ either)
 
 pub few_in_all : (factor : ℕ) (xs : List Object) (counts : List ℕ) → HasCounts (has_remainder factor) factor xs counts → sum counts ≤ length xs
 few_in_all factor xs counts has =
@@ -244,7 +262,8 @@ few_in_all factor xs counts has =
     let few = visits_few (has_less_remainder factor factor) 0 xs in
     omega (arith, all, whole, few)
 
-pub ranks_first : (factor : ℕ) (xs : List Object) (counts ranks : List ℕ) → HasCounts (has_remainder factor) factor xs counts → ranks ≡ sums_before 0 counts → HasCounts (has_less_remainder factor) factor xs ranks
+pub ranks_first : (factor : ℕ) (xs : List Object) (counts ranks : List ℕ) → HasCounts (has_remainder factor) factor xs counts
+    → ranks ≡ sums_before 0 counts → HasCounts (has_less_remainder factor) factor xs ranks
 ranks_first factor xs counts ranks has e = record {
   size = rw e (length-sums_before 0 counts ∙ has.size);
   at = λ r h. rw e (sums_at 0 counts r (omega (arith, has.size)) ∙ (let s = sums_less factor xs counts has r (omega arith) in omega (arith, s)));
@@ -270,7 +289,8 @@ visits_most t i (x ∷ xs) =
     omega (arith, a, b, c, rest)
 
 -- where a scheduled one isn't counted, fewer are counted than are scheduled
-visits_less : (t : ℕ → Bool) (i k : ℕ) (xs : List Object) (d : Object) → k < length xs → is_scheduled (get_or xs k d) ≡ true → t (i + k) ≡ false → visits t i xs < count_by is_scheduled xs
+visits_less : (t : ℕ → Bool) (i k : ℕ) (xs : List Object) (d : Object) → k < length xs → is_scheduled (get_or xs k d) ≡ true → t (i + k) ≡ false
+    → visits t i xs < count_by is_scheduled xs
 visits_less t i k [] d h s e = absurd (omega arith)
 visits_less t i zero (x ∷ xs) d h s e =
     let rest = visits_most t (i + 1) xs in
@@ -289,17 +309,22 @@ visits_less t i (suc k) (x ∷ xs) d h s e =
     omega (arith, a, b, c, rest)
 
 -- the rank of a scheduled object is less than how many are scheduled
-pub rank_less : (factor p : ℕ) (xs : List Object) (d : Object) → p < length xs → is_scheduled (get_or xs p d) ≡ true → visits (is_visited_earlier factor p (p % factor)) 0 xs < count_by is_scheduled xs
+pub rank_less : (factor p : ℕ) (xs : List Object) (d : Object) → p < length xs → is_scheduled (get_or xs p d) ≡ true
+    → visits (is_visited_earlier factor p (p % factor)) 0 xs < count_by is_scheduled xs
 rank_less factor p xs d h s =
     let not_less : nat_lt (p % factor) (p % factor) ≡ false = not_less_itself (p % factor) in
     let not_itself : is_visited_earlier factor p (p % factor) p ≡ false = rw (not_less, not_less_itself p) (false_second (p % factor == p % factor)) in
     let at : 0 + p ≡ p = omega arith in
     visits_less (is_visited_earlier factor p (p % factor)) 0 p xs d h s (rw at not_itself)
 
-pub earlier_first : (factor : ℕ) (xs : List Object) (ranks : List ℕ) → HasCounts (has_less_remainder factor) factor xs ranks → HasCounts (is_visited_earlier factor 0) factor xs ranks
+pub earlier_first : (factor : ℕ) (xs : List Object) (ranks : List ℕ) → HasCounts (has_less_remainder factor) factor xs ranks
+    → HasCounts (is_visited_earlier factor 0) factor xs ranks
 earlier_first factor xs ranks has = record {
   size = has.size;
-  at = λ r h. has.at r h ∙ visits_same (has_less_remainder factor r) (is_visited_earlier factor 0 r) 0 xs (λ j l m. sym (rw (nothing_below j, false_second (j % factor == r)) (or_false (nat_lt (j % factor) r))));
+  at =
+      λ r h. has.at r h
+      ∙ visits_same (has_less_remainder factor r) (is_visited_earlier factor 0 r) 0 xs
+      (λ j l m. sym (rw (nothing_below j, false_second (j % factor == r)) (or_false (nat_lt (j % factor) r))));
 }
 
 pub ok_weaker : {A E : Type 0} {P Q : A → Type 0} (r : Result A E) → ((x : A) → P x → Q x) → IfOk r P → IfOk r Q

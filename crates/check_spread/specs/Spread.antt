@@ -1,5 +1,6 @@
 -- The times of the first checks ("Service and Host Check Scheduling": inter-check delay, service interleaving).
-use Rattle.std.specs.Prelude.{ℕ, ◌+◌, ◌*◌, ◌/◌, ◌%◌, ◌==◌, ◌&&◌, ◌||◌, Bool, not, List, ◌++◌, length, map, filter, count_by, sum_by, nat_lt, nat_le, Option, Some, None, if◌then◌else◌}
+use Rattle.std.specs.Prelude.{ℕ, ◌+◌, ◌*◌, ◌/◌, ◌%◌, ◌==◌, ◌&&◌, ◌||◌, Bool, not, List, ◌++◌, length, map, filter, count_by, sum_by, nat_lt, nat_le, Option}
+use Rattle.std.specs.Prelude.{Some, None, if◌then◌else◌}
 use Rattle.std.specs.Int.{div_ceil}
 use Rattle.std.specs.List.{enumerate_from}
 use Rattle.check_objects.specs.declared.object.Object.{Object}
@@ -24,7 +25,8 @@ interval_of interval_length o = o.check_interval * interval_length * 1000
 
 -- how many of the objects are scheduled, and the sum of their check intervals
 abbrev pub load_of : ℕ → List Object → Load
-load_of interval_length objects = record { scheduled = count_by is_scheduled objects; total = sum_by (interval_of interval_length) (filter is_scheduled objects) }
+load_of interval_length objects =
+    record { scheduled = count_by is_scheduled objects; total = sum_by (interval_of interval_length) (filter is_scheduled objects) }
 
 -- ---- the order
 

@@ -29,7 +29,8 @@ pub WroteUpTo-none : (known : Option (List ℕ)) (text : List ℕ) → WroteUpTo
 WroteUpTo-none known text = record { front = []; parts = refl; appended = Appends-none known }
 
 -- a write took n bytes of the rest
-pub WroteUpTo-more : (old mid new : Option (List ℕ)) (text rest : List ℕ) (n : ℕ) → WroteUpTo old mid text rest → Appends mid new (take n rest) → WroteUpTo old new text (drop n rest)
+pub WroteUpTo-more : (old mid new : Option (List ℕ)) (text rest : List ℕ) (n : ℕ) → WroteUpTo old mid text rest → Appends mid new (take n rest)
+    → WroteUpTo old new text (drop n rest)
 WroteUpTo-more old mid new text rest n w a = record {
   front = w.front ++ take n rest;
   parts = grind (arith, common_steps, w.parts);
@@ -47,7 +48,8 @@ WroteUpTo-all old new text w = let e : w.front ≡ text = grind (arith, common_s
 -- ---- line by line
 
 -- a line that is next in the text was written
-pub WroteUpTo-line : (old mid new : Option (List ℕ)) (text line rest : List ℕ) → WroteUpTo old mid text (line ++ rest) → Appends mid new line → WroteUpTo old new text rest
+pub WroteUpTo-line : (old mid new : Option (List ℕ)) (text line rest : List ℕ) → WroteUpTo old mid text (line ++ rest) → Appends mid new line
+    → WroteUpTo old new text rest
 WroteUpTo-line old mid new text line rest w a = record {
   front = w.front ++ line;
   parts = w.parts ∙ sym (append_assoc w.front line rest);
@@ -55,26 +57,34 @@ WroteUpTo-line old mid new text line rest w a = record {
 }
 
 -- a front of that line was
-pub WroteUpTo-part : (old mid new : Option (List ℕ)) (text line rest : List ℕ) → WroteUpTo old mid text (line ++ rest) → WroteFront mid new line → WroteFront old new text
+pub WroteUpTo-part : (old mid new : Option (List ℕ)) (text line rest : List ℕ) → WroteUpTo old mid text (line ++ rest) → WroteFront mid new line
+    → WroteFront old new text
 WroteUpTo-part old mid new text line rest w (left, f) = (
   left ++ rest,
   record {
     front = w.front ++ f.front;
-    parts = w.parts ∙ ap (λ l. w.front ++ (l ++ rest)) f.parts ∙ ap (λ l. w.front ++ l) (append_assoc f.front left rest) ∙ sym (append_assoc w.front f.front (left ++ rest));
+    parts =
+        w.parts ∙ ap (λ l. w.front ++ (l ++ rest)) f.parts ∙ ap (λ l. w.front ++ l) (append_assoc f.front left rest)
+        ∙ sym (append_assoc w.front f.front (left ++ rest));
     appended = Appends-trans old mid new w.front f.front w.appended f.appended;
   },
 )
 
 -- the same two, where the rest is shown to begin with the line
-pub WroteUpTo-next : (old mid new : Option (List ℕ)) (text left line rest : List ℕ) → WroteUpTo old mid text left → left ≡ line ++ rest → Appends mid new line → WroteUpTo old new text rest
-WroteUpTo-next old mid new text left line rest w e a = WroteUpTo-line old mid new text line rest (record { front = w.front; parts = w.parts ∙ ap (λ l. w.front ++ l) e; appended = w.appended }) a
+pub WroteUpTo-next : (old mid new : Option (List ℕ)) (text left line rest : List ℕ) → WroteUpTo old mid text left → left ≡ line ++ rest
+    → Appends mid new line → WroteUpTo old new text rest
+WroteUpTo-next old mid new text left line rest w e a =
+    WroteUpTo-line old mid new text line rest (record { front = w.front; parts = w.parts ∙ ap (λ l. w.front ++ l) e; appended = w.appended }) a
 
-pub WroteUpTo-cut : (old mid new : Option (List ℕ)) (text left line rest : List ℕ) → WroteUpTo old mid text left → left ≡ line ++ rest → WroteFront mid new line → WroteFront old new text
-WroteUpTo-cut old mid new text left line rest w e f = WroteUpTo-part old mid new text line rest (record { front = w.front; parts = w.parts ∙ ap (λ l. w.front ++ l) e; appended = w.appended }) f
+pub WroteUpTo-cut : (old mid new : Option (List ℕ)) (text left line rest : List ℕ) → WroteUpTo old mid text left → left ≡ line ++ rest
+    → WroteFront mid new line → WroteFront old new text
+WroteUpTo-cut old mid new text left line rest w e f =
+    WroteUpTo-part old mid new text line rest (record { front = w.front; parts = w.parts ∙ ap (λ l. w.front ++ l) e; appended = w.appended }) f
 
 -- the rest is shown to be empty
 pub WroteUpTo-whole : (old new : Option (List ℕ)) (text left : List ℕ) → WroteUpTo old new text left → left ≡ [] → Appends old new text
-WroteUpTo-whole old new text left w e = WroteUpTo-all old new text (record { front = w.front; parts = w.parts ∙ ap (λ l. w.front ++ l) e; appended = w.appended })
+WroteUpTo-whole old new text left w e =
+    WroteUpTo-all old new text (record { front = w.front; parts = w.parts ∙ ap (λ l. w.front ++ l) e; appended = w.appended })
 
 -- nothing of a text was written
 pub front_none : (known : Option (List ℕ)) (text : List ℕ) → WroteFront known known text

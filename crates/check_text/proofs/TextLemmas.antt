@@ -30,5 +30,6 @@ entries_next c es i d total h =
     ap (λ l. flat_map (entry_line c) l ++ total) e ∙ append_assoc (entry_line c (get_or es i d)) (flat_map (entry_line c) (drop (i + 1) es)) total
 
 -- after the last entry the total alone is left, with nothing behind it
-pub entries_end : (c : Configuration) (es : List (Entry Call Reply)) (i : ℕ) (total : List ℕ) → length es ≤ i → flat_map (entry_line c) (drop i es) ++ total ≡ total ++ []
+pub entries_end : (c : Configuration) (es : List (Entry Call Reply)) (i : ℕ) (total : List ℕ) → length es ≤ i
+    → flat_map (entry_line c) (drop i es) ++ total ≡ total ++ []
 entries_end c es i total h = ap (λ l. flat_map (entry_line c) l ++ total) (drop_all i es h) ∙ sym (append-nil total)

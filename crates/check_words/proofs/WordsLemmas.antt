@@ -1,5 +1,6 @@
 -- What the program's words ask for.
-use Rattle.std.proofs.Common.{rules, ◌≡◌, ◌∙◌, ℕ, ◌^◌, ◌<◌, ◌≤◌, Bool, true, false, List, None, Some, Ok, Err, IfOk, IfErr, Option, refl, sym, ap, subst, inl, inr}
+use Rattle.std.proofs.Common.{rules, ◌≡◌, ◌∙◌, ℕ, ◌^◌, ◌<◌, ◌≤◌, Bool, true, false, List, None, Some, Ok, Err, IfOk, IfErr, Option, refl, sym, ap, subst}
+use Rattle.std.proofs.Common.{inl, inr}
 use Rattle.std.specs.Prelude.{if◌then◌else◌, OnOk, Result, ◌⊎◌}
 use Rattle.std.specs.Str.Parse.{IsNumeral, digits_value, without_leading_plus}
 use Rattle.clap.specs.ValueTests.{is_unsigned_in}
@@ -23,7 +24,9 @@ none_by true n h = absurd (h refl)
 none_by false n h = refl
 
 -- a text that std doesn't read
-pub number_none : (least most : ℕ) (text : Text) → (IsNumeral 10 (without_leading_plus text) × (digits_value 10 (without_leading_plus text) < 2 ^ 64) → ⊥) → None ≡ number_between least most text
+pub number_none : (least most : ℕ) (text : Text)
+    → (IsNumeral 10 (without_leading_plus text) × (digits_value 10 (without_leading_plus text) < 2 ^ 64) → ⊥)
+    → None ≡ number_between least most text
 number_none least most text h = none_by (is_unsigned_in least most text) _ (λ e. let a = accepts-Accepts false (vp.Unsigned least most) text e in h (a.0, a.1))
 
 -- ---- what a reading says
@@ -44,7 +47,8 @@ on_ok_any (Ok x) p = p
 on_ok_any (Err e) p = tt
 
 -- an error of `clap` that is among the kinds of the words' faults
-pub tells_explains : (words : List Text) (k : ErrorKind) (e : WordsError) → (k ≡ kind.OutOfMemory) ⊎ IsAmong k (fault_of program words) → Tells k e → Explains words e
+pub tells_explains : (words : List Text) (k : ErrorKind) (e : WordsError) → (k ≡ kind.OutOfMemory) ⊎ IsAmong k (fault_of program words) → Tells k e
+    → Explains words e
 tells_explains words k (error.Help text) (inl h) t = let bad : kind.DisplayHelp ≡ kind.OutOfMemory = sym t ∙ h in absurd (search (rules, bad))
 tells_explains words k (error.Help text) (inr h) t = subst (λ (q : ErrorKind). IsAmong q (fault_of program words)) t h
 tells_explains words k error.Refused (inl h) t = absurd (t.1 h)

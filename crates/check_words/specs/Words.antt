@@ -1,5 +1,6 @@
 -- What the program's words ask for, as `clap` reads them.
-use Rattle.std.specs.Prelude.{ℕ, ◌^◌, ◌≤◌, ◌≡◌, ◌≢◌, ◌⊎◌, ⊤, List, [], ◌∷◌, if◌then◌else◌, Option, Some, None, Result, Ok, Err, codes, option_map, option_and_then}
+use Rattle.std.specs.Prelude.{ℕ, ◌^◌, ◌≤◌, ◌≡◌, ◌≢◌, ◌⊎◌, ⊤, List, [], ◌∷◌, if◌then◌else◌, Option, Some, None, Result, Ok, Err, codes, option_map}
+use Rattle.std.specs.Prelude.{option_and_then}
 use Rattle.std.specs.Str.{bytes_eq}
 use Rattle.std.specs.Str.Parse.{digits_value, without_leading_plus}
 use Rattle.clap.specs.ValueTests.{is_unsigned_in}

@@ -40,7 +40,8 @@ made_then es fs m n a b c f g = record {
 }
 
 -- a call with a reply
-pub made_reply : (call : Call) (reply : Reply) (before after : Caller Call Reply) → HasRecorded call reply before after → HasMade (entry before.own call reply ∷ []) 0 before after
+pub made_reply : (call : Call) (reply : Reply) (before after : Caller Call Reply) → HasRecorded call reply before after
+    → HasMade (entry before.own call reply ∷ []) 0 before after
 made_reply call reply before after h =
     let e = entry before.own call reply in
     subst (λ c. HasMade (e ∷ []) 0 before c) (sym h.after_is) (record {

@@ -1,5 +1,6 @@
 -- The shifts of a crew, in the book that it leaves.
-use Rattle.std.proofs.Common.{◌≡◌, ℕ, zero, suc, ◌+◌, ◌*◌, ◌<◌, ◌≤◌, List, [], ◌∷◌, ◌++◌, length, map, Option, Some, None, refl, sym, ap, subst, ◌∙◌, length-append, arith}
+use Rattle.std.proofs.Common.{◌≡◌, ℕ, zero, suc, ◌+◌, ◌*◌, ◌<◌, ◌≤◌, List, [], ◌∷◌, ◌++◌, length, map, Option, Some, None, refl, sym, ap, subst, ◌∙◌}
+use Rattle.std.proofs.Common.{length-append, arith}
 use Rattle.std.specs.Prelude.{flat_map, sum_by, Result, Ok, Err, IfOk, IfErr}
 use Rattle.std.specs.List.{All}
 use Rattle.std.proofs.lemmas.List.{length-map}
@@ -24,9 +25,12 @@ use Rattle.check_workers.specs.declared.crews.CrewError.TheVariants as error
 use Rattle.check_workers.specs.declared.tally.Stop.{Stop}
 use Rattle.check_workers.specs.declared.tally.Stop.TheVariants as stop
 use Rattle.check_workers.specs.declared.tally.Tally.{Tally}
-use Rattle.check_workers.specs.Crews.{AreShiftsOf, AreWorked, HaveLeft, MatchCrewError, IsShiftOf, IsTallied, IsWithin, IsWorked, calls_counted, calls_in, numbers_in, numbers_of, sum_of, tally_of_all}
-use Rattle.check_workers.specs.Shifts.{IsReason, Open, Round, Shift, open_entries, open_moments, round_entries, shift_entries, shift_moments, stops_of, unanswered}
+use Rattle.check_workers.specs.Crews.{AreShiftsOf, AreWorked, HaveLeft, MatchCrewError, IsShiftOf, IsTallied, IsWithin, IsWorked, calls_counted, calls_in}
+use Rattle.check_workers.specs.Crews.{numbers_in, numbers_of, sum_of, tally_of_all}
+use Rattle.check_workers.specs.Shifts.{IsReason, Open, Round, Shift, open_entries, open_moments, round_entries, shift_entries, shift_moments, stops_of}
+use Rattle.check_workers.specs.Shifts.{unanswered}
 use Rattle.check_workers.specs.Tallies.{IsSum, plus, tally_of}
+use Rattle.check_workers.proofs.CallerLemmas.{prefix_trans}
 use Rattle.check_workers.proofs.ShiftLemmas.{rounds_entries, shift_calls, unanswered_count}
 use Rattle.check_workers.proofs.SumLemmas.{sum_plus}
 use Rattle.check_workers.proofs.TallyLemmas.{tally_append, tally_within}
@@ -41,7 +45,8 @@ reason_in room a b left None le r = tt
 reason_in room a b left (Some stop.NoMemory) le r = omega arith
 reason_in room a b left (Some stop.Spent) le r = r
 
-one_shift : (allows : ℕ → ℕ → ℕ → Code → Type 0) (moments : List ℕ) (desk : Desk) (pass back : Pass) (t : Tally) (history : List (Entry Call Reply)) (w : IsWorked allows moments desk pass back t)
+one_shift : (allows : ℕ → ℕ → ℕ → Code → Type 0) (moments : List ℕ) (desk : Desk) (pass back : Pass) (t : Tally) (history : List (Entry Call Reply))
+    (w : IsWorked allows moments desk pass back t)
     → Follows (pass_of back).numbers (pass_of back).seen history → IsShiftOf allows moments (opened_with desk).room history (pass_of pass) w.shift
 one_shift allows moments desk pass back t history w f = record {
   number = w.worked.number;
@@ -49,11 +54,14 @@ one_shift allows moments desk pass back t history w f = record {
   new = (λ n has. f.1 n (subst (λ l. 0 < times n l) (sym w.worked.made.numbers) has) ∙ w.worked.made.new n has);
   left = (pass_of back).left;
   left_is = w.worked.made.left;
-  reason = reason_in (opened_with desk).room (length (pass_of back).seen) (length history) (pass_of back).left w.shift.stopped (length_prefix (pass_of back).seen history f.0) w.worked.reason;
+  reason =
+      reason_in (opened_with desk).room (length (pass_of back).seen) (length history) (pass_of back).left w.shift.stopped
+      (length_prefix (pass_of back).seen history f.0) w.worked.reason;
 }
 
 -- the worker of a pass has made few calls more
-pub worked_tallied : (allows : ℕ → ℕ → ℕ → Code → Type 0) (moments : List ℕ) (desk : Desk) (pass back : Pass) (t : Tally) → IsWorked allows moments desk pass back t → IsTallied desk back t
+pub worked_tallied : (allows : ℕ → ℕ → ℕ → Code → Type 0) (moments : List ℕ) (desk : Desk) (pass back : Pass) (t : Tally)
+    → IsWorked allows moments desk pass back t → IsTallied desk back t
 worked_tallied allows moments desk pass back t w =
     let calls = w.worked.made.calls in
     let some = some_number back in (
@@ -64,7 +72,8 @@ worked_tallied allows moments desk pass back t w =
 
 -- ---- how many calls a shift has at most
 
-round_calls : (number now : ℕ) (r : Reply) (result : Option (Code × Reply)) → length (round_entries number (record { now = now; reply = r; result = result })) ≤ 2
+round_calls : (number now : ℕ) (r : Reply) (result : Option (Code × Reply))
+    → length (round_entries number (record { now = now; reply = r; result = result })) ≤ 2
 round_calls number now (reply.Taken object run) (Some (code, answer)) = omega arith
 round_calls number now (reply.Taken object run) None = omega arith
 round_calls number now (reply.PutOff object until) result = omega arith
@@ -98,7 +107,8 @@ shift_short s moments p =
     omega arith
 
 -- where calls are left, a worker stops for want of memory alone
-stops_by : (room recorded left before calls moments : ℕ) (o : Option Stop) → IsReason room recorded left o → before ≡ left + calls + unanswered o → calls ≤ 2 * moments → 2 * moments < before → length (stops_of o) ≡ unanswered o
+stops_by : (room recorded left before calls moments : ℕ) (o : Option Stop) → IsReason room recorded left o → before ≡ left + calls + unanswered o
+    → calls ≤ 2 * moments → 2 * moments < before → length (stops_of o) ≡ unanswered o
 stops_by room recorded left before calls moments None r e short many = refl
 stops_by room recorded left before calls moments (Some stop.NoMemory) r e short many = refl
 stops_by room recorded left before calls moments (Some stop.Spent) r e short many = absurd (omega (arith, r, e, short, many))
@@ -106,13 +116,15 @@ stops_by room recorded left before calls moments (Some stop.Spent) r e short man
 -- ---- all shifts
 
 module _ (allows : ℕ → ℕ → ℕ → Code → Type 0) (moments : List ℕ) (desk : Desk) where
-  abbrev pub rest_worked : (p : Pass) (ps : List Pass) (w : Pass × Tally) (ws : List (Pass × Tally)) → AreWorked allows moments desk (p ∷ ps) (w ∷ ws) → AreWorked allows moments desk ps ws
+  abbrev pub rest_worked : (p : Pass) (ps : List Pass) (w : Pass × Tally) (ws : List (Pass × Tally))
+      → AreWorked allows moments desk (p ∷ ps) (w ∷ ws) → AreWorked allows moments desk ps ws
   rest_worked p ps w ws h = record {
     count = (let c = h.count in omega arith);
     each = (λ i d e lt. h.each (suc i) d e (omega arith));
   }
 
-  abbrev pub first_worked : (p : Pass) (ps : List Pass) (w : Pass × Tally) (ws : List (Pass × Tally)) → AreWorked allows moments desk (p ∷ ps) (w ∷ ws) → IsWorked allows moments desk p w.0 w.1
+  abbrev pub first_worked : (p : Pass) (ps : List Pass) (w : Pass × Tally) (ws : List (Pass × Tally))
+      → AreWorked allows moments desk (p ∷ ps) (w ∷ ws) → IsWorked allows moments desk p w.0 w.1
   first_worked p ps w ws h = h.each 0 p w (omega arith)
 
   abbrev pub shifts_from : (ps : List Pass) (ws : List (Pass × Tally)) → AreWorked allows moments desk ps ws → List Shift
@@ -121,13 +133,26 @@ module _ (allows : ℕ → ℕ → ℕ → Code → Type 0) (moments : List ℕ)
   shifts_from (p ∷ ps) (w ∷ ws) h = (first_worked p ps w ws h).shift ∷ shifts_from ps ws (rest_worked p ps w ws h)
 
   pub are_shifts : (history : List (Entry Call Reply)) (ps : List Pass) (ws : List (Pass × Tally)) (h : AreWorked allows moments desk ps ws)
-      → All (λ w. Follows (pass_of w.0).numbers (pass_of w.0).seen history) ws → AreShiftsOf allows moments (opened_with desk).room history ps (shifts_from ps ws h)
+      → All (λ w. Follows (pass_of w.0).numbers (pass_of w.0).seen history) ws
+      → AreShiftsOf allows moments (opened_with desk).room history ps (shifts_from ps ws h)
   are_shifts history [] ws h f = tt
   are_shifts history (p ∷ ps) [] h f = absurd (let c = h.count in omega arith)
   are_shifts history (p ∷ ps) (w ∷ ws) h f = (
-    one_shift allows moments desk p w.0 w.1 history (first_worked p ps w ws h) (All-head (λ v. Follows (pass_of v.0).numbers (pass_of v.0).seen history) w ws f),
+    one_shift allows moments desk p w.0 w.1 history (first_worked p ps w ws h)
+        (All-head (λ v. Follows (pass_of v.0).numbers (pass_of v.0).seen history) w ws f),
     are_shifts history ps ws (rest_worked p ps w ws h) (All-tail (λ v. Follows (pass_of v.0).numbers (pass_of v.0).seen history) w ws f),
   )
+
+  -- the history begins with what each pass had seen when it was brought
+  pub all_begin : (history : List (Entry Call Reply)) (ps : List Pass) (ws : List (Pass × Tally)) → AreWorked allows moments desk ps ws
+      → All (λ w. Follows (pass_of w.0).numbers (pass_of w.0).seen history) ws → All (λ p. IsPrefix (pass_of p).seen history) ps
+  all_begin history [] ws h f k d lt = absurd (omega arith)
+  all_begin history (p ∷ ps) [] h f k d lt = absurd (let c = h.count in omega arith)
+  all_begin history (p ∷ ps) (w ∷ ws) h f zero d lt =
+      let later = All-head (λ v. Follows (pass_of v.0).numbers (pass_of v.0).seen history) w ws f in
+      prefix_trans (pass_of p).seen (pass_of w.0).seen history (first_worked p ps w ws h).worked.made.seen later.0
+  all_begin history (p ∷ ps) (w ∷ ws) h f (suc k) d lt =
+      all_begin history ps ws (rest_worked p ps w ws h) (All-tail (λ v. Follows (pass_of v.0).numbers (pass_of v.0).seen history) w ws f) k d (omega arith)
 
   pub all_tallied : (ps : List Pass) (ws : List (Pass × Tally)) → AreWorked allows moments desk ps ws → All (λ w. IsTallied desk w.0 w.1) ws
   all_tallied [] [] h k d lt = absurd (omega arith)
@@ -169,7 +194,8 @@ module _ (allows : ℕ → ℕ → ℕ → Code → Type 0) (moments : List ℕ)
       let brought = sum_by-cons (λ q. (pass_of q).calls) p ps in
       omega arith
 
-  pub sum_stops : (ps : List Pass) (ws : List (Pass × Tally)) → AreWorked allows moments desk ps ws → HaveLeft (2 * length moments) ps → (sum_of ws).stops ≡ (sum_of ws).unanswered
+  pub sum_stops : (ps : List Pass) (ws : List (Pass × Tally)) → AreWorked allows moments desk ps ws → HaveLeft (2 * length moments) ps
+      → (sum_of ws).stops ≡ (sum_of ws).unanswered
   sum_stops ps [] h many = refl
   sum_stops [] (w ∷ ws) h many = absurd (let c = h.count in omega arith)
   sum_stops (p ∷ ps) (w ∷ ws) h many =
@@ -177,13 +203,15 @@ module _ (allows : ℕ → ℕ → ℕ → Code → Type 0) (moments : List ℕ)
       let made = first.worked in
       let stops = ap (λ t. t.stops) first.counted in
       let missing = ap (λ t. t.unanswered) first.counted ∙ unanswered_count first.shift.stopped in
-      let same = stops_by (opened_with desk).room (length (pass_of w.0).seen) (pass_of w.0).left (pass_of p).left (length (shift_entries first.shift)) (length moments) first.shift.stopped
+      let same = stops_by (opened_with desk).room (length (pass_of w.0).seen) (pass_of w.0).left (pass_of p).left (length (shift_entries first.shift))
+      (length moments) first.shift.stopped
       made.reason made.made.left (shift_short first.shift moments made.shift.in_order) many.0 in
       let rest = sum_stops ps ws (rest_worked p ps w ws h) many.1 in
       omega arith
 
   -- the passes that come back stand for the numbers of those that were brought
-  pub same_numbers : (ps : List Pass) (ws : List (Pass × Tally)) → AreWorked allows moments desk ps ws → length (flat_map (λ w. (pass_of w.0).numbers) ws) ≡ numbers_in ps
+  pub same_numbers : (ps : List Pass) (ws : List (Pass × Tally)) → AreWorked allows moments desk ps ws
+      → length (flat_map (λ w. (pass_of w.0).numbers) ws) ≡ numbers_in ps
   same_numbers [] [] h = refl
   same_numbers [] (w ∷ ws) h = absurd (let c = h.count in omega arith)
   same_numbers (p ∷ ps) [] h = absurd (let c = h.count in omega arith)
@@ -205,7 +233,8 @@ module _ (allows : ℕ → ℕ → ℕ → Code → Type 0) (moments : List ℕ)
       ∙ sym (flat_map-cons (λ q. (pass_of q).numbers) p ps)
 
   -- the calls of the pass into which they are gathered
-  pub missing_calls : (ps : List Pass) (ws : List (Pass × Tally)) (h : AreWorked allows moments desk ps ws) (calls : ℕ) → calls ≡ sum_by (λ w. (pass_of w.0).calls) ws
+  pub missing_calls : (ps : List Pass) (ws : List (Pass × Tally)) (h : AreWorked allows moments desk ps ws) (calls : ℕ)
+      → calls ≡ sum_by (λ w. (pass_of w.0).calls) ws
       → calls ≡ calls_in ps + calls_counted (tally_of_all (shifts_from ps ws h))
   missing_calls ps ws h calls is =
       let all = sum_calls ps ws h in
@@ -222,7 +251,8 @@ pub failed_then_so : {A E : Type 0} {P Q : E → Type 0} (r : Result A E) → If
 failed_then_so (Ok x) h f = tt
 failed_then_so (Err e) h f = f e h
 
-pub crew_error : {P Q : Desk → Type 0} {R S : Desk → Pass → Type 0} (T : Desk → Type 0) (e : CrewError) → MatchCrewError e P R (λ d. ⊥) → ((d : Desk) → P d → Q d) → ((d : Desk) (p : Pass) → R d p → S d p)
+pub crew_error : {P Q : Desk → Type 0} {R S : Desk → Pass → Type 0} (T : Desk → Type 0) (e : CrewError) → MatchCrewError e P R (λ d. ⊥)
+    → ((d : Desk) → P d → Q d) → ((d : Desk) (p : Pass) → R d p → S d p)
     → MatchCrewError e Q S T
 crew_error T (error.NoPass d) h f g = f d h
 crew_error T (error.Missing d p) h f g = g d p h

@@ -63,7 +63,8 @@ tallied_few desk pass t h = within_few (pass_of pass).calls (length (pass_of pas
 
 -- ---- what was seen
 
-pub follows_trans : (ns ms : List ℕ) (xs ys zs : List (Entry Call Reply)) → ((n : ℕ) → 0 < times n ns → 0 < times n ms) → Follows ns xs ys → Follows ms ys zs → Follows ns xs zs
+pub follows_trans : (ns ms : List ℕ) (xs ys zs : List (Entry Call Reply)) → ((n : ℕ) → 0 < times n ns → 0 < times n ms) → Follows ns xs ys
+    → Follows ms ys zs → Follows ns xs zs
 follows_trans ns ms xs ys zs among f g = (prefix_trans xs ys zs f.0 g.0, λ n has. g.1 n (among n has) ∙ f.1 n has)
 
 -- ---- lists that are taken apart from the end
@@ -90,7 +91,19 @@ numbered n (w ∷ worked) (suc k) d lt has =
 
 plus_none : (t : Tally) → t ≡ plus t (tally_of [] [])
 plus_none t =
-    let is : record { takes = t.takes; taken = t.taken; put_off = t.put_off; idle = t.idle; at_limit = t.at_limit; refused = t.refused; reports = t.reports; reported = t.reported; late = t.late; unanswered = t.unanswered; stops = t.stops }
+    let is : record {
+      takes = t.takes;
+      taken = t.taken;
+      put_off = t.put_off;
+      idle = t.idle;
+      at_limit = t.at_limit;
+      refused = t.refused;
+      reports = t.reports;
+      reported = t.reported;
+      late = t.late;
+      unanswered = t.unanswered;
+      stops = t.stops;
+    }
     ≡ plus t (tally_of [] []) = simp unary_clauses refl in is
 
 -- one pass alone
@@ -105,20 +118,27 @@ gathered_one desk pass t h = record {
 }
 
 -- one pass more, before those that are gathered
-pub gathered_more : (desk : Desk) (worked : List (Pass × Tally)) (other pass result : Pass) (more t : Tally) → IsTallied desk other more → AreGathered desk worked pass t
+pub gathered_more : (desk : Desk) (worked : List (Pass × Tally)) (other pass result : Pass) (more t : Tally) → IsTallied desk other more
+    → AreGathered desk worked pass t
     → IsPassOf desk result → pass_of result ≡ joined (pass_of other) (pass_of pass)
     → Follows (pass_of other).numbers (pass_of other).seen (pass_of result).seen → Follows (pass_of pass).numbers (pass_of pass).seen (pass_of result).seen
     → AreGathered desk ((other, more) ∷ worked) result (plus more t)
 gathered_more desk worked other pass result more t h g is join first rest =
     let numbers : (pass_of result).numbers ≡ (pass_of other).numbers ++ (pass_of pass).numbers = ap (λ c. c.numbers) join in
     let calls : (pass_of result).calls ≡ (pass_of other).calls + (pass_of pass).calls = ap (λ c. c.calls) join in
-    let len : length (pass_of result).numbers ≡ length (pass_of other).numbers + length (pass_of pass).numbers = ap length numbers ∙ length-append (pass_of other).numbers (pass_of pass).numbers in
+    let len : length (pass_of result).numbers ≡ length (pass_of other).numbers + length (pass_of pass).numbers = ap length numbers ∙ length-append
+    (pass_of other).numbers (pass_of pass).numbers in
     record {
-      tallied = (is, rw (calls, len) (within_plus (pass_of other).calls (pass_of pass).calls (length (pass_of other).numbers) (length (pass_of pass).numbers) more t h.1 g.tallied.1));
+      tallied = (
+        is,
+        rw (calls, len) (within_plus (pass_of other).calls (pass_of pass).calls (length (pass_of other).numbers)
+            (length (pass_of pass).numbers) more t h.1 g.tallied.1),
+      );
       numbers = numbers ∙ ap (λ l. (pass_of other).numbers ++ l) g.numbers ∙ sym (flat_map-cons (λ w. (pass_of w.0).numbers) (other, more) worked);
       calls = calls ∙ ap (λ n. (pass_of other).calls + n) g.calls ∙ sym (sum_by-cons (λ w. (pass_of w.0).calls) (other, more) worked);
       seen = All-cons (λ w. Follows (pass_of w.0).numbers (pass_of w.0).seen (pass_of result).seen) (other, more) worked first (λ k d lt.
-          follows_trans (pass_of (slice_index_or worked k d).0).numbers (pass_of pass).numbers (pass_of (slice_index_or worked k d).0).seen (pass_of pass).seen (pass_of result).seen
+          follows_trans (pass_of (slice_index_or worked k d).0).numbers (pass_of pass).numbers (pass_of (slice_index_or worked k d).0).seen
+          (pass_of pass).seen (pass_of result).seen
           (λ n has. subst (λ l. 0 < times n l) (sym g.numbers) (numbered n worked k d lt has)) (g.seen k d lt) rest);
       sum = ap (λ u. plus more u) g.sum;
     }

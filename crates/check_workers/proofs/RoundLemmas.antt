@@ -19,12 +19,16 @@ use Rattle.check_workers.proofs.CallerLemmas.{made_reply, made_then}
 use Rattle.check_workers.proofs.TallyLemmas.{few_tally, tally_append}
 
 -- a report counts few answers
-pub reported_few : (allows : ℕ → ℕ → ℕ → Code → Type 0) (now object run room : ℕ) (before after : Caller Call Reply) (t : Tally) (p : Progress) → HasReported allows now object run room before after t p → IsFew t
-reported_few allows now object run room before after t progress.Done h = subst IsFew (sym h.counted) (few_tally (entry before.own (call.Report object run h.code) h.answer ∷ []) [] (omega arith) (omega arith))
-reported_few allows now object run room before after t (progress.Stopped stop given) h = subst IsFew (sym h.counted) (few_tally [] [] (omega arith) (omega arith))
+pub reported_few : (allows : ℕ → ℕ → ℕ → Code → Type 0) (now object run room : ℕ) (before after : Caller Call Reply) (t : Tally) (p : Progress)
+    → HasReported allows now object run room before after t p → IsFew t
+reported_few allows now object run room before after t progress.Done h =
+    subst IsFew (sym h.counted) (few_tally (entry before.own (call.Report object run h.code) h.answer ∷ []) [] (omega arith) (omega arith))
+reported_few allows now object run room before after t (progress.Stopped stop given) h =
+    subst IsFew (sym h.counted) (few_tally [] [] (omega arith) (omega arith))
 
 -- the number under which a caller records stays
-made_own : (c : Call) (r : Reply) (fs : List (Entry Call Reply)) (n : ℕ) (before mid after : Caller Call Reply) → HasRecorded c r before mid → HasMade fs n mid after
+made_own : (c : Call) (r : Reply) (fs : List (Entry Call Reply)) (n : ℕ) (before mid after : Caller Call Reply) → HasRecorded c r before mid
+    → HasMade fs n mid after
     → HasMade (entry before.own c r ∷ fs) n before after
 made_own c r fs n before mid after h g =
     let same : 0 + n ≡ n = omega arith in
@@ -33,7 +37,8 @@ made_own c r fs n before mid after h g =
 same_own : (c : Call) (r : Reply) (before mid : Caller Call Reply) → HasRecorded c r before mid → mid.own ≡ before.own
 same_own c r before mid h = (made_reply c r before mid h).own
 
-tally_two : (e : Entry Call Reply) (fs : List (Entry Call Reply)) (t u : Tally) → t ≡ tally_of (e ∷ []) [] → u ≡ tally_of fs [] → plus t u ≡ tally_of (e ∷ fs) []
+tally_two : (e : Entry Call Reply) (fs : List (Entry Call Reply)) (t u : Tally) → t ≡ tally_of (e ∷ []) [] → u ≡ tally_of fs []
+    → plus t u ≡ tally_of (e ∷ fs) []
 tally_two e fs t u p q = rw (p, q) (sym (tally_append (e ∷ []) fs [] []))
 
 -- a check that was taken, and then its report
@@ -47,7 +52,9 @@ came_taken allows now object run room before mid after t u progress.Done h first
       round = record { now = now; reply = reply.Taken object run; result = Some (r.code, r.answer) };
       at = refl;
       allowed = r.allowed;
-      made = made_own (call.Take now) (reply.Taken object run) (e ∷ []) 0 before mid after h (subst (λ number. HasMade (entry number (call.Report object run r.code) r.answer ∷ []) 0 mid after) own r.made);
+      made =
+          made_own (call.Take now) (reply.Taken object run) (e ∷ []) 0 before mid after h
+          (subst (λ number. HasMade (entry number (call.Report object run r.code) r.answer ∷ []) 0 mid after) own r.made);
       counted = tally_two (entry before.own (call.Take now) (reply.Taken object run)) (e ∷ []) t u first r.counted;
     }
 came_taken allows now object run room before mid after t u (progress.Stopped stop given) h first r = record {
@@ -80,7 +87,8 @@ untaken number (reply.Freed next) h = refl
 untaken number reply.Done h = refl
 untaken number (reply.Refused why) h = refl
 
-pub came_other : (allows : ℕ → ℕ → ℕ → Code → Type 0) (now : ℕ) (r : Reply) (before after : Caller Call Reply) (t : Tally) → ((object run : ℕ) → r ≡ reply.Taken object run → ⊥)
+pub came_other : (allows : ℕ → ℕ → ℕ → Code → Type 0) (now : ℕ) (r : Reply) (before after : Caller Call Reply) (t : Tally)
+    → ((object run : ℕ) → r ≡ reply.Taken object run → ⊥)
     → HasRecorded (call.Take now) r before after → t ≡ tally_of (entry before.own (call.Take now) r ∷ []) [] → IsDone allows now before after t
 came_other allows now r before after t other h counted =
     let none = untaken before.own r other in record {

@@ -1,5 +1,6 @@
 -- A shift, round by round.
-use Rattle.std.proofs.Common.{◌≡◌, ℕ, ◌+◌, ◌<◌, ◌^◌, List, [], ◌∷◌, ◌++◌, length, map, Option, Some, None, refl, sym, ap, subst, ◌∙◌, append_assoc, append-nil, length-append, arith}
+use Rattle.std.proofs.Common.{◌≡◌, ℕ, ◌+◌, ◌<◌, ◌^◌, List, [], ◌∷◌, ◌++◌, length, map, Option, Some, None, refl, sym, ap, subst, ◌∙◌, append_assoc}
+use Rattle.std.proofs.Common.{append-nil, length-append, arith}
 use Rattle.std.specs.Prelude.{flat_map, count_by, true}
 use Rattle.std.proofs.lemmas.List.Concat.{flat_map-cons}
 use Rattle.std.specs.List.{All}
@@ -20,7 +21,8 @@ use Rattle.check_workers.specs.declared.tally.Stop.{Stop}
 use Rattle.check_workers.specs.declared.tally.Stop.TheVariants as stop
 use Rattle.check_workers.specs.declared.tally.Tally.{Tally}
 use Rattle.check_workers.specs.Progress.{HasCome, IsDone, IsOpenAt, IsStopped}
-use Rattle.check_workers.specs.Shifts.{HasMade, HasWorked, IsRound, Open, Round, Shift, open_entries, open_moments, round_entries, shift_entries, stops_of, unanswered}
+use Rattle.check_workers.specs.Shifts.{HasMade, HasWorked, IsRound, Open, Round, Shift, open_entries, open_moments, round_entries, shift_entries, stops_of}
+use Rattle.check_workers.specs.Shifts.{unanswered}
 use Rattle.check_workers.specs.Tallies.{IsFew, is_no_memory, plus, reports_with, takes_with, tally_of}
 use Rattle.check_workers.proofs.CallerLemmas.{made_none, made_then}
 use Rattle.check_workers.proofs.TallyLemmas.{few_tally, tally_append}
@@ -51,23 +53,27 @@ pub working_more : (allows : ℕ → ℕ → ℕ → Code → Type 0) (done : Li
 working_more allows done now before mid after t u w d =
     let own : mid.own ≡ before.own = w.made.own in
     let entries : rounds_entries before.own (w.rounds ++ d.round ∷ []) ≡ rounds_entries before.own w.rounds ++ round_entries before.own d.round =
-    flat_map-append (round_entries before.own) w.rounds (d.round ∷ []) ∙ ap (λ l. rounds_entries before.own w.rounds ++ l) (append-nil (round_entries before.own d.round)) in
+    flat_map-append (round_entries before.own) w.rounds (d.round ∷ []) ∙ ap
+    (λ l. rounds_entries before.own w.rounds ++ l) (append-nil (round_entries before.own d.round)) in
     record {
       rounds = w.rounds ++ d.round ∷ [];
       allowed = All-append (IsRound allows) w.rounds (d.round ∷ []) w.allowed (All-cons (IsRound allows) d.round [] d.allowed (All-nil (IsRound allows)));
       moments_are = map-append (λ r. r.now) w.rounds (d.round ∷ []) ∙ ap (λ l. l ++ d.round.now ∷ []) w.moments_are ∙ ap (λ n. done ++ n ∷ []) d.at;
-      made = subst (λ es. HasMade es 0 before after) (sym entries) (made_then (rounds_entries before.own w.rounds) (round_entries before.own d.round) 0 0 before mid after w.made
+      made =
+          subst (λ es. HasMade es 0 before after) (sym entries) (made_then (rounds_entries before.own w.rounds) (round_entries before.own d.round) 0 0 before mid after w.made
           (subst (λ number. HasMade (round_entries number d.round) 0 mid after) own d.made));
       counted = rw entries (rw (w.counted, d.counted, own) (sym (tally_append (rounds_entries before.own w.rounds) (round_entries before.own d.round) [] [])));
     }
 
 -- the moments of the rounds, and that of a check that was left open, come first
-stopped_in_order : (now : ℕ) (o : Option Open) (done rest moments : List ℕ) → done ++ now ∷ rest ≡ moments → IsOpenAt now o → IsPrefix (done ++ open_moments o) moments
+stopped_in_order : (now : ℕ) (o : Option Open) (done rest moments : List ℕ) → done ++ now ∷ rest ≡ moments → IsOpenAt now o
+    → IsPrefix (done ++ open_moments o) moments
 stopped_in_order now None done rest moments e at = (now ∷ rest, ap (λ l. l ++ now ∷ rest) (append-nil done) ∙ e)
 stopped_in_order now (Some o) done rest moments e at = (rest, append_assoc done (o.now ∷ []) rest ∙ ap (λ n. done ++ n ∷ rest) at ∙ e)
 
 -- the shift of a worker that stopped in the work of this moment
-pub working_stopped : (allows : ℕ → ℕ → ℕ → Code → Type 0) (done rest moments : List ℕ) (now room : ℕ) (stop : Stop) (given : Option (ℕ × ℕ)) (before mid after : Caller Call Reply) (t u : Tally)
+pub working_stopped : (allows : ℕ → ℕ → ℕ → Code → Type 0) (done rest moments : List ℕ) (now room : ℕ) (stop : Stop) (given : Option (ℕ × ℕ))
+    (before mid after : Caller Call Reply) (t u : Tally)
     → done ++ now ∷ rest ≡ moments → (w : IsWorking allows done before mid t) → (h : IsStopped now room stop given mid after u)
     → HasWorked allows moments room (record { number = before.own; rounds = w.rounds; left_open = h.left_open; stopped = Some stop }) before after
 working_stopped allows done rest moments now room stop given before mid after t u e w h =
@@ -77,7 +83,8 @@ working_stopped allows done rest moments now room stop given before mid after t 
       number = refl;
       shift = record {
         rounds = w.allowed;
-        in_order = subst (λ l. IsPrefix (l ++ open_moments h.left_open) moments) (sym w.moments_are) (stopped_in_order now h.left_open done rest moments e h.at);
+        in_order =
+            subst (λ l. IsPrefix (l ++ open_moments h.left_open) moments) (sym w.moments_are) (stopped_in_order now h.left_open done rest moments e h.at);
         all = (λ is. absurd (none-some stop (sym is)));
         none_open = (λ is. absurd (none-some stop (sym is)));
         early = (λ why is.
@@ -91,7 +98,8 @@ working_stopped allows done rest moments now room stop given before mid after t 
       reason = h.reason;
     }
 
-pub stopped_counted : (allows : ℕ → ℕ → ℕ → Code → Type 0) (done : List ℕ) (now room : ℕ) (stop : Stop) (given : Option (ℕ × ℕ)) (before mid after : Caller Call Reply) (t u : Tally)
+pub stopped_counted : (allows : ℕ → ℕ → ℕ → Code → Type 0) (done : List ℕ) (now room : ℕ) (stop : Stop) (given : Option (ℕ × ℕ))
+    (before mid after : Caller Call Reply) (t u : Tally)
     (w : IsWorking allows done before mid t) (h : IsStopped now room stop given mid after u)
     → plus (plus t u) (tally_of [] (stop ∷ [])) ≡ tally_of (rounds_entries before.own w.rounds ++ open_entries before.own h.left_open) (stop ∷ [])
 stopped_counted allows done now room stop given before mid after t u w h =
@@ -102,25 +110,35 @@ stopped_counted allows done now room stop given before mid after t u w h =
     ap (λ v. plus v (tally_of [] (stop ∷ []))) both ∙ sym (tally_append (es ++ fs) [] [] (stop ∷ [])) ∙ ap (λ l. tally_of l (stop ∷ [])) (append-nil (es ++ fs))
 
 -- the shift of a worker that did all
-pub working_ended : (allows : ℕ → ℕ → ℕ → Code → Type 0) (moments : List ℕ) (room : ℕ) (before after : Caller Call Reply) (t : Tally) (w : IsWorking allows moments before after t)
+pub working_ended : (allows : ℕ → ℕ → ℕ → Code → Type 0) (moments : List ℕ) (room : ℕ) (before after : Caller Call Reply) (t : Tally)
+    (w : IsWorking allows moments before after t)
     → HasWorked allows moments room (record { number = before.own; rounds = w.rounds; left_open = None; stopped = None }) before after
 working_ended allows moments room before after t w =
     let same = append-nil (map (λ r. r.now) w.rounds) ∙ w.moments_are in
     record {
       number = refl;
-      shift = record { rounds = w.allowed; in_order = ([], append-nil _ ∙ same); all = (λ is. same); none_open = (λ is. refl); early = (λ why is. absurd (none-some why is)) };
+      shift =
+          record {
+            rounds = w.allowed;
+            in_order = ([], append-nil _ ∙ same);
+            all = (λ is. same);
+            none_open = (λ is. refl);
+            early = (λ why is. absurd (none-some why is));
+          };
       made = subst (λ es. HasMade es 0 before after) (sym (append-nil (rounds_entries before.own w.rounds))) w.made;
       reason = tt;
     }
 
-pub ended_counted : (allows : ℕ → ℕ → ℕ → Code → Type 0) (moments : List ℕ) (before after : Caller Call Reply) (t : Tally) (w : IsWorking allows moments before after t)
+pub ended_counted : (allows : ℕ → ℕ → ℕ → Code → Type 0) (moments : List ℕ) (before after : Caller Call Reply) (t : Tally)
+    (w : IsWorking allows moments before after t)
     → t ≡ tally_of (rounds_entries before.own w.rounds ++ []) []
 ended_counted allows moments before after t w = w.counted ∙ ap (λ l. tally_of l []) (sym (append-nil (rounds_entries before.own w.rounds)))
 
 -- ---- few
 
 -- a worker's tally is small, since its pass has made few calls
-pub working_few : (allows : ℕ → ℕ → ℕ → Code → Type 0) (done : List ℕ) (before mid : Caller Call Reply) (t : Tally) → IsWorking allows done before mid t → mid.calls < 2 ^ 42 → IsFew t
+pub working_few : (allows : ℕ → ℕ → ℕ → Code → Type 0) (done : List ℕ) (before mid : Caller Call Reply) (t : Tally)
+    → IsWorking allows done before mid t → mid.calls < 2 ^ 42 → IsFew t
 working_few allows done before mid t w few =
     let calls = w.made.calls in
     subst IsFew (sym w.counted) (few_tally (rounds_entries before.own w.rounds) [] (omega arith) (omega arith))
@@ -132,16 +150,19 @@ pub record IsCounted (mid after : Caller Call Reply) (u : Tally) : Type 0 where
   pub made : HasMade entries missing mid after
   pub counted : u ≡ tally_of entries []
 
-pub came_counted : (allows : ℕ → ℕ → ℕ → Code → Type 0) (now room : ℕ) (mid after : Caller Call Reply) (u : Tally) (p : Progress) → HasCome allows now room mid after u p → IsCounted mid after u
+pub came_counted : (allows : ℕ → ℕ → ℕ → Code → Type 0) (now room : ℕ) (mid after : Caller Call Reply) (u : Tally) (p : Progress)
+    → HasCome allows now room mid after u p → IsCounted mid after u
 came_counted allows now room mid after u progress.Done h = record { entries = round_entries mid.own h.round; missing = 0; made = h.made; counted = h.counted }
-came_counted allows now room mid after u (progress.Stopped stop given) h = record { entries = open_entries mid.own h.left_open; missing = unanswered (Some stop); made = h.made; counted = h.counted }
+came_counted allows now room mid after u (progress.Stopped stop given) h =
+    record { entries = open_entries mid.own h.left_open; missing = unanswered (Some stop); made = h.made; counted = h.counted }
 
 pub counted_few : (mid after : Caller Call Reply) (u : Tally) → IsCounted mid after u → after.calls < 2 ^ 42 → IsFew u
 counted_few mid after u n few =
     let calls = n.made.calls in
     subst IsFew (sym n.counted) (few_tally n.entries [] (omega arith) (omega arith))
 
-pub both_few : (allows : ℕ → ℕ → ℕ → Code → Type 0) (done : List ℕ) (before mid after : Caller Call Reply) (t u : Tally) → IsWorking allows done before mid t → IsCounted mid after u → after.calls < 2 ^ 42 → IsFew (plus t u)
+pub both_few : (allows : ℕ → ℕ → ℕ → Code → Type 0) (done : List ℕ) (before mid after : Caller Call Reply) (t u : Tally)
+    → IsWorking allows done before mid t → IsCounted mid after u → after.calls < 2 ^ 42 → IsFew (plus t u)
 both_few allows done before mid after t u w n few =
     let es = rounds_entries before.own w.rounds in
     let first = w.made.calls in
@@ -161,7 +182,9 @@ both_append es fs =
     let r = ap (λ v. v.reports) (tally_append es fs [] []) in
     omega arith
 
-both_round : (number now : ℕ) (r : Reply) (result : Option (Code × Reply)) → both_with (round_entries number (record { now = now; reply = r; result = result })) ≡ length (round_entries number (record { now = now; reply = r; result = result }))
+both_round : (number now : ℕ) (r : Reply) (result : Option (Code × Reply))
+    → both_with (round_entries number (record { now = now; reply = r; result = result })) ≡ length
+    (round_entries number (record { now = now; reply = r; result = result }))
 both_round number now (reply.Taken object run) (Some (code, answer)) = refl
 both_round number now (reply.Taken object run) None = refl
 both_round number now (reply.PutOff object until) result = refl
@@ -204,7 +227,8 @@ unanswered_count (Some stop.NoMemory) = refl
 unanswered_count (Some stop.Spent) = refl
 
 -- the calls of a shift are its takes, its reports, and the call without an answer
-pub shift_calls : (s : Shift) (t : Tally) → t ≡ tally_of (shift_entries s) (stops_of s.stopped) → t.takes + t.reports + t.unanswered ≡ length (shift_entries s) + unanswered s.stopped
+pub shift_calls : (s : Shift) (t : Tally) → t ≡ tally_of (shift_entries s) (stops_of s.stopped)
+    → t.takes + t.reports + t.unanswered ≡ length (shift_entries s) + unanswered s.stopped
 shift_calls s t e =
     let takes = ap (λ v. v.takes) e in
     let reports = ap (λ v. v.reports) e in
@@ -213,7 +237,8 @@ shift_calls s t e =
     omega arith
 
 pub worked_left : (allows : ℕ → ℕ → ℕ → Code → Type 0) (moments : List ℕ) (room : ℕ) (s : Shift) (before after : Caller Call Reply) (t : Tally)
-    → HasWorked allows moments room s before after → t ≡ tally_of (shift_entries s) (stops_of s.stopped) → before.left ≡ after.left + t.takes + t.reports + t.unanswered
+    → HasWorked allows moments room s before after → t ≡ tally_of (shift_entries s) (stops_of s.stopped)
+    → before.left ≡ after.left + t.takes + t.reports + t.unanswered
 worked_left allows moments room s before after t h e =
     let calls = shift_calls s t e in
     let left = h.made.left in

@@ -48,13 +48,15 @@ sum_of_report n object run code (reply.Refused refusal.WrongRun) h = (refl, refl
 -- ---- in a desk's history
 
 -- a take that was recorded
-pub take_sum : (s : BookState) (now : ℕ) (r : Reply) (before after : Caller Call Reply) → HasRecorded (call.Take now) r before after → IsLegal book_step s after.seen
+pub take_sum : (s : BookState) (now : ℕ) (r : Reply) (before after : Caller Call Reply) → HasRecorded (call.Take now) r before after
+    → IsLegal book_step s after.seen
     → (number at : ℕ) → IsSum (tally_of (entry number (call.Take at) r ∷ []) [])
 take_sum s now r before after h legal number at =
     sum_of_take number at r (take_reply s h.history before.own now r (rw h.after_is at legal))
 
 -- the history then ends in it
-pub taken_ends : (now object run : ℕ) (before after : Caller Call Reply) → HasRecorded (call.Take now) (reply.Taken object run) before after → EndsInTaken object run after.seen
+pub taken_ends : (now object run : ℕ) (before after : Caller Call Reply) → HasRecorded (call.Take now) (reply.Taken object run) before after
+    → EndsInTaken object run after.seen
 taken_ends now object run before after h = record {
   front = h.history;
   pass = before.own;
@@ -64,7 +66,8 @@ taken_ends now object run before after h = record {
 
 -- a report that was recorded, of a check that was taken before
 pub report_sum : (s : BookState) (object run : ℕ) (code : Code) (r : Reply) (before after : Caller Call Reply) → EndsInTaken object run before.seen
-    → HasRecorded (call.Report object run code) r before after → IsLegal book_step s after.seen → (number : ℕ) → IsSum (tally_of (entry number (call.Report object run code) r ∷ []) [])
+    → HasRecorded (call.Report object run code) r before after → IsLegal book_step s after.seen → (number : ℕ)
+    → IsSum (tally_of (entry number (call.Report object run code) r ∷ []) [])
 report_sum s object run code r before after ends h legal number =
     let taken = entry ends.pass (call.Take ends.now) (reply.Taken object run) in
     let back = h.follows.0.0 in

@@ -9,15 +9,18 @@ use Rattle.check_workers.specs.declared.tally.Stop.{Stop}
 use Rattle.check_workers.specs.declared.tally.Stop.TheVariants as stop
 use Rattle.check_workers.specs.Crews.{IsWithin}
 use Rattle.check_workers.specs.Shifts.{stops_of, unanswered}
-use Rattle.check_workers.specs.Tallies.{IsFew, is_at_limit, is_idle, is_late, is_no_memory, is_put_off, is_refused, is_report, is_standing, is_take, is_taken, plus, tally_of}
+use Rattle.check_workers.specs.Tallies.{IsFew, is_at_limit, is_idle, is_late, is_no_memory, is_put_off, is_refused, is_report, is_standing, is_take}
+use Rattle.check_workers.specs.Tallies.{is_taken, plus, tally_of}
 
 count_append : {X : Type 0} (p : X → Bool) (xs ys : List X) → count_by p (xs ++ ys) ≡ count_by p xs + count_by p ys
 count_append p xs ys = sum_by-append (λ x. cond (p x) 1 0) xs ys
 
-takes_append : (p : Reply → Bool) (es fs : List (Entry Call Reply)) → count_by (λ e. is_take e.call && p e.reply) (es ++ fs) ≡ count_by (λ e. is_take e.call && p e.reply) es + count_by (λ e. is_take e.call && p e.reply) fs
+takes_append : (p : Reply → Bool) (es fs : List (Entry Call Reply))
+    → count_by (λ e. is_take e.call && p e.reply) (es ++ fs) ≡ count_by (λ e. is_take e.call && p e.reply) es + count_by (λ e. is_take e.call && p e.reply) fs
 takes_append p es fs = count_append (λ e. is_take e.call && p e.reply) es fs
 
-reports_append : (p : Reply → Bool) (es fs : List (Entry Call Reply)) → count_by (λ e. is_report e.call && p e.reply) (es ++ fs) ≡ count_by (λ e. is_report e.call && p e.reply) es + count_by (λ e. is_report e.call && p e.reply) fs
+reports_append : (p : Reply → Bool) (es fs : List (Entry Call Reply))
+    → count_by (λ e. is_report e.call && p e.reply) (es ++ fs) ≡ count_by (λ e. is_report e.call && p e.reply) es + count_by (λ e. is_report e.call && p e.reply) fs
 reports_append p es fs = count_append (λ e. is_report e.call && p e.reply) es fs
 
 -- the tally of two lists is the sum of their tallies
@@ -69,7 +72,8 @@ one_stop : (o : Option Stop) (numbers : ℕ) → 0 < numbers → length (stops_o
 one_stop None numbers h = omega arith
 one_stop (Some why) numbers h = omega arith
 
-pub tally_within : (es : List (Entry Call Reply)) (o : Option Stop) (calls numbers : ℕ) → length es + unanswered o ≤ calls → 0 < numbers → IsWithin calls numbers (tally_of es (stops_of o))
+pub tally_within : (es : List (Entry Call Reply)) (o : Option Stop) (calls numbers : ℕ) → length es + unanswered o ≤ calls → 0 < numbers
+    → IsWithin calls numbers (tally_of es (stops_of o))
 tally_within es o calls numbers h some =
     let few : length es ≤ calls = omega arith in
     let missing : unanswered o ≤ calls = omega arith in

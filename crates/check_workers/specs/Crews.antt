@@ -35,7 +35,8 @@ abbrev pub AreShiftsOf : (ℕ → ℕ → ℕ → Code → Type 0) → List ℕ 
 AreShiftsOf allows moments room history [] [] = ⊤
 AreShiftsOf allows moments room history [] (s ∷ shifts) = ⊥
 AreShiftsOf allows moments room history (pass ∷ passes) [] = ⊥
-AreShiftsOf allows moments room history (pass ∷ passes) (s ∷ shifts) = IsShiftOf allows moments room history (pass_of pass) s × AreShiftsOf allows moments room history passes shifts
+AreShiftsOf allows moments room history (pass ∷ passes) (s ∷ shifts) =
+    IsShiftOf allows moments room history (pass_of pass) s × AreShiftsOf allows moments room history passes shifts
 
 -- the tallies of the shifts, added up
 abbrev pub tally_of_all : List Shift → Tally

@@ -2,6 +2,7 @@
 
 ghost use Rattle.std.specs.Prelude.{◌≡◌, ℕ, ◌+◌, ◌*◌, ◌<◌, ◌≤◌, [], List, length, IfOk, IfErr};
 ghost use Rattle.std.specs.List.{All};
+ghost use mathlib.Core.List.{IsPrefix};
 ghost use Rattle.ticket_steps.specs.History.{of};
 ghost use Rattle.ticket_steps.specs.Books.{book_state, IsLawfulBook};
 ghost use Rattle.check_sched.specs.BookState.{book_step};
@@ -40,7 +41,8 @@ pub enum CrewError {
 /// whole list ([`work`]). When all have returned, the passes are gathered and the desk is closed;
 /// the tallies are added up. Where a thread can't be made, its worker works in the caller's.
 ///
-/// Each pass's entries in the book are those that it brought and then those of its worker's shift.
+/// The book begins with what each pass had seen, and each pass's entries in it are those that it
+/// brought and then those of its worker's shift.
 /// What this says holds where it returns: it waits for all workers.
 pub fn crew<R: Threads + Wait + Sync, P: Plugin + Sync>(
     rt: &R,
@@ -55,6 +57,8 @@ pub fn crew<R: Threads + Wait + Sync, P: Plugin + Sync>(
         × AreShiftsOf (P.allows plugin.now) moments.now (opened_with desk).room
         (entries_of made.0) passes.items shifts
         × (made.1 ≡ tally_of_all shifts)) }
+    ensures begins { IfOk result (λ made.
+        All (λ pass. IsPrefix (pass_of pass).seen (entries_of made.0)) passes.items) }
     ensures sums { IfOk result (λ made. IsSum made.1) }
     ensures calls { IfOk result (λ made. length (entries_of made.0) + refused_of made.0
         ≡ calls_in passes.items + made.1.takes + made.1.reports + made.1.unanswered) }

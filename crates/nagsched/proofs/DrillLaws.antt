@@ -37,8 +37,10 @@ use Rattle.check_script.specs.DrillScript.{DrillScript}
 of_one : (n : ℕ) (c : Call) (r : Reply) (es : List (Entry Call Reply)) → of n es ≡ es → of n (entry n c r ∷ es) ≡ entry n c r ∷ es
 of_one n c r es rest = of-yes n (entry n c r) es refl ∙ ap (λ l. entry n c r ∷ l) rest
 
-of_round : (n now : ℕ) (r : Reply) (result : Option (Code × Reply)) → of n (round_entries n (record { now = now; reply = r; result = result })) ≡ round_entries n (record { now = now; reply = r; result = result })
-of_round n now (reply.Taken object run) (Some (code, answer)) = of_one n (call.Take now) (reply.Taken object run) _ (of_one n (call.Report object run code) answer [] refl)
+of_round : (n now : ℕ) (r : Reply) (result : Option (Code × Reply))
+    → of n (round_entries n (record { now = now; reply = r; result = result })) ≡ round_entries n (record { now = now; reply = r; result = result })
+of_round n now (reply.Taken object run) (Some (code, answer)) =
+    of_one n (call.Take now) (reply.Taken object run) _ (of_one n (call.Report object run code) answer [] refl)
 of_round n now (reply.Taken object run) None = of_one n (call.Take now) (reply.Taken object run) [] refl
 of_round n now (reply.PutOff object until) result = of_one n (call.Take now) (reply.PutOff object until) [] refl
 of_round n now (reply.Idle next) result = of_one n (call.Take now) (reply.Idle next) [] refl
@@ -61,7 +63,8 @@ of_open n None = refl
 of_open n (Some o) = of_one n (call.Take o.now) (reply.Taken o.object o.run) [] refl
 
 of_shift : (s : Shift) → of s.number (shift_entries s) ≡ shift_entries s
-of_shift s = of_both s.number (rounds_entries s.number s.rounds) (open_entries s.number s.left_open) (of_rounds s.number s.rounds) (of_open s.number s.left_open)
+of_shift s =
+    of_both s.number (rounds_entries s.number s.rounds) (open_entries s.number s.left_open) (of_rounds s.number s.rounds) (of_open s.number s.left_open)
 
 -- ---- one worker
 
@@ -95,7 +98,8 @@ each_worker s room history desk n (p ∷ ps) (shift ∷ ss) new are =
     (one_worker s room n history p shift new.1 are.0, each_worker s room history desk (n + 1) ps ss new.2 are.1)
 
 -- there are as many shifts as passes
-as_many : (allows : ℕ → ℕ → ℕ → Code → Type 0) (moments : List ℕ) (room : ℕ) (history : List (Entry Call Reply)) (ps : List Pass) (ss : List Shift) → AreShiftsOf allows moments room history ps ss
+as_many : (allows : ℕ → ℕ → ℕ → Code → Type 0) (moments : List ℕ) (room : ℕ) (history : List (Entry Call Reply)) (ps : List Pass) (ss : List Shift)
+    → AreShiftsOf allows moments room history ps ss
     → length ss ≡ length ps
 as_many allows moments room history [] [] are = refl
 as_many allows moments room history [] (shift ∷ ss) are = absurd are
@@ -116,14 +120,16 @@ length_cons None xs = sym (zero-add (length xs))
 length_cons (Some x) xs = omega arith
 
 -- a worker stops for want of memory alone, since its pass has calls enough
-one_stop : (room recorded left before calls moments : ℕ) (o : Option Stop) → IsReason room recorded left o → before ≡ left + calls + unanswered o → calls ≤ 2 * moments → 2 * moments < before
+one_stop : (room recorded left before calls moments : ℕ) (o : Option Stop) → IsReason room recorded left o → before ≡ left + calls + unanswered o
+    → calls ≤ 2 * moments → 2 * moments < before
     → unanswered o ≡ length (cons_option o [])
 one_stop room recorded left before calls moments None r e short many = refl
 one_stop room recorded left before calls moments (Some stop.NoMemory) r e short many = refl
 one_stop room recorded left before calls moments (Some stop.Spent) r e short many = absurd (omega (arith, r, e, short, many))
 
 -- the calls without an answer are the shifts that stopped
-stops_counted : (allows : ℕ → ℕ → ℕ → Code → Type 0) (moments : List ℕ) (room : ℕ) (history : List (Entry Call Reply)) (desk : Desk) (n : ℕ) (ps : List Pass) (ss : List Shift)
+stops_counted : (allows : ℕ → ℕ → ℕ → Code → Type 0) (moments : List ℕ) (room : ℕ) (history : List (Entry Call Reply)) (desk : Desk) (n : ℕ)
+    (ps : List Pass) (ss : List Shift)
     → length moments ≤ 67108864 → AreNewPasses desk n ps → AreShiftsOf allows moments room history ps ss → unanswered_in ss ≡ stopped_in ss
 unfolding unanswered_in
 stops_counted allows moments room history desk n [] [] few new are = refl
@@ -133,7 +139,8 @@ stops_counted allows moments room history desk n (p ∷ ps) (s ∷ ss) few new a
     let h = are.0 in
     let brought : (pass_of p).left ≡ 4294967295 = ap (λ c. c.left) new.1 in
     let short = shift_short s moments h.shift.in_order in
-    let here = one_stop room (length history) h.left (pass_of p).left (length (shift_entries s)) (length moments) s.stopped h.reason h.left_is short (omega arith) in
+    let here = one_stop room (length history) h.left (pass_of p).left (length (shift_entries s)) (length moments) s.stopped h.reason h.left_is short
+    (omega arith) in
     let rest = stops_counted allows moments room history desk (n + 1) ps ss few new.2 are.1 in
     let sum = sum_by-cons (λ v. unanswered v.stopped) s ss in
     let stops = length_cons s.stopped (filter_map (λ v. v.stopped) ss) in
@@ -142,7 +149,9 @@ stops_counted allows moments room history desk n (p ∷ ps) (s ∷ ss) few new a
 -- ---- counts
 
 -- the histories of the passes together are as long as the shifts
-shifts_length : (allows : ℕ → ℕ → ℕ → Code → Type 0) (moments : List ℕ) (room : ℕ) (history : List (Entry Call Reply)) (desk : Desk) (n : ℕ) (ps : List Pass) (ss : List Shift) → AreNewPasses desk n ps
+shifts_length : (allows : ℕ → ℕ → ℕ → Code → Type 0) (moments : List ℕ) (room : ℕ) (history : List (Entry Call Reply)) (desk : Desk) (n : ℕ)
+    (ps : List Pass) (ss : List Shift)
+    → AreNewPasses desk n ps
     → AreShiftsOf allows moments room history ps ss → sum_by (λ p. length (of p history)) (counted n (length ps)) ≡ sum_by (λ s. length (shift_entries s)) ss
 shifts_length allows moments room history desk n [] [] new are = refl
 shifts_length allows moments room history desk n [] (s ∷ ss) new are = absurd are
@@ -155,7 +164,8 @@ shifts_length allows moments room history desk n (p ∷ ps) (s ∷ ss) new are =
     omega arith
 
 -- the calls of all shifts
-all_calls : (ss : List Shift) → (tally_of_all ss).takes + (tally_of_all ss).reports + (tally_of_all ss).unanswered ≡ sum_by (λ s. length (shift_entries s)) ss + unanswered_in ss
+all_calls : (ss : List Shift)
+    → (tally_of_all ss).takes + (tally_of_all ss).reports + (tally_of_all ss).unanswered ≡ sum_by (λ s. length (shift_entries s)) ss + unanswered_in ss
 unfolding unanswered_in
 all_calls [] = refl
 all_calls (s ∷ ss) =
@@ -187,7 +197,8 @@ none_below room recorded left None r below = refl
 none_below room recorded left (Some stop.NoMemory) r below = absurd (omega (arith, r, below))
 none_below room recorded left (Some stop.Spent) r below = refl
 
-answered_below : (allows : ℕ → ℕ → ℕ → Code → Type 0) (moments : List ℕ) (room : ℕ) (history : List (Entry Call Reply)) (ps : List Pass) (ss : List Shift) → AreShiftsOf allows moments room history ps ss
+answered_below : (allows : ℕ → ℕ → ℕ → Code → Type 0) (moments : List ℕ) (room : ℕ) (history : List (Entry Call Reply)) (ps : List Pass) (ss : List Shift)
+    → AreShiftsOf allows moments room history ps ss
     → length history < room → unanswered_in ss ≡ 0
 unfolding unanswered_in
 answered_below allows moments room history [] [] are below = refl
@@ -200,8 +211,10 @@ answered_below allows moments room history (p ∷ ps) (s ∷ ss) are below =
     omega arith
 
 -- what is refused are the calls without an answer
-refused_is : (allows : ℕ → ℕ → ℕ → Code → Type 0) (moments : List ℕ) (room : ℕ) (history : List (Entry Call Reply)) (refused : ℕ) (desk : Desk) (ps : List Pass) (ss : List Shift) (t : Tally)
-    → AreNewPasses desk 0 ps → AreShiftsOf allows moments room history ps ss → t ≡ tally_of_all ss → ((number : ℕ) → length ps ≤ number → of number history ≡ [])
+refused_is : (allows : ℕ → ℕ → ℕ → Code → Type 0) (moments : List ℕ) (room : ℕ) (history : List (Entry Call Reply)) (refused : ℕ) (desk : Desk)
+    (ps : List Pass) (ss : List Shift) (t : Tally)
+    → AreNewPasses desk 0 ps → AreShiftsOf allows moments room history ps ss → t ≡ tally_of_all ss
+    → ((number : ℕ) → length ps ≤ number → of number history ≡ [])
     → length history + refused ≡ calls_in ps + t.takes + t.reports + t.unanswered → refused ≡ unanswered_in ss
 refused_is allows moments room history refused desk ps ss t new are sum numbers calls =
     let all = of-lengths (length ps) history numbers in
@@ -214,9 +227,13 @@ refused_is allows moments room history refused desk ps ss t new are sum numbers 
     omega arith
 
 -- what a crew of new passes leaves
-pub drill_is : (s : DrillScript) (start workers room : ℕ) (history : List (Entry Call Reply)) (refused : ℕ) (desk : Desk) (ps : List Pass) (ss : List Shift) (t : Tally) → length s.moments ≤ 67108864
-    → length ps ≡ workers → AreNewPasses desk 0 ps → AreShiftsOf (gives_scripted s.returns) s.moments room history ps ss → t ≡ tally_of_all ss → ((number : ℕ) → workers ≤ number → of number history ≡ [])
-    → length history + refused ≡ calls_in ps + t.takes + t.reports + t.unanswered → IsLegal step (opening s.setup start) history → IsDrill s start workers room history refused
+pub drill_is : (s : DrillScript) (start workers room : ℕ) (history : List (Entry Call Reply)) (refused : ℕ) (desk : Desk) (ps : List Pass)
+    (ss : List Shift) (t : Tally)
+    → length s.moments ≤ 67108864
+    → length ps ≡ workers → AreNewPasses desk 0 ps → AreShiftsOf (gives_scripted s.returns) s.moments room history ps ss → t ≡ tally_of_all ss
+    → ((number : ℕ) → workers ≤ number → of number history ≡ [])
+    → length history + refused ≡ calls_in ps + t.takes + t.reports + t.unanswered → IsLegal step (opening s.setup start) history
+    → IsDrill s start workers room history refused
 drill_is s start workers room history refused desk ps ss t few count new are sum numbers calls legal =
     let allows = gives_scripted s.returns in
     let is = refused_is allows s.moments room history refused desk ps ss t new are sum (λ number from. numbers number (omega arith)) calls in
@@ -239,7 +256,8 @@ few_stops (s ∷ shifts) =
     elim s.stopped as (λ o. length (cons_option o (filter_map (λ v. v.stopped) shifts)) ≤ length (s ∷ shifts)) [ None ↦ omega arith | Some why ↦ omega arith ]
 
 -- there are at most as many refusals as workers
-pub few_refused : (s : DrillScript) (start workers room : ℕ) (history : List (Entry Call Reply)) (refused : ℕ) → IsDrill s start workers room history refused → refused ≤ workers
+pub few_refused : (s : DrillScript) (start workers room : ℕ) (history : List (Entry Call Reply)) (refused : ℕ)
+    → IsDrill s start workers room history refused → refused ≤ workers
 few_refused s start workers room history refused d = let few = few_stops d.shifts in omega (arith, few, d.refusals, d.one_each)
 
 none_by : {A : Type 0} (o : Option A) → length (cons_option o []) ≡ 0 → o ≡ None
@@ -253,6 +271,7 @@ none_stopped (s ∷ shifts) e =
     (none_by s.stopped (omega (arith, both, e)), none_stopped shifts (omega (arith, both, e)))
 
 -- where nothing was refused each shift is whole
-pub whole_shifts : (s : DrillScript) (start workers room : ℕ) (history : List (Entry Call Reply)) (refused : ℕ) → (d : IsDrill s start workers room history refused) → refused ≡ 0
+pub whole_shifts : (s : DrillScript) (start workers room : ℕ) (history : List (Entry Call Reply)) (refused : ℕ)
+    → (d : IsDrill s start workers room history refused) → refused ≡ 0
     → AllByRecursion (λ shift. shift.stopped ≡ None) d.shifts
 whole_shifts s start workers room history refused d none = none_stopped d.shifts (sym d.refusals ∙ none)

@@ -1,5 +1,6 @@
 -- A whole run, and what its faults leave.
-use Rattle.std.proofs.Common.{◌≡◌, ◌≢◌, ℕ, ◌<◌, ◌≤◌, ◌≡◌, true, List, [], ◌++◌, length, take, Option, Some, None, Result, Ok, Err, refl, sym, ap, ◌∙◌, arith, length-take, inl, inr, ◌⊎◌}
+use Rattle.std.proofs.Common.{◌≡◌, ◌≢◌, ℕ, ◌<◌, ◌≤◌, ◌≡◌, true, List, [], ◌++◌, length, take, Option, Some, None, Result, Ok, Err, refl, sym, ap, ◌∙◌}
+use Rattle.std.proofs.Common.{arith, length-take, inl, inr, ◌⊎◌}
 use Rattle.std.specs.Prelude.{nat_lt, IfSome, IfOk, IfErr, OnErr, OnOk, IsOkUnless}
 use Rattle.nagsched.specs.declared.drive.Outcome.{Outcome}
 use Rattle.std.specs.Io.KnownBytes.{Appends, Keeps, Consumes}
@@ -22,7 +23,8 @@ use Rattle.nagsched.specs.Drive.{outcome_of, outcome_by, HasRead, AfterFault, Is
 use Rattle.check_text.proofs.OutputLemmas.{front_none, front_all, Appends-Keeps}
 
 -- One byte more than an input may have is enough to refuse it.
-script_take_by : {K : Type 0} (meaning : Configuration → List ℕ → Items → Result K LineFault) (bytes : List ℕ) → (67108864 < length bytes) ⊎ (length bytes ≤ 67108864)
+script_take_by : {K : Type 0} (meaning : Configuration → List ℕ → Items → Result K LineFault) (bytes : List ℕ)
+    → (67108864 < length bytes) ⊎ (length bytes ≤ 67108864)
     → script_by meaning (take 67108865 bytes) ≡ script_by meaning bytes
 unfolding script_by
 script_take_by meaning bytes (inl h) =
@@ -32,7 +34,8 @@ script_take_by meaning bytes (inl h) =
     rw (a, b) refl
 script_take_by meaning bytes (inr h) = let e = take_all 67108865 bytes (omega arith) in rw e refl
 
-pub script_take : {K : Type 0} (meaning : Configuration → List ℕ → Items → Result K LineFault) (bytes : List ℕ) → script_by meaning (take 67108865 bytes) ≡ script_by meaning bytes
+pub script_take : {K : Type 0} (meaning : Configuration → List ℕ → Items → Result K LineFault) (bytes : List ℕ)
+    → script_by meaning (take 67108865 bytes) ≡ script_by meaning bytes
 script_take meaning bytes = script_take_by meaning bytes (cases_lt 67108864 (length bytes))
 
 pub drill_script_take : (bytes : List ℕ) → drill_script_of (take 67108865 bytes) ≡ drill_script_of bytes
@@ -59,29 +62,37 @@ read_fault errors.Write start had left held n = absurd (n refl)
 read_fault errors.Memory start None left held n = tt
 read_fault errors.Memory start (Some bytes) left held n = (front_none held (text start bytes), inl (Keeps-same held))
 
-front_of : (start : ℕ) (held holds : Option (List ℕ)) (input bytes : List ℕ) → input ≡ take 67108865 bytes → WroteFront held holds (text start input) → WroteFront held holds (text start bytes)
-front_of start held holds input bytes e f = (f.0, record { front = f.1.front; parts = sym (ap (text start) e ∙ text_take start bytes) ∙ f.1.parts; appended = f.1.appended })
+front_of : (start : ℕ) (held holds : Option (List ℕ)) (input bytes : List ℕ) → input ≡ take 67108865 bytes
+    → WroteFront held holds (text start input) → WroteFront held holds (text start bytes)
+front_of start held holds input bytes e f =
+    (f.0, record { front = f.1.front; parts = sym (ap (text start) e ∙ text_take start bytes) ∙ f.1.parts; appended = f.1.appended })
 
-pub has_read : (left : Option (List ℕ)) (input bytes : List ℕ) → input ≡ take 67108865 bytes → Consumes (Some bytes) left input → HasRead (Some bytes) left bytes
+pub has_read : (left : Option (List ℕ)) (input bytes : List ℕ) → input ≡ take 67108865 bytes → Consumes (Some bytes) left input
+    → HasRead (Some bytes) left bytes
 has_read None input bytes e c = absurd c
 has_read (Some rest) input bytes e c = c ∙ ap (λ l. l ++ rest) e
 
-pub write_fault : (e : DriveError) (start : ℕ) (had left held holds : Option (List ℕ)) (input : List ℕ) → e ≢ errors.Read → IfSome had (λ bytes. input ≡ take 67108865 bytes) → Consumes had left input
+pub write_fault : (e : DriveError) (start : ℕ) (had left held holds : Option (List ℕ)) (input : List ℕ) → e ≢ errors.Read
+    → IfSome had (λ bytes. input ≡ take 67108865 bytes) → Consumes had left input
     → WroteFront held holds (text start input) → AfterFault e start had left held holds
 write_fault errors.Read start had left held holds input n all c f = absurd (n refl)
 write_fault errors.Write start None left held holds input n all c f = tt
-write_fault errors.Write start (Some bytes) left held holds input n all c f = (front_of start held holds input bytes all f, inr (has_read left input bytes all c))
+write_fault errors.Write start (Some bytes) left held holds input n all c f =
+    (front_of start held holds input bytes all f, inr (has_read left input bytes all c))
 write_fault errors.Memory start None left held holds input n all c f = tt
-write_fault errors.Memory start (Some bytes) left held holds input n all c f = (front_of start held holds input bytes all f, inr (has_read left input bytes all c))
+write_fault errors.Memory start (Some bytes) left held holds input n all c f =
+    (front_of start held holds input bytes all f, inr (has_read left input bytes all c))
 
 -- ---- runs
 
-pub run_written : (start : ℕ) (had held mid holds : Option (List ℕ)) (input : List ℕ) → IfSome had (λ bytes. input ≡ take 67108865 bytes) → Appends held mid (text start input) → Keeps mid holds
+pub run_written : (start : ℕ) (had held mid holds : Option (List ℕ)) (input : List ℕ) → IfSome had (λ bytes. input ≡ take 67108865 bytes)
+    → Appends held mid (text start input) → Keeps mid holds
     → IfSome had (λ bytes. Appends held holds (text start bytes))
 run_written start None held mid holds input all a k = tt
 run_written start (Some bytes) held mid holds input all a k = rw (← text_take start bytes, ← all) (Appends-Keeps held mid holds (text start input) a k)
 
-pub run_read : (had left : Option (List ℕ)) (input : List ℕ) → IfSome had (λ bytes. input ≡ take 67108865 bytes) → Consumes had left input → IfSome had (HasRead had left)
+pub run_read : (had left : Option (List ℕ)) (input : List ℕ) → IfSome had (λ bytes. input ≡ take 67108865 bytes) → Consumes had left input
+    → IfSome had (HasRead had left)
 run_read None left input all c = tt
 run_read (Some bytes) left input all c = has_read left input bytes all c
 
@@ -91,10 +102,12 @@ flushed_outcome None given input all g = tt
 flushed_outcome (Some bytes) given input all g = g ∙ ap outcome_of all ∙ outcome_take bytes
 
 -- the flush failed
-pub flush_fault : (e : DriveError) (start : ℕ) (had left held mid holds : Option (List ℕ)) (input : List ℕ) → IfSome had (λ bytes. input ≡ take 67108865 bytes) → Consumes had left input
+pub flush_fault : (e : DriveError) (start : ℕ) (had left held mid holds : Option (List ℕ)) (input : List ℕ)
+    → IfSome had (λ bytes. input ≡ take 67108865 bytes) → Consumes had left input
     → Appends held mid (text start input) → Keeps mid holds → e ≡ errors.Write → AfterFault e start had left held holds
 flush_fault e start had left held mid holds input all c a k u =
-    rw u (write_fault errors.Write start had left held holds input (λ q. cc) all c (front_all held holds (text start input) (Appends-Keeps held mid holds (text start input) a k)))
+    rw u (write_fault errors.Write start had left held holds input
+    (λ q. cc) all c (front_all held holds (text start input) (Appends-Keeps held mid holds (text start input) a k)))
 
 -- ---- the input of a run, whatever is known of its reader
 
@@ -108,11 +121,13 @@ input_of-is None read = tt
 input_of-is (Some bytes) read = refl
 
 -- what is cut off past the limit tells nothing of the text, or of the outcome
-pub input_of-text : (start : ℕ) (had : Option (List ℕ)) (read : List ℕ) → IfSome had (λ bytes. read ≡ take 67108865 bytes) → text start read ≡ text start (input_of had read)
+pub input_of-text : (start : ℕ) (had : Option (List ℕ)) (read : List ℕ) → IfSome had (λ bytes. read ≡ take 67108865 bytes)
+    → text start read ≡ text start (input_of had read)
 input_of-text start None read all = refl
 input_of-text start (Some bytes) read all = ap (text start) all ∙ text_take start bytes
 
-pub input_of-outcome : (had : Option (List ℕ)) (read : List ℕ) → IfSome had (λ bytes. read ≡ take 67108865 bytes) → outcome_of read ≡ outcome_of (input_of had read)
+pub input_of-outcome : (had : Option (List ℕ)) (read : List ℕ) → IfSome had (λ bytes. read ≡ take 67108865 bytes)
+    → outcome_of read ≡ outcome_of (input_of had read)
 input_of-outcome None read all = refl
 input_of-outcome (Some bytes) read all = ap outcome_of all ∙ outcome_take bytes
 
@@ -123,13 +138,15 @@ unwritten_run e start had held =
     record { input = input; is_input = input_of-is had []; outcome_is = tt; written = tt; front = front_none held (text start input) }
 
 -- a run whose writing failed, or that wanted memory
-pub cut_run : (e : DriveError) (start : ℕ) (had held holds : Option (List ℕ)) (read : List ℕ) → IfSome had (λ bytes. read ≡ take 67108865 bytes) → WroteFront held holds (text start read)
+pub cut_run : (e : DriveError) (start : ℕ) (had held holds : Option (List ℕ)) (read : List ℕ) → IfSome had (λ bytes. read ≡ take 67108865 bytes)
+    → WroteFront held holds (text start read)
     → IsRunOnInput start (Err e) had held holds
 cut_run e start had held holds read all f =
     record { input = input_of had read; is_input = input_of-is had read; outcome_is = tt; written = tt; front = rw (input_of-text start had read all) at f }
 
 -- a run that came to its flush, which failed
-pub unflushed_run : (e : DriveError) (start : ℕ) (had held mid holds : Option (List ℕ)) (read : List ℕ) → IfSome had (λ bytes. read ≡ take 67108865 bytes) → Appends held mid (text start read)
+pub unflushed_run : (e : DriveError) (start : ℕ) (had held mid holds : Option (List ℕ)) (read : List ℕ)
+    → IfSome had (λ bytes. read ≡ take 67108865 bytes) → Appends held mid (text start read)
     → Keeps mid holds → IsRunOnInput start (Err e) had held holds
 unflushed_run e start had held mid holds read all a k =
     cut_run e start had held holds read all (front_all held holds (text start read) (Appends-Keeps held mid holds (text start read) a k))

@@ -92,7 +92,8 @@ pub record WroteDrillFront (start workers room : ℕ) (input : List ℕ) (held h
 abbrev pub AfterDrillFault : DriveError → ℕ → ℕ → ℕ → Option (List ℕ) → Option (List ℕ) → Option (List ℕ) → Option (List ℕ) → Type 0
 AfterDrillFault errors.Read start workers room had left held holds = Keeps held holds
 AfterDrillFault e start workers room None left held holds = ⊤
-AfterDrillFault e start workers room (Some input) left held holds = Keeps held holds ⊎ (HasRead (Some input) left input × WroteDrillFront start workers room input held holds)
+AfterDrillFault e start workers room (Some input) left held holds =
+    Keeps held holds ⊎ (HasRead (Some input) left input × WroteDrillFront start workers room input held holds)
 
 -- Whatever is known of reader and writer, a drill that ended so is that of one input: it let workers work over that input or
 -- refused it, and wrote such a text on it, or after an error nothing or a front of one.

@@ -1,5 +1,6 @@
 -- Each kind of step is one event, and keeps the rule.
-use Rattle.std.proofs.Common.{◌≡◌, ℕ, ◌+◌, ◌-◌, ◌%◌, ◌<◌, ◌≤◌, ◌≢◌, ◌⊎◌, List, [], ◌∷◌, ◌++◌, map, length, get_or, set, take, drop, length-set, sym, refl, ap, ◌∙◌, subst, inl, inr, ⊎_elim, arith, true, Option, Some, None}
+use Rattle.std.proofs.Common.{◌≡◌, ℕ, ◌+◌, ◌-◌, ◌%◌, ◌<◌, ◌≤◌, ◌≢◌, ◌⊎◌, List, [], ◌∷◌, ◌++◌, map, length, get_or, set, take, drop, length-set, sym, refl}
+use Rattle.std.proofs.Common.{ap, ◌∙◌, subst, inl, inr, ⊎_elim, arith, true, Option, Some, None}
 use mathlib.Core.Option.{some, none, some-ne-none}
 use mathlib.Core.Option as maybe
 use mathlib.Core.List.{map-append}
@@ -33,7 +34,8 @@ use Rattle.ticket_lock.specs.Histories.{IsKnown}
 use Rattle.ticket_lock.specs.Rule.{IsTableOf}
 use Rattle.ticket_lock.specs.Slots.{IsBook}
 use Rattle.ticket_lock.specs.Steps.{after_split, after_draw, after_waiting, after_holding, after_leaving, after_gather, after_second_load, Returns, IsEvent}
-use Rattle.ticket_lock.specs.Views.{draws_in, view, seat_in, spent_view, Follows, keeping_view, given_view, drawn_view, joined_view, reloaded_view, held_view, left_view}
+use Rattle.ticket_lock.specs.Views.{draws_in, view, seat_in, spent_view, Follows, keeping_view, given_view, drawn_view, joined_view, reloaded_view}
+use Rattle.ticket_lock.specs.Views.{held_view, left_view}
 use Rattle.ticket_lock.proofs.Seen.{follows_self, follows_none, follows_later, follows_fewer, longer_of}
 
 module _ {K C R : Type 0} (k : Ghosts K C R) (start : Start K) where
@@ -50,23 +52,31 @@ module _ {K C R : Type 0} (k : Ghosts K C R) (start : Start K) where
   Ruled hs c s = IsTableOf k start hs c s
 
   pub lawful : (hs : List (Happening C R)) (c : Core) (s : Table) → Ruled hs c s → IsLawful start.numbers start.draws c
-  lawful hs c s r = leads_lawful k.step start.draws start.numbers (opened start.numbers start.draws (k.opening start.book)) c hs (lawful_opened start.numbers start.draws (k.opening start.book) r.some_number) r.words.leads
+  lawful hs c s r =
+      leads_lawful k.step start.draws start.numbers (opened start.numbers start.draws (k.opening start.book)) c hs
+      (lawful_opened start.numbers start.draws (k.opening start.book) r.some_number) r.words.leads
 
   lawful_book : (hs : List (Happening C R)) (c : Core) (s : Table) → Ruled hs c s → IsLawfulBook k.step (k.opening start.book) c.book
-  lawful_book hs c s r = leads_lawful_book k.step start.draws (k.opening start.book) (opened start.numbers start.draws (k.opening start.book)) c hs record { legal = tt; replayed = refl } r.words.leads
+  lawful_book hs c s r =
+      leads_lawful_book k.step start.draws (k.opening start.book) (opened start.numbers start.draws (k.opening start.book)) c hs
+      record { legal = tt; replayed = refl } r.words.leads
 
   -- a number that wasn't given out has no entries
   pub strangers_none : (hs : List (Happening C R)) (c : Core) (s : Table) → Ruled hs c s → (n : ℕ) → start.numbers ≤ n → of n c.book.entries ≡ []
-  strangers_none hs c s r n le = leads_strangers k.step start.draws start.numbers n (opened start.numbers start.draws (k.opening start.book)) c hs (lawful_opened start.numbers start.draws (k.opening start.book) r.some_number) le refl r.words.leads
+  strangers_none hs c s r n le =
+      leads_strangers k.step start.draws start.numbers n (opened start.numbers start.draws (k.opening start.book)) c hs
+      (lawful_opened start.numbers start.draws (k.opening start.book) r.some_number) le refl r.words.leads
 
   -- the next ticket is far from wrapping
   pub next_small : (hs : List (Happening C R)) (c : Core) (s : Table) → Ruled hs c s → c.next ≤ 4398046510080
   next_small hs c s r = few_tickets c.next _ start.numbers start.draws (lawful hs c s r).supply r.few_numbers (omega (arith, r.few_draws))
 
-  pub seat_at : (hs : List (Happening C R)) (c : Core) (s : Table) → Ruled hs c s → (id : ℕ) (v : V) → get_elem? s.views id ≡ some v → get_elem? c.seats id ≡ some v.seat
+  pub seat_at : (hs : List (Happening C R)) (c : Core) (s : Table) → Ruled hs c s → (id : ℕ) (v : V) → get_elem? s.views id ≡ some v
+      → get_elem? c.seats id ≡ some v.seat
   seat_at hs c s r id v at = subst (λ (l : List CoreSeat). get_elem? l id ≡ some v.seat) (sym r.words.seats) (at_map seat_in s.views id v at)
 
-  known_view : (b : BookState k.State C R) (a : Option (Start K)) (p : CoreSeat) (seen : List (Entry C R)) (n : ℕ) → ((o : Start K) → a ≡ Some o → o ≡ start) → Follows p.numbers seen b.entries
+  known_view : (b : BookState k.State C R) (a : Option (Start K)) (p : CoreSeat) (seen : List (Entry C R)) (n : ℕ)
+      → ((o : Start K) → a ≡ Some o → o ≡ start) → Follows p.numbers seen b.entries
       → ((t : ℕ) → p.phase ≡ Holding t → (seen ≡ b.entries) × (n ≡ b.refused)) → IsKnown start b (view a p seen n)
   known_view b a p seen n start_is follows out = record {
     start_is = start_is;
@@ -98,10 +108,12 @@ module _ {K C R : Type 0} (k : Ghosts K C R) (start : Start K) where
   known_snoc b vs w new all j v e = ⊎_elim (λ (t : get_elem? vs j ≡ some v). all j v t) (λ (t : w ≡ v). subst (IsKnown start b) t new) (at_snoc vs w v j e)
 
   -- no seat holds after a seat that doesn't hold was changed to one that doesn't, where none held before
-  home_before : (seats : List CoreSeat) (i : ℕ) (p w : CoreSeat) → get_elem? seats i ≡ some p → holds_one p.phase ≡ 0 → holders (set seats i w) ≡ 0 → holders seats ≡ 0
+  home_before : (seats : List CoreSeat) (i : ℕ) (p w : CoreSeat) → get_elem? seats i ≡ some p → holds_one p.phase ≡ 0 → holders (set seats i w) ≡ 0
+      → holders seats ≡ 0
   home_before seats i p w at free e = omega (arith, total-set holds seats i p w at, free, e)
 
-  pub draw_event : (hs : List (Happening C R)) (c : Core) (s : Table) (id : ℕ) (me : Me (Option K) V) → Ruled hs c s → get_elem? s.views id ≡ some me.0 → me.0.seat.phase ≡ Idle → 0 < me.0.seat.left
+  pub draw_event : (hs : List (Happening C R)) (c : Core) (s : Table) (id : ℕ) (me : Me (Option K) V) → Ruled hs c s
+      → get_elem? s.views id ≡ some me.0 → me.0.seat.phase ≡ Idle → 0 < me.0.seat.left
       → IsEvent k start hs c (drew me.0.seat.own c.next) (after_draw s id me)
   draw_event hs c s id me r at idle some_left =
       let v : V = me.0 in
@@ -124,7 +136,9 @@ module _ {K C R : Type 0} (k : Ghosts K C R) (start : Start K) where
           few_draws = r.few_draws;
           words = record {
             words = words;
-            seats = ap (λ (l : List CoreSeat). set l id p) r.words.seats ∙ sym (map-set seat_in s.views id w ∙ ap (λ (n : ℕ). set (map seat_in s.views) id (waiting n v.seat)) is);
+            seats =
+                ap (λ (l : List CoreSeat). set l id p) r.words.seats
+                ∙ sym (map-set seat_in s.views id w ∙ ap (λ (n : ℕ). set (map seat_in s.views) id (waiting n v.seat)) is);
             leads = leads_more k.step start.draws _ c d hs (drew v.seat.own c.next) r.words.leads move;
           };
           slot = record {
@@ -132,7 +146,11 @@ module _ {K C R : Type 0} (k : Ghosts K C R) (start : Start K) where
             home = λ e. r.slot.home (home_before c.seats id v.seat p at' (ap holds_one idle) e);
             away = λ h. r.slot.away (omega (arith, h, total-set holds c.seats id v.seat p at', ap holds_one idle));
           };
-          known = record { each = known_set c.book s.views id w (known_view c.book v.start (waiting x v.seat) v.seen 0 old.start_is old.seen (λ t e. absurd (cc))) (λ j u _ e. r.known.each j u e) };
+          known =
+              record {
+                each = known_set c.book s.views id w (known_view c.book v.start (waiting x v.seat) v.seen 0 old.start_is old.seen
+                    (λ t e. absurd (cc))) (λ j u _ e. r.known.each j u e);
+              };
         },
       )
 
@@ -141,7 +159,8 @@ module _ {K C R : Type 0} (k : Ghosts K C R) (start : Start K) where
   waiting_same s id me at = λ i. record { words = set-get_or s.words 1 0 i; homes = s.homes; views = set_again s.views id me.0 at i }
 
   -- a look that waits is the core's waiting look
-  pub wait_event : (hs : List (Happening C R)) (c : Core) (s : Table) (id ticket : ℕ) (me : Me (Option K) V) → Ruled hs c s → get_elem? s.views id ≡ some me.0 → me.0.seat.phase ≡ Waiting ticket → ticket ≢ c.served
+  pub wait_event : (hs : List (Happening C R)) (c : Core) (s : Table) (id ticket : ℕ) (me : Me (Option K) V) → Ruled hs c s
+      → get_elem? s.views id ≡ some me.0 → me.0.seat.phase ≡ Waiting ticket → ticket ≢ c.served
       → IsEvent k start hs c (waited me.0.seat.own) (after_waiting s id me)
   wait_event hs c s id ticket me r at waits later =
       let v : V = me.0 in
@@ -164,8 +183,10 @@ module _ {K C R : Type 0} (k : Ghosts K C R) (start : Start K) where
         },
       )
 
-  pub look_event : (hs : List (Happening C R)) (c : Core) (s : Table) (id : ℕ) (me : Me (Option K) V) → Ruled hs c s → get_elem? s.views id ≡ some me.0 → me.0.seat.phase ≡ Waiting c.served
-      → (book : K) × (get_elem? s.homes 0 ≡ some (some (Some book))) × IsBook k start c.book book × IsEvent k start hs c (held me.0.seat.own) (after_holding k s id c.served me book)
+  pub look_event : (hs : List (Happening C R)) (c : Core) (s : Table) (id : ℕ) (me : Me (Option K) V) → Ruled hs c s
+      → get_elem? s.views id ≡ some me.0 → me.0.seat.phase ≡ Waiting c.served
+      → (book : K) × (get_elem? s.homes 0 ≡ some (some (Some book))) × IsBook k start c.book book × IsEvent k start hs c (held me.0.seat.own)
+      (after_holding k s id c.served me book)
   look_event hs c s id me r at waits =
       let v : V = me.0 in
       let at' = seat_at hs c s r id v at in
@@ -207,9 +228,13 @@ module _ {K C R : Type 0} (k : Ghosts K C R) (start : Start K) where
       )
 
   -- the holder leaves: the book is home again, with a history that goes on from the one that it took out, by nothing but entries of its own number
-  leave_to : (hs : List (Happening C R)) (c : Core) (s : Table) (id ticket : ℕ) (me : Me (Option K) V) (book : K) (h : Happening C R) (b : BookState k.State C R) → Ruled hs c s → get_elem? s.views id ≡ some me.0 → me.0.seat.phase ≡ Holding ticket
-      → me.1 ≡ (0, Some book) ∷ [] → Moves k.step start.draws c h (after_leave c id me.0.seat b) → IsBook k start b book → (zs : List (Entry C R)) → b.entries ≡ c.book.entries ++ zs
-      → ((n : ℕ) → me.0.seat.own ≢ n → of n b.entries ≡ of n c.book.entries) → IsTableOf k start (hs ++ h ∷ []) (after_leave c id me.0.seat b) (after_leaving k s id me book)
+  leave_to : (hs : List (Happening C R)) (c : Core) (s : Table) (id ticket : ℕ) (me : Me (Option K) V) (book : K) (h : Happening C R)
+      (b : BookState k.State C R)
+      → Ruled hs c s → get_elem? s.views id ≡ some me.0 → me.0.seat.phase ≡ Holding ticket
+      → me.1 ≡ (0, Some book) ∷ [] → Moves k.step start.draws c h (after_leave c id me.0.seat b) → IsBook k start b book → (zs : List (Entry C R))
+      → b.entries ≡ c.book.entries ++ zs
+      → ((n : ℕ) → me.0.seat.own ≢ n → of n b.entries ≡ of n c.book.entries)
+      → IsTableOf k start (hs ++ h ∷ []) (after_leave c id me.0.seat b) (after_leaving k s id me book)
   leave_to hs c s id ticket me book h b r at holder hand move is_book zs more others =
       let v : V = me.0 in
       let l = lawful hs c s r in
@@ -218,7 +243,8 @@ module _ {K C R : Type 0} (k : Ghosts K C R) (start : Start K) where
       let x : ℕ = get_or s.words 1 0 in
       let is : x ≡ c.served = ap (λ (ws : List ℕ). get_or ws 1 0) r.words.words in
       let served : ticket ≡ c.served = mine.holder ticket holder in
-      let ticket_here : times c.served (tickets_of v.seat.phase) ≡ 1 = tickets_holding c.served ticket v.seat holder ∙ (ap (λ (n : ℕ). times c.served (n ∷ [])) served ∙ times-same c.served []) in
+      let ticket_here : times c.served (tickets_of v.seat.phase) ≡ 1 = tickets_holding c.served ticket v.seat holder ∙
+      (ap (λ (n : ℕ). times c.served (n ∷ [])) served ∙ times-same c.served []) in
       let before : c.served < c.next = in_line start.numbers start.draws c l id c.served v.seat at' (omega (arith, ticket_here)) in
       let up : (c.served + 1) % 18446744073709551616 ≡ c.served + 1 = omega (arith, before, next_small hs c s r) in
       let w : V = left_view k v book in
@@ -238,12 +264,14 @@ module _ {K C R : Type 0} (k : Ghosts K C R) (start : Start K) where
         };
         slot = record {
           one_slot = ap length here ∙ (length-set s.homes 0 (some (Some book)) ∙ r.slot.one_slot);
-          home = λ _. (book, ap (λ (q : List (maybe.Option (Option K))). get_elem? q 0) here ∙ set_here s.homes 0 (some (Some book)) (omega (arith, r.slot.one_slot)), is_book);
+          home =
+              λ _. (book, ap (λ (q : List (maybe.Option (Option K))). get_elem? q 0) here ∙ set_here s.homes 0 (some (Some book)) (omega (arith, r.slot.one_slot)), is_book);
           away = λ e. absurd (omega (arith, e, total-set holds c.seats id v.seat p at', ap holds_one holder, one_holder start.numbers start.draws c l));
         };
         known = record {
           each = known_set b s.views id w
-              (known_view b v.start p (k.history book) 0 old.start_is (subst (λ (q : List (Entry C R)). Follows v.seat.numbers q b.entries) (sym is_book.entries) (follows_self v.seat.numbers b.entries)) (λ t e. absurd (cc)))
+              (known_view b v.start p (k.history book) 0 old.start_is
+              (subst (λ (q : List (Entry C R)). Follows v.seat.numbers q b.entries) (sym is_book.entries) (follows_self v.seat.numbers b.entries)) (λ t e. absurd (cc)))
               (λ j u other e. let at'' = seat_at hs c s r j u e in
               known_later c.book b u (r.known.each j u e) zs more
               (λ n has. others n (λ same. omega (
@@ -266,9 +294,12 @@ module _ {K C R : Type 0} (k : Ghosts K C R) (start : Start K) where
       }
 
   -- it is the holder's own number that recorded, or that was refused
-  pub leave_event : ((b : K) → IsLegal k.step (k.opening b) (k.history b)) → (hs : List (Happening C R)) (c : Core) (s : Table) (id ticket : ℕ) (me : Me (Option K) V) (book : K) → Ruled hs c s → get_elem? s.views id ≡ some me.0
+  pub leave_event : ((b : K) → IsLegal k.step (k.opening b) (k.history b))
+      → (hs : List (Happening C R)) (c : Core) (s : Table) (id ticket : ℕ) (me : Me (Option K) V) (book : K) → Ruled hs c s
+      → get_elem? s.views id ≡ some me.0
       → me.0.seat.phase ≡ Holding ticket → me.1 ≡ (0, Some book) ∷ [] → Returns k start me.0.seat.own me.0.seen me.0.refused book
-      → (h : Happening C R) × (((call : C) × (reply : R) × (h ≡ recorded me.0.seat.own call reply)) ⊎ (h ≡ refused me.0.seat.own)) × IsEvent k start hs c h (after_leaving k s id me book)
+      → (h : Happening C R) × (((call : C) × (reply : R) × (h ≡ recorded me.0.seat.own call reply)) ⊎ (h ≡ refused me.0.seat.own))
+      × IsEvent k start hs c h (after_leaving k s id me book)
   leave_event legal hs c s id ticket me book r at holder hand ret =
       let v : V = me.0 in
       let at' = seat_at hs c s r id v at in
@@ -279,23 +310,47 @@ module _ {K C R : Type 0} (k : Ghosts K C R) (start : Start K) where
       let e : Entry C R = t.0 in
       let own : ℕ = v.seat.own in
       let grown : k.history book ≡ c.book.entries ++ e ∷ [] = t.2 ∙ ap (λ (q : List (Entry C R)). q ++ e ∷ []) out.0 in
-      let legal_here : IsLegal k.step (k.opening start.book) (c.book.entries ++ e ∷ []) = subst (IsLegal k.step (k.opening start.book)) grown (subst (λ (z : k.State). IsLegal k.step z (k.history book)) ret.opening (legal book)) in
-      let answer : e.reply ≡ (k.step c.book.state e.call).1 = legal-last-reply k.step (k.opening start.book) c.book.entries e legal_here ∙ ap (λ (z : k.State). (k.step z e.call).1) (sym lb.replayed) in
+      let legal_here : IsLegal k.step (k.opening start.book) (c.book.entries ++ e ∷ []) = subst (IsLegal k.step (k.opening start.book)) grown
+      (subst (λ (z : k.State). IsLegal k.step z (k.history book)) ret.opening (legal book)) in
+      let answer : e.reply ≡ (k.step c.book.state e.call).1 = legal-last-reply k.step (k.opening start.book) c.book.entries e legal_here ∙ ap
+      (λ (z : k.State). (k.step z e.call).1) (sym lb.replayed) in
       let same : e ≡ entry own e.call (k.step c.book.state e.call).1 = λ i. record { pass = t.1 i; call = e.call; reply = answer i } in
       let b : BookState k.State C R = with_entry k.step own e.call c.book in
       let h : Happening C R = recorded own e.call e.reply in
       let move : Moves k.step start.draws c h (after_leave c id v.seat b) = (id, v.seat, ticket, (at', refl, holder), answer, refl) in
-      let is_book : IsBook k start b book = record { opening = ret.opening; entries = grown ∙ ap (λ (z : Entry C R). c.book.entries ++ z ∷ []) same; refused = t.3 ∙ out.1 } in
-      (h, inl (e.call, e.reply, refl), (after_leave c id v.seat b, move, leave_to hs c s id ticket me book h b r at holder hand move is_book _ refl (λ n ne. of-other n c.book.entries (entry own e.call (k.step c.book.state e.call).1) ne))))
+      let is_book : IsBook k start b book = record {
+        opening = ret.opening;
+        entries = grown ∙ ap
+            (λ (z : Entry C R). c.book.entries ++ z ∷ []) same;
+        refused = t.3 ∙ out.1;
+      } in (
+        h,
+        inl (e.call, e.reply, refl),
+        (
+          after_leave c id v.seat b,
+          move,
+          leave_to hs c s id ticket me book h b r at holder hand move is_book _ refl
+              (λ n ne. of-other n c.book.entries (entry own e.call (k.step c.book.state e.call).1) ne),
+        ),
+      ))
       (λ (t : (k.history book ≡ v.seen) × (k.refusals book ≡ v.refused + 1)).
       let b : BookState k.State C R = with_refusal c.book in
       let h : Happening C R = refused v.seat.own in
       let move : Moves k.step start.draws c h (after_leave c id v.seat b) = (id, v.seat, ticket, (at', refl, holder), refl) in
-      let is_book : IsBook k start b book = record { opening = ret.opening; entries = t.0 ∙ out.0; refused = t.1 ∙ ap (λ (n : ℕ). n + 1) out.1 } in
-      (h, inr refl, (after_leave c id v.seat b, move, leave_to hs c s id ticket me book h b r at holder hand move is_book [] (sym (append-nil c.book.entries)) (λ n ne. refl))))
+      let is_book : IsBook k start b book = record { opening = ret.opening; entries = t.0 ∙ out.0; refused = t.1 ∙ ap (λ (n : ℕ). n + 1) out.1 } in (
+        h,
+        inr refl,
+        (
+          after_leave c id v.seat b,
+          move,
+          leave_to hs c s id ticket me book h b r at holder hand move is_book []
+              (sym (append-nil c.book.entries)) (λ n ne. refl),
+        ),
+      ))
       ret.more
 
-  pub split_event : (hs : List (Happening C R)) (c : Core) (s : Table) (id count : ℕ) (v : V) → Ruled hs c s → get_elem? s.views id ≡ some v → v.start ≡ Some start → v.seat.phase ≡ Idle → v.seat.fresh ≡ true
+  pub split_event : (hs : List (Happening C R)) (c : Core) (s : Table) (id count : ℕ) (v : V) → Ruled hs c s → get_elem? s.views id ≡ some v
+      → v.start ≡ Some start → v.seat.phase ≡ Idle → v.seat.fresh ≡ true
       → 0 < count → count < length v.seat.numbers → IsEvent k start hs c (split v.seat.own count) (after_split s id count v)
   split_event hs c s id count v r at start_is idle fresh some_count less =
       let at' = seat_at hs c s r id v at in
@@ -310,7 +365,8 @@ module _ {K C R : Type 0} (k : Ghosts K C R) (start : Start K) where
       let move : Moves k.step start.draws c (split v.seat.own count) d = (id, v.seat, (at', refl, idle), fresh, some_count, less, refl) in
       let views : map seat_in (set s.views id a ++ b ∷ []) ≡ set (map seat_in s.views) id p ++ q ∷ [] = map-append seat_in (set s.views id a) (b ∷ [])
       ∙ (ap (λ (l : List CoreSeat). l ++ b.seat ∷ []) (map-set seat_in s.views id a) ∙ (λ i. set (map seat_in s.views) id (keeping (draws i) count v.seat) ++ given (draws i) count v.seat ∷ [])) in
-      let sums : (m : ℕ) → times m (take n v.seat.numbers) + times m (drop n v.seat.numbers) ≡ times m v.seat.numbers = λ m. times-take-drop m n v.seat.numbers in (
+      let sums : (m : ℕ) → times m (take n v.seat.numbers) + times m (drop n v.seat.numbers)
+      ≡ times m v.seat.numbers = λ m. times-take-drop m n v.seat.numbers in (
         d,
         move,
         record {
@@ -324,19 +380,26 @@ module _ {K C R : Type 0} (k : Ghosts K C R) (start : Start K) where
           };
           slot = record {
             one_slot = r.slot.one_slot;
-            home = λ e. r.slot.home (omega (arith, e, total-append holds (set c.seats id p) (q ∷ []), total-set holds c.seats id v.seat p at', ap holds_one idle));
-            away = λ h. r.slot.away (omega (arith, h, total-append holds (set c.seats id p) (q ∷ []), total-set holds c.seats id v.seat p at', ap holds_one idle));
+            home =
+                λ e. r.slot.home (omega (arith, e, total-append holds (set c.seats id p) (q ∷ []), total-set holds c.seats id v.seat p at', ap holds_one idle));
+            away =
+                λ h. r.slot.away (omega (arith, h, total-append holds (set c.seats id p) (q ∷ []), total-set holds c.seats id v.seat p at', ap holds_one idle));
           };
           known = record {
             each = known_snoc c.book (set s.views id a) b
-                (known_view c.book v.start b.seat v.seen 0 old.start_is (follows_fewer (drop n v.seat.numbers) v.seat.numbers v.seen c.book.entries old.seen (λ m has. omega (arith, has, sums m))) (λ t e. absurd (cc)))
+                (known_view c.book v.start b.seat v.seen 0 old.start_is
+                (follows_fewer (drop n v.seat.numbers) v.seat.numbers v.seen c.book.entries old.seen
+                (λ m has. omega (arith, has, sums m))) (λ t e. absurd (cc)))
                 (known_set c.book s.views id a
-                (known_view c.book v.start a.seat v.seen 0 old.start_is (follows_fewer (take n v.seat.numbers) v.seat.numbers v.seen c.book.entries old.seen (λ m has. omega (arith, has, sums m))) (λ t e. absurd (cc))) (λ j u _ e. r.known.each j u e));
+                (known_view c.book v.start a.seat v.seen 0 old.start_is
+                (follows_fewer (take n v.seat.numbers) v.seat.numbers v.seen c.book.entries old.seen
+                (λ m has. omega (arith, has, sums m))) (λ t e. absurd (cc))) (λ j u _ e. r.known.each j u e));
           };
         },
       )
 
-  pub gather_event : (hs : List (Happening C R)) (c : Core) (s : Table) (id other : ℕ) (v w : V) → Ruled hs c s → get_elem? s.views id ≡ some v → other ≢ id → get_elem? s.views other ≡ some w
+  pub gather_event : (hs : List (Happening C R)) (c : Core) (s : Table) (id other : ℕ) (v w : V) → Ruled hs c s → get_elem? s.views id ≡ some v
+      → other ≢ id → get_elem? s.views other ≡ some w
       → v.seat.phase ≡ Idle → w.seat.phase ≡ Idle → IsEvent k start hs c (gathered v.seat.own w.seat.own) (after_gather s id v other w)
   gather_event hs c s id other v w r at apart at_other idle idle' =
       let l = lawful hs c s r in
@@ -347,7 +410,8 @@ module _ {K C R : Type 0} (k : Ghosts K C R) (start : Start K) where
       let old' = r.known.each other w at_other in
       let d : Core = with_seats c (set (set c.seats id x.seat) other gone) in
       let names : v.seat.own ≢ w.seat.own = λ e. apart (named_once start.numbers start.draws c l id other v.seat w.seat at' there (ap is_there idle) (ap is_there idle') e) in
-      let move : Moves k.step start.draws c (gathered v.seat.own w.seat.own) d = (id, v.seat, other, w.seat, (at', refl, idle), (there, refl, idle'), names, refl) in (
+      let move : Moves k.step start.draws c (gathered v.seat.own w.seat.own)
+      d = (id, v.seat, other, w.seat, (at', refl, idle), (there, refl, idle'), names, refl) in (
         d,
         move,
         record {
@@ -356,13 +420,17 @@ module _ {K C R : Type 0} (k : Ghosts K C R) (start : Start K) where
           few_draws = r.few_draws;
           words = record {
             words = r.words.words;
-            seats = ap (λ (q : List CoreSeat). set (set q id x.seat) other gone) r.words.seats ∙ sym (map-set seat_in (set s.views id x) other spent_view ∙ ap (λ (q : List CoreSeat). set q other gone) (map-set seat_in s.views id x));
+            seats =
+                ap (λ (q : List CoreSeat). set (set q id x.seat) other gone) r.words.seats
+                ∙ sym (map-set seat_in (set s.views id x) other spent_view ∙ ap (λ (q : List CoreSeat). set q other gone) (map-set seat_in s.views id x));
             leads = leads_more k.step start.draws _ c d hs (gathered v.seat.own w.seat.own) r.words.leads move;
           };
           slot = record {
             one_slot = r.slot.one_slot;
-            home = λ e. r.slot.home (omega (arith, e, total-set holds (set c.seats id x.seat) other w.seat gone (set_else c.seats id other x.seat apart ∙ there), total-set holds c.seats id v.seat x.seat at', ap holds_one idle, ap holds_one idle'));
-            away = λ h. r.slot.away (omega (arith, h, total-set holds (set c.seats id x.seat) other w.seat gone (set_else c.seats id other x.seat apart ∙ there), total-set holds c.seats id v.seat x.seat at', ap holds_one idle, ap holds_one idle'));
+            home =
+                λ e. r.slot.home (omega (arith, e, total-set holds (set c.seats id x.seat) other w.seat gone (set_else c.seats id other x.seat apart ∙ there), total-set holds c.seats id v.seat x.seat at', ap holds_one idle, ap holds_one idle'));
+            away =
+                λ h. r.slot.away (omega (arith, h, total-set holds (set c.seats id x.seat) other w.seat gone (set_else c.seats id other x.seat apart ∙ there), total-set holds c.seats id v.seat x.seat at', ap holds_one idle, ap holds_one idle'));
           };
           known = record {
             each = known_set c.book (set s.views id x) other spent_view
@@ -380,7 +448,8 @@ module _ {K C R : Type 0} (k : Ghosts K C R) (start : Start K) where
       )
 
   -- the second load of a gather is no event
-  pub second_load_same : (hs : List (Happening C R)) (c : Core) (s : Table) (id : ℕ) (me : Me (Option K) V) → Ruled hs c s → get_elem? s.views id ≡ some me.0 → me.0.seat.phase ≡ Idle → IsTableOf k start hs c (after_second_load s id me)
+  pub second_load_same : (hs : List (Happening C R)) (c : Core) (s : Table) (id : ℕ) (me : Me (Option K) V) → Ruled hs c s
+      → get_elem? s.views id ≡ some me.0 → me.0.seat.phase ≡ Idle → IsTableOf k start hs c (after_second_load s id me)
   second_load_same hs c s id me r at idle =
       let v : V = me.0 in
       let w : V = reloaded_view v in
@@ -397,5 +466,9 @@ module _ {K C R : Type 0} (k : Ghosts K C R) (start : Start K) where
           leads = r.words.leads;
         };
         slot = record { one_slot = r.slot.one_slot; home = r.slot.home; away = r.slot.away };
-        known = record { each = known_set c.book s.views id w (known_view c.book v.start v.seat v.seen 0 old.start_is old.seen (λ t e. absurd (cc))) (λ j u _ e. r.known.each j u e) };
+        known =
+            record {
+              each = known_set c.book s.views id w (known_view c.book v.start v.seat v.seen 0 old.start_is old.seen
+                  (λ t e. absurd (cc))) (λ j u _ e. r.known.each j u e);
+            };
       }

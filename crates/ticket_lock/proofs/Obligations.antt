@@ -1,5 +1,6 @@
 -- What the calls owe the table: each step keeps the rule, and tells what its play says.
-use Rattle.std.proofs.Common.{◌≡◌, ℕ, suc, ◌+◌, ◌%◌, ◌<◌, ◌≤◌, ◌≢◌, List, [], ◌∷◌, ◌++◌, length, get_or, sym, refl, ap, ◌∙◌, subst, ⊎_elim, arith, true, Option, Some}
+use Rattle.std.proofs.Common.{◌≡◌, ℕ, suc, ◌+◌, ◌%◌, ◌<◌, ◌≤◌, ◌≢◌, List, [], ◌∷◌, ◌++◌, length, get_or, sym, refl, ap, ◌∙◌, subst, ⊎_elim, arith, true}
+use Rattle.std.proofs.Common.{Option, Some}
 use mathlib.Core.Logic.{dite}
 use native.Mathlib.Decide.{ℕ_discrete, dec_le}
 use mathlib.Core.Option.{some, none, some-ne-none}
@@ -18,7 +19,8 @@ use Rattle.ticket_steps.specs.History.{of, IsLegal}
 use Rattle.ticket_steps.specs.Seats.{holds_one, tickets_of}
 use Rattle.ticket_steps.specs.Sums.{total, times}
 use Rattle.ticket_steps.proofs.Lists.{at_snoc, set_else}
-use Rattle.ticket_steps.proofs.SeatLemmas.{holds, alone_served, alone, in_line, served_le, one_calls, busy, holder_le, unnumbered_calls, tickets_waiting, tickets_holding}
+use Rattle.ticket_steps.proofs.SeatLemmas.{holds, alone_served, alone, in_line, served_le, one_calls, busy, holder_le, unnumbered_calls, tickets_waiting}
+use Rattle.ticket_steps.proofs.SeatLemmas.{tickets_holding}
 use Rattle.ticket_steps.proofs.Totals.{times_le, times-same, below_yes, term_le}
 use Rattle.ticket_lock.specs.declared.views.Start.{Start}
 use Rattle.ticket_lock.specs.declared.views.View.{View}
@@ -28,7 +30,8 @@ use Rattle.ticket_lock.specs.Rule.{IsTableOf, IsRuled}
 use Rattle.ticket_lock.specs.Slots.{IsBook}
 use Rattle.ticket_lock.specs.Steps.{Returns}
 use Rattle.ticket_lock.specs.Views.{spent_view, first_view, Follows, keeping_view, given_view, drawn_view, joined_view, reloaded_view, held_view, left_view}
-use Rattle.ticket_lock.proofs.Events.{lawful, next_small, seat_at, draw_event, wait_event, look_event, leave_event, split_event, gather_event, second_load_same, strangers_none}
+use Rattle.ticket_lock.proofs.Events.{lawful, next_small, seat_at, draw_event, wait_event, look_event, leave_event, split_event, gather_event}
+use Rattle.ticket_lock.proofs.Events.{second_load_same, strangers_none}
 use Rattle.ticket_lock.proofs.Seen.{follows_self, follows_longer, longer_is, all_seen, empty_before}
 
 abbrev pub in_hand : {K : Type 0} → K → List (ℕ × Option K) → K
@@ -53,7 +56,8 @@ module _ {K C R : Type 0} (k : Ghosts K C R) (start : Start K) where
   Rule s = IsRuled k start s
 
   -- the table as it is made is that of the core's opening
-  pub opens_with : (book : K) → k.opening book ≡ (k.opening start.book) → k.history book ≡ [] → k.refusals book ≡ 0 → 0 < start.numbers → start.numbers ≤ 1024 → start.draws ≤ 4294967295
+  pub opens_with : (book : K) → k.opening book ≡ (k.opening start.book) → k.history book ≡ [] → k.refusals book ≡ 0 → 0 < start.numbers
+      → start.numbers ≤ 1024 → start.draws ≤ 4294967295
       → IsTableOf k start [] (opened start.numbers start.draws (k.opening start.book)) (opens (0 ∷ 0 ∷ []) (Some book ∷ []) (first_view start))
   opens_with book state none_kept none_refused some_number few few_draws =
       record {
@@ -61,7 +65,8 @@ module _ {K C R : Type 0} (k : Ghosts K C R) (start : Start K) where
         few_numbers = few;
         few_draws = few_draws;
         words = record { words = refl; seats = refl; leads = refl };
-        slot = record { one_slot = refl; home = λ _. (book, refl, record { opening = state; entries = none_kept; refused = none_refused }); away = λ h. absurd (omega (arith, h)) };
+        slot =
+            record { one_slot = refl; home = λ _. (book, refl, record { opening = state; entries = none_kept; refused = none_refused }); away = λ h. absurd (omega (arith, h)) };
         known = record {
           each = λ j v e. ⊎_elim (λ t. absurd (some-ne-none v (sym t))) (λ t. subst (λ (w : V). IsKnown {S = k.State} start (empty_book (k.opening start.book)) w) t record {
             start_is = λ o e'. cc;
@@ -74,7 +79,8 @@ module _ {K C R : Type 0} (k : Ghosts K C R) (start : Start K) where
         };
       }
 
-  pub starts : (book : K) → k.opening book ≡ (k.opening start.book) → k.history book ≡ [] → k.refusals book ≡ 0 → 0 < start.numbers → start.numbers ≤ 1024 → start.draws ≤ 4294967295
+  pub starts : (book : K) → k.opening book ≡ (k.opening start.book) → k.history book ≡ [] → k.refusals book ≡ 0 → 0 < start.numbers
+      → start.numbers ≤ 1024 → start.draws ≤ 4294967295
       → Rule (opens (0 ∷ 0 ∷ []) (Some book ∷ []) (first_view start))
   starts book state none_kept none_refused some_number few few_draws =
       ([], opened start.numbers start.draws (k.opening start.book), opens_with book state none_kept none_refused some_number few few_draws)
@@ -86,7 +92,8 @@ module _ {K C R : Type 0} (k : Ghosts K C R) (start : Start K) where
       (drawn_view (get_or s.words 0 0) me.0, keeps, tt, (r.0 ++ drew me.0.seat.own r.1.next ∷ [], e.0, e.2), refl)
 
   -- what the play of a look tells of a look that holds
-  pub look_held_told : (hs : List (Happening C R)) (c : Core) (s : Table) (id : ℕ) (me : Me (Option K) V) (book : K) (st : Step (Option K)) → IsTableOf k start hs c s → get_elem? s.views id ≡ some me.0 → me.0.seat.phase ≡ Waiting c.served → me.1 ≡ []
+  pub look_held_told : (hs : List (Happening C R)) (c : Core) (s : Table) (id : ℕ) (me : Me (Option K) V) (book : K) (st : Step (Option K))
+      → IsTableOf k start hs c s → get_elem? s.views id ≡ some me.0 → me.0.seat.phase ≡ Waiting c.served → me.1 ≡ []
       → IsBook k start c.book book → LookTells k st me (get_or s.words 1 0) (held_view k c.served me.0 book, (0, Some book) ∷ me.1)
   look_held_told hs c s id me book st r at waits bare is_book =
       let v : V = me.0 in
@@ -111,7 +118,8 @@ module _ {K C R : Type 0} (k : Ghosts K C R) (start : Start K) where
       )
 
   -- and of one that waits
-  pub look_waits_told : (hs : List (Happening C R)) (c : Core) (s : Table) (id ticket : ℕ) (me : Me (Option K) V) (st : Step (Option K)) → IsTableOf k start hs c s → get_elem? s.views id ≡ some me.0 → me.0.seat.phase ≡ Waiting ticket → ticket ≢ c.served
+  pub look_waits_told : (hs : List (Happening C R)) (c : Core) (s : Table) (id ticket : ℕ) (me : Me (Option K) V) (st : Step (Option K))
+      → IsTableOf k start hs c s → get_elem? s.views id ≡ some me.0 → me.0.seat.phase ≡ Waiting ticket → ticket ≢ c.served
       → LookTells k st me (get_or s.words 1 0) me
   look_waits_told hs c s id ticket me st r at waits later =
       let v : V = me.0 in
@@ -159,7 +167,8 @@ module _ {K C R : Type 0} (k : Ghosts K C R) (start : Start K) where
       ))
 
   -- what the play of a leave tells
-  pub leave_told : (hs : List (Happening C R)) (c : Core) (s : Table) (id t : ℕ) (me : Me (Option K) V) (book : K) (st : Step (Option K)) → IsTableOf k start hs c s → get_elem? s.views id ≡ some me.0 → me.0.seat.phase ≡ Holding t → me.1 ≡ (0, Some book) ∷ []
+  pub leave_told : (hs : List (Happening C R)) (c : Core) (s : Table) (id t : ℕ) (me : Me (Option K) V) (book : K) (st : Step (Option K))
+      → IsTableOf k start hs c s → get_elem? s.views id ≡ some me.0 → me.0.seat.phase ≡ Holding t → me.1 ≡ (0, Some book) ∷ []
       → LeaveTells k st me (get_or s.words 1 0) (left_view k me.0 book, [])
   leave_told hs c s id t me book st r at holder hand =
       let v : V = me.0 in
@@ -168,17 +177,25 @@ module _ {K C R : Type 0} (k : Ghosts K C R) (start : Start K) where
       let has : 0 < times t (tickets_of v.seat.phase) = omega (arith, tickets_holding t t v.seat holder, times-same t []) in
       λ b h. (
         (let same : book ≡ b = ap (in_hand book) (sym hand ∙ h) in λ i. (left_view k v (same i), [])),
-        omega (arith, one_calls start.numbers start.draws c l id v.seat at', in_line start.numbers start.draws c l id t v.seat at' has, next_small k start hs c s r),
+        omega (
+          arith,
+          one_calls start.numbers start.draws c l id v.seat at',
+          in_line start.numbers start.draws c l id t v.seat at' has,
+          next_small k
+              start hs c s r,
+        ),
       )
 
-  pub leaves : ((b : K) → IsLegal k.step (k.opening b) (k.history b)) → (n id t : ℕ) (me : Me (Option K) V) (book : K) (o : Start K) → me.1 ≡ (0, Some book) ∷ [] → me.0.seat.phase ≡ Holding t → me.0.start ≡ Some o → Returns k o me.0.seat.own me.0.seen me.0.refused book
+  pub leaves : ((b : K) → IsLegal k.step (k.opening b) (k.history b)) → (n id t : ℕ) (me : Me (Option K) V) (book : K) (o : Start K)
+      → me.1 ≡ (0, Some book) ∷ [] → me.0.seat.phase ≡ Holding t → me.0.start ≡ Some o → Returns k o me.0.seat.own me.0.seen me.0.refused book
       → Allows Rule n id me 1 (λ x. (x + 1) % 18446744073709551616) (LeaveTells k (step n 1 1 0 none) me)
   leaves legal n id t me book o hand holder known ret s r wide at small =
       let v : V = me.0 in
       let hs = r.0 in
       let c = r.1 in
       let mine : o ≡ start = (r.2.known.each id v at).start_is o known in
-      let e = leave_event k start legal hs c s id t me book r.2 at holder hand (subst (λ (z : Start K). Returns k z v.seat.own v.seen v.refused book) mine ret) in
+      let e = leave_event k start legal hs c s id t me book r.2 at holder hand
+      (subst (λ (z : Start K). Returns k z v.seat.own v.seen v.refused book) mine ret) in
       let l = lawful k start hs c s r.2 in
       let at' = seat_at k start hs c s r.2 id v at in
       let has : 0 < times t (tickets_of v.seat.phase) = omega (arith, tickets_holding t t v.seat holder, times-same t []) in (
@@ -188,11 +205,18 @@ module _ {K C R : Type 0} (k : Ghosts K C R) (start : Start K) where
         (hs ++ e.0 ∷ [], e.2.0, e.2.2),
         λ b h. (
           (let same : book ≡ b = ap (in_hand book) (sym hand ∙ h) in λ i. (left_view k v (same i), ap rest hand i)),
-          omega (arith, one_calls start.numbers start.draws c l id v.seat at', in_line start.numbers start.draws c l id t v.seat at' has, next_small k start hs c s r.2),
+          omega (
+            arith,
+            one_calls start.numbers start.draws c l id v.seat at',
+            in_line start.numbers start.draws c l id t v.seat at' has,
+            next_small k
+                start hs c s r.2,
+          ),
         ),
       )
 
-  pub splits : (id count : ℕ) (v : V) (o : Start K) → v.start ≡ Some o → v.seat.phase ≡ Idle → v.seat.fresh ≡ true → 0 < count → count < length v.seat.numbers → Splits Rule id v (keeping_view count v) (given_view count v)
+  pub splits : (id count : ℕ) (v : V) (o : Start K) → v.start ≡ Some o → v.seat.phase ≡ Idle → v.seat.fresh ≡ true → 0 < count
+      → count < length v.seat.numbers → Splits Rule id v (keeping_view count v) (given_view count v)
   splits id count v o known idle fresh some_count less s r at =
       let mine : o ≡ start = (r.2.known.each id v at).start_is o known in
       let e = split_event k start r.0 r.1 s id count v r.2 at (known ∙ ap Some mine) idle fresh some_count less in
@@ -205,7 +229,8 @@ module _ {K C R : Type 0} (k : Ghosts K C R) (start : Start K) where
       (r.0 ++ gathered v.seat.own w.seat.own ∷ [], e.0, e.2)
 
   -- what the second load of a gather tells
-  pub second_load_told : (hs : List (Happening C R)) (c : Core) (s : Table) (id : ℕ) (me : Me (Option K) V) (st : Step (Option K)) → IsTableOf k start hs c s → get_elem? s.views id ≡ some me.0
+  pub second_load_told : (hs : List (Happening C R)) (c : Core) (s : Table) (id : ℕ) (me : Me (Option K) V) (st : Step (Option K))
+      → IsTableOf k start hs c s → get_elem? s.views id ≡ some me.0
       → SecondLoadTells st me (get_or s.words 0 0) (reloaded_view me.0, me.1)
   second_load_told hs c s id me st r at =
       let v : V = me.0 in
@@ -214,8 +239,10 @@ module _ {K C R : Type 0} (k : Ghosts K C R) (start : Start K) where
       let at' = seat_at k start hs c s r id v at in
       λ is. (
         refl,
-        follows_longer v.one.numbers v.one.seen v.seen c.book.entries old.one old.seen.0 (rw is (longer_is v.one.seen v.two.seen (λ (q : List (Entry C R)). length v.one.seen ≤ length q) (λ lt. omega arith) (λ _. omega arith))),
-        follows_longer v.two.numbers v.two.seen v.seen c.book.entries old.two old.seen.0 (rw is (longer_is v.one.seen v.two.seen (λ (q : List (Entry C R)). length v.two.seen ≤ length q) (λ _. omega arith) (λ le. le))),
+        follows_longer v.one.numbers v.one.seen v.seen c.book.entries old.one old.seen.0
+            (rw is (longer_is v.one.seen v.two.seen (λ (q : List (Entry C R)). length v.one.seen ≤ length q) (λ lt. omega arith) (λ _. omega arith))),
+        follows_longer v.two.numbers v.two.seen v.seen c.book.entries old.two old.seen.0
+            (rw is (longer_is v.one.seen v.two.seen (λ (q : List (Entry C R)). length v.two.seen ≤ length q) (λ _. omega arith) (λ le. le))),
         omega (arith, l.count, r.few_numbers, term_le (λ (p : CoreSeat). length p.numbers) c.seats id v.seat at'),
         omega (arith, one_calls start.numbers start.draws c l id v.seat at', served_le start.numbers start.draws c l, next_small k start hs c s r),
       )
@@ -231,7 +258,8 @@ module _ {K C R : Type 0} (k : Ghosts K C R) (start : Start K) where
 
   -- where one idle seat stands for all numbers, the book is home and has what the seat has seen
   pub closes : (s : Table) (id : ℕ) (v : V) → Rule s → get_elem? s.views id ≡ some v → v.seat.phase ≡ Idle → start.numbers ≤ length v.seat.numbers
-      → (book : K) × (get_elem? s.homes 0 ≡ some (some (Some book))) × (k.opening book ≡ (k.opening start.book)) × (k.history book ≡ v.seen) × (length (k.history book) + k.refusals book ≡ v.seat.calls) × ((p : ℕ) → start.numbers ≤ p → of p (k.history book) ≡ [])
+      → (book : K) × (get_elem? s.homes 0 ≡ some (some (Some book))) × (k.opening book ≡ (k.opening start.book)) × (k.history book ≡ v.seen) ×
+      (length (k.history book) + k.refusals book ≡ v.seat.calls) × ((p : ℕ) → start.numbers ≤ p → of p (k.history book) ≡ [])
   closes s id v r at idle all =
       let hs = r.0 in
       let c = r.1 in
@@ -251,5 +279,11 @@ module _ {K C R : Type 0} (k : Ghosts K C R) (start : Start K) where
         l.numbered p,
         below_yes p start.numbers (omega arith),
         sole (λ (q : CoreSeat). times p q.numbers) (λ j u e gone_is. omega (arith, times_le p u.numbers, gone_is)),
-      ))))))) in
-      (there.0, there.1, there.2.opening, there.2.entries ∙ seen, omega (arith, ap length there.2.entries, there.2.refused, l.counted, l.calls, calls), λ p h. ap (of p) there.2.entries ∙ strangers p h)
+      ))))))) in (
+        there.0,
+        there.1,
+        there.2.opening,
+        there.2.entries ∙ seen,
+        omega (arith, ap length there.2.entries, there.2.refused, l.counted, l.calls, calls),
+        λ p h. ap (of p) there.2.entries ∙ strangers p h,
+      )

@@ -1,5 +1,6 @@
 -- Histories that were seen, and the one history that goes on.
-use Rattle.std.proofs.Common.{◌≡◌, ℕ, suc, ◌<◌, ◌≤◌, List, [], ◌∷◌, ◌++◌, length, sym, refl, ap, ◌∙◌, subst, arith, append_assoc, length-append, Bool, cond, drop, lt-ltb, le-ltb}
+use Rattle.std.proofs.Common.{◌≡◌, ℕ, suc, ◌<◌, ◌≤◌, List, [], ◌∷◌, ◌++◌, length, sym, refl, ap, ◌∙◌, subst, arith, append_assoc, length-append, Bool, cond}
+use Rattle.std.proofs.Common.{drop, lt-ltb, le-ltb}
 use Rattle.std.proofs.lemmas.List.{append-nil}
 use mathlib.Core.Logic.{dite}
 use native.Mathlib.Decide.{dec_le}
@@ -40,14 +41,17 @@ module _ {C R : Type 0} where
       let two = of-append p ys b.0 in
       let ys_is : of p ys ≡ of p xs ++ of p a.0 = ap (of p) (sym a.1) ∙ one in
       let log_is : of p log ≡ of p ys ++ of p b.0 = ap (of p) (sym b.1) ∙ two in
-      let nothing : of p a.0 ≡ [] = empty_of (of p a.0) (omega (arith, ap length ys_is, ap length log_is, ap length same, length-append (of p xs) (of p a.0), length-append (of p ys) (of p b.0))) in
+      let nothing : of p a.0 ≡ [] = empty_of (of p a.0) (omega
+      (arith, ap length ys_is, ap length log_is, ap length same, length-append (of p xs) (of p a.0), length-append (of p ys) (of p b.0))) in
       ys_is ∙ (ap (λ (l : List (Entry C R)). of p xs ++ l) nothing ∙ append-nil (of p xs))
 
   -- a history that was seen, and a longer one
-  pub follows_longer : (numbers : List ℕ) (xs ys log : List (Entry C R)) → Follows numbers xs log → IsPrefix ys log → length xs ≤ length ys → Follows numbers xs ys
+  pub follows_longer : (numbers : List ℕ) (xs ys log : List (Entry C R)) → Follows numbers xs log → IsPrefix ys log → length xs ≤ length ys
+      → Follows numbers xs ys
   follows_longer numbers xs ys log f b h = let a = shorter xs ys log f.0 b h in (a, λ p has. squeezed p xs ys log a b (f.1 p has))
 
-  pub longer_is : (xs ys : List (Entry C R)) (P : List (Entry C R) → Type 0) → (length xs < length ys → P ys) → (length ys ≤ length xs → P xs) → P (longer xs ys)
+  pub longer_is : (xs ys : List (Entry C R)) (P : List (Entry C R) → Type 0) → (length xs < length ys → P ys) → (length ys ≤ length xs → P xs)
+      → P (longer xs ys)
   longer_is xs ys P f g = dite (dec_le (suc (length xs)) (length ys))
       (λ lt. subst (λ (b : Bool). P (cond b ys xs)) (sym (lt-ltb (length xs) (length ys) lt)) (f lt))
       (λ ge. let le : length ys ≤ length xs = omega arith in subst (λ (b : Bool). P (cond b ys xs)) (sym (le-ltb (length xs) (length ys) le)) (g le))
@@ -59,7 +63,8 @@ module _ {C R : Type 0} where
         λ p has. dite (dec_le (suc 0) (times p ms))
             (λ in_as. f.1 p in_as ∙ sym (squeezed p xs (longer xs ys) log (longer_is xs ys (λ (l : List (Entry C R)). IsPrefix xs l) (λ lt. shorter xs ys log f.0 g.0 (omega arith)) (λ _. ([], append-nil xs))) pre (f.1 p in_as)))
             (λ out. let in_bs : 0 < times p ns = omega (arith, has, times-append p ms ns, out) in
-            g.1 p in_bs ∙ sym (squeezed p ys (longer xs ys) log (longer_is xs ys (λ (l : List (Entry C R)). IsPrefix ys l) (λ _. ([], append-nil ys)) (λ le. shorter ys xs log g.0 f.0 (omega arith))) pre (g.1 p in_bs))),
+            g.1 p in_bs ∙ sym (squeezed p ys (longer xs ys) log
+            (longer_is xs ys (λ (l : List (Entry C R)). IsPrefix ys l) (λ _. ([], append-nil ys)) (λ le. shorter ys xs log g.0 f.0 (omega arith))) pre (g.1 p in_bs))),
       )
 
   nothing_left : (rest : List (Entry C R)) → ((p : ℕ) → of p rest ≡ []) → rest ≡ []
@@ -73,7 +78,15 @@ module _ {C R : Type 0} where
       sym pre.1 ∙ (ap (λ (l : List (Entry C R)). seen ++ l) (nothing_left pre.0 none_of) ∙ append-nil seen)
 
   pub empty_before : (p : ℕ) (seen log : List (Entry C R)) → IsPrefix seen log → of p log ≡ [] → of p log ≡ of p seen
-  empty_before p seen log pre none_of = none_of ∙ sym (empty_of (of p seen) (omega (arith, ap length none_of, ap length (ap (of p) (sym pre.1) ∙ of-append p seen pre.0), length-append (of p seen) (of p pre.0))))
+  empty_before p seen log pre none_of =
+      none_of
+      ∙ sym (empty_of (of p seen) (omega (
+        arith,
+        ap length none_of,
+        ap length (ap (of p) (sym pre.1) ∙ of-append p seen pre.0),
+        length-append
+            (of p seen) (of p pre.0),
+      )))
 
   pub follows_self : (numbers : List ℕ) (log : List (Entry C R)) → Follows numbers log log
   follows_self numbers log = (([], append-nil log), λ p h. refl)
@@ -82,8 +95,10 @@ module _ {C R : Type 0} where
   follows_none log = ((log, refl), λ p h. absurd (omega arith))
 
   -- the history goes on, with nothing of these numbers
-  pub follows_later : (numbers : List ℕ) (seen log log' zs : List (Entry C R)) → Follows numbers seen log → log' ≡ log ++ zs → ((p : ℕ) → 0 < times p numbers → of p log' ≡ of p log) → Follows numbers seen log'
-  follows_later numbers seen log log' zs f is still = (subst (λ (l : List (Entry C R)). IsPrefix seen l) (sym is) (prefix_then seen log zs f.0), λ p has. still p has ∙ f.1 p has)
+  pub follows_later : (numbers : List ℕ) (seen log log' zs : List (Entry C R)) → Follows numbers seen log → log' ≡ log ++ zs
+      → ((p : ℕ) → 0 < times p numbers → of p log' ≡ of p log) → Follows numbers seen log'
+  follows_later numbers seen log log' zs f is still =
+      (subst (λ (l : List (Entry C R)). IsPrefix seen l) (sym is) (prefix_then seen log zs f.0), λ p has. still p has ∙ f.1 p has)
 
   -- the same for fewer numbers
   pub follows_fewer : (ms ns : List ℕ) (seen log : List (Entry C R)) → Follows ns seen log → ((p : ℕ) → 0 < times p ms → 0 < times p ns) → Follows ms seen log

@@ -16,16 +16,19 @@ module _ {K C R : Type 0} where
   -- the second load of a gather: the two histories are beginnings of one, and the seat has seen the longer
   abbrev pub SecondLoadTells : Step (Option K) → Me (Option K) (View K C R) → ℕ → Me (Option K) (View K C R) → Type 0
   SecondLoadTells step before found after = before.0.seen ≡ longer before.0.one.seen before.0.two.seen
-      → (after ≡ (reloaded_view before.0, before.1)) × Follows before.0.one.numbers before.0.one.seen before.0.seen × Follows before.0.two.numbers before.0.two.seen before.0.seen
+      → (after ≡ (reloaded_view before.0, before.1)) × Follows before.0.one.numbers before.0.one.seen before.0.seen
+      × Follows before.0.two.numbers before.0.two.seen before.0.seen
       × (length before.0.seat.numbers ≤ 1024) × (before.0.seat.calls ≤ 4398046510080)
 
 module _ {K C R : Type 0} (k : Ghosts K C R) where
   -- a look: where the number found is the ticket the book was taken out of its slot, and else nothing changed
   abbrev pub LookTells : Step (Option K) → Me (Option K) (View K C R) → ℕ → Me (Option K) (View K C R) → Type 0
   LookTells step before found after = (ticket : ℕ) → before.0.seat.phase ≡ Waiting ticket
-      → (found ≡ ticket → (book : K) × (after ≡ (held_view k ticket before.0 book, (0, Some book) ∷ [])) × ((start : Start K) → before.0.start ≡ Some start → IsHanded k start before.0.seat.numbers before.0.seen ticket book))
+      → (found ≡ ticket → (book : K) × (after ≡ (held_view k ticket before.0 book, (0, Some book) ∷ [])) ×
+      ((start : Start K) → before.0.start ≡ Some start → IsHanded k start before.0.seat.numbers before.0.seen ticket book))
       × (found ≢ ticket → (after ≡ before) × ((start : Start K) → before.0.start ≡ Some start → length before.0.seat.numbers < start.numbers))
 
   -- a leave: the book is back in its slot
   abbrev pub LeaveTells : Step (Option K) → Me (Option K) (View K C R) → ℕ → Me (Option K) (View K C R) → Type 0
-  LeaveTells step before found after = (book : K) → before.1 ≡ (0, Some book) ∷ [] → (after ≡ (left_view k before.0 book, [])) × (before.0.seat.calls < 4398046510080)
+  LeaveTells step before found after =
+      (book : K) → before.1 ≡ (0, Some book) ∷ [] → (after ≡ (left_view k before.0 book, [])) × (before.0.seat.calls < 4398046510080)

@@ -24,7 +24,8 @@ module _ {K C R : Type 0} where
 
   -- draw, an add to the next ticket
   abbrev pub after_draw : State (Option K) (View K C R) → ℕ → Me (Option K) (View K C R) → State (Option K) (View K C R)
-  after_draw s id me = stepped s next_word ((slice_index s.words next_word + 1) % 18446744073709551616) id me.1 (drawn_view (slice_index s.words next_word) me.0) keeps
+  after_draw s id me =
+      stepped s next_word ((slice_index s.words next_word + 1) % 18446744073709551616) id me.1 (drawn_view (slice_index s.words next_word) me.0) keeps
 
   -- look, a load of the number served, by a seat whose ticket it isn't
   abbrev pub after_waiting : State (Option K) (View K C R) → ℕ → Me (Option K) (View K C R) → State (Option K) (View K C R)
@@ -50,7 +51,8 @@ module _ {K C R : Type 0} (k : Ghosts K C R) where
   -- the book is the one that was taken out with these entries and refusals, with one more entry of this number or one more refusal
   pub record Returns (start : Start K) (own : ℕ) (seen : List (Entry C R)) (refused : ℕ) (book : K) : Type 0 where
     pub opening : k.opening book ≡ k.opening start.book
-    pub more : ((e : Entry C R) × (e.pass ≡ own) × (k.history book ≡ seen ++ e ∷ []) × (k.refusals book ≡ refused)) ⊎ ((k.history book ≡ seen) × (k.refusals book ≡ refused + 1))
+    pub more : ((e : Entry C R) × (e.pass ≡ own) × (k.history book ≡ seen ++ e ∷ []) × (k.refusals book ≡ refused)) ⊎
+        ((k.history book ≡ seen) × (k.refusals book ≡ refused + 1))
 
   -- a step to the table s from one with the core state c is this one event
   abbrev pub IsEvent : Start K → List (Happening C R) → CoreState k.State C R → Happening C R → State (Option K) (View K C R) → Type 0

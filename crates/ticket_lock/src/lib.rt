@@ -9,19 +9,19 @@
 //! - `lock`: the lock and its calls.
 //! - `tokens`: seats, turns and holds; `counts`: what they tell at run time.
 //! - `views`: what seats know in proofs, and the rule; `plays`: the kinds of step.
-//! - `turns`: a turn over the counter book, as a layer above takes it.
-//! - `steps`: the law that each kind of step is one event of the core.
+//! - `steps`: the law that each kind of step is one event of the core; `laws`: what is so of every seat.
 
 mod counts;
+mod laws;
 mod lock;
 mod plays;
 mod steps;
 #[cfg(test)]
 mod tests;
 mod tokens;
-mod turns;
 mod views;
 
+pub use laws::every_seat;
 pub use lock::{Look, TicketLock};
 pub use steps::every_step;
 pub use tokens::{Hold, Seat, Turn};

@@ -7,7 +7,6 @@ ghost use Rattle.ticket_steps.specs.CounterBooks.{entries_of, refused_of};
 ghost use Rattle.ticket_steps.specs.Sums.{counted};
 ghost use Rattle.ticket_lock.specs.Tokens.{seat_of, IsSeatOf, IsTurnOf};
 
-use crate::turns::take_turn;
 use crate::{Seat, TicketLock, Turn, every_step};
 use std::alloc::{AllocError, Global};
 use std::process::Abort;
@@ -15,6 +14,9 @@ use std::test::Fail;
 use std::thread::join;
 use ticket_steps::counter::CounterBook;
 use ticket_steps::{Entry, Kept};
+use turns::take_turn;
+
+mod turns;
 
 /// An empty book, at the second try where the first meets want of memory.
 fn empty_book(alloc: Global, room: usize) -> Result<CounterBook, AllocError>

@@ -6,6 +6,7 @@ ghost use Rattle.std.specs.Prelude.{◌≡◌, ◌+◌, ◌^◌, ◌<◌, ◌≤
 ghost use Rattle.std.specs.Coded.{Coded-set};
 ghost use Rattle.ticket_steps.specs.declared.seats.Phase.TheVariants.{Idle, Waiting};
 ghost use Rattle.ticket_steps.specs.Seats.{Holds};
+ghost use Rattle.ticket_steps.specs.Sums.{counted, times};
 ghost use Rattle.ticket_lock.specs.Counts.{AreCountsOf};
 ghost use Rattle.ticket_lock.specs.Legal.{IsLegalFrom, IsLegalFrom-prop};
 
@@ -33,6 +34,7 @@ pub struct Seat<K: Kept> {
     ghost told: { AreCountsOf counts table_seat.me.0.seat },
     ghost fresh_is: { table_seat.me.0.seat.fresh ≡ fresh },
     ghost range: { fresh ≡ true → counts.number + counts.count ≤ 1024 },
+    ghost row: { fresh ≡ true → table_seat.me.0.seat.numbers ≡ counted counts.number counts.count },
 }
 
 /// A caller that has drawn a ticket and waits for its turn.
@@ -68,16 +70,20 @@ pub struct Hold<K: Kept> {
 impl<K: Kept> Seat<K> {
     ghost use Rattle.ticket_lock.specs.Tokens.{seat_of};
 
-    /// Its own number: the name under which its calls are recorded.
+    /// Its own number: the name under which its calls are recorded, and one of those that it answers
+    /// for.
     pub fn number(&self) -> u32
-        ensures { result ≡ (seat_of self.now).own }
+        ensures own { result ≡ (seat_of self.now).own }
+        ensures among { 0 < times result (seat_of self.now).numbers }
     {
         self.counts.number
     }
 
     /// How many numbers it stands for now, its own included.
     pub fn count(&self) -> u32
-        ensures { result ≡ length (seat_of self.now).numbers }
+        ensures numbers { result ≡ length (seat_of self.now).numbers }
+        ensures some { 0 < result }
+        ensures few { result ≤ 1024 }
     {
         self.counts.count
     }

@@ -18,7 +18,8 @@ pub opened_is : {S C R : Type 0} (numbers draws : ℕ) (opening state : S) (entr
     → all ≡ counted 0 numbers → seats ≡ seat 0 all Idle (numbers * draws) 0 true ∷ [] → state ≡ opening → entries ≡ [] → count ≡ 0
     → core_state 0 0 seats (book_state state entries count) ≡ opened numbers draws opening
 opened_is numbers draws opening state entries count seats all all_is seats_are state_is none_kept none_refused =
-    let here : seats ≡ seat 0 (counted 0 numbers) Idle (length (counted 0 numbers) * draws) 0 true ∷ [] = seats_are ∙ (λ i. seat 0 (all_is i) Idle (sym (length-counted 0 numbers) i * draws) 0 true ∷ []) in
+    let here : seats ≡ seat 0 (counted 0 numbers) Idle (length (counted 0 numbers) * draws) 0 true ∷ [] = seats_are ∙
+    (λ i. seat 0 (all_is i) Idle (sym (length-counted 0 numbers) i * draws) 0 true ∷ []) in
     λ i. core_state 0 0 (here i) (book_state (state_is i) (none_kept i) (none_refused i))
 
 -- a core has few tickets
@@ -28,28 +29,45 @@ few_tickets next left numbers draws supply few small =
     omega arith
 
 module _ {S C R : Type 0} (step : S → C → S × R) (draws : ℕ) (b : CoreState S C R) (i own : ℕ) (p : CoreSeat) (at : get_elem? b.seats i ≡ some p) (called : p.own ≡ own) where
-  pub split_moves : (count : ℕ) (w x : CoreSeat) (seats : List CoreSeat) → p.phase ≡ Idle → p.fresh ≡ true → 0 < count → count < length p.numbers → w ≡ keeping draws count p → x ≡ given draws count p → seats ≡ set b.seats i w ++ x ∷ []
+  pub split_moves : (count : ℕ) (w x : CoreSeat) (seats : List CoreSeat) → p.phase ≡ Idle → p.fresh ≡ true → 0 < count → count < length p.numbers
+      → w ≡ keeping draws count p → x ≡ given draws count p → seats ≡ set b.seats i w ++ x ∷ []
       → Moves step draws b (split own count) (with_seats b seats)
-  split_moves count w x seats idle fresh some_count less kept given_is seats_are = (i, p, (at, called, idle), fresh, some_count, less, λ j. with_seats b ((seats_are ∙ (λ k. set b.seats i (kept k) ++ given_is k ∷ [])) j))
+  split_moves count w x seats idle fresh some_count less kept given_is seats_are =
+      (i, p, (at, called, idle), fresh, some_count, less, λ j. with_seats b ((seats_are ∙ (λ k. set b.seats i (kept k) ++ given_is k ∷ [])) j))
 
-  pub draw_moves : (w : CoreSeat) → p.phase ≡ Idle → 0 < p.left → w ≡ waiting b.next p → Moves step draws b (drew own b.next) (core_state (b.next + 1) b.served (set b.seats i w) b.book)
+  pub draw_moves : (w : CoreSeat) → p.phase ≡ Idle → 0 < p.left → w ≡ waiting b.next p
+      → Moves step draws b (drew own b.next) (core_state (b.next + 1) b.served (set b.seats i w) b.book)
   draw_moves w idle some_left is = (i, p, (at, called, idle), some_left, refl, λ j. core_state (b.next + 1) b.served (set b.seats i (is j)) b.book)
 
-  pub look_moves : (ticket : ℕ) (w : CoreSeat) → p.phase ≡ Waiting ticket → ticket ≡ b.served → w ≡ holding ticket p → Moves step draws b (held own) (with_seats b (set b.seats i w))
-  look_moves ticket w waits first is = (i, p, (at, called, waits ∙ ap Waiting first), λ j. with_seats b (set b.seats i ((is ∙ ap (λ (t : ℕ). holding t p) first) j)))
+  pub look_moves : (ticket : ℕ) (w : CoreSeat) → p.phase ≡ Waiting ticket → ticket ≡ b.served → w ≡ holding ticket p
+      → Moves step draws b (held own) (with_seats b (set b.seats i w))
+  look_moves ticket w waits first is =
+      (i, p, (at, called, waits ∙ ap Waiting first), λ j. with_seats b (set b.seats i ((is ∙ ap (λ (t : ℕ). holding t p) first) j)))
 
   pub wait_moves : (ticket : ℕ) → p.phase ≡ Waiting ticket → ticket ≢ b.served → Moves step draws b (waited own) b
   wait_moves ticket waits later = (i, p, ticket, (at, called, waits), later, refl)
 
-  pub recorded_moves : (ticket : ℕ) (w : CoreSeat) (call : C) (reply : R) (book : BookState S C R) → p.phase ≡ Holding ticket → w ≡ ended p → reply ≡ (step b.book.state call).1 → book ≡ with_entry step own call b.book
+  pub recorded_moves : (ticket : ℕ) (w : CoreSeat) (call : C) (reply : R) (book : BookState S C R) → p.phase ≡ Holding ticket → w ≡ ended p
+      → reply ≡ (step b.book.state call).1 → book ≡ with_entry step own call b.book
       → Moves step draws b (recorded own call reply) (core_state b.next (b.served + 1) (set b.seats i w) book)
-  recorded_moves ticket w call reply book holds is answer book_is = (i, p, ticket, (at, called, holds), answer, λ j. core_state b.next (b.served + 1) (set b.seats i (is j)) (book_is j))
+  recorded_moves ticket w call reply book holds is answer book_is =
+      (i, p, ticket, (at, called, holds), answer, λ j. core_state b.next (b.served + 1) (set b.seats i (is j)) (book_is j))
 
-  pub refused_moves : (ticket : ℕ) (w : CoreSeat) (book : BookState S C R) → p.phase ≡ Holding ticket → w ≡ ended p → book ≡ with_refusal b.book → Moves step draws b (refused own) (core_state b.next (b.served + 1) (set b.seats i w) book)
+  pub refused_moves : (ticket : ℕ) (w : CoreSeat) (book : BookState S C R) → p.phase ≡ Holding ticket → w ≡ ended p → book ≡ with_refusal b.book
+      → Moves step draws b (refused own) (core_state b.next (b.served + 1) (set b.seats i w) book)
   refused_moves ticket w book holds is book_is = (i, p, ticket, (at, called, holds), λ j. core_state b.next (b.served + 1) (set b.seats i (is j)) (book_is j))
 
-  pub gather_moves : (k other : ℕ) (q w x : CoreSeat) → get_elem? b.seats k ≡ some q → q.own ≡ other → p.phase ≡ Idle → q.phase ≡ Idle → own ≢ other → w ≡ gone → x ≡ joined p q
+  pub gather_moves : (k other : ℕ) (q w x : CoreSeat) → get_elem? b.seats k ≡ some q → q.own ≡ other → p.phase ≡ Idle → q.phase ≡ Idle → own ≢ other
+      → w ≡ gone → x ≡ joined p q
       → Moves step draws b (gathered own other) (with_seats b (set (set b.seats k w) i x))
   gather_moves k other q w x at' called' idle idle' apart gone_is joined_is =
-      let ne : k ≢ i = λ e. apart (sym called ∙ (ap (λ (s : CoreSeat). s.own) (at_same b.seats i p q at (subst (λ (n : ℕ). get_elem? b.seats n ≡ some q) e at')) ∙ called')) in
-      (i, p, k, q, (at, called, idle), (at', called', idle'), apart, λ j. with_seats b (((λ n. set (set b.seats k (gone_is n)) i (joined_is n)) ∙ set_swap b.seats k i gone (joined p q) ne) j))
+      let ne : k ≢ i = λ e. apart (sym called ∙ (ap (λ (s : CoreSeat). s.own) (at_same b.seats i p q at (subst (λ (n : ℕ). get_elem? b.seats n ≡ some q) e at')) ∙ called')) in (
+        i,
+        p,
+        k,
+        q,
+        (at, called, idle),
+        (at', called', idle'),
+        apart,
+        λ j. with_seats b (((λ n. set (set b.seats k (gone_is n)) i (joined_is n)) ∙ set_swap b.seats k i gone (joined p q) ne) j),
+      )

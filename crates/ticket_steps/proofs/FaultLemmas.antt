@@ -96,7 +96,8 @@ module _ {S C R : Type 0} (numbers draws : ℕ) (c : CoreState S C R) (l : IsLaw
   same_phase : (phase : PhaseOf) (k : ℕ) (q : CoreSeat) → is_there phase ≡ true → Stands c.seats k own phase q → p.phase ≡ phase
   same_phase phase k q there' st = ap (λ (s : CoreSeat). s.phase) (sym (phase_is numbers draws c i k own p q phase l at called there there' st)) ∙ st.2
 
-  pub unfit_split : (count : ℕ) → ((p.phase ≡ Idle) × (p.fresh ≡ true) × (0 < count) × (count < length p.numbers) → ⊥) → IsFault {C = C} c.seats (Split own count) Phase
+  pub unfit_split : (count : ℕ) → ((p.phase ≡ Idle) × (p.fresh ≡ true) × (0 < count) × (count < length p.numbers) → ⊥)
+      → IsFault {C = C} c.seats (Split own count) Phase
   unfit_split count wrong = (
     here,
     λ t. let same = phase_is numbers draws c i t.0 own p t.1 Idle l at called there refl t.2 in
@@ -107,7 +108,8 @@ module _ {S C R : Type 0} (numbers draws : ℕ) (c : CoreState S C R) (l : IsLaw
   unfit_draw wrong = (here, λ t. wrong (same_phase Idle t.0 t.1 refl t.2))
 
   pub spent_draw : p.phase ≡ Idle → p.left ≡ 0 → IsFault {C = C} c.seats (Draw own) Spent
-  spent_draw idle none = ((i, p, (at, called, idle)), λ t. let same = phase_is numbers draws c i t.0 own p t.1 Idle l at called there refl t.2 in omega (arith, t.3, ap (λ (s : CoreSeat). s.left) same, none))
+  spent_draw idle none =
+      ((i, p, (at, called, idle)), λ t. let same = phase_is numbers draws c i t.0 own p t.1 Idle l at called there refl t.2 in omega (arith, t.3, ap (λ (s : CoreSeat). s.left) same, none))
 
   pub unfit_look : ((ticket : ℕ) → p.phase ≡ Waiting ticket → ⊥) → IsFault {C = C} c.seats (Look own) Phase
   unfit_look wrong = (here, λ t. wrong t.2 (same_phase (Waiting t.2) t.0 t.1 refl t.3))
@@ -115,7 +117,8 @@ module _ {S C R : Type 0} (numbers draws : ℕ) (c : CoreState S C R) (l : IsLaw
   pub unfit_leave : (call : C) → ((ticket : ℕ) → p.phase ≡ Holding ticket → ⊥) → IsFault c.seats (Leave own call) Phase
   unfit_leave call wrong = (here, λ t. wrong t.2 (same_phase (Holding t.2) t.0 t.1 refl t.3))
 
-  pub unfit_gather : (k other : ℕ) (q : CoreSeat) → get_elem? c.seats k ≡ some q → q.own ≡ other → is_there q.phase ≡ true → ((own ≢ other) × (p.phase ≡ Idle) × (q.phase ≡ Idle) → ⊥) → IsFault {C = C} c.seats (Gather own other) Phase
+  pub unfit_gather : (k other : ℕ) (q : CoreSeat) → get_elem? c.seats k ≡ some q → q.own ≡ other → is_there q.phase ≡ true
+      → ((own ≢ other) × (p.phase ≡ Idle) × (q.phase ≡ Idle) → ⊥) → IsFault {C = C} c.seats (Gather own other) Phase
   unfit_gather k other q at' called' there' wrong = (
     (here, (k, q, at', called', there')),
     λ t. wrong (

@@ -9,7 +9,8 @@ module _ {C R S : Type 0} (step : S → C → S × R) where
   replay-last s [] e = refl
   replay-last s (x ∷ xs) e = replay-last (step s x.call).0 xs e
 
-  pub legal-last : (s : S) (es : List (Entry C R)) (e : Entry C R) → IsLegal step s es → e.reply ≡ (step (replay step s es) e.call).1 → IsLegal step s (es ++ e ∷ [])
+  pub legal-last : (s : S) (es : List (Entry C R)) (e : Entry C R) → IsLegal step s es → e.reply ≡ (step (replay step s es) e.call).1
+      → IsLegal step s (es ++ e ∷ [])
   legal-last s [] e h r = (r, tt)
   legal-last s (x ∷ xs) e h r = (h.0, legal-last (step s x.call).0 xs e h.1 r)
 
@@ -33,10 +34,12 @@ module _ {C R S : Type 0} (step : S → C → S × R) where
   lawful_refusal s book l = record { legal = l.legal; replayed = l.replayed }
 
   -- a book that keeps the laws, after one entry more
-  pub recorded_is : (o o' s s' : S) (es es' : List (Entry C R)) (k k' own : ℕ) (call : C) (reply : R) → s ≡ replay step o es → s' ≡ replay step o' es' → IsLegal step o' es' → o' ≡ o → es' ≡ es ++ entry own call reply ∷ [] → k' ≡ k
+  pub recorded_is : (o o' s s' : S) (es es' : List (Entry C R)) (k k' own : ℕ) (call : C) (reply : R) → s ≡ replay step o es
+      → s' ≡ replay step o' es' → IsLegal step o' es' → o' ≡ o → es' ≡ es ++ entry own call reply ∷ [] → k' ≡ k
       → (reply ≡ (step s call).1) × (book_state s' es' k' ≡ with_entry step own call (book_state s es k))
   recorded_is o o' s s' es es' k k' own call reply was now legal same more kept =
-      let legal_here : IsLegal step o (es ++ entry own call reply ∷ []) = subst (λ (z : S). IsLegal step z (es ++ entry own call reply ∷ [])) same (subst (IsLegal step o') more legal) in
+      let legal_here : IsLegal step o (es ++ entry own call reply ∷ []) = subst
+      (λ (z : S). IsLegal step z (es ++ entry own call reply ∷ [])) same (subst (IsLegal step o') more legal) in
       let answer : reply ≡ (step s call).1 = legal-last-reply o es (entry own call reply) legal_here ∙ ap (λ (z : S). (step z call).1) (sym was) in
       let state : s' ≡ (step s call).0 = now ∙ (ap (λ (z : S). replay step z es') same ∙ (ap (replay step o) more ∙ (replay-last o es (entry own call reply) ∙ ap (λ (z : S). (step z call).0) (sym was)))) in (
         answer,

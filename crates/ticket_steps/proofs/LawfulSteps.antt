@@ -1,5 +1,6 @@
 -- Whatever happens keeps a core state lawful.
-use Rattle.std.proofs.Common.{◌≡◌, ℕ, ◌+◌, ◌-◌, ◌*◌, ◌<◌, ◌≢◌, List, [], ◌∷◌, ◌++◌, length, set, take, drop, sym, refl, ap, ◌∙◌, subst, ⊎_elim, arith, length-append, length-set, zero-add, Bool, true, cond}
+use Rattle.std.proofs.Common.{◌≡◌, ℕ, ◌+◌, ◌-◌, ◌*◌, ◌<◌, ◌≢◌, List, [], ◌∷◌, ◌++◌, length, set, take, drop, sym, refl, ap, ◌∙◌, subst, ⊎_elim, arith}
+use Rattle.std.proofs.Common.{length-append, length-set, zero-add, Bool, true, cond}
 use mathlib.Core.Option.{some, some-ne-none}
 use lib.ListN.{get_elem?}
 use Rattle.ticket_steps.specs.declared.seats.CoreSeat.{CoreSeat}
@@ -13,17 +14,21 @@ use Rattle.ticket_steps.specs.Seats.{tickets_of, is_there, fresh_seat, gone, kee
 use Rattle.ticket_steps.specs.Sums.{total, times, once_below, counted}
 use Rattle.ticket_steps.proofs.Lists.{at_set, at_snoc, at_same, set_else, at_within}
 use Rattle.ticket_steps.proofs.SeatLemmas.{tickets, tickets_idle, tickets_waiting, tickets_holding, sole}
-use Rattle.ticket_steps.proofs.Totals.{total-set, total-append, times-same, times-append, times-take-drop, take-counted, drop-counted, length-counted, counted_first, counted_below, below_no, below_more}
+use Rattle.ticket_steps.proofs.Totals.{total-set, total-append, times-same, times-append, times-take-drop, take-counted, drop-counted, length-counted}
+use Rattle.ticket_steps.proofs.Totals.{counted_first, counted_below, below_no, below_more}
 
 -- what is so of each seat stays so where the seat at i goes to w
-each_set : (draws served served' : ℕ) (seats : List CoreSeat) (i : ℕ) (w : CoreSeat) → IsSeat draws served' w → ((j : ℕ) (s : CoreSeat) → j ≢ i → get_elem? seats j ≡ some s → IsSeat draws served' s)
+each_set : (draws served served' : ℕ) (seats : List CoreSeat) (i : ℕ) (w : CoreSeat) → IsSeat draws served' w
+    → ((j : ℕ) (s : CoreSeat) → j ≢ i → get_elem? seats j ≡ some s → IsSeat draws served' s)
     → (j : ℕ) (s : CoreSeat) → get_elem? (set seats i w) j ≡ some s → IsSeat draws served' s
 each_set draws served served' seats i w mine others j s e =
     ⊎_elim (λ (t : (j ≡ i) × (w ≡ s)). subst (IsSeat draws served') t.1 mine) (λ (t : (j ≢ i) × (get_elem? seats j ≡ some s)). others j s t.0 t.1) (at_set seats i j w s e)
 
-each_snoc : (draws served : ℕ) (seats : List CoreSeat) (w : CoreSeat) → IsSeat draws served w → ((j : ℕ) (s : CoreSeat) → get_elem? seats j ≡ some s → IsSeat draws served s)
+each_snoc : (draws served : ℕ) (seats : List CoreSeat) (w : CoreSeat) → IsSeat draws served w
+    → ((j : ℕ) (s : CoreSeat) → get_elem? seats j ≡ some s → IsSeat draws served s)
     → (j : ℕ) (s : CoreSeat) → get_elem? (seats ++ w ∷ []) j ≡ some s → IsSeat draws served s
-each_snoc draws served seats w new all j s e = ⊎_elim (λ (t : get_elem? seats j ≡ some s). all j s t) (λ (t : w ≡ s). subst (IsSeat draws served) t new) (at_snoc seats w s j e)
+each_snoc draws served seats w new all j s e =
+    ⊎_elim (λ (t : get_elem? seats j ≡ some s). all j s t) (λ (t : w ≡ s). subst (IsSeat draws served) t new) (at_snoc seats w s j e)
 
 -- a fresh seat with a range of numbers
 fresh_is : (draws served n k calls : ℕ) (numbers : List ℕ) → 0 < k → numbers ≡ counted n k → IsSeat draws served (fresh_seat draws n numbers calls)
@@ -36,14 +41,17 @@ fresh_is draws served n k calls numbers h is =
     }
 
 -- of two parts of a seat's sums
-sums_split : (seats : List CoreSeat) (i : ℕ) (p a b : CoreSeat) → get_elem? seats i ≡ some p → (g : CoreSeat → ℕ) → total g (set seats i a ++ b ∷ []) + g p ≡ total g seats + g a + g b
+sums_split : (seats : List CoreSeat) (i : ℕ) (p a b : CoreSeat) → get_elem? seats i ≡ some p → (g : CoreSeat → ℕ)
+    → total g (set seats i a ++ b ∷ []) + g p ≡ total g seats + g a + g b
 sums_split seats i p a b at g = omega (arith, total-append g (set seats i a) (b ∷ []), total-set g seats i p a at)
 
 module _ {S C R : Type 0} (numbers draws : ℕ) where
   pub lawful_opened : (state : S) → 0 < numbers → IsLawful {C = C} {R = R} numbers draws (opened numbers draws state)
   lawful_opened state h =
       let len : length (counted 0 numbers) ≡ numbers = length-counted 0 numbers in record {
-        each = each_snoc draws 0 [] (fresh_seat draws 0 (counted 0 numbers) 0) (fresh_is draws 0 0 numbers 0 (counted 0 numbers) h refl) (λ j s e. absurd (some-ne-none s (sym e)));
+        each =
+            each_snoc draws 0 [] (fresh_seat draws 0 (counted 0 numbers) 0) (fresh_is draws 0 0 numbers 0 (counted 0 numbers) h refl)
+            (λ j s e. absurd (some-ne-none s (sym e)));
         tickets = λ t. omega arith;
         numbered = λ n. omega (arith, counted_below n 0 numbers, below_no n 0 (omega arith), ap (once_below n) (zero-add numbers));
         count = omega (arith, len);
@@ -53,7 +61,8 @@ module _ {S C R : Type 0} (numbers draws : ℕ) where
         places = omega (arith, len);
       }
 
-  lawful_split : (b : CoreState S C R) (own count i : ℕ) (p : CoreSeat) → IsLawful numbers draws b → Stands b.seats i own Idle p → p.fresh ≡ true → 0 < count → count < length p.numbers
+  lawful_split : (b : CoreState S C R) (own count i : ℕ) (p : CoreSeat) → IsLawful numbers draws b → Stands b.seats i own Idle p → p.fresh ≡ true
+      → 0 < count → count < length p.numbers
       → IsLawful numbers draws (with_seats b (set b.seats i (keeping draws count p) ++ given draws count p ∷ []))
   lawful_split b own count i p l st fresh some_count less =
       let at = st.0 in
@@ -75,14 +84,16 @@ module _ {S C R : Type 0} (numbers draws : ℕ) where
       let idle = tickets_idle in
       record {
         each = each_snoc draws b.served (set b.seats i x) y (fresh_is draws b.served (p.own + k) count 0 (drop k p.numbers) some_count dropped)
-            (each_set draws b.served b.served b.seats i x (fresh_is draws b.served p.own k p.calls (take k p.numbers) (omega arith) taken) (λ j s _ e. l.each j s e));
+            (each_set draws b.served b.served b.seats i x (fresh_is draws b.served p.own k p.calls (take k p.numbers) (omega arith) taken)
+            (λ j s _ e. l.each j s e));
         tickets = λ t. omega (arith, l.tickets t, sums (tickets t), tickets_idle t p st.2);
         numbered = λ n. omega (arith, l.numbered n, sums (λ (s : CoreSeat). times n s.numbers), times-take-drop n k p.numbers);
         count = omega (arith, l.count, sums (λ (s : CoreSeat). length s.numbers), xs, ys);
         counted = l.counted;
         calls = omega (arith, l.calls, sums (λ (s : CoreSeat). s.calls));
         supply = omega (arith, l.supply, sums (λ (s : CoreSeat). s.left), left_x, left_y, left_p);
-        places = omega (arith, l.places, sums spare, spare_p, xs, ys, length-append (set b.seats i x) (y ∷ []), length-set b.seats i x, at_within b.seats i p at);
+        places =
+            omega (arith, l.places, sums spare, spare_p, xs, ys, length-append (set b.seats i x) (y ∷ []), length-set b.seats i x, at_within b.seats i p at);
       }
 
   lawful_draw : (b : CoreState S C R) (own i : ℕ) (p : CoreSeat) → IsLawful numbers draws b → Stands b.seats i own Idle p → 0 < p.left
@@ -162,14 +173,16 @@ module _ {S C R : Type 0} (numbers draws : ℕ) where
         places = omega (arith, l.places, sums spare, length-set b.seats i w);
       }
 
-  lawful_gather : (b : CoreState S C R) (own other i k : ℕ) (p q : CoreSeat) → IsLawful numbers draws b → Stands b.seats i own Idle p → Stands b.seats k other Idle q → own ≢ other
+  lawful_gather : (b : CoreState S C R) (own other i k : ℕ) (p q : CoreSeat) → IsLawful numbers draws b → Stands b.seats i own Idle p
+      → Stands b.seats k other Idle q → own ≢ other
       → IsLawful numbers draws (with_seats b (set (set b.seats i (joined p q)) k gone))
   lawful_gather b own other i k p q l st st' apart =
       let at = st.0 in
       let w : CoreSeat = joined p q in
       let ne : k ≢ i = λ e. apart (sym st.1 ∙ (ap (λ (s : CoreSeat). s.own) (at_same b.seats i p q at (subst (λ (n : ℕ). get_elem? b.seats n ≡ some q) e st'.0)) ∙ st'.1)) in
       let there : get_elem? (set b.seats i w) k ≡ some q = set_else b.seats i k w ne ∙ st'.0 in
-      let sums : (g : CoreSeat → ℕ) → total g (set (set b.seats i w) k gone) + g p + g q ≡ total g b.seats + g w + g gone = λ g. omega (arith, total-set g (set b.seats i w) k q gone there, total-set g b.seats i p w at) in record {
+      let sums : (g : CoreSeat → ℕ) → total g (set (set b.seats i w) k gone) + g p + g q
+      ≡ total g b.seats + g w + g gone = λ g. omega (arith, total-set g (set b.seats i w) k q gone there, total-set g b.seats i p w at) in record {
         each = each_set draws b.served b.served (set b.seats i w) k gone record {
           holder = λ t e. absurd (cc);
           own = λ e. absurd (cc);
@@ -196,6 +209,9 @@ module _ {S C R : Type 0} (numbers draws : ℕ) where
     moves_lawful b c (drew own ticket) l t = subst (IsLawful numbers draws) (sym t.5) (lawful_draw b own t.0 t.1 l t.2 t.3)
     moves_lawful b c (waited own) l t = subst (IsLawful numbers draws) (sym t.5) l
     moves_lawful b c (held own) l t = subst (IsLawful numbers draws) (sym t.3) (lawful_look b own t.0 t.1 l t.2)
-    moves_lawful b c (recorded own call reply) l t = subst (IsLawful numbers draws) (sym t.5) (lawful_leave b own t.0 t.2 t.1 (with_entry step own call b.book) l t.3 (omega (arith, l.counted, length-append b.book.entries (entry own call (step b.book.state call).1 ∷ []))))
-    moves_lawful b c (refused own) l t = subst (IsLawful numbers draws) (sym t.4) (lawful_leave b own t.0 t.2 t.1 (with_refusal b.book) l t.3 (omega (arith, l.counted)))
+    moves_lawful b c (recorded own call reply) l t =
+        subst (IsLawful numbers draws) (sym t.5) (lawful_leave b own t.0 t.2 t.1 (with_entry step own call b.book) l t.3
+        (omega (arith, l.counted, length-append b.book.entries (entry own call (step b.book.state call).1 ∷ []))))
+    moves_lawful b c (refused own) l t =
+        subst (IsLawful numbers draws) (sym t.4) (lawful_leave b own t.0 t.2 t.1 (with_refusal b.book) l t.3 (omega (arith, l.counted)))
     moves_lawful b c (gathered own other) l t = subst (IsLawful numbers draws) (sym t.7) (lawful_gather b own other t.0 t.2 t.1 t.3 l t.4 t.5 t.6)

@@ -1,5 +1,6 @@
 -- What is so after every schedule.
-use Rattle.std.proofs.Common.{◌≡◌, ℕ, ◌+◌, ◌<◌, ◌≤◌, List, [], ◌∷◌, ◌++◌, length, take, get_or, add-one, sym, refl, ap, ◌∙◌, subst, arith, append_assoc, Bool, true, false, cond, eqb, ne_eqb, ◌≢◌}
+use Rattle.std.proofs.Common.{◌≡◌, ℕ, ◌+◌, ◌<◌, ◌≤◌, List, [], ◌∷◌, ◌++◌, length, take, get_or, add-one, sym, refl, ap, ◌∙◌, subst, arith, append_assoc}
+use Rattle.std.proofs.Common.{Bool, true, false, cond, eqb, ne_eqb, ◌≢◌}
 use Rattle.std.proofs.Math.Seq.{take-suc}
 use Rattle.std.proofs.lemmas.List.{append-nil}
 use Rattle.ticket_steps.specs.declared.kept.Entry.{Entry}
@@ -22,16 +23,19 @@ use Rattle.ticket_steps.proofs.Totals.{below_yes, below_no}
 module _ {S C R : Type 0} (step : S → C → S × R) where
   module _ (draws : ℕ) where
     -- one happening more
-    pub leads_more : (b c d : CoreState S C R) (hs : List (Happening C R)) (h : Happening C R) → Leads step draws b hs c → Moves step draws c h d → Leads step draws b (hs ++ h ∷ []) d
+    pub leads_more : (b c d : CoreState S C R) (hs : List (Happening C R)) (h : Happening C R) → Leads step draws b hs c → Moves step draws c h d
+        → Leads step draws b (hs ++ h ∷ []) d
     leads_more b c d [] h t m = (d, subst (λ (z : CoreState S C R). Moves step draws z h d) t m, refl)
     leads_more b c d (x ∷ xs) h t m = (t.0, t.1, leads_more t.0 c d xs h t.2 m)
 
-    pub leads_lawful : (numbers : ℕ) (b c : CoreState S C R) (hs : List (Happening C R)) → IsLawful numbers draws b → Leads step draws b hs c → IsLawful numbers draws c
+    pub leads_lawful : (numbers : ℕ) (b c : CoreState S C R) (hs : List (Happening C R)) → IsLawful numbers draws b → Leads step draws b hs c
+        → IsLawful numbers draws c
     leads_lawful numbers b c [] l t = subst (IsLawful numbers draws) (sym t) l
     leads_lawful numbers b c (h ∷ hs) l t = leads_lawful numbers t.0 c hs (moves_lawful numbers draws step b t.0 h l t.1) t.2
 
     -- what is so of a book stays so, where entries and refusals keep it
-    book_stays : (P : BookState S C R → Type 0) → ((own : ℕ) (call : C) (book : BookState S C R) → P book → P (with_entry step own call book)) → ((book : BookState S C R) → P book → P (with_refusal book))
+    book_stays : (P : BookState S C R → Type 0) → ((own : ℕ) (call : C) (book : BookState S C R) → P book → P (with_entry step own call book))
+        → ((book : BookState S C R) → P book → P (with_refusal book))
         → (b c : CoreState S C R) (h : Happening C R) → Moves step draws b h c → P b.book → P c.book
     book_stays P e r b c (split own count) t l = subst (λ (z : CoreState S C R). P z.book) (sym t.6) l
     book_stays P e r b c (drew own ticket) t l = subst (λ (z : CoreState S C R). P z.book) (sym t.5) l
@@ -41,13 +45,16 @@ module _ {S C R : Type 0} (step : S → C → S × R) where
     book_stays P e r b c (refused own) t l = subst (λ (z : CoreState S C R). P z.book) (sym t.4) (r b.book l)
     book_stays P e r b c (gathered own other) t l = subst (λ (z : CoreState S C R). P z.book) (sym t.7) l
 
-    pub leads_lawful_book : (opening : S) (b c : CoreState S C R) (hs : List (Happening C R)) → IsLawfulBook step opening b.book → Leads step draws b hs c → IsLawfulBook step opening c.book
+    pub leads_lawful_book : (opening : S) (b c : CoreState S C R) (hs : List (Happening C R)) → IsLawfulBook step opening b.book
+        → Leads step draws b hs c → IsLawfulBook step opening c.book
     leads_lawful_book opening b c [] l t = subst (λ (z : CoreState S C R). IsLawfulBook step opening z.book) (sym t) l
     leads_lawful_book opening b c (h ∷ hs) l t =
-        leads_lawful_book opening t.0 c hs (book_stays (IsLawfulBook step opening) (λ own call book k. lawful_entry step opening own call book k) (λ book k. lawful_refusal step opening book k) b t.0 h t.1 l) t.2
+        leads_lawful_book opening t.0 c hs (book_stays (IsLawfulBook step opening)
+        (λ own call book k. lawful_entry step opening own call book k) (λ book k. lawful_refusal step opening book k) b t.0 h t.1 l) t.2
 
     -- one happening adds to the entries of a number what it has recorded
-    moves_of : (n : ℕ) (b c : CoreState S C R) (h : Happening C R) → Moves step draws b h c → of n c.book.entries ≡ of n b.book.entries ++ recorded_by n (h ∷ [])
+    moves_of : (n : ℕ) (b c : CoreState S C R) (h : Happening C R) → Moves step draws b h c
+        → of n c.book.entries ≡ of n b.book.entries ++ recorded_by n (h ∷ [])
     moves_of n b c (split own count) t = ap (λ (z : CoreState S C R). of n z.book.entries) t.6 ∙ sym (append-nil (of n b.book.entries))
     moves_of n b c (drew own ticket) t = ap (λ (z : CoreState S C R). of n z.book.entries) t.5 ∙ sym (append-nil (of n b.book.entries))
     moves_of n b c (waited own) t = ap (λ (z : CoreState S C R). of n z.book.entries) t.5 ∙ sym (append-nil (of n b.book.entries))
@@ -63,15 +70,18 @@ module _ {S C R : Type 0} (step : S → C → S × R) where
     recorded-cons n (drew own ticket) hs = refl
     recorded-cons n (waited own) hs = refl
     recorded-cons n (held own) hs = refl
-    recorded-cons n (recorded own call reply) hs = elim (eqb own n) as (λ b. cond b (entry own call reply ∷ recorded_by n hs) (recorded_by n hs) ≡ cond b (entry own call reply ∷ []) [] ++ recorded_by n hs) [ true ↦ refl | false ↦ refl ]
+    recorded-cons n (recorded own call reply) hs =
+        elim (eqb own n) as (λ b. cond b (entry own call reply ∷ recorded_by n hs) (recorded_by n hs) ≡ cond b (entry own call reply ∷ []) [] ++ recorded_by n hs) [ true ↦ refl | false ↦ refl ]
     recorded-cons n (refused own) hs = refl
     recorded-cons n (gathered own other) hs = refl
 
     -- the entries of a number are those it had, and what it has recorded since
-    pub leads_of : (n : ℕ) (b c : CoreState S C R) (hs : List (Happening C R)) → Leads step draws b hs c → of n c.book.entries ≡ of n b.book.entries ++ recorded_by n hs
+    pub leads_of : (n : ℕ) (b c : CoreState S C R) (hs : List (Happening C R)) → Leads step draws b hs c
+        → of n c.book.entries ≡ of n b.book.entries ++ recorded_by n hs
     leads_of n b c [] t = ap (λ (z : CoreState S C R). of n z.book.entries) t ∙ sym (append-nil (of n b.book.entries))
     leads_of n b c (h ∷ hs) t = leads_of n t.0 c hs t.2 ∙ (ap (λ (l : List (Entry C R)). l ++ recorded_by n hs) (moves_of n b t.0 h t.1)
-        ∙ (append_assoc (of n b.book.entries) (recorded_by n (h ∷ [])) (recorded_by n hs) ∙ ap (λ (l : List (Entry C R)). of n b.book.entries ++ l) (sym (recorded-cons n h hs))))
+        ∙ (append_assoc (of n b.book.entries) (recorded_by n (h ∷ [])) (recorded_by n hs) ∙ ap
+        (λ (l : List (Entry C R)). of n b.book.entries ++ l) (sym (recorded-cons n h hs))))
 
     -- each happening that ends a turn raises the number served by one
     moves_made : (b c : CoreState S C R) (h : Happening C R) → Moves step draws b h c → c.served ≡ b.served + calls_made (h ∷ [])
@@ -96,21 +106,24 @@ module _ {S C R : Type 0} (step : S → C → S × R) where
     leads_made b c [] t = omega (arith, ap (λ (z : CoreState S C R). z.served) t)
     leads_made b c (h ∷ hs) t = omega (arith, moves_made b t.0 h t.1, leads_made t.0 c hs t.2, made-cons h hs)
 
-    are_more : (es : List (Event C)) (hs : List (Happening C R)) (e : Event C) (h : Happening C R) → AreOf es hs → IsOf e h → AreOf (es ++ e ∷ []) (hs ++ h ∷ [])
+    are_more : (es : List (Event C)) (hs : List (Happening C R)) (e : Event C) (h : Happening C R) → AreOf es hs → IsOf e h
+        → AreOf (es ++ e ∷ []) (hs ++ h ∷ [])
     are_more [] [] e h t is = (is, tt)
     are_more [] (x ∷ xs) e h t is = absurd t
     are_more (x ∷ xs) [] e h t is = absurd t
     are_more (x ∷ xs) (y ∷ ys) e h t is = (t.0, are_more xs ys e h t.1 is)
 
     -- one event more, where it is shown
-    pub leads_by_more : (b c d : CoreState S C R) (es : List (Event C)) (k : ℕ) (e : Event C) (seen : Seen R) → LeadsBy step draws b (take k es) c → k < length es → e ≡ get_or es k e → Shows step draws c e seen d
+    pub leads_by_more : (b c d : CoreState S C R) (es : List (Event C)) (k : ℕ) (e : Event C) (seen : Seen R) → LeadsBy step draws b (take k es) c
+        → k < length es → e ≡ get_or es k e → Shows step draws c e seen d
         → LeadsBy step draws b (take (k + 1) es) d
     leads_by_more b c d es k e seen t lt read m =
         let more : take (k + 1) es ≡ take k es ++ e ∷ [] = rw add-one (take-suc es k e lt ∙ ap (λ (x : Event C). take k es ++ x ∷ []) (sym read)) in
         (t.0 ++ m.0 ∷ [], subst (λ (l : List (Event C)). AreOf l (t.0 ++ m.0 ∷ [])) (sym more) (are_more (take k es) t.0 e m.0 t.1 m.1), leads_more b c d t.0 m.0 t.2 m.3)
 
     -- only seats that are there record, and their own numbers are among the numbers
-    moves_strangers : (numbers n : ℕ) (b c : CoreState S C R) (h : Happening C R) → IsLawful numbers draws b → numbers ≤ n → of n b.book.entries ≡ [] → Moves step draws b h c → of n c.book.entries ≡ []
+    moves_strangers : (numbers n : ℕ) (b c : CoreState S C R) (h : Happening C R) → IsLawful numbers draws b → numbers ≤ n
+        → of n b.book.entries ≡ [] → Moves step draws b h c → of n c.book.entries ≡ []
     moves_strangers numbers n b c (split own count) l le none t = moves_of n b c (split own count) t ∙ (append-nil (of n b.book.entries) ∙ none)
     moves_strangers numbers n b c (drew own ticket) l le none t = moves_of n b c (drew own ticket) t ∙ (append-nil (of n b.book.entries) ∙ none)
     moves_strangers numbers n b c (waited own) l le none t = moves_of n b c (waited own) t ∙ (append-nil (of n b.book.entries) ∙ none)
@@ -124,12 +137,15 @@ module _ {S C R : Type 0} (step : S → C → S × R) where
     moves_strangers numbers n b c (refused own) l le none t = moves_of n b c (refused own) t ∙ (append-nil (of n b.book.entries) ∙ none)
     moves_strangers numbers n b c (gathered own other) l le none t = moves_of n b c (gathered own other) t ∙ (append-nil (of n b.book.entries) ∙ none)
 
-    pub leads_strangers : (numbers n : ℕ) (b c : CoreState S C R) (hs : List (Happening C R)) → IsLawful numbers draws b → numbers ≤ n → of n b.book.entries ≡ [] → Leads step draws b hs c → of n c.book.entries ≡ []
+    pub leads_strangers : (numbers n : ℕ) (b c : CoreState S C R) (hs : List (Happening C R)) → IsLawful numbers draws b → numbers ≤ n
+        → of n b.book.entries ≡ [] → Leads step draws b hs c → of n c.book.entries ≡ []
     leads_strangers numbers n b c [] l le none t = ap (λ (z : CoreState S C R). of n z.book.entries) t ∙ none
-    leads_strangers numbers n b c (h ∷ hs) l le none t = leads_strangers numbers n t.0 c hs (moves_lawful numbers draws step b t.0 h l t.1) le (moves_strangers numbers n b t.0 h l le none t.1) t.2
+    leads_strangers numbers n b c (h ∷ hs) l le none t =
+        leads_strangers numbers n t.0 c hs (moves_lawful numbers draws step b t.0 h l t.1) le (moves_strangers numbers n b t.0 h l le none t.1) t.2
 
   pub schedule_lawful : (s : Schedule S C R) → IsSchedule step s → IsLawful s.numbers s.draws s.end
-  schedule_lawful s is = leads_lawful s.draws s.numbers (opened s.numbers s.draws s.opening) s.end s.happened (lawful_opened s.numbers s.draws s.opening is.some_number) is.leads
+  schedule_lawful s is =
+      leads_lawful s.draws s.numbers (opened s.numbers s.draws s.opening) s.end s.happened (lawful_opened s.numbers s.draws s.opening is.some_number) is.leads
 
   pub schedule_book : (s : Schedule S C R) → IsSchedule step s → IsLawfulBook step s.opening s.end.book
   schedule_book s is = leads_lawful_book s.draws s.opening (opened s.numbers s.draws s.opening) s.end s.happened (lawful_empty step s.opening) is.leads
@@ -141,7 +157,9 @@ module _ {S C R : Type 0} (step : S → C → S × R) where
   schedule_made s is = omega (arith, leads_made s.draws (opened s.numbers s.draws s.opening) s.end s.happened is.leads)
 
   pub schedule_strangers : (s : Schedule S C R) → IsSchedule step s → (n : ℕ) → s.numbers ≤ n → of n s.end.book.entries ≡ []
-  schedule_strangers s is n le = leads_strangers s.draws s.numbers n (opened s.numbers s.draws s.opening) s.end s.happened (lawful_opened s.numbers s.draws s.opening is.some_number) le refl is.leads
+  schedule_strangers s is n le =
+      leads_strangers s.draws s.numbers n (opened s.numbers s.draws s.opening) s.end s.happened
+      (lawful_opened s.numbers s.draws s.opening is.some_number) le refl is.leads
 
 pub lawful_line : {S C R : Type 0} (numbers draws : ℕ) (c : CoreState S C R) → IsLawful numbers draws c → c.served ≤ c.next → IsLine c
 lawful_line numbers draws c l le = record {

@@ -11,7 +11,8 @@ use Rattle.ticket_steps.specs.CoreStates.{CoreState}
 use Rattle.ticket_steps.specs.Lawful.{IsSeat, IsLawful}
 use Rattle.ticket_steps.specs.Seats.{tickets_of, holds_one, is_there, tickets_at, holders}
 use Rattle.ticket_steps.specs.Sums.{total, times, once_below, counted}
-use Rattle.ticket_steps.proofs.Totals.{times-same, times-other, times_le, below_le, below_no, below_yes, between, term_le, terms_le, sums_le, sums_lt, only_term, counted_last}
+use Rattle.ticket_steps.proofs.Totals.{times-same, times-other, times_le, below_le, below_no, below_yes, between, term_le, terms_le, sums_le, sums_lt}
+use Rattle.ticket_steps.proofs.Totals.{only_term, counted_last}
 
 abbrev pub tickets : ℕ → CoreSeat → ℕ
 tickets t s = times t (tickets_of s.phase)
@@ -86,7 +87,8 @@ module _ {S C R : Type 0} (numbers draws : ℕ) (c : CoreState S C R) (l : IsLaw
       omega (arith, one_served, below_le c.served c.next)
 
   -- beside the seat that is served no other has its ticket
-  pub sole : (i k : ℕ) (p u : CoreSeat) → get_elem? c.seats i ≡ some p → times c.served (tickets_of p.phase) ≡ 1 → k ≢ i → get_elem? c.seats k ≡ some u → times c.served (tickets_of u.phase) ≡ 0
+  pub sole : (i k : ℕ) (p u : CoreSeat) → get_elem? c.seats i ≡ some p → times c.served (tickets_of p.phase) ≡ 1 → k ≢ i
+      → get_elem? c.seats k ≡ some u → times c.served (tickets_of u.phase) ≡ 0
   sole i k p u at mine other e = omega (arith, mine, terms_le (tickets c.served) c.seats i k p u other at e, one_served, below_le c.served c.next)
 
   -- a ticket that a seat has was drawn and isn't left yet
@@ -94,7 +96,8 @@ module _ {S C R : Type 0} (numbers draws : ℕ) (c : CoreState S C R) (l : IsLaw
   in_line i t p at has = between t c.served c.next (omega (arith, l.tickets t, term_le (tickets t) c.seats i p at))
 
   pub served_le : c.served ≤ c.next
-  served_le = dite (dec_le c.served c.next) (λ le. le) (λ gt. absurd (omega (arith, l.tickets c.next, below_no c.next c.next (omega arith), below_yes c.next c.served (omega arith))))
+  served_le =
+      dite (dec_le c.served c.next) (λ le. le) (λ gt. absurd (omega (arith, l.tickets c.next, below_no c.next c.next (omega arith), below_yes c.next c.served (omega arith))))
 
   -- a seat that waits while all others have no numbers is the one that is served
   pub alone_served : (i t : ℕ) (p : CoreSeat) → get_elem? c.seats i ≡ some p → p.phase ≡ Waiting t → numbers ≤ length p.numbers → t ≡ c.served
@@ -113,7 +116,8 @@ module _ {S C R : Type 0} (numbers draws : ℕ) (c : CoreState S C R) (l : IsLaw
       (λ k u other e. h k u e (omega (arith, terms_le (λ (s : CoreSeat). length s.numbers) c.seats i k p u other at e, l.count, all)))
 
   -- two seats that are there and have the same own number are one
-  pub named_once : (i k : ℕ) (p q : CoreSeat) → get_elem? c.seats i ≡ some p → get_elem? c.seats k ≡ some q → is_there p.phase ≡ true → is_there q.phase ≡ true → p.own ≡ q.own → k ≡ i
+  pub named_once : (i k : ℕ) (p q : CoreSeat) → get_elem? c.seats i ≡ some p → get_elem? c.seats k ≡ some q → is_there p.phase ≡ true
+      → is_there q.phase ≡ true → p.own ≡ q.own → k ≡ i
   named_once i k p q at at' there there' same = dite (ℕ_discrete k i) (λ e. e) (λ ne. absurd (omega (
     arith,
     (l.each i p at).own there,
@@ -136,13 +140,15 @@ module _ {S C R : Type 0} (numbers draws : ℕ) (c : CoreState S C R) (l : IsLaw
       let whole = ((l.each i p at).whole fresh).0 in
       let k : ℕ = length p.numbers - 1 in
       let len : k + 1 ≡ length p.numbers = omega arith in
-      let last : 0 < times (p.own + k) p.numbers = omega (arith, counted_last p.own k, ap (times (p.own + k)) (ap (counted p.own) len), ap (times (p.own + k)) whole) in
+      let last : 0 < times (p.own + k) p.numbers = omega
+      (arith, counted_last p.own k, ap (times (p.own + k)) (ap (counted p.own) len), ap (times (p.own + k)) whole) in
       dite (dec_le numbers (p.own + k))
       (λ le. absurd (omega (arith, last, l.numbered (p.own + k), below_no (p.own + k) numbers le, term_le (λ (s : CoreSeat). times (p.own + k) s.numbers) c.seats i p at)))
       (λ lt. omega (arith, len))
 
   -- two seats answer for no more than all numbers, and have ended no more than all calls
-  pub two_numbers : (i k : ℕ) (p q : CoreSeat) → k ≢ i → get_elem? c.seats i ≡ some p → get_elem? c.seats k ≡ some q → length p.numbers + length q.numbers ≤ numbers
+  pub two_numbers : (i k : ℕ) (p q : CoreSeat) → k ≢ i → get_elem? c.seats i ≡ some p → get_elem? c.seats k ≡ some q
+      → length p.numbers + length q.numbers ≤ numbers
   two_numbers i k p q ne at at' = omega (arith, l.count, terms_le (λ (s : CoreSeat). length s.numbers) c.seats i k p q ne at at')
 
   pub two_calls : (i k : ℕ) (p q : CoreSeat) → k ≢ i → get_elem? c.seats i ≡ some p → get_elem? c.seats k ≡ some q → p.calls + q.calls ≤ c.served

@@ -1,5 +1,6 @@
 -- Sums over lists that change at one place, and counts of numbers.
-use Rattle.std.proofs.Common.{◌≡◌, ℕ, zero, suc, ◌+◌, ◌-◌, ◌<◌, ◌≤◌, ◌≢◌, List, [], ◌∷◌, ◌++◌, length, set, take, drop, sym, refl, ap, ◌∙◌, arith, Bool, cond, eq-eqb, ne_eqb, lt-ltb, le-ltb}
+use Rattle.std.proofs.Common.{◌≡◌, ℕ, zero, suc, ◌+◌, ◌-◌, ◌<◌, ◌≤◌, ◌≢◌, List, [], ◌∷◌, ◌++◌, length, set, take, drop, sym, refl, ap, ◌∙◌, arith, Bool}
+use Rattle.std.proofs.Common.{cond, eq-eqb, ne_eqb, lt-ltb, le-ltb}
 use mathlib.Core.Logic.{dite}
 use native.Mathlib.Decide.{ℕ_discrete, dec_le}
 use mathlib.Core.Option.{some, some-injective, some-ne-none}
@@ -50,7 +51,8 @@ module _ {A : Type 0} where
   sums_le f g [] h = omega arith
   sums_le f g (x ∷ xs) h = omega (arith, h zero x refl, sums_le f g xs (λ k u d. h (suc k) u d))
 
-  pub sums_lt : (f g : A → ℕ) (l : List A) (j : ℕ) (v : A) → get_elem? l j ≡ some v → f v < g v → ((k : ℕ) (u : A) → get_elem? l k ≡ some u → f u ≤ g u) → total f l < total g l
+  pub sums_lt : (f g : A → ℕ) (l : List A) (j : ℕ) (v : A) → get_elem? l j ≡ some v → f v < g v
+      → ((k : ℕ) (u : A) → get_elem? l k ≡ some u → f u ≤ g u) → total f l < total g l
   sums_lt f g [] j v e lt h = absurd (some-ne-none v (sym e))
   sums_lt f g (x ∷ xs) zero v e lt h = omega (arith, ap f (some-injective x v e), ap g (some-injective x v e), sums_le f g xs (λ k u d. h (suc k) u d))
   sums_lt f g (x ∷ xs) (suc j) v e lt h = omega (arith, h zero x refl, sums_lt f g xs j v e lt (λ k u d. h (suc k) u d))
@@ -63,7 +65,8 @@ times-other n x xs ne = omega (arith, ap (λ (b : Bool). one_if b) (ne_eqb n x n
 
 pub times_le : (n : ℕ) (xs : List ℕ) → times n xs ≤ length xs
 times_le n [] = omega arith
-times_le n (x ∷ xs) = dite (ℕ_discrete n x) (λ e. omega (arith, ap (λ (b : Bool). one_if b) (eq-eqb n x e), times_le n xs)) (λ ne. omega (arith, times-other n x xs ne, times_le n xs))
+times_le n (x ∷ xs) =
+    dite (ℕ_discrete n x) (λ e. omega (arith, ap (λ (b : Bool). one_if b) (eq-eqb n x e), times_le n xs)) (λ ne. omega (arith, times-other n x xs ne, times_le n xs))
 
 pub times-append : (n : ℕ) (xs ys : List ℕ) → times n (xs ++ ys) ≡ times n xs + times n ys
 times-append n [] ys = omega arith
@@ -84,7 +87,8 @@ below_more x n = dite (ℕ_discrete x n)
 
 -- only the number a is below b and not below a
 pub below_gap : (x a b : ℕ) → a ≤ b → once_below x a ≤ once_below x b
-below_gap x a b le = dite (dec_le (suc x) a) (λ lt. omega (arith, below_yes x a (omega arith), below_yes x b (omega arith))) (λ ge. omega (arith, below_no x a (omega arith)))
+below_gap x a b le =
+    dite (dec_le (suc x) a) (λ lt. omega (arith, below_yes x a (omega arith), below_yes x b (omega arith))) (λ ge. omega (arith, below_no x a (omega arith)))
 
 pub below_le : (x n : ℕ) → once_below x n ≤ 1
 below_le x n = dite (dec_le (suc x) n) (λ lt. omega (arith, below_yes x n (omega arith))) (λ ge. omega (arith, below_no x n (omega arith)))
@@ -124,7 +128,9 @@ take-counted n (suc k) (suc j) h = ap (λ (l : List ℕ). n ∷ l) (take-counted
 pub drop-counted : (n k j : ℕ) → k ≤ j → drop k (counted n j) ≡ counted (n + k) (j - k)
 drop-counted n zero j h = let e : n + zero ≡ n = omega arith in let d : j - zero ≡ j = omega arith in λ i. counted (sym e i) (sym d i)
 drop-counted n (suc k) zero h = absurd (omega arith)
-drop-counted n (suc k) (suc j) h = let e : n + 1 + k ≡ n + suc k = omega arith in let d : j - k ≡ suc j - suc k = omega arith in drop-counted (n + 1) k j (omega arith) ∙ (λ i. counted (e i) (d i))
+drop-counted n (suc k) (suc j) h =
+    let e : n + 1 + k ≡ n + suc k = omega arith in let d : j - k ≡ suc j - suc k = omega arith in drop-counted (n + 1) k j (omega arith)
+    ∙ (λ i. counted (e i) (d i))
 
 -- one number more
 pub counted_more : (n k : ℕ) → counted n (k + 1) ≡ counted n k ++ (n + k) ∷ []

@@ -93,12 +93,14 @@ module _ {S C R : Type 0} where
     -- a seat whose ticket is the number served becomes the holder
     Moves b (held own) c = (i : ℕ) × (p : CoreSeat) × Stands b.seats i own (Waiting b.served) p × (c ≡ with_seats b (slice_set b.seats i (holding b.served p)))
     -- the holder leaves with its call recorded under its own number, answered by the sequential step
-    Moves b (recorded own call reply) c = (i : ℕ) × (p : CoreSeat) × (ticket : ℕ) × Stands b.seats i own (Holding ticket) p × (reply ≡ (step b.book.state call).1)
+    Moves b (recorded own call reply) c =
+        (i : ℕ) × (p : CoreSeat) × (ticket : ℕ) × Stands b.seats i own (Holding ticket) p × (reply ≡ (step b.book.state call).1)
         × (c ≡ after_leave b i p (with_entry step own call b.book))
     -- the holder leaves with its call refused for memory
     Moves b (refused own) c = (i : ℕ) × (p : CoreSeat) × (ticket : ℕ) × Stands b.seats i own (Holding ticket) p × (c ≡ after_leave b i p (with_refusal b.book))
     -- of two idle seats the first takes over the other's numbers and calls
-    Moves b (gathered own other) c = (i : ℕ) × (p : CoreSeat) × (k : ℕ) × (q : CoreSeat) × Stands b.seats i own Idle p × Stands b.seats k other Idle q × (own ≢ other)
+    Moves b (gathered own other) c =
+        (i : ℕ) × (p : CoreSeat) × (k : ℕ) × (q : CoreSeat) × Stands b.seats i own Idle p × Stands b.seats k other Idle q × (own ≢ other)
         × (c ≡ with_seats b (slice_set (slice_set b.seats i (joined p q)) k gone))
 
     -- what happened, one after another, leads from one core state to another

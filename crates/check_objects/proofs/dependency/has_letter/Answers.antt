@@ -6,4 +6,5 @@ use Rattle.check_objects.proofs.dependency.has_letter.Goals as goal
 pub returns : goal.returns
 returns c =
     any_from_yields_List (λ piece. bytes_eq piece c.args.letter.now) _ _ _ c.any.ensures.ran
-    (YieldsList-from_str_split 44 c.args.text.now (lit< tt) c.split.ensures.text c.split.ensures.has_more c.split.ensures.pattern) (λ x b q k. search (rules, tests))
+    (YieldsList-from_str_split 44 c.args.text.now (lit< tt) c.split.ensures.text c.split.ensures.has_more c.split.ensures.pattern)
+    (λ x b q k. search (rules, tests))

@@ -7,5 +7,6 @@ use Rattle.check_objects.proofs.dependency_lists.number_dependencies.Goals as go
 
 pub loop-draft-preserved : goal.loop-draft-preserved
 loop-draft-preserved c =
-    pushed_next (numbered_dependency (objects_in c.args.hosts.now.entries c.args.services.now.entries)) dependency c.args.numbered.now.items c.loop-draft.numbered.items c.push.new.self.items c.args.drafts.now c.loop-draft.draft-index no_dependency
+    pushed_next (numbered_dependency (objects_in c.args.hosts.now.entries c.args.services.now.entries)) dependency c.args.numbered.now.items
+    c.loop-draft.numbered.items c.push.new.self.items c.args.drafts.now c.loop-draft.draft-index no_dependency
     c.number_dependency.result c.loop-draft.invariant c.loop-draft-test.true c.in_ok-push.ensures.items c.number_dependency.ensures

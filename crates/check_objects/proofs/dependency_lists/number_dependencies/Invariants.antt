@@ -5,4 +5,6 @@ use Rattle.check_objects.specs.Numbering.{numbered_dependency}
 use Rattle.check_objects.proofs.dependency_lists.number_dependencies.Given as goal
 
 abbrev pub invariant-loop-draft : goal.invariant-loop-draft
-invariant-loop-draft l = l.numbered.items ≡ l.initial.numbered.items ++ map (numbered_dependency (objects_in l.hosts.entries l.services.entries)) (map dependency (take l.draft-index l.drafts))
+invariant-loop-draft l =
+    l.numbered.items ≡ l.initial.numbered.items ++ map (numbered_dependency (objects_in l.hosts.entries l.services.entries))
+    (map dependency (take l.draft-index l.drafts))

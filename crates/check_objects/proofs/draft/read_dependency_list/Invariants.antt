@@ -9,4 +9,5 @@ use Rattle.check_objects.proofs.draft.read_dependency_list.Given as goal
 abbrev pub invariant-loop-index : goal.invariant-loop-index
 invariant-loop-index l =
     items_from (dependency_draft (map (λ letter. letter.now) l.letters)) (item_of_part l.part) 0 (items_view l.items)
-    ≡ with_front (map dependency l.dependencies.items) (items_from (dependency_draft (map (λ letter. letter.now) l.letters)) (item_of_part l.part) l.index (items_view (drop l.index l.items)))
+    ≡ with_front (map dependency l.dependencies.items)
+    (items_from (dependency_draft (map (λ letter. letter.now) l.letters)) (item_of_part l.part) l.index (items_view (drop l.index l.items)))

@@ -7,4 +7,6 @@ use Rattle.check_objects.specs.Place.{host_at}
 use Rattle.check_objects.proofs.draft.read_host_list.Given as goal
 
 abbrev pub invariant-loop-index : goal.invariant-loop-index
-invariant-loop-index l = items_from host_draft host_at 0 (items_view l.items) ≡ with_front (map host l.hosts.items) (items_from host_draft host_at l.index (items_view (drop l.index l.items)))
+invariant-loop-index l =
+    items_from host_draft host_at 0 (items_view l.items) ≡ with_front (map host l.hosts.items)
+    (items_from host_draft host_at l.index (items_view (drop l.index l.items)))

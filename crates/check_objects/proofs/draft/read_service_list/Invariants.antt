@@ -7,4 +7,6 @@ use Rattle.check_objects.specs.Place.{service_at}
 use Rattle.check_objects.proofs.draft.read_service_list.Given as goal
 
 abbrev pub invariant-loop-index : goal.invariant-loop-index
-invariant-loop-index l = items_from service_draft service_at 0 (items_view l.items) ≡ with_front (map service l.services.items) (items_from service_draft service_at l.index (items_view (drop l.index l.items)))
+invariant-loop-index l =
+    items_from service_draft service_at 0 (items_view l.items) ≡ with_front (map service l.services.items)
+    (items_from service_draft service_at l.index (items_view (drop l.index l.items)))

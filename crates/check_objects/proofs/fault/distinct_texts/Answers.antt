@@ -11,8 +11,10 @@ loop-text-preserved c =
     let i = c.loop-text.text-index in
     let text = c.text-item.result in
     λ name.
-    known_more c.loop-text.set.keys c.insert.new.self.keys c.as_str.result (map string_bytes (take i all)) (string_bytes text) _ c.as_str.ensures.value refl c.in_ok-insert.ensures.keys c.loop-text.invariant name
+    known_more c.loop-text.set.keys c.insert.new.self.keys c.as_str.result (map string_bytes (take i all))
+    (string_bytes text) _ c.as_str.ensures.value refl c.in_ok-insert.ensures.keys c.loop-text.invariant name
     ∙ ap (λ l. is_known l name) (sym (mapped_next string_bytes all i text c.loop-text-test.true c.text-item.is))
 
 pub returns-clause-same : goal.returns-clause-same
-returns-clause-same c = λ name. c.loop-text.invariant name ∙ ap (λ l. is_known (map string_bytes l) name) (take_all c.loop-text.text-index c.args.all.now (omega arith))
+returns-clause-same c =
+    λ name. c.loop-text.invariant name ∙ ap (λ l. is_known (map string_bytes l) name) (take_all c.loop-text.text-index c.args.all.now (omega arith))

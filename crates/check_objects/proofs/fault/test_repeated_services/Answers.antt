@@ -16,7 +16,8 @@ pub returns-then-not-branch : goal.returns-then-not-branch
 returns-then-not-branch c =
     let ss = c.args.services.now in
     let draft = get_or ss c.loop-index.index no_service in
-    let known = was_known c.in_ok-insert.field-0 (list_any (λ k. bytes_eq draft.host.now k.0.now && bytes_eq draft.description.now k.1.now) c.loop-index.keys.keys) c.in_ok-insert.ensures.added c.if-not-branch.true in
+    let known = was_known c.in_ok-insert.field-0 (list_any
+    (λ k. bytes_eq draft.host.now k.0.now && bytes_eq draft.description.now k.1.now) c.loop-index.keys.keys) c.in_ok-insert.ensures.added c.if-not-branch.true in
     ap (refused_at (λ i. errors.Duplicate (service_at i)))
     (c.loop-index.invariant ∙ repeat_here same_key (λ k. (k.0.now, k.1.now)) (λ ds. map key_of (map service ds)) (λ d. (d.host, d.description)) (λ d ds. refl) c.loop-index.keys.keys ss c.loop-index.index draft (dropped_at ss c.loop-index.index no_service c.loop-index-test.true) known)
     ∙ ap (λ p. Err (errors.Duplicate p)) (sym c.service.ensures)
@@ -25,6 +26,7 @@ pub loop-index-preserved : goal.loop-index-preserved
 loop-index-preserved c =
     let ss = c.args.services.now in
     let draft = get_or ss c.loop-index.index no_service in
-    let new = was_new c.in_ok-insert.field-0 (list_any (λ k. bytes_eq draft.host.now k.0.now && bytes_eq draft.description.now k.1.now) c.loop-index.keys.keys) c.in_ok-insert.ensures.added c.if-not-branch.false in
+    let new = was_new c.in_ok-insert.field-0 (list_any
+    (λ k. bytes_eq draft.host.now k.0.now && bytes_eq draft.description.now k.1.now) c.loop-index.keys.keys) c.in_ok-insert.ensures.added c.if-not-branch.false in
     let more = one_key_more (list_any (λ k. bytes_eq draft.host.now k.0.now && bytes_eq draft.description.now k.1.now) c.loop-index.keys.keys) c.loop-index.keys.keys c.insert.new.self.keys (draft.host, draft.description) c.in_ok-insert.ensures.keys new in
     c.loop-index.invariant ∙ repeat_later same_key (λ k. (k.0.now, k.1.now)) (λ ds. map key_of (map service ds)) (λ d. (d.host, d.description)) (λ d ds. refl) c.loop-index.keys.keys c.insert.new.self.keys ss c.loop-index.index draft (dropped_at ss c.loop-index.index no_service c.loop-index-test.true) new more

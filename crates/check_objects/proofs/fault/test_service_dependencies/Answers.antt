@@ -10,5 +10,6 @@ pub returns : goal.returns
 returns c =
     let full = ap (map string_bytes) c.deref.ensures.value ∙ c.in_ok-names.ensures.names in
     subst (Gives (λ u. u) c.test_dependencies.result)
-    (same_ends part.ServiceDependencies (texts c.in_ok-names-2.names.keys) (full_names (map service c.args.services.now)) (map dependency c.args.dependencies.now) (λ name. c.in_ok-names-2.ensures.same name ∙ ap (λ l. is_known l name) full))
+    (same_ends part.ServiceDependencies (texts c.in_ok-names-2.names.keys) (full_names (map service c.args.services.now))
+    (map dependency c.args.dependencies.now) (λ name. c.in_ok-names-2.ensures.same name ∙ ap (λ l. is_known l name) full))
     c.test_dependencies.ensures

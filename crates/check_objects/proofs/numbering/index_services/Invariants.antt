@@ -6,4 +6,5 @@ use Rattle.check_objects.proofs.NumberingLemmas.{Built}
 use Rattle.check_objects.proofs.numbering.index_services.Given as goal
 
 abbrev pub invariant-loop-host : goal.invariant-loop-host
-invariant-loop-host l = Built (λ e. numbered_service (texts l.names.keys) (sorted_service e)) l.fn.sorted.entries l.host-iterator (map service_entry l.services.entries)
+invariant-loop-host l =
+    Built (λ e. numbered_service (texts l.names.keys) (sorted_service e)) l.fn.sorted.entries l.host-iterator (map service_entry l.services.entries)

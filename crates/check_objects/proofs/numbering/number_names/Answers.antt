@@ -20,4 +20,5 @@ loop-name-preserved c =
     (one_key_more (list_any (λ n. bytes_eq name.now n.now) old) old c.insert.new.self.keys name c.in_ok-insert.ensures.keys new) refl
 
 pub returns-clause-names : goal.returns-clause-names
-returns-clause-names c = built_all (λ k. k.now) (keys c.args.sorted.now) _ _ c.loop-name.invariant c.in-None.ensures.steps.0 ∙ names_of_entries c.args.sorted.now.entries
+returns-clause-names c =
+    built_all (λ k. k.now) (keys c.args.sorted.now) _ _ c.loop-name.invariant c.in-None.ensures.steps.0 ∙ names_of_entries c.args.sorted.now.entries

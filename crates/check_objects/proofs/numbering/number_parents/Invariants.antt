@@ -5,4 +5,6 @@ use Rattle.check_objects.specs.Text.{text}
 use Rattle.check_objects.proofs.numbering.number_parents.Given as goal
 
 abbrev pub invariant-loop-parent : goal.invariant-loop-parent
-invariant-loop-parent l = map (number_in (texts l.names.keys)) (map text l.parents) ≡ l.numbers.items ++ map (number_in (texts l.names.keys)) (map text (drop l.parent-index l.parents))
+invariant-loop-parent l =
+    map (number_in (texts l.names.keys)) (map text l.parents) ≡ l.numbers.items ++ map (number_in (texts l.names.keys))
+    (map text (drop l.parent-index l.parents))

@@ -19,7 +19,8 @@ loop-draft-preserved c =
     record {
       order = c.loop-draft.invariant.order
           ∙ placed_next _ text_order (λ k. k.now) (λ v. (v.0, map text v.1.now)) (λ a b. refl) (λ h. h.name) body_of (map host) host (λ d more. refl) c.loop-draft.sorted.entries c.insert.new.self.entries draft.name (c.object.result, draft.parents) ds i draft
-          (dropped_as ds i draft c.loop-draft-test.true c.draft-item.is) c.in_ok-insert.ensures.entries refl (ap (λ o. (o, map text draft.parents.now)) c.object.ensures);
+          (dropped_as ds i draft c.loop-draft-test.true c.draft-item.is) c.in_ok-insert.ensures.entries refl
+          (ap (λ o. (o, map text draft.parents.now)) c.object.ensures);
       few = one_more (is_some c.in_ok-insert.field-0) _ _ _ c.in_ok-insert.ensures.len c.loop-draft.invariant.few;
     }
 

@@ -5,7 +5,8 @@ use Rattle.check_objects.proofs.DependentLemmas.{list_at, all_below_same, within
 use Rattle.check_objects.proofs.order.order_by_links.Goals as goal
 
 pub loop-place-init : goal.loop-place-init
-loop-place-init c = rw (c.in_ok-order.ensures, c.deref.ensures.value) (under_way_first (map (λ list. list.items) c.args.links.now) c.in_ok-left.left.items c.in_ok-left.ensures)
+loop-place-init c =
+    rw (c.in_ok-order.ensures, c.deref.ensures.value) (under_way_first (map (λ list. list.items) c.args.links.now) c.in_ok-left.left.items c.in_ok-left.ensures)
 
 pub close_links-requires-clause-within : goal.close_links-requires-clause-within
 close_links-requires-clause-within c =
@@ -13,7 +14,9 @@ close_links-requires-clause-within c =
     let below = placed_below (map (λ list. list.items) c.args.links.now) c.loop-place.place c.index-object.result.now c.loop-place.left.items c.loop-place.order.items c.loop-place.invariant (omega arith) c.index-object.ensures in
     let same = c.as_slice.ensures.value ∙ list_at (λ list. list.items) c.in_ok-dependents.dependents.items c.index-object.result.now c.index.result.now c.index.result.now (omega (arith, below, size, c.in_ok-dependents.ensures.size, length-map c.in_ok-dependents.dependents.items (λ list. list.items))) c.index.ensures in
     let left : length c.args.links.now ≡ length c.deref_mut.result.now = rw c.deref_mut.ensures.value (sym size ∙ sym c.loop-place.invariant.size) in
-    all_below_same (length c.args.links.now) _ c.as_slice.result.now left (rw same (within_at (length c.args.links.now) (map (λ list. list.items) c.in_ok-dependents.dependents.items) c.index-object.result.now c.in_ok-dependents.ensures.within))
+    all_below_same (length c.args.links.now) _ c.as_slice.result.now left
+    (rw same (within_at (length c.args.links.now) (map
+    (λ list. list.items) c.in_ok-dependents.dependents.items) c.index-object.result.now c.in_ok-dependents.ensures.within))
 
 pub close_links-requires-clause-open : goal.close_links-requires-clause-open
 close_links-requires-clause-open c =

@@ -10,7 +10,8 @@ loop-number-preserved c =
     let o = c.index-objects-number.result in
     let there = c.index-objects-number.is in
     elim c.match-candidate_time.branch [
-      | in-Some w ↦ rw (w.least-is, earlier_is _ _ _ w.earlier.ensures) (scanned_add _ _ w.in-Some.time _ o c.loop-number-test.true (w.in-Some.ensures ∙ ap candidate_time there) c.loop-number.invariant)
+      | in-Some w ↦ rw (w.least-is, earlier_is _ _ _ w.earlier.ensures)
+          (scanned_add _ _ w.in-Some.time _ o c.loop-number-test.true (w.in-Some.ensures ∙ ap candidate_time there) c.loop-number.invariant)
       | in_default w ↦ rw w.least-is (scanned_skip _ _ _ o c.loop-number-test.true (w.in_default.ensures ∙ ap candidate_time there) c.loop-number.invariant)
     ]
 

@@ -27,10 +27,14 @@ verdict-requires-in-Some-clause-same_sort c =
 
 pub returns-in-None : goal.returns-in-None
 returns-in-None c =
-    judged_when_host c.args.setup.now c.args.standings.now c.args.number c.args.code c.standing_at-before.result c.max_attempts-max.result c.host_state.result c.verdict.result
-    (sym c.host_of.ensures.host ∙ c.in-None.is) (sym c.standing_at-before.ensures) c.max_attempts-max.ensures.value c.host_state.ensures.value c.verdict.ensures.table
+    judged_when_host c.args.setup.now c.args.standings.now c.args.number c.args.code c.standing_at-before.result c.max_attempts-max.result
+    c.host_state.result c.verdict.result
+    (sym c.host_of.ensures.host ∙ c.in-None.is) (sym c.standing_at-before.ensures) c.max_attempts-max.ensures.value c.host_state.ensures.value
+    c.verdict.ensures.table
 
 pub returns-in-Some : goal.returns-in-Some
 returns-in-Some c =
-    judged_when_service c.args.setup.now c.args.standings.now c.args.number c.in-Some.host c.args.code c.standing_at-before.result c.max_attempts-max.result c.service_state.result (not c.is_down-host_down.result) c.verdict-in-Some.result
-    (sym c.host_of.ensures.host ∙ c.in-Some.is) (sym c.standing_at-before.ensures) c.max_attempts-max.ensures.value c.service_state.ensures.value (ap not (c.is_down-host_down.ensures ∙ ap is_down c.standing_at.ensures)) c.verdict-in-Some.ensures.table
+    judged_when_service c.args.setup.now c.args.standings.now c.args.number c.in-Some.host c.args.code c.standing_at-before.result
+    c.max_attempts-max.result c.service_state.result (not c.is_down-host_down.result) c.verdict-in-Some.result
+    (sym c.host_of.ensures.host ∙ c.in-Some.is) (sym c.standing_at-before.ensures) c.max_attempts-max.ensures.value c.service_state.ensures.value
+    (ap not (c.is_down-host_down.ensures ∙ ap is_down c.standing_at.ensures)) c.verdict-in-Some.ensures.table

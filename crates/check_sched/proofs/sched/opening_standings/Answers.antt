@@ -9,7 +9,8 @@ pub loop-index-preserved : goal.loop-index-preserved
 loop-index-preserved c =
     let there : c.loop-index.index < object_count c.args.setup.now = omega arith in
     one_more c.loop-index.index _ c.loop-index.standings.items _ c.pending.result c.in_ok-push.ensures.items c.loop-index.invariant
-    (standing_seen c.args.setup.now c.loop-index.index c.pending.result _ there c.pending.ensures (ap (λ hosts. nat_lt c.loop-index.index hosts) c.hosts.ensures.count))
+    (standing_seen c.args.setup.now c.loop-index.index c.pending.result _ there c.pending.ensures
+    (ap (λ hosts. nat_lt c.loop-index.index hosts) c.hosts.ensures.count))
 
 pub returns : goal.returns
 returns c = c.loop-index.invariant ∙ take_all c.loop-index.index _ (let l = length-opening_standings c.args.setup.now in omega (arith, l))

@@ -8,5 +8,8 @@ loop-line-init g c =
     let same = c.into_iter-line-iterator.ensures.into_iter_gives in
     let few = c.requires in
     let meaning = g.C.Command.meaning c.args.setup.now in
-    let lines = lines_of c.args.lines.rest.now in
-    (rw (c.new-commands.ensures.items, same) (commands_by_line meaning lines ∙ sym (with_front-nothing (commands_from meaning 2 lines))), rw same (omega (arith, few)))
+    let lines = lines_of c.args.lines.rest.now in (
+      rw (c.new-commands.ensures.items, same) (commands_by_line meaning lines ∙ sym (with_front-nothing (commands_from meaning 2 lines))),
+      rw same
+          (omega (arith, few)),
+    )

@@ -14,7 +14,8 @@ overflow_add-index_mut c =
     let below : c.loop-position.position % c.args.factor < c.args.factor = mod-lt c.loop-position.position c.requires.steps in
     let at = c.loop-position.invariant.at (c.loop-position.position % c.args.factor) below in
     let few = visits_few (has_remainder_before c.args.factor c.loop-position.position (c.loop-position.position % c.args.factor)) 0 c.args.objects.now in
-    let same = get_or_default_zero c.loop-position.counts.items (c.loop-position.position % c.args.factor) c.index_mut.result.now (omega (arith, below, c.loop-position.invariant.size)) in
+    let same = get_or_default_zero c.loop-position.counts.items (c.loop-position.position % c.args.factor) c.index_mut.result.now
+    (omega (arith, below, c.loop-position.invariant.size)) in
     omega (arith, c.index_mut.ensures.value, at, few, same, c.requires.few)
 
 pub loop-position-preserved : goal.loop-position-preserved
@@ -22,10 +23,19 @@ loop-position-preserved c =
     let below : c.loop-position.position % c.args.factor < c.args.factor = mod-lt c.loop-position.position c.requires.steps in
     elim c.if-is_scheduled.branch [
       | then-is_scheduled w ↦
-          let same = get_or_default_zero c.loop-position.counts.items (c.loop-position.position % c.args.factor) w.index_mut.result.now (omega (arith, below, c.loop-position.invariant.size)) in
-          rw (w.counts-is, w.index_mut.ensures.value, same) (counts_add (has_remainder_before c.args.factor c.loop-position.position) (has_remainder_before c.args.factor (c.loop-position.position + 1)) c.args.factor c.loop-position.position c.args.objects.now _ c.loop-position.counts.items c.requires.steps below c.loop-position-test.true (sym c.is_scheduled.ensures ∙ w.if-is_scheduled.true) (remainder_same c.args.factor c.loop-position.position) (remainder_more c.args.factor c.loop-position.position) c.loop-position.invariant)
-      | else-is_scheduled w ↦ rw w.counts-is (counts_skip (has_remainder_before c.args.factor c.loop-position.position) (has_remainder_before c.args.factor (c.loop-position.position + 1)) c.args.factor c.loop-position.position c.args.objects.now _ c.loop-position.counts.items c.loop-position-test.true (sym c.is_scheduled.ensures ∙ w.if-is_scheduled.false) (remainder_same c.args.factor c.loop-position.position) (remainder_more c.args.factor c.loop-position.position) c.loop-position.invariant)
+          let same = get_or_default_zero c.loop-position.counts.items (c.loop-position.position % c.args.factor) w.index_mut.result.now
+          (omega (arith, below, c.loop-position.invariant.size)) in
+          rw (w.counts-is, w.index_mut.ensures.value, same) (counts_add (has_remainder_before c.args.factor c.loop-position.position)
+          (has_remainder_before c.args.factor (c.loop-position.position + 1)) c.args.factor c.loop-position.position c.args.objects.now _
+          c.loop-position.counts.items c.requires.steps below c.loop-position-test.true (sym c.is_scheduled.ensures ∙ w.if-is_scheduled.true)
+          (remainder_same c.args.factor c.loop-position.position) (remainder_more c.args.factor c.loop-position.position) c.loop-position.invariant)
+      | else-is_scheduled w ↦ rw w.counts-is (counts_skip (has_remainder_before c.args.factor c.loop-position.position)
+          (has_remainder_before c.args.factor (c.loop-position.position + 1)) c.args.factor c.loop-position.position c.args.objects.now _
+          c.loop-position.counts.items c.loop-position-test.true (sym c.is_scheduled.ensures ∙ w.if-is_scheduled.false)
+          (remainder_same c.args.factor c.loop-position.position) (remainder_more c.args.factor c.loop-position.position) c.loop-position.invariant)
     ]
 
 pub returns : goal.returns
-returns c = counts_all c.args.factor c.loop-position.position c.args.objects.now c.loop-position.counts.items (omega (arith, c.loop-position.auto.position-end)) c.loop-position.invariant
+returns c =
+    counts_all c.args.factor c.loop-position.position c.args.objects.now c.loop-position.counts.items
+    (omega (arith, c.loop-position.auto.position-end)) c.loop-position.invariant

@@ -9,4 +9,5 @@ sums_before-requires c =
     rw c.deref.ensures.value (omega (arith, few, c.requires.few))
 
 pub returns : goal.returns
-returns c = ok_weaker c.sums_before.result (λ ranks is. ranks_first c.args.factor c.args.objects.now c.in_ok-counts.counts.items ranks.items c.in_ok-counts.ensures (is ∙ ap (sums_before 0) c.deref.ensures.value)) c.sums_before.ensures
+returns c =
+    ok_weaker c.sums_before.result (λ ranks is. ranks_first c.args.factor c.args.objects.now c.in_ok-counts.counts.items ranks.items c.in_ok-counts.ensures (is ∙ ap (sums_before 0) c.deref.ensures.value)) c.sums_before.ensures

@@ -16,12 +16,14 @@ program_is_simple = refl
 
 pub returns-in-Ok-clause-asked : goal.returns-in-Ok-clause-asked
 returns-in-Ok-clause-asked c =
-    let read = (c.in-Ok.ensures.matches (ap is_simple c.in_ok-command.ensures ∙ program_is_simple)).1 ∙ ap (λ (a : App). subcommand_of a (texts c.args.words.now)) c.in_ok-command.ensures in
+    let read = (c.in-Ok.ensures.matches (ap is_simple c.in_ok-command.ensures ∙ program_is_simple)).1 ∙ ap
+    (λ (a : App). subcommand_of a (texts c.args.words.now)) c.in_ok-command.ensures in
     reads_asked _ _ _ (ap job_of read) c.job_in.ensures.asked
 
 pub returns-in-Ok-clause-errors : goal.returns-in-Ok-clause-errors
 returns-in-Ok-clause-errors c =
-    let read = (c.in-Ok.ensures.matches (ap is_simple c.in_ok-command.ensures ∙ program_is_simple)).1 ∙ ap (λ (a : App). subcommand_of a (texts c.args.words.now)) c.in_ok-command.ensures in
+    let read = (c.in-Ok.ensures.matches (ap is_simple c.in_ok-command.ensures ∙ program_is_simple)).1 ∙ ap
+    (λ (a : App). subcommand_of a (texts c.args.words.now)) c.in_ok-command.ensures in
     reads_errors (texts c.args.words.now) _ _ (ap job_of read) c.job_in.ensures.asked
 
 pub returns-in-Ok-clause-faultless : goal.returns-in-Ok-clause-faultless
@@ -32,4 +34,5 @@ returns-in-Ok-clause-faultless c =
 pub returns-in-Err-clause-errors : goal.returns-in-Err-clause-errors
 returns-in-Err-clause-errors c =
     let kinds = c.in-Err.ensures.kinds (ap is_simple_and_free c.in_ok-command.ensures ∙ program_is_free) in
-    tells_explains (texts c.args.words.now) _ _ (subst (λ (a : App). HasKind (fault_of a (texts c.args.words.now)) c.in-Err.error) c.in_ok-command.ensures kinds) c.words_error.ensures
+    tells_explains (texts c.args.words.now) _ _ (subst
+    (λ (a : App). HasKind (fault_of a (texts c.args.words.now)) c.in-Err.error) c.in_ok-command.ensures kinds) c.words_error.ensures

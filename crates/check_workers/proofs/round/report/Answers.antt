@@ -12,11 +12,14 @@ returns-in-Reply-clause-came g c = record {
   code = c.check-code.result;
   answer = c.in-Reply.reply;
   allowed = c.check-code.ensures;
-  made = made_reply (call.Report c.args.object c.args.run c.check-code.result) c.in-Reply.reply (pass_of c.args.pass) (pass_of c.ask-pass.result.0) (rw c.in-Reply.is at c.ask-pass.ensures.answer);
+  made =
+      made_reply (call.Report c.args.object c.args.run c.check-code.result) c.in-Reply.reply (pass_of c.args.pass) (pass_of c.ask-pass.result.0)
+      (rw c.in-Reply.is at c.ask-pass.ensures.answer);
   counted = c.of_report.ensures (pass_of c.args.pass).own c.args.object c.args.run c.check-code.result;
 }
 
 pub returns-in-Reply-clause-sums : goal.returns-in-Reply-clause-sums
 returns-in-Reply-clause-sums g c = subst IsSum (sym (c.of_report.ensures 0 c.args.object c.args.run c.check-code.result))
-    (report_sum (opened_with c.args.desk.now) c.args.object c.args.run c.check-code.result c.in-Reply.reply (pass_of c.args.pass) (pass_of c.ask-pass.result.0) c.requires.taken
+    (report_sum (opened_with c.args.desk.now) c.args.object c.args.run c.check-code.result c.in-Reply.reply (pass_of c.args.pass)
+    (pass_of c.ask-pass.result.0) c.requires.taken
     (rw c.in-Reply.is at c.ask-pass.ensures.answer) c.ask-pass.ensures.legal 0)

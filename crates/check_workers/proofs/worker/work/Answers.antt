@@ -1,10 +1,12 @@
-use Rattle.std.proofs.Common.{◌≡◌, ℕ, List, Some, None, ◌<◌, length, [], ◌∷◌, ◌++◌, ◌+◌, take, drop, get_or, refl, sym, ap, subst, ◌∙◌, append_assoc, arith, rules}
+use Rattle.std.proofs.Common.{◌≡◌, ℕ, List, Some, None, ◌<◌, length, [], ◌∷◌, ◌++◌, ◌+◌, take, drop, get_or, refl, sym, ap, subst, ◌∙◌, append_assoc, arith}
+use Rattle.std.proofs.Common.{rules}
 use Rattle.std.proofs.lemmas.List.{take_all, take-append-drop, take_more}
 use Rattle.check_desk.proofs.PassLemmas.{few_calls}
 use Rattle.check_desk.specs.Desks.{opened_with}
 use Rattle.check_desk.specs.Passes.{pass_of}
 use Rattle.check_workers.specs.Tallies.{IsFew, IsSum, tally_of}
-use Rattle.check_workers.proofs.ShiftLemmas.{IsWorking, both_few, came_counted, counted_few, ended_counted, stopped_counted, worked_left, working_ended, working_few, working_more, working_none, working_stopped}
+use Rattle.check_workers.proofs.ShiftLemmas.{IsWorking, both_few, came_counted, counted_few, ended_counted, stopped_counted, worked_left, working_ended}
+use Rattle.check_workers.proofs.ShiftLemmas.{working_few, working_more, working_none, working_stopped}
 use Rattle.check_workers.proofs.SumLemmas.{sum_plus}
 use Rattle.check_workers.proofs.TallyLemmas.{few_tally}
 use Rattle.check_workers.proofs.worker.work.Goals as goal
@@ -12,7 +14,8 @@ use Rattle.check_workers.proofs.worker.work.Goals as goal
 -- the moments done, the one at work, and those to come
 split_at : (xs : List ℕ) (i : ℕ) → i < length xs → take i xs ++ get_or xs i 0 ∷ drop (i + 1) xs ≡ xs
 split_at xs i h =
-    sym (append_assoc (take i xs) (get_or xs i 0 ∷ []) (drop (i + 1) xs)) ∙ ap (λ l. l ++ drop (i + 1) xs) (sym (take_more xs i 0 h)) ∙ take-append-drop (i + 1) xs
+    sym (append_assoc (take i xs) (get_or xs i 0 ∷ []) (drop (i + 1) xs)) ∙ ap
+    (λ l. l ++ drop (i + 1) xs) (sym (take_more xs i 0 h)) ∙ take-append-drop (i + 1) xs
 
 pub loop-now-init : goal.loop-now-init
 loop-now-init g c =
@@ -31,7 +34,8 @@ loop-now-preserved g c =
     let done = rw c.in_default.is at c.round-back.ensures.came in (
       c.round-back.ensures.desk,
       subst (λ l. IsWorking allows l (pass_of c.args.pass) (pass_of c.round-back.result.0) c.plus-tally.result) (sym (take_more xs i 0 c.loop-now-test.true))
-          (rw c.plus-tally.ensures (working_more allows (take i xs) (get_or xs i 0) (pass_of c.args.pass) (pass_of c.loop-now.pass) (pass_of c.round-back.result.0) c.loop-now.tally c.round-back.result.1
+          (rw c.plus-tally.ensures (working_more allows (take i xs) (get_or xs i 0) (pass_of c.args.pass) (pass_of c.loop-now.pass)
+          (pass_of c.round-back.result.0) c.loop-now.tally c.round-back.result.1
           c.loop-now.invariant.1 done)),
       rw c.plus-tally.ensures (sum_plus c.loop-now.tally c.round-back.result.1 c.loop-now.invariant.2 c.round-back.ensures.sums),
     )
@@ -44,9 +48,11 @@ returns-in-Stopped-clause-worked g c =
     let w = c.loop-now.invariant.1 in
     let h = rw c.in-Stopped.is at c.round-back.ensures.came in (
       record { number = (pass_of c.args.pass).own; rounds = w.rounds; left_open = h.left_open; stopped = Some c.in-Stopped.stop },
-      working_stopped allows (take i xs) (drop (i + 1) xs) xs (get_or xs i 0) (opened_with c.args.desk.now).room c.in-Stopped.stop c.in-Stopped.open (pass_of c.args.pass) (pass_of c.loop-now.pass)
+      working_stopped allows (take i xs) (drop (i + 1) xs) xs (get_or xs i 0) (opened_with c.args.desk.now).room c.in-Stopped.stop c.in-Stopped.open
+          (pass_of c.args.pass) (pass_of c.loop-now.pass)
           (pass_of c.round-back.result.0) c.loop-now.tally c.round-back.result.1 (split_at xs i c.loop-now-test.true) w h,
-      rw (c.plus.ensures, c.plus-tally.ensures, c.of_stop.ensures) (stopped_counted allows (take i xs) (get_or xs i 0) (opened_with c.args.desk.now).room c.in-Stopped.stop c.in-Stopped.open
+      rw (c.plus.ensures, c.plus-tally.ensures, c.of_stop.ensures)
+          (stopped_counted allows (take i xs) (get_or xs i 0) (opened_with c.args.desk.now).room c.in-Stopped.stop c.in-Stopped.open
           (pass_of c.args.pass) (pass_of c.loop-now.pass) (pass_of c.round-back.result.0) c.loop-now.tally c.round-back.result.1 w h),
       h.told,
     )
@@ -54,7 +60,8 @@ returns-in-Stopped-clause-worked g c =
 pub returns-in-Stopped-clause-left : goal.returns-in-Stopped-clause-left
 returns-in-Stopped-clause-left g c =
     let x = returns-in-Stopped-clause-worked g c in
-    worked_left (g.P.Plugin.allows c.args.plugin.now) c.args.moments.now (opened_with c.args.desk.now).room x.0 (pass_of c.args.pass) (pass_of c.round-back.result.0) c.plus.result x.1 x.2
+    worked_left (g.P.Plugin.allows c.args.plugin.now) c.args.moments.now (opened_with c.args.desk.now).room x.0 (pass_of c.args.pass)
+    (pass_of c.round-back.result.0) c.plus.result x.1 x.2
 
 pub returns-clause-worked : goal.returns-clause-worked
 returns-clause-worked g c =
@@ -72,21 +79,26 @@ returns-clause-worked g c =
 pub returns-clause-left : goal.returns-clause-left
 returns-clause-left g c =
     let x = returns-clause-worked g c in
-    worked_left (g.P.Plugin.allows c.args.plugin.now) c.args.moments.now (opened_with c.args.desk.now).room x.0 (pass_of c.args.pass) (pass_of c.loop-now.pass) c.loop-now.tally x.1 x.2
+    worked_left (g.P.Plugin.allows c.args.plugin.now) c.args.moments.now (opened_with c.args.desk.now).room x.0 (pass_of c.args.pass)
+    (pass_of c.loop-now.pass) c.loop-now.tally x.1 x.2
 
 pub plus-tally-requires : goal.plus-tally-requires
 plus-tally-requires g c = (
-  working_few (g.P.Plugin.allows c.args.plugin.now) (take c.loop-now.now-index c.args.moments.now) (pass_of c.args.pass) (pass_of c.loop-now.pass) c.loop-now.tally c.loop-now.invariant.1 (few_calls c.loop-now.pass),
+  working_few (g.P.Plugin.allows c.args.plugin.now) (take c.loop-now.now-index c.args.moments.now) (pass_of c.args.pass)
+      (pass_of c.loop-now.pass) c.loop-now.tally c.loop-now.invariant.1 (few_calls c.loop-now.pass),
   counted_few (pass_of c.loop-now.pass) (pass_of c.round-back.result.0) c.round-back.result.1
-      (came_counted (g.P.Plugin.allows c.args.plugin.now) _ (opened_with c.args.desk.now).room (pass_of c.loop-now.pass) (pass_of c.round-back.result.0) c.round-back.result.1 c.round-back.result.2 c.round-back.ensures.came)
+      (came_counted (g.P.Plugin.allows c.args.plugin.now) _ (opened_with c.args.desk.now).room (pass_of c.loop-now.pass)
+      (pass_of c.round-back.result.0) c.round-back.result.1 c.round-back.result.2 c.round-back.ensures.came)
       (few_calls c.round-back.result.0),
 )
 
 pub plus-requires : goal.plus-requires
 plus-requires g c = (
-  rw c.plus-tally.ensures (both_few (g.P.Plugin.allows c.args.plugin.now) (take c.loop-now.now-index c.args.moments.now) (pass_of c.args.pass) (pass_of c.loop-now.pass) (pass_of c.round-back.result.0)
+  rw c.plus-tally.ensures (both_few (g.P.Plugin.allows c.args.plugin.now) (take c.loop-now.now-index c.args.moments.now) (pass_of c.args.pass)
+      (pass_of c.loop-now.pass) (pass_of c.round-back.result.0)
       c.loop-now.tally c.round-back.result.1 c.loop-now.invariant.1
-      (came_counted (g.P.Plugin.allows c.args.plugin.now) _ (opened_with c.args.desk.now).room (pass_of c.loop-now.pass) (pass_of c.round-back.result.0) c.round-back.result.1 c.round-back.result.2 c.round-back.ensures.came)
+      (came_counted (g.P.Plugin.allows c.args.plugin.now) _ (opened_with c.args.desk.now).room (pass_of c.loop-now.pass)
+      (pass_of c.round-back.result.0) c.round-back.result.1 c.round-back.result.2 c.round-back.ensures.came)
       (few_calls c.round-back.result.0)),
   subst IsFew (sym c.of_stop.ensures) (few_tally [] (c.in-Stopped.stop ∷ []) (omega arith) (omega arith)),
 )

@@ -29,6 +29,8 @@ returns-in-Ok-crew-clause-drill g c =
     let are : AreShiftsOf allows script.moments c.args.room history passes x.0 =
     subst (λ m. AreShiftsOf allows m c.args.room history passes x.0) c.deref.ensures.value (subst (λ r. AreShiftsOf allows c.deref.result.now r history passes x.0) room x.1) in
     let whole : opening_of c.in-Ok-crew.book ≡ book_opening c.args.script.setup c.args.start c.args.room = c.in-Ok-crew.ensures.opening ∙ opened in
-    let legal = book_is_legal (opening c.args.script.setup c.args.start) c.args.room history (subst (λ s. IsLegal book_step s history) whole c.in-Ok-crew.ensures.lawful.legal) in
-    drill_is script c.args.start c.args.workers c.args.room history (refused_of c.in-Ok-crew.book) desk passes x.0 c.in-Ok-crew._tally c.requires.few c.in-Ok-open.ensures.list c.in-Ok-open.ensures.new are x.2
+    let legal = book_is_legal (opening c.args.script.setup c.args.start) c.args.room history
+    (subst (λ s. IsLegal book_step s history) whole c.in-Ok-crew.ensures.lawful.legal) in
+    drill_is script c.args.start c.args.workers c.args.room history (refused_of c.in-Ok-crew.book) desk passes x.0 c.in-Ok-crew._tally c.requires.few
+    c.in-Ok-open.ensures.list c.in-Ok-open.ensures.new are x.2
     (λ number from. c.in-Ok-crew.ensures.numbers number (let same = c.in-Ok-open.ensures.passes in omega (arith, same, from))) c.in-Ok-crew.ensures.calls legal

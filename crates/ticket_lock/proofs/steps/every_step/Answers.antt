@@ -14,8 +14,10 @@ stepped_here views id v w at = set_here views id w (at_within views id v at)
 
 pub returns : goal.returns
 returns g c = record {
-  opening = λ start none_kept none_refused some_number few few_draws. opens_with g.K.Kept start start.book refl none_kept none_refused some_number few few_draws;
-  split = λ m count is start idle fresh some_count less. split_event g.K.Kept m.start m.happened m.core m.table m.id count m.me.0 is.ruled is.there start idle fresh some_count less;
+  opening =
+      λ start none_kept none_refused some_number few few_draws. opens_with g.K.Kept start start.book refl none_kept none_refused some_number few few_draws;
+  split =
+      λ m count is start idle fresh some_count less. split_event g.K.Kept m.start m.happened m.core m.table m.id count m.me.0 is.ruled is.there start idle fresh some_count less;
   draw = λ m is idle some_left. draw_event g.K.Kept m.start m.happened m.core m.table m.id m.me is.ruled is.there idle some_left;
   draw_tells = λ m step is.
       let next : get_or m.table.words 0 0 ≡ m.core.next = ap (λ (ws : List ℕ). get_or ws 0 0) is.ruled.words.words in
@@ -28,7 +30,9 @@ returns g c = record {
       let same : e.0 ≡ book = ap (λ o. unwrap_or o book) (some-injective _ _ (some-injective _ _ (sym e.1 ∙ at))) in
       record {
         stands = stepped_here m.table.views m.id m.me.0 _ is.there;
-        told = look_held_told g.K.Kept m.start m.happened m.core m.table m.id m.me book step is.ruled is.there waits bare (subst (IsBook g.K.Kept m.start m.core.book) same e.2);
+        told =
+            look_held_told g.K.Kept m.start m.happened m.core m.table m.id m.me book step is.ruled is.there waits bare
+            (subst (IsBook g.K.Kept m.start m.core.book) same e.2);
       };
   look_waits_tells = λ m ticket step is waits later. record {
     stands = stepped_here m.table.views m.id m.me.0 _ is.there;
@@ -44,7 +48,9 @@ returns g c = record {
   };
   look_held = λ m is waits. let e = look_event g.K.Kept m.start m.happened m.core m.table m.id m.me is.ruled is.there waits in (e.0, e.1, e.3);
   look_waits = λ m ticket is waits later. wait_event g.K.Kept m.start m.happened m.core m.table m.id ticket m.me is.ruled is.there waits later;
-  leave = λ m ticket book is holds hand returns. leave_event g.K.Kept m.start g.met.K.Kept.legal m.happened m.core m.table m.id ticket m.me book is.ruled is.there holds hand returns;
-  gather = λ m other w is idle apart at idle'. gather_event g.K.Kept m.start m.happened m.core m.table m.id other m.me.0 w is.ruled is.there apart at idle idle';
+  leave =
+      λ m ticket book is holds hand returns. leave_event g.K.Kept m.start g.met.K.Kept.legal m.happened m.core m.table m.id ticket m.me book is.ruled is.there holds hand returns;
+  gather =
+      λ m other w is idle apart at idle'. gather_event g.K.Kept m.start m.happened m.core m.table m.id other m.me.0 w is.ruled is.there apart at idle idle';
   second_load = λ m is idle. second_load_same g.K.Kept m.start m.happened m.core m.table m.id m.me is.ruled is.there idle;
 }

@@ -14,7 +14,12 @@ returns g c = record {
   calls = λ s is. (schedule_lawful g.K.Kept.step s is).calls;
   alone = λ s is i p at all.
       let l = schedule_lawful g.K.Kept.step s is in
-      omega (arith, l.calls, alone s.numbers s.draws s.end l i p at (omega (arith, all)) (λ (q : CoreSeat). q.calls) (λ k u e none. unnumbered_calls s.draws s.end.served u (l.each k u e) none));
+      omega (
+        arith,
+        l.calls,
+        alone s.numbers s.draws s.end l i p at (omega (arith, all))
+            (λ (q : CoreSeat). q.calls) (λ k u e none. unnumbered_calls s.draws s.end.served u (l.each k u e) none),
+      );
   lawful = λ s is. schedule_book g.K.Kept.step s is;
   entries = λ s is. schedule_of g.K.Kept.step s is;
   strangers = λ s is. schedule_strangers g.K.Kept.step s is;

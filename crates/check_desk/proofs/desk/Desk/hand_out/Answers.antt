@@ -11,7 +11,7 @@ split-own-requires-clause-count c =
     let n = c.loop-number._number in
     let size = rest_size n (passes_of desk - n) (seat_of c.loop-number.rest) c.loop-number.invariant.0.rest_is in
     let more : 1 < length (seat_of c.loop-number.rest).numbers = omega (arith, size, desk.passes_are, c.loop-number-test.true) in
-    (omega (arith, more, c.count-others.ensures), omega (arith, more, c.count-others.ensures))
+    (omega (arith, more, c.count-others.ensures.numbers), omega (arith, more, c.count-others.ensures.numbers))
 
 pub loop-number-preserved : goal.loop-number-preserved
 loop-number-preserved c =
@@ -20,12 +20,17 @@ loop-number-preserved c =
     let rest = seat_of c.loop-number.rest in
     let was = c.loop-number.invariant.0 in
     let more : 1 < passes_of desk - n = omega (arith, desk.passes_are, c.loop-number-test.true) in
-    let own : seat_of c.split-own.result.0 ≡ new_pass n = rw (c.split-own.ensures.kept, desk.draws_are, c.count-others.ensures) (own_is n (passes_of desk - n) rest more was.rest_is) in
-    let left : seat_of c.split-own.result.1 ≡ rest_from (n + 1) (passes_of desk - n - 1) = rw (c.split-own.ensures.given, desk.draws_are, c.count-others.ensures) (more_is n (passes_of desk - n) rest more was.rest_is) in
+    let own : seat_of c.split-own.result.0 ≡ new_pass n = rw (c.split-own.ensures.kept, desk.draws_are, c.count-others.ensures.numbers)
+    (own_is n (passes_of desk - n) rest more was.rest_is) in
+    let left : seat_of c.split-own.result.1 ≡ rest_from (n + 1)
+    (passes_of desk - n - 1) = rw (c.split-own.ensures.given, desk.draws_are, c.count-others.ensures.numbers)
+    (more_is n (passes_of desk - n) rest more was.rest_is) in
     let less : passes_of desk - n - 1 ≡ passes_of desk - (n + 1) = omega arith in (
       record {
         count = (let pushed = ap length c.push_reserved.ensures.items ∙ length-append c.loop-number.list.items _ in omega (arith, pushed, was.count));
-        new = rw c.push_reserved.ensures.items (new_push desk 0 c.loop-number.list.items _ was.new c.split-own.ensures.lock.0 (own ∙ ap new_pass (omega (arith, was.count))));
+        new =
+            rw c.push_reserved.ensures.items (new_push desk 0 c.loop-number.list.items _ was.new c.split-own.ensures.lock.0
+            (own ∙ ap new_pass (omega (arith, was.count))));
         rest_is = left ∙ ap (rest_from (n + 1)) less;
       },
       c.split-own.ensures.lock.1,
@@ -37,4 +42,5 @@ returns-clause-new c =
     let n = c.loop-number._number in
     let was = c.loop-number.invariant.0 in
     let one : passes_of desk - n ≡ 1 = omega (arith, desk.passes_are, c.loop-number-test.false, c.loop-number.auto._number-end, c.requires.some) in
-    rw c.push_reserved-2.ensures.items (new_push desk 0 c.loop-number.list.items _ was.new c.loop-number.invariant.1 (last_is n (seat_of c.loop-number.rest) (was.rest_is ∙ ap (rest_from n) one) ∙ ap new_pass (omega (arith, was.count))))
+    rw c.push_reserved-2.ensures.items (new_push desk 0 c.loop-number.list.items _ was.new c.loop-number.invariant.1
+    (last_is n (seat_of c.loop-number.rest) (was.rest_is ∙ ap (rest_from n) one) ∙ ap new_pass (omega (arith, was.count))))

@@ -7,7 +7,8 @@ use Rattle.check_objects.proofs.setup.Setup.name.Goals as goal
 pub returns-then-index-len : goal.returns-then-index-len
 returns-then-index-len c =
     let at = sym c.get_index.ensures.entry ∙ ap (option_map deref_pair) c.unwrap.ensures in
-    rw (← c.self.view_is) (c.as_str.ensures.value ∙ sym (ap (λ o. unwrap_or (option_map (λ x. x.name) o) []) (object_front c.self.inside.hosts.entries c.self.inside.services.entries c.args.number _ at)))
+    rw (← c.self.view_is) (c.as_str.ensures.value ∙ sym
+    (ap (λ o. unwrap_or (option_map (λ x. x.name) o) []) (object_front c.self.inside.hosts.entries c.self.inside.services.entries c.args.number _ at)))
 
 pub returns-else-index-len : goal.returns-else-index-len
 returns-else-index-len c =
@@ -15,4 +16,5 @@ returns-else-index-len c =
     let services = c.self.inside.services.entries in
     let at = ap (λ l. slice_get services (c.args.number - l)) (sym c.len-else-index-len.ensures.len) ∙ sym c.get_index-else-index-len.ensures.entry ∙ ap (option_map deref_pair) c.unwrap-else-index-len.ensures in
     let past : length hosts ≤ c.args.number = omega (arith, c.if-index-len.false, c.len.ensures.len) in
-    rw (← c.self.view_is) (c.as_str-else-index-len.ensures.value ∙ sym (ap (λ o. unwrap_or (option_map (λ x. x.name) o) []) (object_back hosts services c.args.number _ past at)))
+    rw (← c.self.view_is) (c.as_str-else-index-len.ensures.value ∙ sym
+    (ap (λ o. unwrap_or (option_map (λ x. x.name) o) []) (object_back hosts services c.args.number _ past at)))

@@ -6,9 +6,15 @@ use Rattle.check_sched.proofs.book.BookKept.record.Goals as goal
 pub invariant_of-self-2 : goal.invariant_of-self-2
 invariant_of-self-2 c =
     let b = c.args.self.now in
-    let more : c.push_reserved.new.self.items ≡ b.entries.items ++ entry c.args.pass c.args.call c.apply-reply.result ∷ [] = c.push_reserved.ensures.items ∙ ap (λ es. es ++ entry c.args.pass c.args.call c.apply-reply.result ∷ []) c.grow.ensures.same in
+    let more : c.push_reserved.new.self.items ≡ b.entries.items ++ entry c.args.pass c.args.call c.apply-reply.result
+    ∷ [] = c.push_reserved.ensures.items ∙ ap (λ es. es ++ entry c.args.pass c.args.call c.apply-reply.result ∷ []) c.grow.ensures.same in
     record {
       reserved = omega (arith, c.push_reserved.ensures.capacity, c.grow.ensures.capacity, b.reserved);
-      legal = book_legal b.sched c.apply-reply.new.self b.room c.args.pass c.args.call c.apply-reply.result b.entries.items c.push_reserved.new.self.items c.apply-reply.ensures.state c.apply-reply.ensures.reply c.apply-reply.ensures.setup c.apply-reply.ensures.start more b.replayed b.legal;
-      replayed = book_replayed b.sched c.apply-reply.new.self b.room c.args.pass c.args.call c.apply-reply.result b.entries.items c.push_reserved.new.self.items c.apply-reply.ensures.state c.apply-reply.ensures.reply c.apply-reply.ensures.setup c.apply-reply.ensures.start more b.replayed;
+      legal =
+          book_legal b.sched c.apply-reply.new.self b.room c.args.pass c.args.call c.apply-reply.result b.entries.items c.push_reserved.new.self.items
+          c.apply-reply.ensures.state c.apply-reply.ensures.reply c.apply-reply.ensures.setup c.apply-reply.ensures.start more b.replayed b.legal;
+      replayed =
+          book_replayed b.sched c.apply-reply.new.self b.room c.args.pass c.args.call c.apply-reply.result b.entries.items
+          c.push_reserved.new.self.items c.apply-reply.ensures.state c.apply-reply.ensures.reply c.apply-reply.ensures.setup c.apply-reply.ensures.start
+          more b.replayed;
     }

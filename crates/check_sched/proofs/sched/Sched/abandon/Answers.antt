@@ -17,22 +17,29 @@ in_range c = sym c.test_moment.ensures ∙ c.in_ok-test_moment.was
 pub invariant_of-self : goal.invariant_of-self
 invariant_of-self c =
     let s = state_of c.self.inside in
-    let left = written c.args.object (ended (Some c.freed_time-next.result)) s c.index_mut.result.now c.end_run.new.self (known_within c.args.object s c.in_ok-state.state (found c)) c.index_mut.ensures.value c.end_run.ensures in
-    let time = freed_in_time c.args.now c.args.object c.in_ok-state.state s c.self.invariant.state (known_is c.args.object s c.in_ok-state.state (found c)) (range_is c.args.now c.in_ok-test_moment.field-0 (in_range c)) in
+    let left = written c.args.object (ended (Some c.freed_time-next.result)) s c.index_mut.result.now c.end_run.new.self
+    (known_within c.args.object s c.in_ok-state.state (found c)) c.index_mut.ensures.value c.end_run.ensures in
+    let time = freed_in_time c.args.now c.args.object c.in_ok-state.state s c.self.invariant.state
+    (known_is c.args.object s c.in_ok-state.state (found c)) (range_is c.args.now c.in_ok-test_moment.field-0 (in_range c)) in
     record {
-      state = rw (left, c.freed_time-next.ensures) (with_object_is_state c.args.object _ s c.self.invariant.state (λ o e. ended_in_time (Some (freed_time c.args.now c.in_ok-state.state)) o time) (λ o e. cc));
+      state =
+          rw (left, c.freed_time-next.ensures) (with_object_is_state c.args.object _ s c.self.invariant.state
+          (λ o e. ended_in_time (Some (freed_time c.args.now c.in_ok-state.state)) o time) (λ o e. cc));
       marks = c.self.invariant.marks;
     }
 
 pub returns-clause-times : goal.returns-clause-times
 returns-clause-times c =
     let s = state_of c.self.inside in
-    let time = freed_in_time c.args.now c.args.object c.in_ok-state.state s c.self.invariant.state (known_is c.args.object s c.in_ok-state.state (found c)) (range_is c.args.now c.in_ok-test_moment.field-0 (in_range c)) in
+    let time = freed_in_time c.args.now c.args.object c.in_ok-state.state s c.self.invariant.state
+    (known_is c.args.object s c.in_ok-state.state (found c)) (range_is c.args.now c.in_ok-test_moment.field-0 (in_range c)) in
     rw c.freed_time-next.ensures (is_time_reads (Some (freed_time c.args.now c.in_ok-state.state)) time)
 
 pub returns-clause-state : goal.returns-clause-state
 returns-clause-state c =
     let s = state_of c.self.inside in
-    let left = written c.args.object (ended (Some c.freed_time-next.result)) s c.index_mut.result.now c.end_run.new.self (known_within c.args.object s c.in_ok-state.state (found c)) c.index_mut.ensures.value c.end_run.ensures in
-    let answer = abandon_answers c.args.object c.args.run c.args.now s c.in_ok-state.state c.in_ok-test_moment.field-0 c.in_ok-run_under.field-0 (found c) (in_range c) (sym c.run_under.ensures ∙ c.in_ok-run_under.was) in
+    let left = written c.args.object (ended (Some c.freed_time-next.result)) s c.index_mut.result.now c.end_run.new.self
+    (known_within c.args.object s c.in_ok-state.state (found c)) c.index_mut.ensures.value c.end_run.ensures in
+    let answer = abandon_answers c.args.object c.args.run c.args.now s c.in_ok-state.state c.in_ok-test_moment.field-0 c.in_ok-run_under.field-0
+    (found c) (in_range c) (sym c.run_under.ensures ∙ c.in_ok-run_under.was) in
     rw (← c.self.view_is, answer, ← c.freed_time-next.ensures) left

@@ -11,7 +11,8 @@ invariant_of-self c =
     let s = state_of c.self.inside in
     let count = ap (λ (t : State). object_count t.setup) c.self.view_is in
     let runs = ap (λ (t : State). t.runs) c.self.view_is in
-    let there : c.args.object < length c.self.inside.objects.items = let l = c.self.invariant.state.one_each in let m = c.requires.there in omega (arith, l, m, count) in
+    let there : c.args.object < length c.self.inside.objects.items = let l = c.self.invariant.state.one_each in let m = c.requires.there in omega
+    (arith, l, m, count) in
     let spare : c.self.inside.runs < 2 ^ 60 = let m = c.requires.spare in omega (arith, m, runs) in
     let may = ap (λ (t : State). is_open t c.args.object) c.self.view_is ∙ c.requires.«open» in
     record {
@@ -24,5 +25,7 @@ pub returns-clause-state : goal.returns-clause-state
 returns-clause-state c =
     let s = state_of c.self.inside in
     let count = ap (λ (t : State). object_count t.setup) c.self.view_is in
-    let there : c.args.object < length c.self.inside.objects.items = let l = c.self.invariant.state.one_each in let m = c.requires.there in omega (arith, l, m, count) in
-    rw (← c.self.view_is) (taken_left c.args.now c.args.object s c.index_mut.result.now c.begin_run.new.self there c.index_mut.ensures.value c.begin_run.ensures)
+    let there : c.args.object < length c.self.inside.objects.items = let l = c.self.invariant.state.one_each in let m = c.requires.there in omega
+    (arith, l, m, count) in
+    rw (← c.self.view_is) (taken_left c.args.now c.args.object s c.index_mut.result.now c.begin_run.new.self there c.index_mut.ensures.value
+    c.begin_run.ensures)

@@ -12,7 +12,8 @@ found c = ap (known c.args.object) c.self.view_is ∙ sym c.object.ensures ∙ c
 pub invariant_of-self : goal.invariant_of-self
 invariant_of-self c =
     let s = state_of c.self.inside in
-    let left = written c.args.object (enabled_as c.args.on) s c.index_mut.result.now c.enable.new.self (known_within c.args.object s c.in_ok-object.field-0 (found c)) c.index_mut.ensures.value c.enable.ensures in
+    let left = written c.args.object (enabled_as c.args.on) s c.index_mut.result.now c.enable.new.self
+    (known_within c.args.object s c.in_ok-object.field-0 (found c)) c.index_mut.ensures.value c.enable.ensures in
     record {
       state = rw left (with_object_is_state c.args.object (enabled_as c.args.on) s c.self.invariant.state (λ o e. e) (λ o e. e));
       marks = c.self.invariant.marks;
@@ -21,5 +22,6 @@ invariant_of-self c =
 pub returns-clause-state : goal.returns-clause-state
 returns-clause-state c =
     let s = state_of c.self.inside in
-    let left = written c.args.object (enabled_as c.args.on) s c.index_mut.result.now c.enable.new.self (known_within c.args.object s c.in_ok-object.field-0 (found c)) c.index_mut.ensures.value c.enable.ensures in
+    let left = written c.args.object (enabled_as c.args.on) s c.index_mut.result.now c.enable.new.self
+    (known_within c.args.object s c.in_ok-object.field-0 (found c)) c.index_mut.ensures.value c.enable.ensures in
     rw (← c.self.view_is, enable_answers c.args.object c.args.on s c.in_ok-object.field-0 (found c)) left

@@ -25,7 +25,8 @@ pub returns-then-has_room-clause-value : goal.returns-then-has_room-clause-value
 returns-then-has_room-clause-value c = rw (← c.self.view_is) (with_room c)
 
 pub returns-then-has_room-clause-there : goal.returns-then-has_room-clause-there
-returns-then-has_room-clause-there c = rw (← c.self.view_is) (found_within c.args.now (state_of c.self.inside) c.least_due.result c.self.invariant.state (with_room c))
+returns-then-has_room-clause-there c =
+    rw (← c.self.view_is) (found_within c.args.now (state_of c.self.inside) c.least_due.result c.self.invariant.state (with_room c))
 
 pub returns-then-has_room-clause-open : goal.returns-then-has_room-clause-open
 returns-then-has_room-clause-open c = rw (← c.self.view_is) (found_open c.args.now (state_of c.self.inside) c.least_due.result (with_room c))
@@ -34,7 +35,8 @@ pub returns-else-has_room-clause-value : goal.returns-else-has_room-clause-value
 returns-else-has_room-clause-value c = rw (← c.self.view_is) (without_room c)
 
 pub returns-else-has_room-clause-there : goal.returns-else-has_room-clause-there
-returns-else-has_room-clause-there c = rw (← c.self.view_is) (found_within c.args.now (state_of c.self.inside) c.least_due-else-has_room.result c.self.invariant.state (without_room c))
+returns-else-has_room-clause-there c =
+    rw (← c.self.view_is) (found_within c.args.now (state_of c.self.inside) c.least_due-else-has_room.result c.self.invariant.state (without_room c))
 
 pub returns-else-has_room-clause-open : goal.returns-else-has_room-clause-open
 returns-else-has_room-clause-open c = rw (← c.self.view_is) (found_open c.args.now (state_of c.self.inside) c.least_due-else-has_room.result (without_room c))

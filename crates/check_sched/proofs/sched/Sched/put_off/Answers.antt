@@ -11,8 +11,10 @@ pub invariant_of-self : goal.invariant_of-self
 invariant_of-self c =
     let s = state_of c.self.inside in
     let count = ap (λ (t : State). object_count t.setup) c.self.view_is in
-    let there : c.args.object < length c.self.inside.objects.items = let l = c.self.invariant.state.one_each in let m = c.requires.there in omega (arith, l, m, count) in
-    let left = written c.args.object (put_off_to c.put_off_until-until.result) s c.index_mut.result.now c.put_off.new.self there c.index_mut.ensures.value c.put_off.ensures in
+    let there : c.args.object < length c.self.inside.objects.items = let l = c.self.invariant.state.one_each in let m = c.requires.there in omega
+    (arith, l, m, count) in
+    let left = written c.args.object (put_off_to c.put_off_until-until.result) s c.index_mut.result.now c.put_off.new.self there
+    c.index_mut.ensures.value c.put_off.ensures in
     record {
       state = rw (left, c.put_off_until-until.ensures.value) (put_off_is_state c.args.now c.args.object s c.self.invariant.state c.requires.moment);
       marks = c.self.invariant.marks;
@@ -22,8 +24,10 @@ pub returns-clause-state : goal.returns-clause-state
 returns-clause-state c =
     let s = state_of c.self.inside in
     let count = ap (λ (t : State). object_count t.setup) c.self.view_is in
-    let there : c.args.object < length c.self.inside.objects.items = let l = c.self.invariant.state.one_each in let m = c.requires.there in omega (arith, l, m, count) in
-    let left = written c.args.object (put_off_to c.put_off_until-until.result) s c.index_mut.result.now c.put_off.new.self there c.index_mut.ensures.value c.put_off.ensures in
+    let there : c.args.object < length c.self.inside.objects.items = let l = c.self.invariant.state.one_each in let m = c.requires.there in omega
+    (arith, l, m, count) in
+    let left = written c.args.object (put_off_to c.put_off_until-until.result) s c.index_mut.result.now c.put_off.new.self there
+    c.index_mut.ensures.value c.put_off.ensures in
     rw (← c.self.view_is, ← c.put_off_until-until.ensures.value) left
 
 pub returns-clause-reply : goal.returns-clause-reply

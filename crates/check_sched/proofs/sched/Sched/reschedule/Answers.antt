@@ -16,16 +16,19 @@ in_range c = sym c.test_moment.ensures ∙ c.in_ok-test_moment.was
 pub invariant_of-self : goal.invariant_of-self
 invariant_of-self c =
     let s = state_of c.self.inside in
-    let left = written c.args.object (rescheduled c.args.time c.args.forced) s c.index_mut.result.now c.reschedule.new.self (known_within c.args.object s c.in_ok-object.field-0 (found c)) c.index_mut.ensures.value c.reschedule.ensures in
+    let left = written c.args.object (rescheduled c.args.time c.args.forced) s c.index_mut.result.now c.reschedule.new.self
+    (known_within c.args.object s c.in_ok-object.field-0 (found c)) c.index_mut.ensures.value c.reschedule.ensures in
     let within = range_is c.args.time c.in_ok-test_moment.field-0 (in_range c) in
     record {
-      state = rw left (with_object_is_state c.args.object _ s c.self.invariant.state (λ o e. rescheduled_in_time c.args.time c.args.forced o within e) (λ o e. e));
+      state =
+          rw left (with_object_is_state c.args.object _ s c.self.invariant.state (λ o e. rescheduled_in_time c.args.time c.args.forced o within e) (λ o e. e));
       marks = c.self.invariant.marks;
     }
 
 pub returns-clause-state : goal.returns-clause-state
 returns-clause-state c =
     let s = state_of c.self.inside in
-    let left = written c.args.object (rescheduled c.args.time c.args.forced) s c.index_mut.result.now c.reschedule.new.self (known_within c.args.object s c.in_ok-object.field-0 (found c)) c.index_mut.ensures.value c.reschedule.ensures in
+    let left = written c.args.object (rescheduled c.args.time c.args.forced) s c.index_mut.result.now c.reschedule.new.self
+    (known_within c.args.object s c.in_ok-object.field-0 (found c)) c.index_mut.ensures.value c.reschedule.ensures in
     let answer = reschedule_answers c.args.object c.args.time c.args.forced s c.in_ok-object.field-0 c.in_ok-test_moment.field-0 (found c) (in_range c) in
     rw (← c.self.view_is, answer) left

@@ -8,5 +8,6 @@ returns-clause-steps c = lines_next _ _ _ (sym c.is_empty.ensures ∙ c.if-is_em
 
 pub returns-clause-goes : goal.returns-clause-goes
 returns-clause-goes c =
-    let e : lines_of c.args.self.now.rest.now ≡ c.first_line-line.result.now ∷ lines_of (take (length c.args.self.now.rest.now - c.min-next.result) (drop c.min-next.result c.args.self.now.rest.now)) = returns-clause-steps c in
+    let e : lines_of c.args.self.now.rest.now ≡ c.first_line-line.result.now ∷ lines_of
+    (take (length c.args.self.now.rest.now - c.min-next.result) (drop c.min-next.result c.args.self.now.rest.now)) = returns-clause-steps c in
     record { on = λ _. (tt, tt, omega (arith, ap length e)); keeps = tt; rests = λ _. tt }

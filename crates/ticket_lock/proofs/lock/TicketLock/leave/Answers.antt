@@ -11,6 +11,7 @@ fetch_add-requires g c =
     let v = ap (λ m. m.0) e.put in (
       e.same.0 ∙ c.requires.lock.0,
       search rules,
-      leaves g.K.Kept _ g.met.K.Kept.legal _ _ s.ticket c.put_book.new.table_seat.me c.args.book (start_of c.args.self.now) (ap (λ m. m.1) e.put) (ap (λ w. w.seat.phase) v ∙ s.holds) (ap (λ w. w.start) v ∙ c.requires.lock.1)
+      leaves g.K.Kept _ g.met.K.Kept.legal _ _ s.ticket c.put_book.new.table_seat.me c.args.book (start_of c.args.self.now)
+          (ap (λ m. m.1) e.put) (ap (λ w. w.seat.phase) v ∙ s.holds) (ap (λ w. w.start) v ∙ c.requires.lock.1)
           (subst (λ w. Returns g.K.Kept (start_of c.args.self.now) w.seat.own w.seen w.refused c.args.book) (sym v) c.requires.book),
     )

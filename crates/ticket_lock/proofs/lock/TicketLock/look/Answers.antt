@@ -34,6 +34,7 @@ invariant_of-hold g c =
         some_number = s.told.some_number;
         few_numbers = s.told.few_numbers;
         few_calls = s.told.few_calls;
+        among = s.told.among;
       };
       stale = ap (λ w. w.seat.fresh) now ∙ s.stale;
     }

@@ -1,6 +1,7 @@
-use Rattle.std.proofs.Common.{rules, ◌≡◌, ℕ, ◌*◌, ◌∷◌, [], Some, arith, sym, ap, ◌∙◌, subst, length}
+use Rattle.std.proofs.Common.{rules, ◌≡◌, ℕ, ◌<◌, ◌*◌, ◌∷◌, [], Some, arith, sym, ap, ◌∙◌, subst, length}
 use Rattle.atomic_table.specs.Table.{opening}
-use Rattle.ticket_steps.proofs.Totals.{length-counted}
+use Rattle.ticket_steps.specs.Sums.{times}
+use Rattle.ticket_steps.proofs.Totals.{counted_first, length-counted}
 use Rattle.ticket_lock.specs.Legal.{IsLegalFrom}
 use Rattle.ticket_lock.specs.Rule.{IsRuled}
 use Rattle.ticket_lock.specs.Views.{first_view}
@@ -13,7 +14,8 @@ new-requires g c =
     let k = g.K.Kept in
     subst (λ xs. IsRuled k record { book = c.of.result.value; numbers = c.args.numbers; draws = c.args.draws }
     (opening (0 ∷ 0 ∷ []) xs (first_view record { book = c.of.result.value; numbers = c.args.numbers; draws = c.args.draws })))
-    (sym items) (starts k _ c.args.book (ap k.opening (sym c.of.ensures)) c.requires.empty.0 c.requires.empty.1 c.requires.numbers.0 c.requires.numbers.1 (omega arith))
+    (sym items) (starts k _ c.args.book (ap k.opening (sym c.of.ensures)) c.requires.empty.0 c.requires.empty.1 c.requires.numbers.0
+    c.requires.numbers.1 (omega arith))
 
 pub invariant_of-seat : goal.invariant_of-seat
 invariant_of-seat g c =
@@ -30,7 +32,9 @@ invariant_of-seat g c =
         some_number = c.requires.numbers.0;
         few_numbers = c.requires.numbers.1;
         few_calls = omega arith;
+        among = subst (λ m. 0 < times m.0.seat.own m.0.seat.numbers) (sym e) (counted_first 0 c.args.numbers c.requires.numbers.0);
       };
       fresh_is = ap (λ m. m.0.seat.fresh) e;
       range = λ _. omega (arith, c.requires.numbers);
+      row = λ _. ap (λ m. m.0.seat.numbers) e;
     }

@@ -17,7 +17,8 @@ returns-then-not-is_idle-clause-step g c =
     let self = c.args.self.now in
     let e = c.in_ok-at.ensures.found in
     let is = read_is self.seats.items c.in_ok-at.at e.0 c.index-place.result.now e.1 c.index-place.ensures in
-    steps_fault g.K.Kept.step self.draws (state_of self) (Draw c.args.seat) Phase (unfit_draw self.numbers self.draws (state_of self) self.lawful c.in_ok-at.at c.args.seat e.0 e.1 e.2 e.3
+    steps_fault g.K.Kept.step self.draws (state_of self) (Draw c.args.seat) Phase
+    (unfit_draw self.numbers self.draws (state_of self) self.lawful c.in_ok-at.at c.args.seat e.0 e.1 e.2 e.3
     (λ idle. false≢true (sym c.if-not-is_idle.true ∙ c.is_idle.ensures.1 (ap (λ (s : CoreSeat). s.phase) is ∙ idle))))
 
 pub returns-then-place-eq0-clause-step : goal.returns-then-place-eq0-clause-step
@@ -26,7 +27,8 @@ returns-then-place-eq0-clause-step g c =
     let e = c.in_ok-at.ensures.found in
     let is = read_is self.seats.items c.in_ok-at.at e.0 c.index-place.result.now e.1 c.index-place.ensures in
     let idle = ap (λ (s : CoreSeat). s.phase) (sym is) ∙ c.is_idle.ensures.0 c.if-not-is_idle.false in
-    steps_fault g.K.Kept.step self.draws (state_of self) (Draw c.args.seat) Spent (spent_draw self.numbers self.draws (state_of self) self.lawful c.in_ok-at.at c.args.seat e.0 e.1 e.2 e.3
+    steps_fault g.K.Kept.step self.draws (state_of self) (Draw c.args.seat) Spent
+    (spent_draw self.numbers self.draws (state_of self) self.lawful c.in_ok-at.at c.args.seat e.0 e.1 e.2 e.3
     idle (ap (λ (s : CoreSeat). s.left) (sym is) ∙ c.if-place-eq0.true))
 
 pub wait-requires : goal.wait-requires
@@ -45,7 +47,8 @@ invariant_of-self g c =
     let is' = read_is self.seats.items c.in_ok-at.at e.0 c.index_mut.result.now e.1 c.index_mut.ensures.value in
     let idle = ap (λ (s : CoreSeat). s.phase) (sym is) ∙ c.is_idle.ensures.0 c.if-not-is_idle.false in
     let some_left : 0 < e.0.left = omega (arith, c.if-place-eq0.false, ap (λ (s : CoreSeat). s.left) is) in
-    let move = draw_moves g.K.Kept.step self.draws (state_of self) c.in_ok-at.at c.args.seat e.0 e.1 e.2 c.wait.new.self idle some_left (c.wait.ensures ∙ ap (waiting self.next) is') in
+    let move = draw_moves g.K.Kept.step self.draws (state_of self) c.in_ok-at.at c.args.seat e.0 e.1 e.2 c.wait.new.self idle some_left
+    (c.wait.ensures ∙ ap (waiting self.next) is') in
     record {
       few = search rules;
       few_draws = search rules;
@@ -61,5 +64,6 @@ returns-clause-step g c =
     let is' = read_is self.seats.items c.in_ok-at.at e.0 c.index_mut.result.now e.1 c.index_mut.ensures.value in
     let idle = ap (λ (s : CoreSeat). s.phase) (sym is) ∙ c.is_idle.ensures.0 c.if-not-is_idle.false in
     let some_left : 0 < e.0.left = omega (arith, c.if-place-eq0.false, ap (λ (s : CoreSeat). s.left) is) in
-    let move = draw_moves g.K.Kept.step self.draws (state_of self) c.in_ok-at.at c.args.seat e.0 e.1 e.2 c.wait.new.self idle some_left (c.wait.ensures ∙ ap (waiting self.next) is') in
+    let move = draw_moves g.K.Kept.step self.draws (state_of self) c.in_ok-at.at c.args.seat e.0 e.1 e.2 c.wait.new.self idle some_left
+    (c.wait.ensures ∙ ap (waiting self.next) is') in
     steps_shown g.K.Kept.step self.draws (state_of self) _ (Draw c.args.seat) (Drew self.next) (drew c.args.seat self.next, refl, refl, move)

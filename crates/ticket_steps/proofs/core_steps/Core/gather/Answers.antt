@@ -16,7 +16,8 @@ use Rattle.ticket_steps.proofs.Lists.{at_same, set_else}
 use Rattle.ticket_steps.proofs.SeatLemmas.{two_numbers, two_calls, served_le}
 use Rattle.ticket_steps.proofs.LawfulSteps.{moves_lawful}
 use Rattle.ticket_steps.proofs.core_steps.Core.gather.Goals as goal
-use Rattle.ticket_steps.proofs.core_steps.Core.gather.Goals.{then-seat-other-via-then-seat-other, then-seat-other-via-else-seat-other+then-not-is_idle, then-seat-other-via-else-seat-other+else-not-is_idle+then-not-is_idle-2}
+use Rattle.ticket_steps.proofs.core_steps.Core.gather.Goals.{then-seat-other-via-then-seat-other, then-seat-other-via-else-seat-other+then-not-is_idle}
+use Rattle.ticket_steps.proofs.core_steps.Core.gather.Goals.{then-seat-other-via-else-seat-other+else-not-is_idle+then-not-is_idle-2}
 
 pub returns-then-seat-other-clause-step : goal.returns-then-seat-other-clause-step
 returns-then-seat-other-clause-step g c =
@@ -25,13 +26,16 @@ returns-then-seat-other-clause-step g c =
     let d = c.in_ok-from.ensures.found in
     let bad : ((c.args.seat ≢ c.args.other) × (e.0.phase ≡ Idle) × (d.0.phase ≡ Idle) → ⊥) = elim c.then-seat-other.branch [
       | then-seat-other-via-then-seat-other w ↦ λ t. t.0 w.if-seat-other.true
-      | then-seat-other-via-else-seat-other+then-not-is_idle w ↦ λ t. let is = read_is self.seats.items c.in_ok-at.at e.0 w.index.result.now e.1 w.index.ensures in
+      | then-seat-other-via-else-seat-other+then-not-is_idle w
+          ↦ λ t. let is = read_is self.seats.items c.in_ok-at.at e.0 w.index.result.now e.1 w.index.ensures in
           false≢true (sym w.if-not-is_idle.true ∙ w.is_idle.ensures.1 (ap (λ (s : CoreSeat). s.phase) is ∙ t.1))
-      | then-seat-other-via-else-seat-other+else-not-is_idle+then-not-is_idle-2 w ↦ λ t. let is = read_is self.seats.items c.in_ok-from.from d.0 w.index-else-not-is_idle.result.now d.1 w.index-else-not-is_idle.ensures in
+      | then-seat-other-via-else-seat-other+else-not-is_idle+then-not-is_idle-2 w
+          ↦ λ t. let is = read_is self.seats.items c.in_ok-from.from d.0 w.index-else-not-is_idle.result.now d.1 w.index-else-not-is_idle.ensures in
           false≢true (sym w.if-not-is_idle-2.true ∙ w.is_idle-else-not-is_idle.ensures.1 (ap (λ (s : CoreSeat). s.phase) is ∙ t.2))
     ] in
     steps_fault g.K.Kept.step self.draws (state_of self) (Gather c.args.seat c.args.other) Phase
-    (unfit_gather self.numbers self.draws (state_of self) self.lawful c.in_ok-at.at c.args.seat e.0 e.1 e.2 e.3 c.in_ok-from.from c.args.other d.0 d.1 d.2 d.3 bad)
+    (unfit_gather self.numbers self.draws (state_of self) self.lawful c.in_ok-at.at c.args.seat e.0 e.1 e.2 e.3 c.in_ok-from.from c.args.other d.0 d.1
+    d.2 d.3 bad)
 
 pub join-requires-clause-idle : goal.join-requires-clause-idle
 join-requires-clause-idle g c =
@@ -42,8 +46,10 @@ join-requires-clause-idle g c =
     let is = read_is self.seats.items c.in_ok-at.at e.0 c.index.result.now e.1 c.index.ensures in
     let from_is = read_is self.seats.items c.in_ok-from.from d.0 c.index-else-not-is_idle.result.now d.1 c.index-else-not-is_idle.ensures in
     let from_is' = read_is self.seats.items c.in_ok-from.from d.0 c.index_mut.result.now d.1 c.index_mut.ensures.value in
-    let at' : get_elem? (set self.seats.items c.in_ok-from.from c.give_up-given.new.self) c.in_ok-at.at ≡ some e.0 = set_else self.seats.items c.in_ok-from.from c.in_ok-at.at c.give_up-given.new.self (λ h. ne (sym h)) ∙ e.1 in
-    let is' = read_is (set self.seats.items c.in_ok-from.from c.give_up-given.new.self) c.in_ok-at.at e.0 c.index_mut-2.result.now at' c.index_mut-2.ensures.value in
+    let at' : get_elem? (set self.seats.items c.in_ok-from.from c.give_up-given.new.self) c.in_ok-at.at ≡ some e.0 = set_else self.seats.items
+    c.in_ok-from.from c.in_ok-at.at c.give_up-given.new.self (λ h. ne (sym h)) ∙ e.1 in
+    let is' = read_is (set self.seats.items c.in_ok-from.from c.give_up-given.new.self) c.in_ok-at.at e.0 c.index_mut-2.result.now at'
+    c.index_mut-2.ensures.value in
     let was = c.give_up-given.ensures.was ∙ from_is' in
     let idle = ap (λ (s : CoreSeat). s.phase) (sym is) ∙ c.is_idle.ensures.0 c.if-not-is_idle.false in
     let idle' = ap (λ (s : CoreSeat). s.phase) (sym from_is) ∙ c.is_idle-else-not-is_idle.ensures.0 c.if-not-is_idle-2.false in
@@ -58,8 +64,10 @@ join-requires-clause-numbers g c =
     let is = read_is self.seats.items c.in_ok-at.at e.0 c.index.result.now e.1 c.index.ensures in
     let from_is = read_is self.seats.items c.in_ok-from.from d.0 c.index-else-not-is_idle.result.now d.1 c.index-else-not-is_idle.ensures in
     let from_is' = read_is self.seats.items c.in_ok-from.from d.0 c.index_mut.result.now d.1 c.index_mut.ensures.value in
-    let at' : get_elem? (set self.seats.items c.in_ok-from.from c.give_up-given.new.self) c.in_ok-at.at ≡ some e.0 = set_else self.seats.items c.in_ok-from.from c.in_ok-at.at c.give_up-given.new.self (λ h. ne (sym h)) ∙ e.1 in
-    let is' = read_is (set self.seats.items c.in_ok-from.from c.give_up-given.new.self) c.in_ok-at.at e.0 c.index_mut-2.result.now at' c.index_mut-2.ensures.value in
+    let at' : get_elem? (set self.seats.items c.in_ok-from.from c.give_up-given.new.self) c.in_ok-at.at ≡ some e.0 = set_else self.seats.items
+    c.in_ok-from.from c.in_ok-at.at c.give_up-given.new.self (λ h. ne (sym h)) ∙ e.1 in
+    let is' = read_is (set self.seats.items c.in_ok-from.from c.give_up-given.new.self) c.in_ok-at.at e.0 c.index_mut-2.result.now at'
+    c.index_mut-2.ensures.value in
     let was = c.give_up-given.ensures.was ∙ from_is' in
     let idle = ap (λ (s : CoreSeat). s.phase) (sym is) ∙ c.is_idle.ensures.0 c.if-not-is_idle.false in
     let idle' = ap (λ (s : CoreSeat). s.phase) (sym from_is) ∙ c.is_idle-else-not-is_idle.ensures.0 c.if-not-is_idle-2.false in
@@ -74,8 +82,10 @@ join-requires-clause-calls g c =
     let is = read_is self.seats.items c.in_ok-at.at e.0 c.index.result.now e.1 c.index.ensures in
     let from_is = read_is self.seats.items c.in_ok-from.from d.0 c.index-else-not-is_idle.result.now d.1 c.index-else-not-is_idle.ensures in
     let from_is' = read_is self.seats.items c.in_ok-from.from d.0 c.index_mut.result.now d.1 c.index_mut.ensures.value in
-    let at' : get_elem? (set self.seats.items c.in_ok-from.from c.give_up-given.new.self) c.in_ok-at.at ≡ some e.0 = set_else self.seats.items c.in_ok-from.from c.in_ok-at.at c.give_up-given.new.self (λ h. ne (sym h)) ∙ e.1 in
-    let is' = read_is (set self.seats.items c.in_ok-from.from c.give_up-given.new.self) c.in_ok-at.at e.0 c.index_mut-2.result.now at' c.index_mut-2.ensures.value in
+    let at' : get_elem? (set self.seats.items c.in_ok-from.from c.give_up-given.new.self) c.in_ok-at.at ≡ some e.0 = set_else self.seats.items
+    c.in_ok-from.from c.in_ok-at.at c.give_up-given.new.self (λ h. ne (sym h)) ∙ e.1 in
+    let is' = read_is (set self.seats.items c.in_ok-from.from c.give_up-given.new.self) c.in_ok-at.at e.0 c.index_mut-2.result.now at'
+    c.index_mut-2.ensures.value in
     let was = c.give_up-given.ensures.was ∙ from_is' in
     let idle = ap (λ (s : CoreSeat). s.phase) (sym is) ∙ c.is_idle.ensures.0 c.if-not-is_idle.false in
     let idle' = ap (λ (s : CoreSeat). s.phase) (sym from_is) ∙ c.is_idle-else-not-is_idle.ensures.0 c.if-not-is_idle-2.false in
@@ -91,12 +101,15 @@ invariant_of-self g c =
     let is = read_is self.seats.items c.in_ok-at.at e.0 c.index.result.now e.1 c.index.ensures in
     let from_is = read_is self.seats.items c.in_ok-from.from d.0 c.index-else-not-is_idle.result.now d.1 c.index-else-not-is_idle.ensures in
     let from_is' = read_is self.seats.items c.in_ok-from.from d.0 c.index_mut.result.now d.1 c.index_mut.ensures.value in
-    let at' : get_elem? (set self.seats.items c.in_ok-from.from c.give_up-given.new.self) c.in_ok-at.at ≡ some e.0 = set_else self.seats.items c.in_ok-from.from c.in_ok-at.at c.give_up-given.new.self (λ h. ne (sym h)) ∙ e.1 in
-    let is' = read_is (set self.seats.items c.in_ok-from.from c.give_up-given.new.self) c.in_ok-at.at e.0 c.index_mut-2.result.now at' c.index_mut-2.ensures.value in
+    let at' : get_elem? (set self.seats.items c.in_ok-from.from c.give_up-given.new.self) c.in_ok-at.at ≡ some e.0 = set_else self.seats.items
+    c.in_ok-from.from c.in_ok-at.at c.give_up-given.new.self (λ h. ne (sym h)) ∙ e.1 in
+    let is' = read_is (set self.seats.items c.in_ok-from.from c.give_up-given.new.self) c.in_ok-at.at e.0 c.index_mut-2.result.now at'
+    c.index_mut-2.ensures.value in
     let was = c.give_up-given.ensures.was ∙ from_is' in
     let idle = ap (λ (s : CoreSeat). s.phase) (sym is) ∙ c.is_idle.ensures.0 c.if-not-is_idle.false in
     let idle' = ap (λ (s : CoreSeat). s.phase) (sym from_is) ∙ c.is_idle-else-not-is_idle.ensures.0 c.if-not-is_idle-2.false in
-    let move = gather_moves g.K.Kept.step self.draws (state_of self) c.in_ok-at.at c.args.seat e.0 e.1 e.2 c.in_ok-from.from c.args.other d.0 c.give_up-given.new.self c.join.new.self d.1 d.2 idle idle' c.if-seat-other.false
+    let move = gather_moves g.K.Kept.step self.draws (state_of self) c.in_ok-at.at c.args.seat e.0 e.1 e.2 c.in_ok-from.from c.args.other d.0
+    c.give_up-given.new.self c.join.new.self d.1 d.2 idle idle' c.if-seat-other.false
     c.give_up-given.ensures.gone (c.join.ensures ∙ (λ i. joined (is' i) (was i))) in
     record {
       few = search rules;
@@ -114,11 +127,14 @@ returns-clause-step g c =
     let is = read_is self.seats.items c.in_ok-at.at e.0 c.index.result.now e.1 c.index.ensures in
     let from_is = read_is self.seats.items c.in_ok-from.from d.0 c.index-else-not-is_idle.result.now d.1 c.index-else-not-is_idle.ensures in
     let from_is' = read_is self.seats.items c.in_ok-from.from d.0 c.index_mut.result.now d.1 c.index_mut.ensures.value in
-    let at' : get_elem? (set self.seats.items c.in_ok-from.from c.give_up-given.new.self) c.in_ok-at.at ≡ some e.0 = set_else self.seats.items c.in_ok-from.from c.in_ok-at.at c.give_up-given.new.self (λ h. ne (sym h)) ∙ e.1 in
-    let is' = read_is (set self.seats.items c.in_ok-from.from c.give_up-given.new.self) c.in_ok-at.at e.0 c.index_mut-2.result.now at' c.index_mut-2.ensures.value in
+    let at' : get_elem? (set self.seats.items c.in_ok-from.from c.give_up-given.new.self) c.in_ok-at.at ≡ some e.0 = set_else self.seats.items
+    c.in_ok-from.from c.in_ok-at.at c.give_up-given.new.self (λ h. ne (sym h)) ∙ e.1 in
+    let is' = read_is (set self.seats.items c.in_ok-from.from c.give_up-given.new.self) c.in_ok-at.at e.0 c.index_mut-2.result.now at'
+    c.index_mut-2.ensures.value in
     let was = c.give_up-given.ensures.was ∙ from_is' in
     let idle = ap (λ (s : CoreSeat). s.phase) (sym is) ∙ c.is_idle.ensures.0 c.if-not-is_idle.false in
     let idle' = ap (λ (s : CoreSeat). s.phase) (sym from_is) ∙ c.is_idle-else-not-is_idle.ensures.0 c.if-not-is_idle-2.false in
-    let move = gather_moves g.K.Kept.step self.draws (state_of self) c.in_ok-at.at c.args.seat e.0 e.1 e.2 c.in_ok-from.from c.args.other d.0 c.give_up-given.new.self c.join.new.self d.1 d.2 idle idle' c.if-seat-other.false
+    let move = gather_moves g.K.Kept.step self.draws (state_of self) c.in_ok-at.at c.args.seat e.0 e.1 e.2 c.in_ok-from.from c.args.other d.0
+    c.give_up-given.new.self c.join.new.self d.1 d.2 idle idle' c.if-seat-other.false
     c.give_up-given.ensures.gone (c.join.ensures ∙ (λ i. joined (is' i) (was i))) in
     steps_shown g.K.Kept.step self.draws (state_of self) _ (Gather c.args.seat c.args.other) seen.Gathered (gathered c.args.seat c.args.other, refl, refl, move)

@@ -31,13 +31,26 @@ leave_shows : (K S C R : Type 0) (step : S → C → S × R) (opening state : K 
     → OnErr reply ((history new ≡ history old) × (state new ≡ state old) × (refusals new ≡ refusals old + 1))
     → Shows step draws (core_state next served seats (book_state (state old) (history old) (refusals old))) (Leave own call) (seen.Left reply)
     (core_state next (served + 1) (set seats i w) (book_state (state new) (history new) (refusals new)))
-leave_shows K S C R step opening state history refusals legal replayed draws next served i own ticket seats p w call old new (Ok r) at called holds is same replied _ =
-    let t = recorded_is step (opening old) (opening new) (state old) (state new) (history old) (history new) (refusals old) (refusals new) own call r (replayed old) (replayed new) (legal new) same replied.0 replied.1 in
-    let b = core_state next served seats (book_state (state old) (history old) (refusals old)) in
-    (recorded own call r, refl, refl, recorded_moves step draws b i own p at called ticket w call r (book_state (state new) (history new) (refusals new)) holds is t.0 t.1)
-leave_shows K S C R step opening state history refusals legal replayed draws next served i own ticket seats p w call old new (Err e) at called holds is same _ kept =
-    let b = core_state next served seats (book_state (state old) (history old) (refusals old)) in
-    (refused own, (call, refl), refl, refused_moves step draws b i own p at called ticket w (book_state (state new) (history new) (refusals new)) holds is (λ j. book_state (kept.1 j) (kept.0 j) (kept.2 j)))
+leave_shows K S C R step opening state history refusals legal replayed draws next served i own ticket seats p w call old new
+    (Ok r) at called holds is same replied _ =
+    let t = recorded_is step (opening old) (opening new) (state old) (state new) (history old) (history new) (refusals old) (refusals new) own call r
+    (replayed old) (replayed new) (legal new) same replied.0 replied.1 in
+    let b = core_state next served seats (book_state (state old) (history old) (refusals old)) in (
+      recorded own call r,
+      refl,
+      refl,
+      recorded_moves step draws b i own p at called ticket w call r
+          (book_state (state new) (history new) (refusals new)) holds is t.0 t.1,
+    )
+leave_shows K S C R step opening state history refusals legal replayed draws next served i own ticket seats p w call old new
+    (Err e) at called holds is same _ kept =
+    let b = core_state next served seats (book_state (state old) (history old) (refusals old)) in (
+      refused own,
+      (call, refl),
+      refl,
+      refused_moves step draws b i own p at called ticket w
+          (book_state (state new) (history new) (refusals new)) holds is (λ j. book_state (kept.1 j) (kept.0 j) (kept.2 j)),
+    )
 
 pub returns-in_default : goal.returns-in_default
 returns-in_default g c =
@@ -45,7 +58,9 @@ returns-in_default g c =
     let e = c.in_ok-at.ensures.found in
     let is = read_is self.seats.items c.in_ok-at.at e.0 c.index.result.now e.1 c.index.ensures in
     record {
-      step = steps_fault g.K.Kept.step self.draws (state_of self) (Leave c.args.seat c.args.call) Phase (unfit_leave self.numbers self.draws (state_of self) self.lawful c.in_ok-at.at c.args.seat e.0 e.1 e.2 e.3
+      step =
+          steps_fault g.K.Kept.step self.draws (state_of self) (Leave c.args.seat c.args.call) Phase
+          (unfit_leave self.numbers self.draws (state_of self) self.lawful c.in_ok-at.at c.args.seat e.0 e.1 e.2 e.3
           c.args.call (λ ticket holds. c.in_default.not-Holding ticket (ap (λ (s : CoreSeat). s.phase) is ∙ holds)));
       alike = record { opening = refl; numbers = refl; draws = refl };
     }
@@ -54,7 +69,13 @@ pub record-reply-requires : goal.record-reply-requires
 record-reply-requires g c =
     let self = c.args.self.now in
     let l = self.lawful in
-    omega (arith, l.counted, served_le self.numbers self.draws (state_of self) l, few_tickets self.next _ self.numbers self.draws l.supply self.few (omega arith))
+    omega (
+      arith,
+      l.counted,
+      served_le self.numbers self.draws (state_of self) l,
+      few_tickets self.next _ self.numbers self.draws l.supply self.few
+          (omega arith),
+    )
 
 pub end-requires : goal.end-requires
 end-requires g c =
@@ -78,8 +99,10 @@ invariant_of-self g c =
     let is = read_is self.seats.items c.in_ok-at.at e.0 c.index.result.now e.1 c.index.ensures in
     let is' = read_is self.seats.items c.in_ok-at.at e.0 c.index_mut.result.now e.1 c.index_mut.ensures.value in
     let r = c.record-reply.ensures in
-    let shows = leave_shows _ _ _ _ k.step k.opening k.state k.history k.refusals g.met.K.Kept.legal g.met.K.Kept.replayed self.draws self.next self.served c.in_ok-at.at c.args.seat c.in-Holding.field-0 self.seats.items e.0 c.end.new.self
-    c.args.call self.book c.record-reply.new.self c.record-reply.result e.1 e.2 (ap (λ (s : CoreSeat). s.phase) (sym is) ∙ c.in-Holding.is) (c.end.ensures ∙ ap ended is') r.same r.replied r.refused in
+    let shows = leave_shows _ _ _ _ k.step k.opening k.state k.history k.refusals g.met.K.Kept.legal g.met.K.Kept.replayed self.draws self.next
+    self.served c.in_ok-at.at c.args.seat c.in-Holding.field-0 self.seats.items e.0 c.end.new.self
+    c.args.call self.book c.record-reply.new.self c.record-reply.result e.1 e.2
+    (ap (λ (s : CoreSeat). s.phase) (sym is) ∙ c.in-Holding.is) (c.end.ensures ∙ ap ended is') r.same r.replied r.refused in
     record {
       few = search rules;
       few_draws = search rules;
@@ -95,6 +118,8 @@ returns-clause-step g c =
     let is = read_is self.seats.items c.in_ok-at.at e.0 c.index.result.now e.1 c.index.ensures in
     let is' = read_is self.seats.items c.in_ok-at.at e.0 c.index_mut.result.now e.1 c.index_mut.ensures.value in
     let r = c.record-reply.ensures in
-    let shows = leave_shows _ _ _ _ k.step k.opening k.state k.history k.refusals g.met.K.Kept.legal g.met.K.Kept.replayed self.draws self.next self.served c.in_ok-at.at c.args.seat c.in-Holding.field-0 self.seats.items e.0 c.end.new.self
-    c.args.call self.book c.record-reply.new.self c.record-reply.result e.1 e.2 (ap (λ (s : CoreSeat). s.phase) (sym is) ∙ c.in-Holding.is) (c.end.ensures ∙ ap ended is') r.same r.replied r.refused in
+    let shows = leave_shows _ _ _ _ k.step k.opening k.state k.history k.refusals g.met.K.Kept.legal g.met.K.Kept.replayed self.draws self.next
+    self.served c.in_ok-at.at c.args.seat c.in-Holding.field-0 self.seats.items e.0 c.end.new.self
+    c.args.call self.book c.record-reply.new.self c.record-reply.result e.1 e.2
+    (ap (λ (s : CoreSeat). s.phase) (sym is) ∙ c.in-Holding.is) (c.end.ensures ∙ ap ended is') r.same r.replied r.refused in
     steps_shown k.step self.draws (state_of self) _ (Leave c.args.seat c.args.call) (seen.Left c.record-reply.result) shows

@@ -17,7 +17,9 @@ returns-in_default g c =
     let e = c.in_ok-at.ensures.found in
     let is = read_is self.seats.items c.in_ok-at.at e.0 c.index.result.now e.1 c.index.ensures in
     record {
-      step = steps_fault g.K.Kept.step self.draws (state_of self) (Look c.args.seat) Phase (unfit_look self.numbers self.draws (state_of self) self.lawful c.in_ok-at.at c.args.seat e.0 e.1 e.2 e.3
+      step =
+          steps_fault g.K.Kept.step self.draws (state_of self) (Look c.args.seat) Phase
+          (unfit_look self.numbers self.draws (state_of self) self.lawful c.in_ok-at.at c.args.seat e.0 e.1 e.2 e.3
           (λ ticket waits. c.in_default.not-Waiting ticket (ap (λ (s : CoreSeat). s.phase) is ∙ waits)));
       alike = record { opening = refl; numbers = refl; draws = refl };
     }
@@ -27,7 +29,8 @@ returns-then-ticket-self-clause-step g c =
     let self = c.args.self.now in
     let e = c.in_ok-at.ensures.found in
     let is = read_is self.seats.items c.in_ok-at.at e.0 c.index.result.now e.1 c.index.ensures in
-    let move = wait_moves g.K.Kept.step self.draws (state_of self) c.in_ok-at.at c.args.seat e.0 e.1 e.2 c.in-Waiting.ticket (ap (λ (s : CoreSeat). s.phase) (sym is) ∙ c.in-Waiting.is) c.if-ticket-self.true in
+    let move = wait_moves g.K.Kept.step self.draws (state_of self) c.in_ok-at.at c.args.seat e.0 e.1 e.2 c.in-Waiting.ticket
+    (ap (λ (s : CoreSeat). s.phase) (sym is) ∙ c.in-Waiting.is) c.if-ticket-self.true in
     steps_shown g.K.Kept.step self.draws (state_of self) (state_of self) (Look c.args.seat) seen.Waiting (waited c.args.seat, refl, refl, move)
 
 pub invariant_of-self : goal.invariant_of-self

@@ -23,7 +23,8 @@ returns-then-not-can_split-clause-step g c =
     let self = c.args.self.now in
     let e = c.in_ok-at.ensures.found in
     let is = read_is self.seats.items c.in_ok-at.at e.0 c.index.result.now e.1 c.index.ensures in
-    steps_fault g.K.Kept.step self.draws (state_of self) (Split c.args.seat c.args.count) Phase (unfit_split self.numbers self.draws (state_of self) self.lawful c.in_ok-at.at c.args.seat e.0 e.1 e.2 e.3 c.args.count
+    steps_fault g.K.Kept.step self.draws (state_of self) (Split c.args.seat c.args.count) Phase
+    (unfit_split self.numbers self.draws (state_of self) self.lawful c.in_ok-at.at c.args.seat e.0 e.1 e.2 e.3 c.args.count
     (λ t. false≢true (sym c.if-not-can_split.true ∙ c.can_split.ensures.1 (subst (λ (s : CoreSeat). (s.phase ≡ Idle) × (s.fresh ≡ true) × (0 < c.args.count) × (c.args.count < length s.numbers)) (sym is) t))))
 
 pub split_off-given-requires-clause-idle : goal.split_off-given-requires-clause-idle
@@ -56,7 +57,18 @@ push_reserved-requires g c =
     let len = ap (λ (s : CoreSeat). length s.numbers) is in
     let fresh : e.0.fresh ≡ true = ap (λ (s : CoreSeat). s.fresh) (sym is) ∙ fits.1 in
     let l = self.lawful in
-    omega (arith, l.places, term_le spare self.seats.items c.in_ok-at.at e.0 e.1, ap (λ (b : Bool). cond b (length e.0.numbers - 1) 0) fresh, len, fits.2, fits.3, self.roomy, self.seats.ok.0)
+    omega (
+      arith,
+      l.places,
+      term_le spare self.seats.items c.in_ok-at.at e.0 e.1,
+      ap
+          (λ (b : Bool). cond b (length e.0.numbers - 1) 0) fresh,
+      len,
+      fits.2,
+      fits.3,
+      self.roomy,
+      self.seats.ok.0,
+    )
 
 pub invariant_of-self : goal.invariant_of-self
 invariant_of-self g c =
@@ -66,9 +78,11 @@ invariant_of-self g c =
     let is' = read_is self.seats.items c.in_ok-at.at e.0 c.index_mut.result.now e.1 c.index_mut.ensures.value in
     let fits = c.can_split.ensures.0 c.if-not-can_split.false in
     let less : c.args.count < length e.0.numbers = let n = ap (λ (s : CoreSeat). length s.numbers) is in omega (arith, fits.3, n) in
-    let move = split_moves g.K.Kept.step self.draws (state_of self) c.in_ok-at.at c.args.seat e.0 e.1 e.2 c.args.count c.split_off-given.new.self c.split_off-given.result c.push_reserved.new.self.items
+    let move = split_moves g.K.Kept.step self.draws (state_of self) c.in_ok-at.at c.args.seat e.0 e.1 e.2 c.args.count c.split_off-given.new.self
+    c.split_off-given.result c.push_reserved.new.self.items
     (ap (λ (s : CoreSeat). s.phase) (sym is) ∙ fits.0) (ap (λ (s : CoreSeat). s.fresh) (sym is) ∙ fits.1) fits.2 less
-    (c.split_off-given.ensures.kept ∙ ap (keeping self.draws c.args.count) is') (c.split_off-given.ensures.given ∙ ap (given self.draws c.args.count) is') c.push_reserved.ensures.items in
+    (c.split_off-given.ensures.kept ∙ ap (keeping self.draws c.args.count) is')
+    (c.split_off-given.ensures.given ∙ ap (given self.draws c.args.count) is') c.push_reserved.ensures.items in
     record {
       few = search rules;
       few_draws = search rules;
@@ -84,7 +98,9 @@ returns-clause-step g c =
     let is' = read_is self.seats.items c.in_ok-at.at e.0 c.index_mut.result.now e.1 c.index_mut.ensures.value in
     let fits = c.can_split.ensures.0 c.if-not-can_split.false in
     let less : c.args.count < length e.0.numbers = let n = ap (λ (s : CoreSeat). length s.numbers) is in omega (arith, fits.3, n) in
-    let move = split_moves g.K.Kept.step self.draws (state_of self) c.in_ok-at.at c.args.seat e.0 e.1 e.2 c.args.count c.split_off-given.new.self c.split_off-given.result c.push_reserved.new.self.items
+    let move = split_moves g.K.Kept.step self.draws (state_of self) c.in_ok-at.at c.args.seat e.0 e.1 e.2 c.args.count c.split_off-given.new.self
+    c.split_off-given.result c.push_reserved.new.self.items
     (ap (λ (s : CoreSeat). s.phase) (sym is) ∙ fits.0) (ap (λ (s : CoreSeat). s.fresh) (sym is) ∙ fits.1) fits.2 less
-    (c.split_off-given.ensures.kept ∙ ap (keeping self.draws c.args.count) is') (c.split_off-given.ensures.given ∙ ap (given self.draws c.args.count) is') c.push_reserved.ensures.items in
+    (c.split_off-given.ensures.kept ∙ ap (keeping self.draws c.args.count) is')
+    (c.split_off-given.ensures.given ∙ ap (given self.draws c.args.count) is') c.push_reserved.ensures.items in
     steps_shown g.K.Kept.step self.draws (state_of self) _ (Split c.args.seat c.args.count) seen.Split (split c.args.seat c.args.count, refl, refl, move)
