@@ -1,5 +1,7 @@
 pub mod Seen
 pub mod Callers
+pub mod Acts
 pub mod Events
 pub mod Obligations
+pub mod OnlyTables
 pub mod SeatLaws

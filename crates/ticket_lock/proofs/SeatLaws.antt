@@ -1,5 +1,5 @@
 -- What is so of every seat, at any time.
-use Rattle.std.proofs.Common.{◌≡◌, ℕ, ◌<◌, ◌≤◌, ◌^◌, length, arith, subst, Some}
+use Rattle.std.proofs.Common.{◌<◌, ◌≤◌, ◌^◌, length, arith, subst}
 use Rattle.ticket_steps.specs.declared.kept.Kept.{Ghosts}
 use Rattle.ticket_steps.specs.History.{IsLegal}
 use Rattle.ticket_steps.specs.Sums.{times}

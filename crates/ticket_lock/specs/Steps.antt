@@ -2,7 +2,7 @@
 use Rattle.std.specs.Prelude.{◌≡◌, ℕ, ◌+◌, ◌%◌, List, [], ◌∷◌, ◌++◌, slice_index, slice_set, Option, Some, ◌⊎◌}
 use mathlib.Core.Option.{some}
 use lib.ListN.{get_elem?}
-use Rattle.atomic_table.specs.Table.{State, Me, keeps, takes, gives, opening, stepped}
+use Rattle.atomic_table.specs.Table.{State, Me, Act, keeps, takes, gives, Valid, carried_after, opening, stepped}
 use Rattle.ticket_steps.specs.declared.kept.Entry.{Entry}
 use Rattle.ticket_steps.specs.declared.kept.Kept.{Ghosts}
 use Rattle.ticket_steps.specs.CoreStates.{CoreState}
@@ -12,6 +12,13 @@ use Rattle.ticket_lock.specs.declared.views.View.{View}
 use Rattle.ticket_lock.specs.Rule.{IsTableOf}
 use Rattle.ticket_lock.specs.Views.{first_view, spent_view, keeping_view, given_view, drawn_view, joined_view, reloaded_view, held_view, left_view}
 use Rattle.ticket_lock.specs.Words.{next_word, served_word}
+
+-- what an operation makes of the number that it finds: an add of one, and a load
+abbrev pub one_more : ℕ → ℕ
+one_more n = (n + 1) % 18446744073709551616
+
+abbrev pub as_found : ℕ → ℕ
+as_found n = n
 
 module _ {K C R : Type 0} where
   -- the table as it is made: no ticket is drawn, none is served, the book is in its slot, and one seat stands for all numbers
@@ -86,3 +93,19 @@ module _ {K C R : Type 0} (k : Ghosts K C R) where
   pub record IsTold (m : TableMoment K k.State C R) (word : ℕ) (tells : ℕ → Me (Option K) (View K C R) → Type 0) (after : Me (Option K) (View K C R)) (s : State (Option K) (View K C R)) : Type 0 where
     pub stands : get_elem? s.views m.id ≡ some after.0
     pub told : tells (slice_index m.table.words word) after
+
+  -- A table that an operation by this seat may leave: one on this word, with this function, that meets the play. The seat has
+  -- some view after it and took or gave back what it could, and the play tells of the number found and of the seat.
+  pub record MayLeave (m : TableMoment K k.State C R) (word : ℕ) (makes : ℕ → ℕ)
+      (tells : ℕ → Me (Option K) (View K C R) → Type 0) (s : State (Option K) (View K C R)) : Type 0 where
+    pub view : View K C R
+    pub act : Act (Option K)
+    pub valid : Valid m.table.homes m.me.1 act
+    pub told : tells (slice_index m.table.words word) (view, carried_after m.me.1 act)
+    pub is : s ≡ stepped m.table word (makes (slice_index m.table.words word)) m.id m.me.1 view act
+
+  -- such an operation leaves this table, and no other
+  pub record LeavesOnly (m : TableMoment K k.State C R) (word : ℕ) (makes : ℕ → ℕ)
+      (tells : ℕ → Me (Option K) (View K C R) → Type 0) (s : State (Option K) (View K C R)) : Type 0 where
+    pub may : MayLeave m word makes tells s
+    pub only : (t : State (Option K) (View K C R)) → MayLeave m word makes tells t → t ≡ s

@@ -11,8 +11,8 @@ ghost use Rattle.ticket_lock.specs.declared.views.Start.{Start};
 ghost use Rattle.ticket_lock.specs.declared.views.View.{View as ViewOf};
 ghost use Rattle.ticket_lock.specs.Plays.{DrawTells, LookTells, LeaveTells, SecondLoadTells};
 ghost use Rattle.ticket_lock.specs.Rule.{IsTableOf};
-ghost use Rattle.ticket_lock.specs.Steps.{TableMoment, IsTableMoment, IsOneEvent, IsNoEvent, IsTold, Returns, first_table, after_split, after_draw, after_waiting, after_holding, after_leaving, after_gather, after_second_load};
-ghost use Rattle.ticket_lock.specs.Views.{drawn_view, held_view, left_view, reloaded_view};
+ghost use Rattle.ticket_lock.specs.Steps.{TableMoment, IsTableMoment, IsOneEvent, IsNoEvent, IsTold, LeavesOnly, Returns, first_table, after_split, after_draw, after_waiting, after_holding, after_leaving, after_gather, after_second_load, one_more, as_found};
+ghost use Rattle.ticket_lock.specs.Views.{drawn_view, held_view, left_view, reloaded_view, longer};
 ghost use Rattle.ticket_lock.specs.Words.{next_word, served_word};
 
 use ticket_steps::Kept;
@@ -28,6 +28,11 @@ use ticket_steps::Kept;
 /// What the seat that steps is told, on which the lock's code relies, is so of that very step: of
 /// the number found in the word, and of the seat as it stands in the table after it (`draw_tells`,
 /// `look_held_tells`, `look_waits_tells`, `leave_tells`, `second_load_tells`).
+///
+/// Nor could the step be another one: an operation on that word, an add of one or a load, by a seat
+/// that carries what its phase says, of which this is told, leaves that table and no other, whatever
+/// the seat took or gave back (`draw_only`, `look_held_only`, `look_waits_only`, `leave_only`,
+/// `second_load_only`).
 pub fn every_step<K: Kept>()
     ensures opening { (start : Start K) → K.history start.book ≡ [] → K.refusals start.book ≡ 0
         → 0 < start.numbers → start.numbers ≤ 1024 → start.draws ≤ 4294967295
@@ -46,6 +51,10 @@ pub fn every_step<K: Kept>()
         → IsTableMoment K.Kept m
         → IsTold K.Kept m next_word (DrawTells step m.me)
         (drawn_view m.core.next m.me.0, m.me.1) (after_draw m.table m.id m.me) }
+    ensures draw_only { (m : TableMoment K K.State K.Call K.Reply) (step : Step (Option K))
+        → IsTableMoment K.Kept m → m.me.1 ≡ []
+        → LeavesOnly K.Kept m next_word one_more (DrawTells step m.me)
+        (after_draw m.table m.id m.me) }
     ensures look_held { (m : TableMoment K K.State K.Call K.Reply) → IsTableMoment K.Kept m
         → m.me.0.seat.phase ≡ Waiting m.core.served
         → (book : K) × (get_elem? m.table.homes 0 ≡ some (some (Some book)))
@@ -58,6 +67,12 @@ pub fn every_step<K: Kept>()
         → IsTold K.Kept m served_word (LookTells K.Kept step m.me)
         (held_view K.Kept m.core.served m.me.0 book, (0, Some book) ∷ m.me.1)
         (after_holding K.Kept m.table m.id m.core.served m.me book) }
+    ensures look_held_only { (m : TableMoment K K.State K.Call K.Reply) (book : K)
+        (step : Step (Option K)) → IsTableMoment K.Kept m
+        → m.me.0.seat.phase ≡ Waiting m.core.served → m.me.1 ≡ []
+        → get_elem? m.table.homes 0 ≡ some (some (Some book))
+        → LeavesOnly K.Kept m served_word as_found (LookTells K.Kept step m.me)
+        (after_holding K.Kept m.table m.id m.core.served m.me book) }
     ensures look_waits { (m : TableMoment K K.State K.Call K.Reply) (ticket : ℕ)
         → IsTableMoment K.Kept m
         → m.me.0.seat.phase ≡ Waiting ticket → ticket ≢ m.core.served
@@ -66,6 +81,11 @@ pub fn every_step<K: Kept>()
         (step : Step (Option K)) → IsTableMoment K.Kept m
         → m.me.0.seat.phase ≡ Waiting ticket → ticket ≢ m.core.served
         → IsTold K.Kept m served_word (LookTells K.Kept step m.me) m.me
+        (after_waiting m.table m.id m.me) }
+    ensures look_waits_only { (m : TableMoment K K.State K.Call K.Reply) (ticket : ℕ)
+        (step : Step (Option K)) → IsTableMoment K.Kept m
+        → m.me.0.seat.phase ≡ Waiting ticket → ticket ≢ m.core.served → m.me.1 ≡ []
+        → LeavesOnly K.Kept m served_word as_found (LookTells K.Kept step m.me)
         (after_waiting m.table m.id m.me) }
     ensures leave { (m : TableMoment K K.State K.Call K.Reply) (ticket : ℕ) (book : K)
         → IsTableMoment K.Kept m
@@ -80,6 +100,11 @@ pub fn every_step<K: Kept>()
         → Holds ticket m.me.0.seat.phase → m.me.1 ≡ (0, Some book) ∷ []
         → IsTold K.Kept m served_word (LeaveTells K.Kept step m.me)
         (left_view K.Kept m.me.0 book, []) (after_leaving K.Kept m.table m.id m.me book) }
+    ensures leave_only { (m : TableMoment K K.State K.Call K.Reply) (ticket : ℕ) (book : K)
+        (step : Step (Option K)) → IsTableMoment K.Kept m
+        → Holds ticket m.me.0.seat.phase → m.me.1 ≡ (0, Some book) ∷ []
+        → LeavesOnly K.Kept m served_word one_more (LeaveTells K.Kept step m.me)
+        (after_leaving K.Kept m.table m.id m.me book) }
     ensures gather { (m : TableMoment K K.State K.Call K.Reply) (other : ℕ)
         (w : ViewOf K K.Call K.Reply)
         → IsTableMoment K.Kept m → m.me.0.seat.phase ≡ Idle → other ≢ m.id
@@ -93,4 +118,9 @@ pub fn every_step<K: Kept>()
         → IsTableMoment K.Kept m
         → IsTold K.Kept m next_word (SecondLoadTells step m.me)
         (reloaded_view m.me.0, m.me.1) (after_second_load m.table m.id m.me) }
+    ensures second_load_only { (m : TableMoment K K.State K.Call K.Reply)
+        (step : Step (Option K)) → IsTableMoment K.Kept m → m.me.1 ≡ []
+        → m.me.0.seen ≡ longer m.me.0.one.seen m.me.0.two.seen
+        → LeavesOnly K.Kept m next_word as_found (SecondLoadTells step m.me)
+        (after_second_load m.table m.id m.me) }
 {}

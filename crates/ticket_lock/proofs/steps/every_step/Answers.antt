@@ -1,12 +1,11 @@
-use Rattle.std.proofs.Common.{◌≡◌, ℕ, List, ◌∷◌, Some, length, get_or, set, refl, sym, ap, ◌∙◌, subst}
-use Rattle.std.specs.Option.{unwrap_or}
-use mathlib.Core.Option.{some, some-injective}
+use Rattle.std.proofs.Common.{◌≡◌, ℕ, List, get_or, set, refl, sym, ap, ◌∙◌}
+use mathlib.Core.Option.{some}
 use lib.ListN.{get_elem?}
 use Rattle.ticket_steps.proofs.Lists.{at_within, set_here}
-use Rattle.ticket_lock.specs.Slots.{IsBook}
 use Rattle.ticket_lock.specs.Views.{drawn_view}
 use Rattle.ticket_lock.proofs.Events.{split_event, draw_event, look_event, wait_event, leave_event, gather_event, second_load_same}
 use Rattle.ticket_lock.proofs.Obligations.{opens_with, look_held_told, look_waits_told, leave_told, second_load_told}
+use Rattle.ticket_lock.proofs.OnlyTables.{book_home, draw_only, look_held_only, look_waits_only, leave_only, second_load_only}
 use Rattle.ticket_lock.proofs.steps.every_step.Goals as goal
 
 stepped_here : {V : Type 0} (views : List V) (id : ℕ) (v w : V) → get_elem? views id ≡ some v → get_elem? (set views id w) id ≡ some w
@@ -25,15 +24,17 @@ returns g c = record {
         stands = stepped_here m.table.views m.id m.me.0 _ is.there ∙ ap (λ (n : ℕ). some (drawn_view n m.me.0)) next;
         told = ap (λ (n : ℕ). (drawn_view n m.me.0, m.me.1)) (sym next);
       };
-  look_held_tells = λ m book step is waits bare at.
-      let e = look_event g.K.Kept m.start m.happened m.core m.table m.id m.me is.ruled is.there waits in
-      let same : e.0 ≡ book = ap (λ o. unwrap_or o book) (some-injective _ _ (some-injective _ _ (sym e.1 ∙ at))) in
-      record {
-        stands = stepped_here m.table.views m.id m.me.0 _ is.there;
-        told =
-            look_held_told g.K.Kept m.start m.happened m.core m.table m.id m.me book step is.ruled is.there waits bare
-            (subst (IsBook g.K.Kept m.start m.core.book) same e.2);
-      };
+  draw_only = λ m step is bare. draw_only g.K.Kept m step is bare;
+  look_held_tells = λ m book step is waits bare at. record {
+    stands = stepped_here m.table.views m.id m.me.0 _ is.there;
+    told =
+        look_held_told g.K.Kept m.start m.happened m.core m.table m.id m.me book step is.ruled is.there waits bare
+        (book_home g.K.Kept m book is waits at);
+  };
+  look_held_only = λ m book step is waits bare at. look_held_only g.K.Kept m book step is waits bare at (book_home g.K.Kept m book is waits at);
+  look_waits_only = λ m ticket step is waits later bare. look_waits_only g.K.Kept m ticket step is waits later bare;
+  leave_only = λ m ticket book step is holds hand. leave_only g.K.Kept m ticket book step is holds hand;
+  second_load_only = λ m step is bare joined. second_load_only g.K.Kept m step is bare joined;
   look_waits_tells = λ m ticket step is waits later. record {
     stands = stepped_here m.table.views m.id m.me.0 _ is.there;
     told = look_waits_told g.K.Kept m.start m.happened m.core m.table m.id ticket m.me step is.ruled is.there waits later;
