@@ -8,9 +8,11 @@ use Rattle.ticket_steps.specs.declared.seats.Phase.TheVariants.{Idle, Waiting, H
 use Rattle.ticket_steps.specs.Books.{BookState, book_state, with_entry, with_refusal}
 use Rattle.ticket_steps.specs.CoreStates.{CoreState, core_state, opened}
 use Rattle.ticket_steps.specs.Happenings.{split, drew, waited, held, recorded, refused, gathered, with_seats, Moves}
+use Rattle.ticket_steps.specs.Lawful.{IsLawful}
 use Rattle.ticket_steps.specs.Seats.{seat, keeping, given, waiting, holding, ended, joined, gone}
 use Rattle.ticket_steps.specs.Sums.{counted}
 use Rattle.ticket_steps.proofs.Lists.{at_same, set_swap}
+use Rattle.ticket_steps.proofs.SeatLemmas.{served_le}
 use Rattle.ticket_steps.proofs.Totals.{length-counted}
 
 -- the core state at the opening
@@ -27,6 +29,12 @@ pub few_tickets : (next left numbers draws : ℕ) → next + left ≤ numbers * 
 few_tickets next left numbers draws supply few small =
     let a : numbers * draws ≤ 1024 * draws = mul-le-mul_right draws few in
     omega arith
+
+-- so few turns have ended
+pub few_served : {S C R : Type 0} (numbers draws : ℕ) (c : CoreState S C R) → IsLawful numbers draws c → numbers ≤ 1024 → draws < 4294967296
+    → c.served ≤ 4398046510080
+few_served numbers draws c l few small =
+    omega (arith, served_le numbers draws c l, few_tickets c.next _ numbers draws l.supply few small)
 
 module _ {S C R : Type 0} (step : S → C → S × R) (draws : ℕ) (b : CoreState S C R) (i own : ℕ) (p : CoreSeat) (at : get_elem? b.seats i ≡ some p) (called : p.own ≡ own) where
   pub split_moves : (count : ℕ) (w x : CoreSeat) (seats : List CoreSeat) → p.phase ≡ Idle → p.fresh ≡ true → 0 < count → count < length p.numbers

@@ -15,6 +15,7 @@ use Rattle.ticket_steps.specs.Faults.{NamesSeats, Fits, HasDraw, IsFault, Shows,
 use Rattle.ticket_steps.specs.Happenings.{Happening, split, drew, waited, held, recorded, refused, gathered, IsOf, Moves}
 use Rattle.ticket_steps.specs.Lawful.{IsLawful}
 use Rattle.ticket_steps.specs.Seats.{IsThere, Stands, is_there}
+use Rattle.ticket_steps.proofs.LawfulSteps.{moves_lawful}
 use Rattle.ticket_steps.proofs.Lists.{at_same, read_at}
 use Rattle.ticket_steps.proofs.SeatLemmas.{named_once}
 
@@ -69,6 +70,11 @@ module _ {S C R : Type 0} (step : S → C → S × R) (draws : ℕ) where
     same = tt;
   }
 
+  -- what an event shows keeps the state lawful
+  pub shows_lawful : (numbers : ℕ) (b c : CoreState S C R) (e : Event C) (seen : Seen R) → IsLawful numbers draws b → Shows step draws b e seen c
+      → IsLawful numbers draws c
+  shows_lawful numbers b c e seen l t = moves_lawful numbers draws step b c t.0 l t.3
+
   -- a step that has a fault
   pub steps_fault : (b : CoreState S C R) (e : Event C) (f : Fault) → IsFault b.seats e f → Steps step draws b e (Err f) b
   steps_fault b e f a = record {
@@ -85,8 +91,8 @@ phase_is numbers draws c i k own p q phase l at called there there' st =
     at_same c.seats i q p (subst (λ (n : ℕ). get_elem? c.seats n ≡ some q) same st.0) at
 
 -- an element that was read at the place where p stands is p
-pub read_is : {A : Type 0} (xs : List A) (i : ℕ) (p x : A) → get_elem? xs i ≡ some p → x ≡ get_or xs i x → x ≡ p
-read_is xs i p x at read = read ∙ read_at xs i p x at
+pub read_is : {A : Type 0} (xs : List A) (i : ℕ) {p x : A} → get_elem? xs i ≡ some p → x ≡ get_or xs i x → x ≡ p
+read_is xs i at read = read ∙ read_at xs i _ _ at
 
 -- a seat that is there, called by its own number: which events it is not fit for
 module _ {S C R : Type 0} (numbers draws : ℕ) (c : CoreState S C R) (l : IsLawful numbers draws c) (i own : ℕ) (p : CoreSeat) (at : get_elem? c.seats i ≡ some p) (called : p.own ≡ own) (there : is_there p.phase ≡ true) where

@@ -1,4 +1,4 @@
-use Rattle.std.proofs.Common.{rules, ◌≡◌, ◌+◌, ◌∷◌, ◌++◌, [], arith, sym, ap, ◌∙◌, refl, List, ℕ, set, Result, Ok, Err, IfOk, OnErr}
+use Rattle.std.proofs.Common.{◌≡◌, ◌+◌, ◌∷◌, ◌++◌, [], arith, sym, ap, ◌∙◌, refl, List, ℕ, set, Result, Ok, Err, IfOk, OnErr}
 use mathlib.Core.Option.{some}
 use lib.ListN.{get_elem?}
 use Rattle.ticket_steps.specs.declared.kept.Entry.{Entry}
@@ -15,11 +15,12 @@ use Rattle.ticket_steps.specs.declared.events.Fault.TheVariants.{Phase}
 use Rattle.ticket_steps.specs.Cores.{state_of}
 use Rattle.ticket_steps.specs.Happenings.{recorded, refused}
 use Rattle.ticket_steps.specs.Seats.{ended}
-use Rattle.ticket_steps.proofs.CoreLemmas.{recorded_moves, refused_moves, few_tickets}
-use Rattle.ticket_steps.proofs.FaultLemmas.{steps_fault, steps_shown, read_is, unfit_leave}
+use Rattle.ticket_steps.proofs.CoreLemmas.{recorded_moves, refused_moves, few_served}
+use Rattle.ticket_steps.proofs.FaultLemmas.{steps_fault, steps_shown, shows_lawful, read_is, unfit_leave}
 use Rattle.ticket_steps.proofs.Histories.{recorded_is}
-use Rattle.ticket_steps.proofs.SeatLemmas.{one_calls, served_le}
-use Rattle.ticket_steps.proofs.LawfulSteps.{moves_lawful}
+use Rattle.ticket_steps.proofs.SeatLemmas.{one_calls}
+use Rattle.ticket_steps.proofs.core_steps.Core.leave.Given.{Over}
+use Rattle.ticket_steps.proofs.core_steps.Core.leave.Goals.{After-self-1}
 use Rattle.ticket_steps.proofs.core_steps.Core.leave.Goals as goal
 
 -- what the leave of a seat shows, whatever the book answered
@@ -56,7 +57,7 @@ pub returns-in_default : goal.returns-in_default
 returns-in_default g c =
     let self = c.args.self.now in
     let e = c.in_ok-at.ensures.found in
-    let is = read_is self.seats.items c.in_ok-at.at e.0 c.index.result.now e.1 c.index.ensures in
+    let is = read_is c.args.self.now.seats.items c.in_ok-at.at c.in_ok-at.ensures.found.1 c.index.ensures in
     record {
       step =
           steps_fault g.K.Kept.step self.draws (state_of self) (Leave c.args.seat c.args.call) Phase
@@ -68,58 +69,41 @@ returns-in_default g c =
 pub record-reply-requires : goal.record-reply-requires
 record-reply-requires g c =
     let self = c.args.self.now in
-    let l = self.lawful in
-    omega (
-      arith,
-      l.counted,
-      served_le self.numbers self.draws (state_of self) l,
-      few_tickets self.next _ self.numbers self.draws l.supply self.few
-          (omega arith),
-    )
+    let served = few_served self.numbers self.draws (state_of self) self.lawful self.few (omega (arith, self.few_draws)) in
+    omega (arith, self.lawful.counted, served)
 
 pub end-requires : goal.end-requires
 end-requires g c =
     let self = c.args.self.now in
-    let l = self.lawful in
     let e = c.in_ok-at.ensures.found in
-    let is' = read_is self.seats.items c.in_ok-at.at e.0 c.index_mut.result.now e.1 c.index_mut.ensures.value in
-    omega (arith, ap (λ (s : CoreSeat). s.calls) is', one_calls self.numbers self.draws (state_of self) l c.in_ok-at.at e.0 e.1, served_le self.numbers self.draws (state_of self) l, few_tickets self.next _ self.numbers self.draws l.supply self.few (omega arith))
+    let served = few_served self.numbers self.draws (state_of self) self.lawful self.few (omega (arith, self.few_draws)) in
+    let calls = ap (λ (s : CoreSeat). s.calls) (read_is c.args.self.now.seats.items c.in_ok-at.at c.in_ok-at.ensures.found.1 c.index_mut.ensures.value) in
+    omega (arith, calls, one_calls self.numbers self.draws (state_of self) self.lawful c.in_ok-at.at e.0 e.1, served)
 
 pub overflow_add-self : goal.overflow_add-self
 overflow_add-self g c =
     let self = c.args.self.now in
-    let l = self.lawful in
-    omega (arith, served_le self.numbers self.draws (state_of self) l, few_tickets self.next _ self.numbers self.draws l.supply self.few (omega arith))
+    omega (arith, few_served self.numbers self.draws (state_of self) self.lawful self.few (omega (arith, self.few_draws)))
 
-pub invariant_of-self : goal.invariant_of-self
-invariant_of-self g c =
+-- the seat leaves, and its call is recorded or refused
+leaves : (g : Over) (c : After-self-1 g) → let self = c.args.self.now in let k = g.K.Kept in let book = c.record-reply.new.self in
+    Shows k.step self.draws (state_of self) (Leave c.args.seat c.args.call) (seen.Left c.record-reply.result)
+    (core_state self.next (self.served + 1) (set self.seats.items c.in_ok-at.at c.end.new.self)
+    (book_state (k.state book) (k.history book) (k.refusals book)))
+leaves g c =
     let self = c.args.self.now in
     let k = g.K.Kept in
     let e = c.in_ok-at.ensures.found in
-    let is = read_is self.seats.items c.in_ok-at.at e.0 c.index.result.now e.1 c.index.ensures in
-    let is' = read_is self.seats.items c.in_ok-at.at e.0 c.index_mut.result.now e.1 c.index_mut.ensures.value in
+    let is = read_is c.args.self.now.seats.items c.in_ok-at.at c.in_ok-at.ensures.found.1 c.index.ensures in
+    let is' = read_is c.args.self.now.seats.items c.in_ok-at.at c.in_ok-at.ensures.found.1 c.index_mut.ensures.value in
     let r = c.record-reply.ensures in
-    let shows = leave_shows _ _ _ _ k.step k.opening k.state k.history k.refusals g.met.K.Kept.legal g.met.K.Kept.replayed self.draws self.next
+    leave_shows _ _ _ _ k.step k.opening k.state k.history k.refusals g.met.K.Kept.legal g.met.K.Kept.replayed self.draws self.next
     self.served c.in_ok-at.at c.args.seat c.in-Holding.field-0 self.seats.items e.0 c.end.new.self
     c.args.call self.book c.record-reply.new.self c.record-reply.result e.1 e.2
-    (ap (λ (s : CoreSeat). s.phase) (sym is) ∙ c.in-Holding.is) (c.end.ensures ∙ ap ended is') r.same r.replied r.refused in
-    record {
-      few = search rules;
-      few_draws = search rules;
-      roomy = search rules;
-      lawful = moves_lawful self.numbers self.draws k.step (state_of self) _ shows.0 self.lawful shows.3;
-    }
+    (ap (λ (s : CoreSeat). s.phase) (sym is) ∙ c.in-Holding.is) (c.end.ensures ∙ ap ended is') r.same r.replied r.refused
+
+pub invariant_of-self-clause-lawful : goal.invariant_of-self-clause-lawful
+invariant_of-self-clause-lawful g c = shows_lawful g.K.Kept.step _ _ _ _ _ _ c.args.self.now.lawful (leaves g c)
 
 pub returns-clause-step : goal.returns-clause-step
-returns-clause-step g c =
-    let self = c.args.self.now in
-    let k = g.K.Kept in
-    let e = c.in_ok-at.ensures.found in
-    let is = read_is self.seats.items c.in_ok-at.at e.0 c.index.result.now e.1 c.index.ensures in
-    let is' = read_is self.seats.items c.in_ok-at.at e.0 c.index_mut.result.now e.1 c.index_mut.ensures.value in
-    let r = c.record-reply.ensures in
-    let shows = leave_shows _ _ _ _ k.step k.opening k.state k.history k.refusals g.met.K.Kept.legal g.met.K.Kept.replayed self.draws self.next
-    self.served c.in_ok-at.at c.args.seat c.in-Holding.field-0 self.seats.items e.0 c.end.new.self
-    c.args.call self.book c.record-reply.new.self c.record-reply.result e.1 e.2
-    (ap (λ (s : CoreSeat). s.phase) (sym is) ∙ c.in-Holding.is) (c.end.ensures ∙ ap ended is') r.same r.replied r.refused in
-    steps_shown k.step self.draws (state_of self) _ (Leave c.args.seat c.args.call) (seen.Left c.record-reply.result) shows
+returns-clause-step g c = steps_shown g.K.Kept.step _ _ _ _ _ (leaves g (goal.at.returns-clause-step g c).After-self-1)

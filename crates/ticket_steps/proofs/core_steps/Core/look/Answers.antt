@@ -1,21 +1,23 @@
-use Rattle.std.proofs.Common.{rules, sym, ap, ◌∙◌, refl}
+use Rattle.std.proofs.Common.{set, sym, ap, ◌∙◌, refl}
 use Rattle.ticket_steps.specs.declared.seats.CoreSeat.{CoreSeat}
 use Rattle.ticket_steps.specs.declared.events.Event.TheVariants.{Look}
 use Rattle.ticket_steps.specs.declared.events.Seen.TheVariants as seen
 use Rattle.ticket_steps.specs.declared.events.Fault.TheVariants.{Phase}
 use Rattle.ticket_steps.specs.Cores.{state_of}
-use Rattle.ticket_steps.specs.Happenings.{held, waited}
+use Rattle.ticket_steps.specs.Faults.{Shows}
+use Rattle.ticket_steps.specs.Happenings.{held, waited, with_seats}
 use Rattle.ticket_steps.specs.Seats.{holding}
 use Rattle.ticket_steps.proofs.CoreLemmas.{look_moves, wait_moves}
-use Rattle.ticket_steps.proofs.FaultLemmas.{steps_fault, steps_shown, read_is, unfit_look}
-use Rattle.ticket_steps.proofs.LawfulSteps.{moves_lawful}
+use Rattle.ticket_steps.proofs.FaultLemmas.{steps_fault, steps_shown, shows_lawful, read_is, unfit_look}
+use Rattle.ticket_steps.proofs.core_steps.Core.look.Given.{Over}
+use Rattle.ticket_steps.proofs.core_steps.Core.look.Goals.{After-self-1}
 use Rattle.ticket_steps.proofs.core_steps.Core.look.Goals as goal
 
 pub returns-in_default : goal.returns-in_default
 returns-in_default g c =
     let self = c.args.self.now in
     let e = c.in_ok-at.ensures.found in
-    let is = read_is self.seats.items c.in_ok-at.at e.0 c.index.result.now e.1 c.index.ensures in
+    let is = read_is c.args.self.now.seats.items c.in_ok-at.at c.in_ok-at.ensures.found.1 c.index.ensures in
     record {
       step =
           steps_fault g.K.Kept.step self.draws (state_of self) (Look c.args.seat) Phase
@@ -28,32 +30,26 @@ pub returns-then-ticket-self-clause-step : goal.returns-then-ticket-self-clause-
 returns-then-ticket-self-clause-step g c =
     let self = c.args.self.now in
     let e = c.in_ok-at.ensures.found in
-    let is = read_is self.seats.items c.in_ok-at.at e.0 c.index.result.now e.1 c.index.ensures in
+    let is = read_is c.args.self.now.seats.items c.in_ok-at.at c.in_ok-at.ensures.found.1 c.index.ensures in
     let move = wait_moves g.K.Kept.step self.draws (state_of self) c.in_ok-at.at c.args.seat e.0 e.1 e.2 c.in-Waiting.ticket
     (ap (λ (s : CoreSeat). s.phase) (sym is) ∙ c.in-Waiting.is) c.if-ticket-self.true in
     steps_shown g.K.Kept.step self.draws (state_of self) (state_of self) (Look c.args.seat) seen.Waiting (waited c.args.seat, refl, refl, move)
 
-pub invariant_of-self : goal.invariant_of-self
-invariant_of-self g c =
+-- the seat comes to hold
+holds : (g : Over) (c : After-self-1 g) → let self = c.args.self.now in
+    Shows g.K.Kept.step self.draws (state_of self) (Look c.args.seat) seen.Held
+    (with_seats (state_of self) (set self.seats.items c.in_ok-at.at c.hold.new.self))
+holds g c =
     let self = c.args.self.now in
     let e = c.in_ok-at.ensures.found in
-    let is = read_is self.seats.items c.in_ok-at.at e.0 c.index.result.now e.1 c.index.ensures in
-    let is' = read_is self.seats.items c.in_ok-at.at e.0 c.index_mut.result.now e.1 c.index_mut.ensures.value in
+    let is = read_is c.args.self.now.seats.items c.in_ok-at.at c.in_ok-at.ensures.found.1 c.index.ensures in
+    let is' = read_is c.args.self.now.seats.items c.in_ok-at.at c.in_ok-at.ensures.found.1 c.index_mut.ensures.value in
     let move = look_moves g.K.Kept.step self.draws (state_of self) c.in_ok-at.at c.args.seat e.0 e.1 e.2 c.in-Waiting.ticket c.hold.new.self
     (ap (λ (s : CoreSeat). s.phase) (sym is) ∙ c.in-Waiting.is) c.if-ticket-self.false (c.hold.ensures ∙ ap (holding c.in-Waiting.ticket) is') in
-    record {
-      few = search rules;
-      few_draws = search rules;
-      roomy = search rules;
-      lawful = moves_lawful self.numbers self.draws g.K.Kept.step (state_of self) _ (held c.args.seat) self.lawful move;
-    }
+    (held c.args.seat, refl, refl, move)
+
+pub invariant_of-self-clause-lawful : goal.invariant_of-self-clause-lawful
+invariant_of-self-clause-lawful g c = shows_lawful g.K.Kept.step _ _ _ _ _ _ c.args.self.now.lawful (holds g c)
 
 pub returns-clause-step : goal.returns-clause-step
-returns-clause-step g c =
-    let self = c.args.self.now in
-    let e = c.in_ok-at.ensures.found in
-    let is = read_is self.seats.items c.in_ok-at.at e.0 c.index.result.now e.1 c.index.ensures in
-    let is' = read_is self.seats.items c.in_ok-at.at e.0 c.index_mut.result.now e.1 c.index_mut.ensures.value in
-    let move = look_moves g.K.Kept.step self.draws (state_of self) c.in_ok-at.at c.args.seat e.0 e.1 e.2 c.in-Waiting.ticket c.hold.new.self
-    (ap (λ (s : CoreSeat). s.phase) (sym is) ∙ c.in-Waiting.is) c.if-ticket-self.false (c.hold.ensures ∙ ap (holding c.in-Waiting.ticket) is') in
-    steps_shown g.K.Kept.step self.draws (state_of self) _ (Look c.args.seat) seen.Held (held c.args.seat, refl, refl, move)
+returns-clause-step g c = steps_shown g.K.Kept.step _ _ _ _ _ (holds g (goal.at.returns-clause-step g c).After-self-1)
