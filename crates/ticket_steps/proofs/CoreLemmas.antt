@@ -36,7 +36,8 @@ pub few_served : {S C R : Type 0} (numbers draws : ℕ) (c : CoreState S C R) �
 few_served numbers draws c l few small =
     omega (arith, served_le numbers draws c l, few_tickets c.next _ numbers draws l.supply few small)
 
-module _ {S C R : Type 0} (step : S → C → S × R) (draws : ℕ) (b : CoreState S C R) (i own : ℕ) (p : CoreSeat) (at : get_elem? b.seats i ≡ some p) (called : p.own ≡ own) where
+module _ {S C R : Type 0} (step : S → C → S × R) (draws : ℕ) (b : CoreState S C R) (i own : ℕ) (p : CoreSeat)
+    (at : get_elem? b.seats i ≡ some p) (called : p.own ≡ own) where
   pub split_moves : (count : ℕ) (w x : CoreSeat) (seats : List CoreSeat) → p.phase ≡ Idle → p.fresh ≡ true → 0 < count → count < length p.numbers
       → w ≡ keeping draws count p → x ≡ given draws count p → seats ≡ set b.seats i w ++ x ∷ []
       → Moves step draws b (split own count) (with_seats b seats)
@@ -69,7 +70,8 @@ module _ {S C R : Type 0} (step : S → C → S × R) (draws : ℕ) (b : CoreSta
       → w ≡ gone → x ≡ joined p q
       → Moves step draws b (gathered own other) (with_seats b (set (set b.seats k w) i x))
   gather_moves k other q w x at' called' idle idle' apart gone_is joined_is =
-      let ne : k ≢ i = λ e. apart (sym called ∙ (ap (λ (s : CoreSeat). s.own) (at_same b.seats i p q at (subst (λ (n : ℕ). get_elem? b.seats n ≡ some q) e at')) ∙ called')) in (
+      let here = λ (e : k ≡ i). at_same b.seats i p q at (subst (λ (n : ℕ). get_elem? b.seats n ≡ some q) e at') in
+      let ne : k ≢ i = λ e. apart (sym called ∙ (ap (λ (s : CoreSeat). s.own) (here e) ∙ called')) in (
         i,
         p,
         k,

@@ -95,7 +95,8 @@ pub read_is : {A : Type 0} (xs : List A) (i : ℕ) {p x : A} → get_elem? xs i 
 read_is xs i at read = read ∙ read_at xs i _ _ at
 
 -- a seat that is there, called by its own number: which events it is not fit for
-module _ {S C R : Type 0} (numbers draws : ℕ) (c : CoreState S C R) (l : IsLawful numbers draws c) (i own : ℕ) (p : CoreSeat) (at : get_elem? c.seats i ≡ some p) (called : p.own ≡ own) (there : is_there p.phase ≡ true) where
+module _ {S C R : Type 0} (numbers draws : ℕ) (c : CoreState S C R) (l : IsLawful numbers draws c) (i own : ℕ) (p : CoreSeat)
+    (at : get_elem? c.seats i ≡ some p) (called : p.own ≡ own) (there : is_there p.phase ≡ true) where
   here : IsThere c.seats own
   here = (i, p, at, called, there)
 
@@ -107,15 +108,22 @@ module _ {S C R : Type 0} (numbers draws : ℕ) (c : CoreState S C R) (l : IsLaw
   unfit_split count wrong = (
     here,
     λ t. let same = phase_is numbers draws c i t.0 own p t.1 Idle l at called there refl t.2 in
-        wrong (ap (λ (s : CoreSeat). s.phase) (sym same) ∙ t.2.2, ap (λ (s : CoreSeat). s.fresh) (sym same) ∙ t.3, t.4, subst (λ (s : CoreSeat). count < length s.numbers) same t.5),
+        wrong (
+          ap (λ (s : CoreSeat). s.phase) (sym same) ∙ t.2.2,
+          ap (λ (s : CoreSeat). s.fresh) (sym same) ∙ t.3,
+          t.4,
+          subst (λ (s : CoreSeat). count < length s.numbers) same t.5,
+        ),
   )
 
   pub unfit_draw : (p.phase ≡ Idle → ⊥) → IsFault {C = C} c.seats (Draw own) Phase
   unfit_draw wrong = (here, λ t. wrong (same_phase Idle t.0 t.1 refl t.2))
 
   pub spent_draw : p.phase ≡ Idle → p.left ≡ 0 → IsFault {C = C} c.seats (Draw own) Spent
-  spent_draw idle none =
-      ((i, p, (at, called, idle)), λ t. let same = phase_is numbers draws c i t.0 own p t.1 Idle l at called there refl t.2 in omega (arith, t.3, ap (λ (s : CoreSeat). s.left) same, none))
+  spent_draw idle none = (
+    (i, p, (at, called, idle)),
+    λ t. let same = phase_is numbers draws c i t.0 own p t.1 Idle l at called there refl t.2 in omega (arith, t.3, ap (λ (s : CoreSeat). s.left) same, none),
+  )
 
   pub unfit_look : ((ticket : ℕ) → p.phase ≡ Waiting ticket → ⊥) → IsFault {C = C} c.seats (Look own) Phase
   unfit_look wrong = (here, λ t. wrong t.2 (same_phase (Waiting t.2) t.0 t.1 refl t.3))

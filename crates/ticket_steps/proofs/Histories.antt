@@ -41,7 +41,9 @@ module _ {C R S : Type 0} (step : S → C → S × R) where
       let legal_here : IsLegal step o (es ++ entry own call reply ∷ []) = subst
       (λ (z : S). IsLegal step z (es ++ entry own call reply ∷ [])) same (subst (IsLegal step o') more legal) in
       let answer : reply ≡ (step s call).1 = legal-last-reply o es (entry own call reply) legal_here ∙ ap (λ (z : S). (step z call).1) (sym was) in
-      let state : s' ≡ (step s call).0 = now ∙ (ap (λ (z : S). replay step z es') same ∙ (ap (replay step o) more ∙ (replay-last o es (entry own call reply) ∙ ap (λ (z : S). (step z call).0) (sym was)))) in (
+      let last : replay step o es' ≡ (step s call).0 =
+      ap (replay step o) more ∙ (replay-last o es (entry own call reply) ∙ ap (λ (z : S). (step z call).0) (sym was)) in
+      let state : s' ≡ (step s call).0 = now ∙ (ap (λ (z : S). replay step z es') same ∙ last) in (
         answer,
         λ i. book_state (state i) ((more ∙ ap (λ (r : R). es ++ entry own call r ∷ []) answer) i) (kept i),
       )

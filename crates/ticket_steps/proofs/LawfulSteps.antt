@@ -1,5 +1,5 @@
 -- Whatever happens keeps a core state lawful.
-use Rattle.std.proofs.Common.{◌≡◌, ℕ, ◌+◌, ◌-◌, ◌*◌, ◌<◌, ◌≢◌, List, [], ◌∷◌, ◌++◌, length, set, take, drop, sym, refl, ap, ◌∙◌, subst, ⊎_elim, arith}
+use Rattle.std.proofs.Common.{◌≡◌, ℕ, ◌+◌, ◌-◌, ◌*◌, ◌<◌, ◌≤◌, ◌≢◌, List, [], ◌∷◌, ◌++◌, length, set, take, drop, sym, refl, ap, ◌∙◌, subst, ⊎_elim, arith}
 use Rattle.std.proofs.Common.{length-append, length-set, zero-add, Bool, true, cond}
 use mathlib.Core.Option.{some, some-ne-none}
 use lib.ListN.{get_elem?}
@@ -22,7 +22,8 @@ each_set : (draws served served' : ℕ) (seats : List CoreSeat) (i : ℕ) (w : C
     → ((j : ℕ) (s : CoreSeat) → j ≢ i → get_elem? seats j ≡ some s → IsSeat draws served' s)
     → (j : ℕ) (s : CoreSeat) → get_elem? (set seats i w) j ≡ some s → IsSeat draws served' s
 each_set draws served served' seats i w mine others j s e =
-    ⊎_elim (λ (t : (j ≡ i) × (w ≡ s)). subst (IsSeat draws served') t.1 mine) (λ (t : (j ≢ i) × (get_elem? seats j ≡ some s)). others j s t.0 t.1) (at_set seats i j w s e)
+    ⊎_elim (λ (t : (j ≡ i) × (w ≡ s)). subst (IsSeat draws served') t.1 mine)
+    (λ (t : (j ≢ i) × (get_elem? seats j ≡ some s)). others j s t.0 t.1) (at_set seats i j w s e)
 
 each_snoc : (draws served : ℕ) (seats : List CoreSeat) (w : CoreSeat) → IsSeat draws served w
     → ((j : ℕ) (s : CoreSeat) → get_elem? seats j ≡ some s → IsSeat draws served s)
@@ -96,47 +97,46 @@ module _ {S C R : Type 0} (numbers draws : ℕ) where
             omega (arith, l.places, sums spare, spare_p, xs, ys, length-append (set b.seats i x) (y ∷ []), length-set b.seats i x, at_within b.seats i p at);
       }
 
+  -- one seat goes on to another phase, with its numbers and its calls
+  lawful_phase : (b : CoreState S C R) (next i : ℕ) (p w : CoreSeat) → IsLawful numbers draws b → get_elem? b.seats i ≡ some p
+      → IsSeat draws b.served w → ((t : ℕ) → tickets t w + once_below t b.next ≡ tickets t p + once_below t next)
+      → w.numbers ≡ p.numbers → w.calls ≡ p.calls → next + w.left ≤ b.next + p.left → spare w ≤ spare p
+      → IsLawful numbers draws (core_state next b.served (set b.seats i w) b.book)
+  lawful_phase b next i p w l at seat moved numbers_are calls_are left less =
+      let sums : (g : CoreSeat → ℕ) → total g (set b.seats i w) + g p ≡ total g b.seats + g w = λ g. total-set g b.seats i p w at in record {
+        each = each_set draws b.served b.served b.seats i w seat (λ j s _ e. l.each j s e);
+        tickets = λ t. omega (arith, l.tickets t, sums (tickets t), moved t);
+        numbered = λ n. omega (arith, l.numbered n, sums (λ (s : CoreSeat). times n s.numbers), ap (times n) numbers_are);
+        count = omega (arith, l.count, sums (λ (s : CoreSeat). length s.numbers), ap length numbers_are);
+        counted = l.counted;
+        calls = omega (arith, l.calls, sums (λ (s : CoreSeat). s.calls), calls_are);
+        supply = omega (arith, l.supply, sums (λ (s : CoreSeat). s.left), left);
+        places = omega (arith, l.places, sums spare, length-set b.seats i w, less);
+      }
+
   lawful_draw : (b : CoreState S C R) (own i : ℕ) (p : CoreSeat) → IsLawful numbers draws b → Stands b.seats i own Idle p → 0 < p.left
       → IsLawful numbers draws (core_state (b.next + 1) b.served (set b.seats i (waiting b.next p)) b.book)
   lawful_draw b own i p l st some_left =
-      let at = st.0 in
-      let w : CoreSeat = waiting b.next p in
-      let sums : (g : CoreSeat → ℕ) → total g (set b.seats i w) + g p ≡ total g b.seats + g w = λ g. total-set g b.seats i p w at in record {
-        each = each_set draws b.served b.served b.seats i w record {
-          holder = λ t e. absurd (cc);
-          own = λ _. (l.each i p at).own (ap is_there st.2);
-          whole = λ e. absurd (cc);
-          gone = λ e. absurd (cc);
-        } (λ j s _ e. l.each j s e);
-        tickets = λ t. omega (arith, l.tickets t, sums (tickets t), tickets_idle t p st.2, below_more t b.next);
-        numbered = λ n. omega (arith, l.numbered n, sums (λ (s : CoreSeat). times n s.numbers));
-        count = omega (arith, l.count, sums (λ (s : CoreSeat). length s.numbers));
-        counted = l.counted;
-        calls = omega (arith, l.calls, sums (λ (s : CoreSeat). s.calls));
-        supply = omega (arith, l.supply, sums (λ (s : CoreSeat). s.left));
-        places = omega (arith, l.places, sums spare, length-set b.seats i w);
-      }
+      let seat : IsSeat draws b.served (waiting b.next p) = record {
+        holder = λ t e. absurd (cc);
+        own = λ _. (l.each i p st.0).own (ap is_there st.2);
+        whole = λ e. absurd (cc);
+        gone = λ e. absurd (cc);
+      } in
+      lawful_phase b (b.next + 1) i p (waiting b.next p) l st.0 seat (λ t. omega (arith, tickets_idle t p st.2, below_more t b.next)) refl refl
+      (omega (arith, some_left)) (omega arith)
 
   lawful_look : (b : CoreState S C R) (own i : ℕ) (p : CoreSeat) → IsLawful numbers draws b → Stands b.seats i own (Waiting b.served) p
       → IsLawful numbers draws (with_seats b (set b.seats i (holding b.served p)))
   lawful_look b own i p l st =
-      let at = st.0 in
-      let w : CoreSeat = holding b.served p in
-      let sums : (g : CoreSeat → ℕ) → total g (set b.seats i w) + g p ≡ total g b.seats + g w = λ g. total-set g b.seats i p w at in record {
-        each = each_set draws b.served b.served b.seats i w record {
-          holder = λ t e. cc;
-          own = λ _. (l.each i p at).own (ap is_there st.2);
-          whole = λ e. (l.each i p at).whole e;
-          gone = λ e. absurd (cc);
-        } (λ j s _ e. l.each j s e);
-        tickets = λ t. omega (arith, l.tickets t, sums (tickets t), tickets_waiting t b.served p st.2);
-        numbered = λ n. omega (arith, l.numbered n, sums (λ (s : CoreSeat). times n s.numbers));
-        count = omega (arith, l.count, sums (λ (s : CoreSeat). length s.numbers));
-        counted = l.counted;
-        calls = omega (arith, l.calls, sums (λ (s : CoreSeat). s.calls));
-        supply = omega (arith, l.supply, sums (λ (s : CoreSeat). s.left));
-        places = omega (arith, l.places, sums spare, length-set b.seats i w);
-      }
+      let seat : IsSeat draws b.served (holding b.served p) = record {
+        holder = λ t e. cc;
+        own = λ _. (l.each i p st.0).own (ap is_there st.2);
+        whole = λ e. (l.each i p st.0).whole e;
+        gone = λ e. absurd (cc);
+      } in
+      lawful_phase b b.next i p (holding b.served p) l st.0 seat (λ t. omega (arith, tickets_waiting t b.served p st.2)) refl refl
+      (omega arith) (omega arith)
 
   lawful_leave : (b : CoreState S C R) (own i t : ℕ) (p : CoreSeat) (book : BookState S C R) → IsLawful numbers draws b → Stands b.seats i own (Holding t) p
       → length book.entries + book.refused ≡ b.served + 1 → IsLawful numbers draws (after_leave b i p book)
@@ -179,7 +179,8 @@ module _ {S C R : Type 0} (numbers draws : ℕ) where
   lawful_gather b own other i k p q l st st' apart =
       let at = st.0 in
       let w : CoreSeat = joined p q in
-      let ne : k ≢ i = λ e. apart (sym st.1 ∙ (ap (λ (s : CoreSeat). s.own) (at_same b.seats i p q at (subst (λ (n : ℕ). get_elem? b.seats n ≡ some q) e st'.0)) ∙ st'.1)) in
+      let same = λ (e : k ≡ i). at_same b.seats i p q at (subst (λ (n : ℕ). get_elem? b.seats n ≡ some q) e st'.0) in
+      let ne : k ≢ i = λ e. apart (sym st.1 ∙ (ap (λ (s : CoreSeat). s.own) (same e) ∙ st'.1)) in
       let there : get_elem? (set b.seats i w) k ≡ some q = set_else b.seats i k w ne ∙ st'.0 in
       let sums : (g : CoreSeat → ℕ) → total g (set (set b.seats i w) k gone) + g p + g q
       ≡ total g b.seats + g w + g gone = λ g. omega (arith, total-set g (set b.seats i w) k q gone there, total-set g b.seats i p w at) in record {

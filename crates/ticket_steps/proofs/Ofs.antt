@@ -27,7 +27,8 @@ module _ {C R : Type 0} where
   pub of-append : (p : ℕ) (xs ys : List (Entry C R)) → of p (xs ++ ys) ≡ of p xs ++ of p ys
   of-append p [] ys = refl
   of-append p (e ∷ es) ys = dite (ℕ_discrete e.pass p)
-      (λ h. of-yes p e (es ++ ys) h ∙ (ap (λ (l : List (Entry C R)). e ∷ l) (of-append p es ys) ∙ sym (ap (λ (l : List (Entry C R)). l ++ of p ys) (of-yes p e es h))))
+      (λ h. of-yes p e (es ++ ys) h
+      ∙ (ap (λ (l : List (Entry C R)). e ∷ l) (of-append p es ys) ∙ sym (ap (λ (l : List (Entry C R)). l ++ of p ys) (of-yes p e es h))))
       (λ h. of-no p e (es ++ ys) h ∙ (of-append p es ys ∙ sym (ap (λ (l : List (Entry C R)). l ++ of p ys) (of-no p e es h))))
 
   pub of-other : (p : ℕ) (xs : List (Entry C R)) (e : Entry C R) → e.pass ≢ p → of p (xs ++ e ∷ []) ≡ of p xs

@@ -71,7 +71,8 @@ module _ {S C R : Type 0} (step : S → C → S × R) where
     recorded-cons n (waited own) hs = refl
     recorded-cons n (held own) hs = refl
     recorded-cons n (recorded own call reply) hs =
-        elim (eqb own n) as (λ b. cond b (entry own call reply ∷ recorded_by n hs) (recorded_by n hs) ≡ cond b (entry own call reply ∷ []) [] ++ recorded_by n hs) [ true ↦ refl | false ↦ refl ]
+        let mine = entry own call reply in
+        elim (eqb own n) as (λ b. cond b (mine ∷ recorded_by n hs) (recorded_by n hs) ≡ cond b (mine ∷ []) [] ++ recorded_by n hs) [ true ↦ refl | false ↦ refl ]
     recorded-cons n (refused own) hs = refl
     recorded-cons n (gathered own other) hs = refl
 
@@ -119,7 +120,8 @@ module _ {S C R : Type 0} (step : S → C → S × R) where
         → LeadsBy step draws b (take (k + 1) es) d
     leads_by_more b c d es k e seen t lt read m =
         let more : take (k + 1) es ≡ take k es ++ e ∷ [] = rw add-one (take-suc es k e lt ∙ ap (λ (x : Event C). take k es ++ x ∷ []) (sym read)) in
-        (t.0 ++ m.0 ∷ [], subst (λ (l : List (Event C)). AreOf l (t.0 ++ m.0 ∷ [])) (sym more) (are_more (take k es) t.0 e m.0 t.1 m.1), leads_more b c d t.0 m.0 t.2 m.3)
+        let of_all = subst (λ (l : List (Event C)). AreOf l (t.0 ++ m.0 ∷ [])) (sym more) (are_more (take k es) t.0 e m.0 t.1 m.1) in
+        (t.0 ++ m.0 ∷ [], of_all, leads_more b c d t.0 m.0 t.2 m.3)
 
     -- only seats that are there record, and their own numbers are among the numbers
     moves_strangers : (numbers n : ℕ) (b c : CoreState S C R) (h : Happening C R) → IsLawful numbers draws b → numbers ≤ n
@@ -133,7 +135,8 @@ module _ {S C R : Type 0} (step : S → C → S × R) where
         let below = own_below numbers draws b l t.0 p t.3.0 (ap is_there t.3.2) in
         let apart : own ≢ n = λ e. omega (arith, below, le, t.3.1, e) in
         let nothing : recorded_by n (recorded own call reply ∷ []) ≡ [] = ap (λ (x : Bool). cond x (entry own call reply ∷ []) []) (ne_eqb own n apart) in
-        moves_of n b c (recorded own call reply) t ∙ (ap (λ (l : List (Entry C R)). of n b.book.entries ++ l) nothing ∙ (append-nil (of n b.book.entries) ∙ none))
+        moves_of n b c (recorded own call reply) t
+        ∙ (ap (λ (l : List (Entry C R)). of n b.book.entries ++ l) nothing ∙ (append-nil (of n b.book.entries) ∙ none))
     moves_strangers numbers n b c (refused own) l le none t = moves_of n b c (refused own) t ∙ (append-nil (of n b.book.entries) ∙ none)
     moves_strangers numbers n b c (gathered own other) l le none t = moves_of n b c (gathered own other) t ∙ (append-nil (of n b.book.entries) ∙ none)
 

@@ -97,7 +97,8 @@ module _ {S C R : Type 0} (numbers draws : ℕ) (c : CoreState S C R) (l : IsLaw
 
   pub served_le : c.served ≤ c.next
   served_le =
-      dite (dec_le c.served c.next) (λ le. le) (λ gt. absurd (omega (arith, l.tickets c.next, below_no c.next c.next (omega arith), below_yes c.next c.served (omega arith))))
+      dite (dec_le c.served c.next) (λ le. le)
+      (λ gt. absurd (omega (arith, l.tickets c.next, below_no c.next c.next (omega arith), below_yes c.next c.served (omega arith))))
 
   -- a seat that waits while all others have no numbers is the one that is served
   pub alone_served : (i t : ℕ) (p : CoreSeat) → get_elem? c.seats i ≡ some p → p.phase ≡ Waiting t → numbers ≤ length p.numbers → t ≡ c.served
@@ -105,7 +106,13 @@ module _ {S C R : Type 0} (numbers draws : ℕ) (c : CoreState S C R) (l : IsLaw
       let mine : times t (tickets_of p.phase) ≡ 1 = tickets_waiting t t p waits ∙ times-same t [] in
       let one : once_below c.served c.next ≡ 1 = below_yes c.served c.next (in_line i t p at (omega (arith, mine))) in
       let only : tickets_at c.served c.seats ≡ times c.served (tickets_of p.phase) = only_term (tickets c.served) c.seats i p at
-      (λ k u other e. omega (arith, times_le c.served (tickets_of u.phase), busy draws c.served u (l.each k u e), terms_le (λ (s : CoreSeat). length s.numbers) c.seats i k p u other at e, l.count)) in
+      (λ k u other e. omega (
+        arith,
+        times_le c.served (tickets_of u.phase),
+        busy draws c.served u (l.each k u e),
+        terms_le (λ (s : CoreSeat). length s.numbers) c.seats i k p u other at e,
+        l.count,
+      )) in
       let found : times c.served (t ∷ []) ≡ 1 = sym (tickets_waiting c.served t p waits) ∙ (sym only ∙ (one_served ∙ one)) in
       dite (ℕ_discrete c.served t) (λ e. sym e) (λ ne. absurd (omega (arith, times-other c.served t [] ne, found)))
 
@@ -131,7 +138,13 @@ module _ {S C R : Type 0} (numbers draws : ℕ) (c : CoreState S C R) (l : IsLaw
   -- a seat's own number is below the number of numbers
   pub own_below : (i : ℕ) (p : CoreSeat) → get_elem? c.seats i ≡ some p → is_there p.phase ≡ true → p.own < numbers
   own_below i p at there = dite (dec_le numbers p.own)
-      (λ le. absurd (omega (arith, (l.each i p at).own there, term_le (λ (s : CoreSeat). times p.own s.numbers) c.seats i p at, l.numbered p.own, below_no p.own numbers le)))
+      (λ le. absurd (omega (
+        arith,
+        (l.each i p at).own there,
+        term_le (λ (s : CoreSeat). times p.own s.numbers) c.seats i p at,
+        l.numbered p.own,
+        below_no p.own numbers le,
+      )))
       (λ lt. omega arith)
 
   -- a fresh seat's range is within the numbers
@@ -143,7 +156,13 @@ module _ {S C R : Type 0} (numbers draws : ℕ) (c : CoreState S C R) (l : IsLaw
       let last : 0 < times (p.own + k) p.numbers = omega
       (arith, counted_last p.own k, ap (times (p.own + k)) (ap (counted p.own) len), ap (times (p.own + k)) whole) in
       dite (dec_le numbers (p.own + k))
-      (λ le. absurd (omega (arith, last, l.numbered (p.own + k), below_no (p.own + k) numbers le, term_le (λ (s : CoreSeat). times (p.own + k) s.numbers) c.seats i p at)))
+      (λ le. absurd (omega (
+        arith,
+        last,
+        l.numbered (p.own + k),
+        below_no (p.own + k) numbers le,
+        term_le (λ (s : CoreSeat). times (p.own + k) s.numbers) c.seats i p at,
+      )))
       (λ lt. omega (arith, len))
 
   -- two seats answer for no more than all numbers, and have ended no more than all calls

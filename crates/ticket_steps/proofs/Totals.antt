@@ -66,7 +66,8 @@ times-other n x xs ne = omega (arith, ap (λ (b : Bool). one_if b) (ne_eqb n x n
 pub times_le : (n : ℕ) (xs : List ℕ) → times n xs ≤ length xs
 times_le n [] = omega arith
 times_le n (x ∷ xs) =
-    dite (ℕ_discrete n x) (λ e. omega (arith, ap (λ (b : Bool). one_if b) (eq-eqb n x e), times_le n xs)) (λ ne. omega (arith, times-other n x xs ne, times_le n xs))
+    dite (ℕ_discrete n x) (λ e. omega (arith, ap (λ (b : Bool). one_if b) (eq-eqb n x e), times_le n xs))
+    (λ ne. omega (arith, times-other n x xs ne, times_le n xs))
 
 pub times-append : (n : ℕ) (xs ys : List ℕ) → times n (xs ++ ys) ≡ times n xs + times n ys
 times-append n [] ys = omega arith

@@ -54,12 +54,11 @@ impl<K: Kept> Core<K> {
 
     /// As `open`, with so many draws for each number.
     fn open_with(alloc: Global, book: K, numbers: u32, draws: u32) -> Result<Core<K>, K>
-        requires numbers { (0 < numbers) × (numbers ≤ 1024) }
-        requires empty { (K.history book ≡ []) × (K.refusals book ≡ 0) }
+        requires { (0 < numbers) × (numbers ≤ 1024) × (K.history book ≡ []) × (K.refusals book ≡ 0) }
         ensures opened { IfOk result (λ core.
-            state_of core ≡ opened numbers draws (K.opening book)) }
-        ensures alike { IfOk result (λ core. (opening_of core ≡ K.opening book)
-            × (numbers_of core ≡ numbers) × (draws_of core ≡ draws)) }
+            (state_of core ≡ opened numbers draws (K.opening book))
+            × (opening_of core ≡ K.opening book) × (numbers_of core ≡ numbers)
+            × (draws_of core ≡ draws)) }
         ensures refused { IfErr result (λ back. back ≡ book) }
     {
         let Ok(all) = first_numbers(alloc, numbers) else {

@@ -18,8 +18,7 @@ use Rattle.ticket_steps.proofs.core_steps.Core.draw.Goals as goal
 
 pub returns-then-not-is_idle-clause-step : goal.returns-then-not-is_idle-clause-step
 returns-then-not-is_idle-clause-step g c =
-    let self = c.args.self.now in
-    let e = c.in_ok-at.ensures.found in
+    let self = c.args.self.now in let e = c.in_ok-at.ensures.found in
     let is = read_is c.args.self.now.seats.items c.in_ok-at.at c.in_ok-at.ensures.found.1 c.index-place.ensures in
     steps_fault g.K.Kept.step self.draws (state_of self) (Draw c.args.seat) Phase
     (unfit_draw self.numbers self.draws (state_of self) self.lawful c.in_ok-at.at c.args.seat e.0 e.1 e.2 e.3
@@ -27,8 +26,7 @@ returns-then-not-is_idle-clause-step g c =
 
 pub returns-then-place-eq0-clause-step : goal.returns-then-place-eq0-clause-step
 returns-then-place-eq0-clause-step g c =
-    let self = c.args.self.now in
-    let e = c.in_ok-at.ensures.found in
+    let self = c.args.self.now in let e = c.in_ok-at.ensures.found in
     let is = read_is c.args.self.now.seats.items c.in_ok-at.at c.in_ok-at.ensures.found.1 c.index-place.ensures in
     steps_fault g.K.Kept.step self.draws (state_of self) (Draw c.args.seat) Spent
     (spent_draw self.numbers self.draws (state_of self) self.lawful c.in_ok-at.at c.args.seat e.0 e.1 e.2 e.3
@@ -46,8 +44,7 @@ draws : (g : Over) (c : After-self-1 g) → let self = c.args.self.now in
     Shows g.K.Kept.step self.draws (state_of self) (Draw c.args.seat) (Drew self.next)
     (core_state (self.next + 1) self.served (set self.seats.items c.in_ok-at.at c.wait.new.self) (state_of self).book)
 draws g c =
-    let self = c.args.self.now in
-    let e = c.in_ok-at.ensures.found in
+    let self = c.args.self.now in let e = c.in_ok-at.ensures.found in
     let is = read_is c.args.self.now.seats.items c.in_ok-at.at c.in_ok-at.ensures.found.1 c.index-place.ensures in
     let is' = read_is c.args.self.now.seats.items c.in_ok-at.at c.in_ok-at.ensures.found.1 c.index_mut.ensures.value in
     let idle : e.0.phase ≡ Idle = ap (λ (s : CoreSeat). s.phase) (sym is) ∙ c.is_idle.ensures.0 c.if-not-is_idle.false in

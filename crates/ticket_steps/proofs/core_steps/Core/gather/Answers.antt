@@ -23,8 +23,7 @@ use Rattle.ticket_steps.proofs.core_steps.Core.gather.Goals.{then-seat-other-via
 
 pub returns-then-seat-other-clause-step : goal.returns-then-seat-other-clause-step
 returns-then-seat-other-clause-step g c =
-    let self = c.args.self.now in
-    let e = c.in_ok-at.ensures.found in
+    let self = c.args.self.now in let e = c.in_ok-at.ensures.found in
     let d = c.in_ok-from.ensures.found in
     let bad : ((c.args.seat ≢ c.args.other) × (e.0.phase ≡ Idle) × (d.0.phase ≡ Idle) → ⊥) = elim c.then-seat-other.branch [
       | then-seat-other-via-then-seat-other w ↦ λ t. t.0 w.if-seat-other.true
@@ -66,8 +65,9 @@ other_was g c = c.give_up-given.ensures.was ∙ read_is c.args.self.now.seats.it
 -- and the seat that joins it is as it was found
 seat_is : (g : Over) (c : After-index_mut-2 g) → c.index_mut-2.result.now ≡ c.in_ok-at.ensures.found.0
 seat_is g c =
-    let else_where = set_else c.args.self.now.seats.items c.in_ok-from.from c.in_ok-at.at c.give_up-given.new.self (λ h. apart g c (sym h)) in
-    read_is (set c.args.self.now.seats.items c.in_ok-from.from c.give_up-given.new.self) c.in_ok-at.at (else_where ∙ c.in_ok-at.ensures.found.1) c.index_mut-2.ensures.value
+    let items = c.args.self.now.seats.items in
+    let at = set_else items c.in_ok-from.from c.in_ok-at.at c.give_up-given.new.self (λ h. apart g c (sym h)) ∙ c.in_ok-at.ensures.found.1 in
+    read_is (set items c.in_ok-from.from c.give_up-given.new.self) c.in_ok-at.at at c.index_mut-2.ensures.value
 
 pub join-requires-clause-idle : goal.join-requires-clause-idle
 join-requires-clause-idle g c = ap (λ (s : CoreSeat). s.phase) (seat_is g c) ∙ idle g c
@@ -90,8 +90,7 @@ gathers : (g : Over) (c : After-self-2-1 g) → let self = c.args.self.now in
     Shows g.K.Kept.step self.draws (state_of self) (Gather c.args.seat c.args.other) seen.Gathered
     (with_seats (state_of self) (set (set self.seats.items c.in_ok-from.from c.give_up-given.new.self) c.in_ok-at.at c.join.new.self))
 gathers g c =
-    let self = c.args.self.now in
-    let e = c.in_ok-at.ensures.found in
+    let self = c.args.self.now in let e = c.in_ok-at.ensures.found in
     let d = c.in_ok-from.ensures.found in
     let at = (goal.at.invariant_of-self-clause-lawful g c).After-index_mut-2 in
     let move = gather_moves g.K.Kept.step self.draws (state_of self) c.in_ok-at.at c.args.seat e.0 e.1 e.2 c.in_ok-from.from c.args.other d.0

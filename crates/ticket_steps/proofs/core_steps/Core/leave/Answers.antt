@@ -53,18 +53,13 @@ leave_shows K S C R step opening state history refusals legal replayed draws nex
           (book_state (state new) (history new) (refusals new)) holds is (λ j. book_state (kept.1 j) (kept.0 j) (kept.2 j)),
     )
 
-pub returns-in_default : goal.returns-in_default
-returns-in_default g c =
-    let self = c.args.self.now in
-    let e = c.in_ok-at.ensures.found in
-    let is = read_is c.args.self.now.seats.items c.in_ok-at.at c.in_ok-at.ensures.found.1 c.index.ensures in
-    record {
-      step =
-          steps_fault g.K.Kept.step self.draws (state_of self) (Leave c.args.seat c.args.call) Phase
-          (unfit_leave self.numbers self.draws (state_of self) self.lawful c.in_ok-at.at c.args.seat e.0 e.1 e.2 e.3
-          c.args.call (λ ticket holds. c.in_default.not-Holding ticket (ap (λ (s : CoreSeat). s.phase) is ∙ holds)));
-      alike = record { opening = refl; numbers = refl; draws = refl };
-    }
+pub returns-in_default-clause-step : goal.returns-in_default-clause-step
+returns-in_default-clause-step g c =
+    let self = c.args.self.now in let e = c.in_ok-at.ensures.found in
+    let is = read_is self.seats.items c.in_ok-at.at e.1 c.index.ensures in
+    let unfit = unfit_leave self.numbers self.draws (state_of self) self.lawful c.in_ok-at.at c.args.seat e.0 e.1 e.2 e.3 c.args.call
+    (λ ticket holds. c.in_default.not-Holding ticket (ap (λ (s : CoreSeat). s.phase) is ∙ holds)) in
+    steps_fault g.K.Kept.step self.draws (state_of self) (Leave c.args.seat c.args.call) Phase unfit
 
 pub record-reply-requires : goal.record-reply-requires
 record-reply-requires g c =
@@ -74,8 +69,7 @@ record-reply-requires g c =
 
 pub end-requires : goal.end-requires
 end-requires g c =
-    let self = c.args.self.now in
-    let e = c.in_ok-at.ensures.found in
+    let self = c.args.self.now in let e = c.in_ok-at.ensures.found in
     let served = few_served self.numbers self.draws (state_of self) self.lawful self.few (omega (arith, self.few_draws)) in
     let calls = ap (λ (s : CoreSeat). s.calls) (read_is c.args.self.now.seats.items c.in_ok-at.at c.in_ok-at.ensures.found.1 c.index_mut.ensures.value) in
     omega (arith, calls, one_calls self.numbers self.draws (state_of self) self.lawful c.in_ok-at.at e.0 e.1, served)

@@ -13,23 +13,17 @@ use Rattle.ticket_steps.proofs.core_steps.Core.look.Given.{Over}
 use Rattle.ticket_steps.proofs.core_steps.Core.look.Goals.{After-self-1}
 use Rattle.ticket_steps.proofs.core_steps.Core.look.Goals as goal
 
-pub returns-in_default : goal.returns-in_default
-returns-in_default g c =
-    let self = c.args.self.now in
-    let e = c.in_ok-at.ensures.found in
-    let is = read_is c.args.self.now.seats.items c.in_ok-at.at c.in_ok-at.ensures.found.1 c.index.ensures in
-    record {
-      step =
-          steps_fault g.K.Kept.step self.draws (state_of self) (Look c.args.seat) Phase
-          (unfit_look self.numbers self.draws (state_of self) self.lawful c.in_ok-at.at c.args.seat e.0 e.1 e.2 e.3
-          (λ ticket waits. c.in_default.not-Waiting ticket (ap (λ (s : CoreSeat). s.phase) is ∙ waits)));
-      alike = record { opening = refl; numbers = refl; draws = refl };
-    }
+pub returns-in_default-clause-step : goal.returns-in_default-clause-step
+returns-in_default-clause-step g c =
+    let self = c.args.self.now in let e = c.in_ok-at.ensures.found in
+    let is = read_is self.seats.items c.in_ok-at.at e.1 c.index.ensures in
+    steps_fault g.K.Kept.step self.draws (state_of self) (Look c.args.seat) Phase
+    (unfit_look self.numbers self.draws (state_of self) self.lawful c.in_ok-at.at c.args.seat e.0 e.1 e.2 e.3
+    (λ ticket waits. c.in_default.not-Waiting ticket (ap (λ (s : CoreSeat). s.phase) is ∙ waits)))
 
 pub returns-then-ticket-self-clause-step : goal.returns-then-ticket-self-clause-step
 returns-then-ticket-self-clause-step g c =
-    let self = c.args.self.now in
-    let e = c.in_ok-at.ensures.found in
+    let self = c.args.self.now in let e = c.in_ok-at.ensures.found in
     let is = read_is c.args.self.now.seats.items c.in_ok-at.at c.in_ok-at.ensures.found.1 c.index.ensures in
     let move = wait_moves g.K.Kept.step self.draws (state_of self) c.in_ok-at.at c.args.seat e.0 e.1 e.2 c.in-Waiting.ticket
     (ap (λ (s : CoreSeat). s.phase) (sym is) ∙ c.in-Waiting.is) c.if-ticket-self.true in
@@ -40,8 +34,7 @@ holds : (g : Over) (c : After-self-1 g) → let self = c.args.self.now in
     Shows g.K.Kept.step self.draws (state_of self) (Look c.args.seat) seen.Held
     (with_seats (state_of self) (set self.seats.items c.in_ok-at.at c.hold.new.self))
 holds g c =
-    let self = c.args.self.now in
-    let e = c.in_ok-at.ensures.found in
+    let self = c.args.self.now in let e = c.in_ok-at.ensures.found in
     let is = read_is c.args.self.now.seats.items c.in_ok-at.at c.in_ok-at.ensures.found.1 c.index.ensures in
     let is' = read_is c.args.self.now.seats.items c.in_ok-at.at c.in_ok-at.ensures.found.1 c.index_mut.ensures.value in
     let move = look_moves g.K.Kept.step self.draws (state_of self) c.in_ok-at.at c.args.seat e.0 e.1 e.2 c.in-Waiting.ticket c.hold.new.self

@@ -22,8 +22,7 @@ use Rattle.ticket_steps.proofs.core_steps.Core.split.Goals as goal
 
 pub returns-then-not-can_split-clause-step : goal.returns-then-not-can_split-clause-step
 returns-then-not-can_split-clause-step g c =
-    let self = c.args.self.now in
-    let e = c.in_ok-at.ensures.found in
+    let self = c.args.self.now in let e = c.in_ok-at.ensures.found in
     let may = λ (s : CoreSeat). (s.phase ≡ Idle) × (s.fresh ≡ true) × (0 < c.args.count) × (c.args.count < length s.numbers) in
     let is = read_is c.args.self.now.seats.items c.in_ok-at.at c.in_ok-at.ensures.found.1 c.index.ensures in
     steps_fault g.K.Kept.step self.draws (state_of self) (Split c.args.seat c.args.count) Phase
@@ -33,7 +32,8 @@ returns-then-not-can_split-clause-step g c =
 pub split_off-given-requires-clause-idle : goal.split_off-given-requires-clause-idle
 split_off-given-requires-clause-idle g c =
     let is = read_is c.args.self.now.seats.items c.in_ok-at.at c.in_ok-at.ensures.found.1 c.index.ensures in
-    ap (λ (s : CoreSeat). s.phase) (read_is c.args.self.now.seats.items c.in_ok-at.at c.in_ok-at.ensures.found.1 c.index_mut.ensures.value ∙ sym is) ∙ (c.can_split.ensures.0 c.if-not-can_split.false).0
+    let is' = read_is c.args.self.now.seats.items c.in_ok-at.at c.in_ok-at.ensures.found.1 c.index_mut.ensures.value in
+    ap (λ (s : CoreSeat). s.phase) (is' ∙ sym is) ∙ (c.can_split.ensures.0 c.if-not-can_split.false).0
 
 pub split_off-given-requires-clause-few : goal.split_off-given-requires-clause-few
 split_off-given-requires-clause-few g c =
@@ -49,8 +49,7 @@ split_off-given-requires-clause-few g c =
 
 pub push_reserved-requires : goal.push_reserved-requires
 push_reserved-requires g c =
-    let self = c.args.self.now in
-    let e = c.in_ok-at.ensures.found in
+    let self = c.args.self.now in let e = c.in_ok-at.ensures.found in
     let is = read_is c.args.self.now.seats.items c.in_ok-at.at c.in_ok-at.ensures.found.1 c.index.ensures in
     let fits = c.can_split.ensures.0 c.if-not-can_split.false in
     let len = ap (λ (s : CoreSeat). length s.numbers) is in
@@ -72,8 +71,7 @@ push_reserved-requires g c =
 splits : (g : Over) (c : After-push_reserved g) → let self = c.args.self.now in
     Shows g.K.Kept.step self.draws (state_of self) (Split c.args.seat c.args.count) seen.Split (with_seats (state_of self) c.push_reserved.new.self.items)
 splits g c =
-    let self = c.args.self.now in
-    let e = c.in_ok-at.ensures.found in
+    let self = c.args.self.now in let e = c.in_ok-at.ensures.found in
     let is = read_is c.args.self.now.seats.items c.in_ok-at.at c.in_ok-at.ensures.found.1 c.index.ensures in
     let is' = read_is c.args.self.now.seats.items c.in_ok-at.at c.in_ok-at.ensures.found.1 c.index_mut.ensures.value in
     let fits = c.can_split.ensures.0 c.if-not-can_split.false in
