@@ -30,13 +30,14 @@ use Rattle.ticket_steps.proofs.SeatLemmas.{holds, one_holder, no_holder, sole, i
 use Rattle.ticket_steps.proofs.Totals.{times-append, times-same, times-take-drop, total-set, total-append, terms_le, below_le}
 use Rattle.ticket_lock.specs.declared.views.Start.{Start}
 use Rattle.ticket_lock.specs.declared.views.View.{View}
-use Rattle.ticket_lock.specs.Histories.{IsKnown}
+use Rattle.ticket_lock.specs.Histories.{IsKnown, IsKnownToAll}
 use Rattle.ticket_lock.specs.Rule.{IsTableOf}
-use Rattle.ticket_lock.specs.Slots.{IsBook}
+use Rattle.ticket_lock.specs.Slots.{IsBook, IsSlotOf}
 use Rattle.ticket_lock.specs.Steps.{after_split, after_draw, after_waiting, after_holding, after_leaving, after_gather, after_second_load, Returns, IsEvent}
 use Rattle.ticket_lock.specs.Views.{draws_in, view, seat_in, spent_view, Follows, keeping_view, given_view, drawn_view, joined_view, reloaded_view}
 use Rattle.ticket_lock.specs.Views.{held_view, left_view}
-use Rattle.ticket_lock.proofs.Seen.{follows_self, follows_none, follows_later, follows_fewer, longer_of}
+use Rattle.ticket_lock.specs.Words.{IsCoreOf}
+use Rattle.ticket_lock.proofs.Seen.{follows_whole, follows_none, follows_later, follows_fewer, longer_of}
 
 module _ {K C R : Type 0} (k : Ghosts K C R) (start : Start K) where
   abbrev pub V : Type 0
@@ -107,10 +108,40 @@ module _ {K C R : Type 0} (k : Ghosts K C R) (start : Start K) where
       → ((j : ℕ) (v : V) → get_elem? vs j ≡ some v → IsKnown start b v) → (j : ℕ) (v : V) → get_elem? (vs ++ w ∷ []) j ≡ some v → IsKnown start b v
   known_snoc b vs w new all j v e = ⊎_elim (λ (t : get_elem? vs j ≡ some v). all j v t) (λ (t : w ≡ v). subst (IsKnown start b) t new) (at_snoc vs w v j e)
 
-  -- no seat holds after a seat that doesn't hold was changed to one that doesn't, where none held before
-  home_before : (seats : List CoreSeat) (i : ℕ) (p w : CoreSeat) → get_elem? seats i ≡ some p → holds_one p.phase ≡ 0 → holders (set seats i w) ≡ 0
-      → holders seats ≡ 0
-  home_before seats i p w at free e = omega (arith, total-set holds seats i p w at, free, e)
+  -- a table of the same lock, whose three passes were shown
+  next_ruled : (hs hs' : List (Happening C R)) (c d : Core) (s s' : Table) → Ruled hs c s → IsCoreOf k start hs' d s' → IsSlotOf k start d s'
+      → IsKnownToAll start d s' → Ruled hs' d s'
+  next_ruled hs hs' c d s s' r words slot known = record {
+    some_number = r.some_number;
+    few_numbers = r.few_numbers;
+    few_draws = r.few_draws;
+    words = words;
+    slot = slot;
+    known = known;
+  }
+
+  -- the core state that words and views are read off, after one happening more
+  next_core : (hs : List (Happening C R)) (c d : Core) (s s' : Table) (h : Happening C R) → Ruled hs c s → Moves k.step start.draws c h d
+      → s'.words ≡ d.next ∷ d.served ∷ [] → d.seats ≡ map seat_in s'.views → IsCoreOf k start (hs ++ h ∷ []) d s'
+  next_core hs c d s s' h r move words seats = record {
+    words = words;
+    seats = seats;
+    leads = leads_more k.step start.draws _ c d hs h r.words.leads move;
+  }
+
+  -- the slot stays as it was where no seat comes to hold and none that held goes on
+  slot_stays : (c d : Core) (s s' : Table) → IsSlotOf k start c s → d.book ≡ c.book → s'.homes ≡ s.homes → holders d.seats ≡ holders c.seats
+      → IsSlotOf k start d s'
+  slot_stays c d s s' slot book homes same = record {
+    one_slot = ap length homes ∙ slot.one_slot;
+    home = λ e.
+        let there = slot.home (sym same ∙ e) in (
+          there.0,
+          ap (λ (q : List (maybe.Option (Option K))). get_elem? q 0) homes ∙ there.1,
+          subst (λ (b : BookState k.State C R). IsBook k start b there.0) (sym book) there.2,
+        );
+    away = λ h. ap (λ (q : List (maybe.Option (Option K))). get_elem? q 0) homes ∙ slot.away (omega (arith, h, same));
+  }
 
   pub draw_event : (hs : List (Happening C R)) (c : Core) (s : Table) (id : ℕ) (me : Me (Option K) V) → Ruled hs c s
       → get_elem? s.views id ≡ some me.0 → me.0.seat.phase ≡ Idle → 0 < me.0.seat.left
@@ -130,28 +161,14 @@ module _ {K C R : Type 0} (k : Ghosts K C R) (start : Start K) where
       (λ i. set (r.words.words i) 0 ((is i + 1) % 18446744073709551616)) ∙ ap (λ (n : ℕ). n ∷ c.served ∷ []) up in (
         d,
         move,
-        record {
-          some_number = r.some_number;
-          few_numbers = r.few_numbers;
-          few_draws = r.few_draws;
-          words = record {
-            words = words;
-            seats =
-                ap (λ (l : List CoreSeat). set l id p) r.words.seats
-                ∙ sym (map-set seat_in s.views id w ∙ ap (λ (n : ℕ). set (map seat_in s.views) id (waiting n v.seat)) is);
-            leads = leads_more k.step start.draws _ c d hs (drew v.seat.own c.next) r.words.leads move;
-          };
-          slot = record {
-            one_slot = r.slot.one_slot;
-            home = λ e. r.slot.home (home_before c.seats id v.seat p at' (ap holds_one idle) e);
-            away = λ h. r.slot.away (omega (arith, h, total-set holds c.seats id v.seat p at', ap holds_one idle));
-          };
-          known =
-              record {
-                each = known_set c.book s.views id w (known_view c.book v.start (waiting x v.seat) v.seen 0 old.start_is old.seen
-                    (λ t e. absurd (cc))) (λ j u _ e. r.known.each j u e);
-              };
-        },
+        next_ruled hs _ c d s _ r
+            (next_core hs c d s _ (drew v.seat.own c.next) r move words (ap (λ (l : List CoreSeat). set l id p) r.words.seats
+            ∙ sym (map-set seat_in s.views id w ∙ ap (λ (n : ℕ). set (map seat_in s.views) id (waiting n v.seat)) is)))
+            (slot_stays c d s _ r.slot refl refl (omega (arith, total-set holds c.seats id v.seat p at', ap holds_one idle)))
+            record {
+              each = known_set c.book s.views id w (known_view c.book v.start (waiting x v.seat) v.seen 0 old.start_is old.seen
+                  (λ t e. absurd (cc))) (λ j u _ e. r.known.each j u e);
+            },
       )
 
   -- a look that waits changes nothing
@@ -169,18 +186,8 @@ module _ {K C R : Type 0} (k : Ghosts K C R) (start : Start K) where
       let move : Moves k.step start.draws c h c = (id, v.seat, ticket, (at', refl, waits), later, refl) in (
         c,
         move,
-        subst (λ (z : Table). IsTableOf k start (hs ++ h ∷ []) c z) (sym (waiting_same s id me at)) record {
-          some_number = r.some_number;
-          few_numbers = r.few_numbers;
-          few_draws = r.few_draws;
-          words = record {
-            words = r.words.words;
-            seats = r.words.seats;
-            leads = leads_more k.step start.draws _ c c hs h r.words.leads move;
-          };
-          slot = r.slot;
-          known = r.known;
-        },
+        subst (λ (z : Table). IsTableOf k start (hs ++ h ∷ []) c z) (sym (waiting_same s id me at))
+            (next_ruled hs _ c c s s r (next_core hs c c s s h r move r.words.words r.words.seats) r.slot r.known),
       )
 
   pub look_event : (hs : List (Happening C R)) (c : Core) (s : Table) (id : ℕ) (me : Me (Option K) V) → Ruled hs c s
@@ -204,26 +211,20 @@ module _ {K C R : Type 0} (k : Ghosts K C R) (start : Start K) where
         (
           d,
           move,
-          record {
-            some_number = r.some_number;
-            few_numbers = r.few_numbers;
-            few_draws = r.few_draws;
-            words = record {
-              words = set-get_or s.words 1 0 ∙ r.words.words;
-              seats = ap (λ (q : List CoreSeat). set q id p) r.words.seats ∙ sym (map-set seat_in s.views id w);
-              leads = leads_more k.step start.draws _ c d hs (held v.seat.own) r.words.leads move;
-            };
-            slot = record {
-              one_slot = length-set s.homes 0 none ∙ r.slot.one_slot;
-              home = λ e. absurd (omega (arith, e, total-set holds c.seats id v.seat p at', ap holds_one waits));
-              away = λ _. set_here s.homes 0 none (omega (arith, r.slot.one_slot));
-            };
-            known = record {
-              each = known_set c.book s.views id w
-                  (known_view c.book v.start (holding c.served v.seat) (k.history book) (k.refusals book) old.start_is
-                  (subst (λ (q : List (Entry C R)). Follows v.seat.numbers q c.book.entries) (sym there.2.entries) (follows_self v.seat.numbers c.book.entries)) (λ t e. (there.2.entries, there.2.refused))) (λ j u _ e. r.known.each j u e);
-            };
-          },
+          next_ruled hs _ c d s _ r
+              (next_core hs c d s _ (held v.seat.own) r move (set-get_or s.words 1 0 ∙ r.words.words)
+              (ap (λ (q : List CoreSeat). set q id p) r.words.seats ∙ sym (map-set seat_in s.views id w)))
+              record {
+                one_slot = length-set s.homes 0 none ∙ r.slot.one_slot;
+                home = λ e. absurd (omega (arith, e, total-set holds c.seats id v.seat p at', ap holds_one waits));
+                away = λ _. set_here s.homes 0 none (omega (arith, r.slot.one_slot));
+              }
+              record {
+                each = known_set c.book s.views id w
+                    (known_view c.book v.start (holding c.served v.seat) (k.history book) (k.refusals book) old.start_is
+                    (follows_whole v.seat.numbers (k.history book) c.book.entries there.2.entries) (λ t e. (there.2.entries, there.2.refused)))
+                    (λ j u _ e. r.known.each j u e);
+              },
         ),
       )
 
@@ -253,44 +254,42 @@ module _ {K C R : Type 0} (k : Ghosts K C R) (start : Start K) where
       let here : put_back s.homes me.1 ≡ set s.homes 0 (some (Some book)) = ap (put_back s.homes) hand in
       let old = r.known.each id v at in
       let own_in : 0 < times v.seat.own v.seat.numbers = mine.own (ap is_there holder) in
+      next_ruled hs _ c d s _ r
+      (next_core hs c d s _ h r move ((λ i. set (r.words.words i) 1 ((is i + 1) % 18446744073709551616)) ∙ ap (λ (n : ℕ). c.next ∷ n ∷ []) up)
+      (ap (λ (q : List CoreSeat). set q id p) r.words.seats ∙ sym (map-set seat_in s.views id w)))
       record {
-        some_number = r.some_number;
-        few_numbers = r.few_numbers;
-        few_draws = r.few_draws;
-        words = record {
-          words = (λ i. set (r.words.words i) 1 ((is i + 1) % 18446744073709551616)) ∙ ap (λ (n : ℕ). c.next ∷ n ∷ []) up;
-          seats = ap (λ (q : List CoreSeat). set q id p) r.words.seats ∙ sym (map-set seat_in s.views id w);
-          leads = leads_more k.step start.draws _ c d hs h r.words.leads move;
-        };
-        slot = record {
-          one_slot = ap length here ∙ (length-set s.homes 0 (some (Some book)) ∙ r.slot.one_slot);
-          home =
-              λ _. (book, ap (λ (q : List (maybe.Option (Option K))). get_elem? q 0) here ∙ set_here s.homes 0 (some (Some book)) (omega (arith, r.slot.one_slot)), is_book);
-          away = λ e. absurd (omega (arith, e, total-set holds c.seats id v.seat p at', ap holds_one holder, one_holder start.numbers start.draws c l));
-        };
-        known = record {
-          each = known_set b s.views id w
-              (known_view b v.start p (k.history book) 0 old.start_is
-              (subst (λ (q : List (Entry C R)). Follows v.seat.numbers q b.entries) (sym is_book.entries) (follows_self v.seat.numbers b.entries)) (λ t e. absurd (cc)))
-              (λ j u other e. let at'' = seat_at hs c s r j u e in
-              known_later c.book b u (r.known.each j u e) zs more
-              (λ n has. others n (λ same. omega (
-                arith,
-                own_in,
-                ap (λ (m : ℕ). times m u.seat.numbers) same,
-                has,
-                l.numbered v.seat.own,
-                below_le v.seat.own start.numbers,
-                terms_le (λ (q : CoreSeat). times v.seat.own q.numbers) c.seats id j v.seat u.seat other at' at'',
-              )))
-              (λ t e'. omega (
-                arith,
-                sole start.numbers start.draws c l id j v.seat u.seat at' ticket_here other at'',
-                tickets_holding c.served t u.seat e',
-                ap (λ (n : ℕ). times c.served (n ∷ [])) ((l.each j u.seat at'').holder t e'),
-                times-same c.served [],
-              )));
-        };
+        one_slot = ap length here ∙ (length-set s.homes 0 (some (Some book)) ∙ r.slot.one_slot);
+        home =
+            λ _. (
+              book,
+              ap (λ (q : List (maybe.Option (Option K))). get_elem? q 0) here ∙ set_here s.homes 0 (some (Some book))
+                  (omega (arith, r.slot.one_slot)),
+              is_book,
+            );
+        away = λ e. absurd (omega (arith, e, total-set holds c.seats id v.seat p at', ap holds_one holder, one_holder start.numbers start.draws c l));
+      }
+      record {
+        each = known_set b s.views id w
+            (known_view b v.start p (k.history book) 0 old.start_is
+            (follows_whole v.seat.numbers (k.history book) b.entries is_book.entries) (λ t e. absurd (cc)))
+            (λ j u other e. let at'' = seat_at hs c s r j u e in
+            known_later c.book b u (r.known.each j u e) zs more
+            (λ n has. others n (λ same. omega (
+              arith,
+              own_in,
+              ap (λ (m : ℕ). times m u.seat.numbers) same,
+              has,
+              l.numbered v.seat.own,
+              below_le v.seat.own start.numbers,
+              terms_le (λ (q : CoreSeat). times v.seat.own q.numbers) c.seats id j v.seat u.seat other at' at'',
+            )))
+            (λ t e'. omega (
+              arith,
+              sole start.numbers start.draws c l id j v.seat u.seat at' ticket_here other at'',
+              tickets_holding c.served t u.seat e',
+              ap (λ (n : ℕ). times c.served (n ∷ [])) ((l.each j u.seat at'').holder t e'),
+              times-same c.served [],
+            )));
       }
 
   -- it is the holder's own number that recorded, or that was refused
@@ -364,38 +363,27 @@ module _ {K C R : Type 0} (k : Ghosts K C R) (start : Start K) where
       let d : Core = with_seats c (set c.seats id p ++ q ∷ []) in
       let move : Moves k.step start.draws c (split v.seat.own count) d = (id, v.seat, (at', refl, idle), fresh, some_count, less, refl) in
       let views : map seat_in (set s.views id a ++ b ∷ []) ≡ set (map seat_in s.views) id p ++ q ∷ [] = map-append seat_in (set s.views id a) (b ∷ [])
-      ∙ (ap (λ (l : List CoreSeat). l ++ b.seat ∷ []) (map-set seat_in s.views id a) ∙ (λ i. set (map seat_in s.views) id (keeping (draws i) count v.seat) ++ given (draws i) count v.seat ∷ [])) in
+      ∙ (ap (λ (l : List CoreSeat). l ++ b.seat ∷ []) (map-set seat_in s.views id a)
+      ∙ (λ i. set (map seat_in s.views) id (keeping (draws i) count v.seat) ++ given (draws i) count v.seat ∷ [])) in
       let sums : (m : ℕ) → times m (take n v.seat.numbers) + times m (drop n v.seat.numbers)
       ≡ times m v.seat.numbers = λ m. times-take-drop m n v.seat.numbers in (
         d,
         move,
-        record {
-          some_number = r.some_number;
-          few_numbers = r.few_numbers;
-          few_draws = r.few_draws;
-          words = record {
-            words = r.words.words;
-            seats = ap (λ (l : List CoreSeat). set l id p ++ q ∷ []) r.words.seats ∙ sym views;
-            leads = leads_more k.step start.draws _ c d hs (split v.seat.own count) r.words.leads move;
-          };
-          slot = record {
-            one_slot = r.slot.one_slot;
-            home =
-                λ e. r.slot.home (omega (arith, e, total-append holds (set c.seats id p) (q ∷ []), total-set holds c.seats id v.seat p at', ap holds_one idle));
-            away =
-                λ h. r.slot.away (omega (arith, h, total-append holds (set c.seats id p) (q ∷ []), total-set holds c.seats id v.seat p at', ap holds_one idle));
-          };
-          known = record {
-            each = known_snoc c.book (set s.views id a) b
-                (known_view c.book v.start b.seat v.seen 0 old.start_is
-                (follows_fewer (drop n v.seat.numbers) v.seat.numbers v.seen c.book.entries old.seen
-                (λ m has. omega (arith, has, sums m))) (λ t e. absurd (cc)))
-                (known_set c.book s.views id a
-                (known_view c.book v.start a.seat v.seen 0 old.start_is
-                (follows_fewer (take n v.seat.numbers) v.seat.numbers v.seen c.book.entries old.seen
-                (λ m has. omega (arith, has, sums m))) (λ t e. absurd (cc))) (λ j u _ e. r.known.each j u e));
-          };
-        },
+        next_ruled hs _ c d s _ r
+            (next_core hs c d s _ (split v.seat.own count) r move r.words.words
+            (ap (λ (l : List CoreSeat). set l id p ++ q ∷ []) r.words.seats ∙ sym views))
+            (slot_stays c d s _ r.slot refl refl
+            (omega (arith, total-append holds (set c.seats id p) (q ∷ []), total-set holds c.seats id v.seat p at', ap holds_one idle)))
+            record {
+              each = known_snoc c.book (set s.views id a) b
+                  (known_view c.book v.start b.seat v.seen 0 old.start_is
+                  (follows_fewer (drop n v.seat.numbers) v.seat.numbers v.seen c.book.entries old.seen
+                  (λ m has. omega (arith, has, sums m))) (λ t e. absurd (cc)))
+                  (known_set c.book s.views id a
+                  (known_view c.book v.start a.seat v.seen 0 old.start_is
+                  (follows_fewer (take n v.seat.numbers) v.seat.numbers v.seen c.book.entries old.seen
+                  (λ m has. omega (arith, has, sums m))) (λ t e. absurd (cc))) (λ j u _ e. r.known.each j u e));
+            },
       )
 
   pub gather_event : (hs : List (Happening C R)) (c : Core) (s : Table) (id other : ℕ) (v w : V) → Ruled hs c s → get_elem? s.views id ≡ some v
@@ -409,42 +397,36 @@ module _ {K C R : Type 0} (k : Ghosts K C R) (start : Start K) where
       let old = r.known.each id v at in
       let old' = r.known.each other w at_other in
       let d : Core = with_seats c (set (set c.seats id x.seat) other gone) in
-      let names : v.seat.own ≢ w.seat.own = λ e. apart (named_once start.numbers start.draws c l id other v.seat w.seat at' there (ap is_there idle) (ap is_there idle') e) in
+      let names : v.seat.own ≢ w.seat.own =
+      λ e. apart (named_once start.numbers start.draws c l id other v.seat w.seat at' there (ap is_there idle) (ap is_there idle') e) in
       let move : Moves k.step start.draws c (gathered v.seat.own w.seat.own)
       d = (id, v.seat, other, w.seat, (at', refl, idle), (there, refl, idle'), names, refl) in (
         d,
         move,
-        record {
-          some_number = r.some_number;
-          few_numbers = r.few_numbers;
-          few_draws = r.few_draws;
-          words = record {
-            words = r.words.words;
-            seats =
-                ap (λ (q : List CoreSeat). set (set q id x.seat) other gone) r.words.seats
-                ∙ sym (map-set seat_in (set s.views id x) other spent_view ∙ ap (λ (q : List CoreSeat). set q other gone) (map-set seat_in s.views id x));
-            leads = leads_more k.step start.draws _ c d hs (gathered v.seat.own w.seat.own) r.words.leads move;
-          };
-          slot = record {
-            one_slot = r.slot.one_slot;
-            home =
-                λ e. r.slot.home (omega (arith, e, total-set holds (set c.seats id x.seat) other w.seat gone (set_else c.seats id other x.seat apart ∙ there), total-set holds c.seats id v.seat x.seat at', ap holds_one idle, ap holds_one idle'));
-            away =
-                λ h. r.slot.away (omega (arith, h, total-set holds (set c.seats id x.seat) other w.seat gone (set_else c.seats id other x.seat apart ∙ there), total-set holds c.seats id v.seat x.seat at', ap holds_one idle, ap holds_one idle'));
-          };
-          known = record {
-            each = known_set c.book (set s.views id x) other spent_view
-                (known_view c.book None gone [] 0 (λ o e. absurd (cc)) (follows_none c.book.entries) (λ t e. absurd (cc)))
-                (λ j u ne e. known_set c.book s.views id x record {
-                  start_is = old.start_is;
-                  seen = longer_of v.seat.numbers w.seat.numbers v.seen w.seen c.book.entries old.seen old'.seen;
-                  one = old.seen;
-                  two = old'.seen;
-                  within = λ m. omega (arith, times-append m v.seat.numbers w.seat.numbers);
-                  out = λ t h. absurd (cc);
-                } (λ i z _ f. r.known.each i z f) j u e);
-          };
-        },
+        next_ruled hs _ c d s _ r
+            (next_core hs c d s _ (gathered v.seat.own w.seat.own) r move r.words.words
+            (ap (λ (q : List CoreSeat). set (set q id x.seat) other gone) r.words.seats
+            ∙ sym (map-set seat_in (set s.views id x) other spent_view ∙ ap (λ (q : List CoreSeat). set q other gone) (map-set seat_in s.views id x))))
+            (slot_stays c d s _ r.slot refl refl
+            (omega (
+              arith,
+              total-set holds (set c.seats id x.seat) other w.seat gone (set_else c.seats id other x.seat apart ∙ there),
+              total-set holds c.seats id v.seat x.seat at',
+              ap holds_one idle,
+              ap holds_one idle',
+            )))
+            record {
+              each = known_set c.book (set s.views id x) other spent_view
+                  (known_view c.book None gone [] 0 (λ o e. absurd (cc)) (follows_none c.book.entries) (λ t e. absurd (cc)))
+                  (λ j u ne e. known_set c.book s.views id x record {
+                    start_is = old.start_is;
+                    seen = longer_of v.seat.numbers w.seat.numbers v.seen w.seen c.book.entries old.seen old'.seen;
+                    one = old.seen;
+                    two = old'.seen;
+                    within = λ m. omega (arith, times-append m v.seat.numbers w.seat.numbers);
+                    out = λ t h. absurd (cc);
+                  } (λ i z _ f. r.known.each i z f) j u e);
+            },
       )
 
   -- the second load of a gather is no event
@@ -456,19 +438,10 @@ module _ {K C R : Type 0} (k : Ghosts K C R) (start : Start K) where
       let at' = at_map seat_in s.views id v at in
       let old = r.known.each id v at in
       let views : map seat_in (set s.views id w) ≡ map seat_in s.views = map-set seat_in s.views id w ∙ set_again (map seat_in s.views) id v.seat at' in
+      next_ruled hs hs c c s _ r
+      record { words = set-get_or s.words 0 0 ∙ r.words.words; seats = r.words.seats ∙ sym views; leads = r.words.leads }
+      (slot_stays c c s _ r.slot refl refl refl)
       record {
-        some_number = r.some_number;
-        few_numbers = r.few_numbers;
-        few_draws = r.few_draws;
-        words = record {
-          words = set-get_or s.words 0 0 ∙ r.words.words;
-          seats = r.words.seats ∙ sym views;
-          leads = r.words.leads;
-        };
-        slot = record { one_slot = r.slot.one_slot; home = r.slot.home; away = r.slot.away };
-        known =
-            record {
-              each = known_set c.book s.views id w (known_view c.book v.start v.seat v.seen 0 old.start_is old.seen
-                  (λ t e. absurd (cc))) (λ j u _ e. r.known.each j u e);
-            };
+        each = known_set c.book s.views id w (known_view c.book v.start v.seat v.seen 0 old.start_is old.seen
+            (λ t e. absurd (cc))) (λ j u _ e. r.known.each j u e);
       }

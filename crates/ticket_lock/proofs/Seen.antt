@@ -61,10 +61,12 @@ module _ {C R : Type 0} where
       let pre : IsPrefix (longer xs ys) log = longer_is xs ys (λ (l : List (Entry C R)). IsPrefix l log) (λ _. g.0) (λ _. f.0) in (
         pre,
         λ p has. dite (dec_le (suc 0) (times p ms))
-            (λ in_as. f.1 p in_as ∙ sym (squeezed p xs (longer xs ys) log (longer_is xs ys (λ (l : List (Entry C R)). IsPrefix xs l) (λ lt. shorter xs ys log f.0 g.0 (omega arith)) (λ _. ([], append-nil xs))) pre (f.1 p in_as)))
+            (λ in_as. f.1 p in_as ∙ sym (squeezed p xs (longer xs ys) log
+            (longer_is xs ys (λ (l : List (Entry C R)). IsPrefix xs l) (λ lt. shorter xs ys log f.0 g.0 (omega arith)) (λ _. ([], append-nil xs))) pre (f.1 p in_as)))
             (λ out. let in_bs : 0 < times p ns = omega (arith, has, times-append p ms ns, out) in
             g.1 p in_bs ∙ sym (squeezed p ys (longer xs ys) log
-            (longer_is xs ys (λ (l : List (Entry C R)). IsPrefix ys l) (λ _. ([], append-nil ys)) (λ le. shorter ys xs log g.0 f.0 (omega arith))) pre (g.1 p in_bs))),
+            (longer_is xs ys (λ (l : List (Entry C R)). IsPrefix ys l) (λ _. ([], append-nil ys)) (λ le. shorter ys xs log g.0 f.0 (omega arith)))
+            pre (g.1 p in_bs))),
       )
 
   nothing_left : (rest : List (Entry C R)) → ((p : ℕ) → of p rest ≡ []) → rest ≡ []
@@ -74,7 +76,8 @@ module _ {C R : Type 0} where
   -- what has all entries of every pass is the whole history
   pub all_seen : (seen log : List (Entry C R)) → IsPrefix seen log → ((p : ℕ) → of p log ≡ of p seen) → log ≡ seen
   all_seen seen log pre same =
-      let none_of : (p : ℕ) → of p pre.0 ≡ [] = λ p. empty_of (of p pre.0) (omega (arith, ap length (same p), ap length (ap (of p) (sym pre.1) ∙ of-append p seen pre.0), length-append (of p seen) (of p pre.0))) in
+      let none_of : (p : ℕ) → of p pre.0 ≡ [] = λ p. empty_of (of p pre.0) (omega
+      (arith, ap length (same p), ap length (ap (of p) (sym pre.1) ∙ of-append p seen pre.0), length-append (of p seen) (of p pre.0))) in
       sym pre.1 ∙ (ap (λ (l : List (Entry C R)). seen ++ l) (nothing_left pre.0 none_of) ∙ append-nil seen)
 
   pub empty_before : (p : ℕ) (seen log : List (Entry C R)) → IsPrefix seen log → of p log ≡ [] → of p log ≡ of p seen
@@ -90,6 +93,10 @@ module _ {C R : Type 0} where
 
   pub follows_self : (numbers : List ℕ) (log : List (Entry C R)) → Follows numbers log log
   follows_self numbers log = (([], append-nil log), λ p h. refl)
+
+  -- a history that is the whole one
+  pub follows_whole : (numbers : List ℕ) (seen log : List (Entry C R)) → seen ≡ log → Follows numbers seen log
+  follows_whole numbers seen log is = subst (λ (q : List (Entry C R)). Follows numbers q log) (sym is) (follows_self numbers log)
 
   pub follows_none : (log : List (Entry C R)) → Follows [] [] log
   follows_none log = ((log, refl), λ p h. absurd (omega arith))

@@ -72,7 +72,8 @@ module _ {S C R : Type 0} (step : S → C → S × R) where
     recorded-cons n (held own) hs = refl
     recorded-cons n (recorded own call reply) hs =
         let mine = entry own call reply in
-        elim (eqb own n) as (λ b. cond b (mine ∷ recorded_by n hs) (recorded_by n hs) ≡ cond b (mine ∷ []) [] ++ recorded_by n hs) [ true ↦ refl | false ↦ refl ]
+        elim (eqb own n) as (λ b. cond b (mine ∷ recorded_by n hs) (recorded_by n hs) ≡ cond b (mine ∷ []) [] ++ recorded_by n hs)
+        [ true ↦ refl | false ↦ refl ]
     recorded-cons n (refused own) hs = refl
     recorded-cons n (gathered own other) hs = refl
 
