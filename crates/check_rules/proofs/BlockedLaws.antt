@@ -1,7 +1,7 @@
 -- Dependencies followed from master to master: where no object depends on itself, the number of objects is deep enough.
 use Rattle.std.proofs.Common.{◌≡◌, ℕ, zero, suc, ◌<◌, ◌≤◌, ◌&&◌, ◌||◌, Bool, true, false, List, [], ◌∷◌, get_or, length, refl, sym, ap, ◌∙◌, arith, inl, inr}
 use Rattle.std.specs.List.{list_any}
-use Rattle.std.proofs.lemmas.Bool.{cases_lt}
+use Rattle.std.proofs.lemmas.Bool.{cases_lt, or_parts}
 use Rattle.std.proofs.lemmas.List.{length-map}
 use Rattle.std.proofs.Math.ListN.{get_or-map}
 use Rattle.check_objects.specs.declared.dependency.Dependency.{Dependency}
@@ -14,36 +14,29 @@ use Rattle.check_rules.specs.Dependencies.{fails, is_met, is_blocked_within, is_
 pub masters_at : (c : Configuration) (n : ℕ) → links_of (masters_of c) n ≡ masters_in (dependencies_of c n)
 masters_at c n = get_or-map masters_in c.dependencies n []
 
-none_first : (a b : Bool) → (a || b) ≡ false → a ≡ false
-none_first true b h = cc
-none_first false b h = refl
-
-none_second : (a b : Bool) → (a || b) ≡ false → b ≡ false
-none_second true b h = cc
-none_second false b h = h
-
 -- tests that agree where no chain of k masters begins
 any_same : (links : List (List ℕ)) (k : ℕ) (p q : Dependency → Bool) → ((d : Dependency) → deep links d.master k ≡ false → p d ≡ q d)
     → (ds : List Dependency) → list_any (λ m. deep links m k) (masters_in ds) ≡ false → list_any p ds ≡ list_any q ds
 any_same links k p q f [] h = refl
 any_same links k p q f (d ∷ ds) h =
-    ap (λ b. b || list_any p ds) (f d (none_first (deep links d.master k) _ h))
-    ∙ ap (λ b. q d || b) (any_same links k p q f ds (none_second (deep links d.master k) _ h))
+    ap (λ b. b || list_any p ds) (f d (or_parts (deep links d.master k) _ h).0)
+    ∙ ap (λ b. q d || b) (any_same links k p q f ds (or_parts (deep links d.master k) _ h).1)
 
 -- where no chain of k masters begins, one step further says the same
 deep_enough : (c : Configuration) (standings : List Standing) (k n : ℕ) → deep (masters_of c) n k ≡ false
     → is_blocked_within (suc k) c standings n ≡ is_blocked_within k c standings n
 deep_enough c standings zero n h = cc
 deep_enough c standings (suc k) n h =
-    any_same (masters_of c) k (λ d. is_met c standings d || (d.inherits && is_blocked_within (suc k) c standings d.master)) (λ d. is_met c standings d || (d.inherits && is_blocked_within k c standings d.master))
+    any_same (masters_of c) k (λ d. is_met c standings d || (d.inherits && is_blocked_within (suc k) c standings d.master))
+    (λ d. is_met c standings d || (d.inherits && is_blocked_within k c standings d.master))
     (λ d e. ap (λ b. is_met c standings d || (d.inherits && b)) (deep_enough c standings k d.master e))
     (dependencies_of c n) (rw (← masters_at c n) h)
 
 below_by : (p : ℕ → Bool) (n : ℕ) → any_below p n ≡ false → (k : ℕ) → k < n → p k ≡ false
 below_by p zero h k l = absurd (omega arith)
 below_by p (suc n) h k l = elim (cases_lt k n) [
-  | inl m ↦ below_by p n (none_first (any_below p n) (p n) h) k m
-  | inr g ↦ let same : k ≡ n = omega arith in rw same (none_second (any_below p n) (p n) h)
+  | inl m ↦ below_by p n (or_parts (any_below p n) (p n) h).0 k m
+  | inr g ↦ let same : k ≡ n = omega arith in rw same (or_parts (any_below p n) (p n) h).1
 ]
 
 no_chain : (links : List (List ℕ)) (n : ℕ) → has_cycle links ≡ false → n < length links → deep links n (length links) ≡ false

@@ -4,6 +4,7 @@ use Rattle.std.proofs.Common.{refl, sym, ap, ◌∙◌, arith, inl, inr, append_
 use Rattle.std.specs.Prelude.{nat_lt}
 use Rattle.std.proofs.lemmas.Bool.Decides.{nat_tests}
 use Rattle.std.specs.List.{list_any, list_all}
+use Rattle.std.proofs.Math.Bool.{or-false, or-true}
 use Rattle.std.proofs.Math.ListN.{set}
 use Rattle.std.proofs.lemmas.Bool.{eqb-true, eq-eqb, ne_eqb, cases_eq}
 use Rattle.std.proofs.lemmas.List.{length-map, get_or-set_same, get_or-set_other, length-set, length-replicate, take_all}
@@ -36,14 +37,6 @@ any_agree p q agree xs = let e : p ≡ q = λ i x. agree x i in ap (λ t. list_a
 any_none : {A : Type 0} (xs : List A) → list_any (λ x. false) xs ≡ false
 any_none [] = refl
 any_none (x ∷ xs) = any_none xs
-
-or_false : (a : Bool) → (a || false) ≡ a
-or_false true = refl
-or_false false = refl
-
-or_true : (a : Bool) → (a || true) ≡ true
-or_true true = refl
-or_true false = refl
 
 only_one_none : (b : ℕ → Bool) (n : ℕ) (os : List ℕ) → b n ≡ false → list_any (λ x. (n == x) && b x) os ≡ false
 only_one_none b n [] h = refl
@@ -88,7 +81,9 @@ pub inherited_pass : (b : ℕ → Bool) (os : List ℕ) (ds : List Dependency) �
     → list_any (λ x. is_inherited x ds && b x) os ≡ list_any (λ d. d.inherits && b d.master) ds
 inherited_pass b os [] h = any_none os
 inherited_pass b os (d ∷ ds) h =
-    any_agree (λ x. is_inherited x (d ∷ ds) && b x) (λ x. (d.inherits && ((d.master == x) && b x)) || (is_inherited x ds && b x)) (λ x. and_or (d.inherits && (d.master == x)) (is_inherited x ds) (b x) ∙ ap (λ t. t || (is_inherited x ds && b x)) (and_three d.inherits (d.master == x) (b x))) os
+    any_agree (λ x. is_inherited x (d ∷ ds) && b x) (λ x. (d.inherits && ((d.master == x) && b x)) || (is_inherited x ds && b x))
+    (λ x. and_or (d.inherits && (d.master == x)) (is_inherited x ds) (b x)
+    ∙ ap (λ t. t || (is_inherited x ds && b x)) (and_three d.inherits (d.master == x) (b x))) os
     ∙ any_either (λ x. d.inherits && ((d.master == x) && b x)) (λ x. is_inherited x ds && b x) os
     ∙ ap (λ t. t || list_any (λ x. is_inherited x ds && b x) os) (marked_one_by b d.master os d.inherits (and_first (is_among os d.master) _ h))
     ∙ ap (λ t. (d.inherits && b d.master) || t) (inherited_pass b os ds (and_second (is_among os d.master) _ h))
@@ -101,7 +96,7 @@ pub record AreMarked (before marks : List Bool) (dependencies : List Dependency)
   pub each : (x : ℕ) → is_marked marks x ≡ (is_marked before x || is_inherited x dependencies)
 
 marked_first : (marks : List Bool) → AreMarked marks marks []
-marked_first marks = record { size = refl; each = λ x. sym (or_false (is_marked marks x)) }
+marked_first marks = record { size = refl; each = λ x. sym (or-false (is_marked marks x)) }
 
 inherited_more : (x : ℕ) (ds : List Dependency) (i : ℕ) (d : Dependency) → i < length ds
     → is_inherited x (take (i + 1) ds) ≡ (is_inherited x (take i ds) || ((get_or ds i d).inherits && ((get_or ds i d).master == x)))
@@ -112,7 +107,7 @@ pub marked_skip : (before marks : List Bool) (ds : List Dependency) (i : ℕ) (d
     → AreMarked before marks (take i ds) → AreMarked before marks (take (i + 1) ds)
 marked_skip before marks ds i d h e is = record {
   size = is.size;
-  each = λ x. is.each x ∙ ap (λ b. is_marked before x || b) (sym (inherited_more x ds i d h ∙ rw e (or_false (is_inherited x (take i ds)))));
+  each = λ x. is.each x ∙ ap (λ b. is_marked before x || b) (sym (inherited_more x ds i d h ∙ rw e (or-false (is_inherited x (take i ds)))));
 }
 
 -- one that inherits marks its master
@@ -129,8 +124,8 @@ marked_add before marks ds i d h e l is = record {
       e,
       eq-eqb
           (get_or ds i d).master (get_or ds i d).master refl,
-      or_true (is_inherited (get_or ds i d).master (take i ds)),
-      or_true
+      or-true (is_inherited (get_or ds i d).master (take i ds)),
+      or-true
           (is_marked before (get_or ds i d).master),
     ) refl
     | inr n ↦ rw (
@@ -139,7 +134,7 @@ marked_add before marks ds i d h e l is = record {
       inherited_more x ds i d h,
       e,
       ne_eqb (get_or ds i d).master x n,
-      or_false (is_inherited x (take i ds)),
+      or-false (is_inherited x (take i ds)),
     ) (is.each x)
   ];
 }
@@ -172,7 +167,9 @@ pub record IsUnderWay (c : Configuration) (standings : List Standing) (n place :
   pub asks : is_blocked c standings n ≡ list_any (λ x. is_marked marks x && is_blocked c standings x) (take place order)
 
 any_walk : (c : Configuration) (standings : List Standing) (marks : List Bool) (order : List ℕ) (i d : ℕ) → i < length order
-    → list_any (λ x. is_marked marks x && is_blocked c standings x) (take (i + 1) order) ≡ (list_any (λ x. is_marked marks x && is_blocked c standings x) (take i order) || (is_marked marks (get_or order i d) && is_blocked c standings (get_or order i d)))
+    → list_any (λ x. is_marked marks x && is_blocked c standings x) (take (i + 1) order)
+    ≡ (list_any (λ x. is_marked marks x && is_blocked c standings x) (take i order)
+    || (is_marked marks (get_or order i d) && is_blocked c standings (get_or order i d)))
 any_walk c standings marks order i d h = list_any_more (λ x. is_marked marks x && is_blocked c standings x) order i d h
 
 -- an object that isn't marked says nothing
@@ -184,7 +181,7 @@ walk_skip c standings n place i order marks d e h m is = record {
   place_within = omega arith;
   asks =
       is.asks
-      ∙ rw e (any_walk c standings marks order i d h ∙ rw m (or_false (list_any (λ x. is_marked marks x && is_blocked c standings x) (take i order))));
+      ∙ rw e (any_walk c standings marks order i d h ∙ rw m (or-false (list_any (λ x. is_marked marks x && is_blocked c standings x) (take i order))));
 }
 
 any_met_first : (p q : Dependency → Bool) (ds : List Dependency) → list_any p ds ≡ true → list_any (λ d. p d || q d) ds ≡ true
@@ -201,7 +198,7 @@ walk_met c standings n place i order marks d valid e h l m met is =
     let blocked : is_blocked c standings (get_or order i d) ≡ true = blocked_by_masters c standings (get_or order i d) valid l ∙ any_met_first
     (is_met c standings) (λ x. x.inherits && is_blocked c standings x.master) (dependencies_of c (get_or order i d)) met in
     sym (is.asks ∙ rw e (any_walk c standings marks order i d h ∙ rw (m, blocked)
-    (or_true (list_any (λ x. is_marked marks x && is_blocked c standings x) (take i order)))))
+    (or-true (list_any (λ x. is_marked marks x && is_blocked c standings x) (take i order)))))
 
 -- a marked object without one hands the question on to the masters of those that inherit
 pub walk_on : (c : Configuration) (standings : List Standing) (n place i : ℕ) (order : List ℕ) (marks marks' : List Bool) (d : ℕ) → IsSetup c
@@ -214,12 +211,19 @@ walk_on c standings n place i order marks marks' d valid ordered e h l m met sam
     let object = get_or order i d in
     let ds = dependencies_of c object in
     let blocked : is_blocked c standings object ≡ list_any
-    (λ x. x.inherits && is_blocked c standings x.master) ds = blocked_by_masters c standings object valid l ∙ any_met_none (is_met c standings) (λ x. x.inherits && is_blocked c standings x.master) ds met in
+    (λ x. x.inherits && is_blocked c standings x.master) ds =
+    blocked_by_masters c standings object valid l
+    ∙ any_met_none (is_met c standings) (λ x. x.inherits && is_blocked c standings x.master) ds met in
     let behind : list_all (is_among (take i order)) (masters_in ds) ≡ true = rw (← masters_at c object)
     (follows_at (masters_of c) [] order i d ordered.behind_links h) in
     let before = list_any (λ x. is_marked marks x && is_blocked c standings x) (take i order) in
-    let handed : list_any (λ x. is_marked marks' x && is_blocked c standings x) (take i order) ≡ (list_any (λ x. is_marked marks x && is_blocked c standings x) (take i order) || list_any (λ x. x.inherits && is_blocked c standings x.master) ds) =
-    any_agree (λ x. is_marked marks' x && is_blocked c standings x) (λ x. (is_marked marks x && is_blocked c standings x) || (is_inherited x ds && is_blocked c standings x)) (λ x. ap (λ t. t && is_blocked c standings x) (now x) ∙ and_or (is_marked marks x) (is_inherited x ds) (is_blocked c standings x)) (take i order)
+    let handed : list_any (λ x. is_marked marks' x && is_blocked c standings x) (take i order)
+    ≡ (list_any (λ x. is_marked marks x && is_blocked c standings x) (take i order)
+    || list_any (λ x. x.inherits && is_blocked c standings x.master) ds) =
+    any_agree (λ x. is_marked marks' x && is_blocked c standings x)
+    (λ x. (is_marked marks x && is_blocked c standings x) || (is_inherited x ds && is_blocked c standings x))
+    (λ x. ap (λ t. t && is_blocked c standings x) (now x)
+    ∙ and_or (is_marked marks x) (is_inherited x ds) (is_blocked c standings x)) (take i order)
     ∙ any_either (λ x. is_marked marks x && is_blocked c standings x) (λ x. is_inherited x ds && is_blocked c standings x) (take i order)
     ∙ ap (λ t. before || t) (inherited_pass (is_blocked c standings) (take i order) ds behind) in
     record {
@@ -245,7 +249,9 @@ walk_first c standings n place order marks marks' valid ordered h p e e' =
       place_within = omega (arith, ordered.size, size, p);
       asks =
           sym (rw (take_all place order (omega (arith, ordered.size, size, p)))
-          (any_agree (λ x. is_marked marks' x && is_blocked c standings x) (λ x. (n == x) && is_blocked c standings x) (λ x. ap (λ t. t && is_blocked c standings x) (marked x)) order ∙ only_one (is_blocked c standings) n order among));
+          (any_agree (λ x. is_marked marks' x && is_blocked c standings x) (λ x. (n == x) && is_blocked c standings x)
+          (λ x. ap (λ t. t && is_blocked c standings x) (marked x)) order
+          ∙ only_one (is_blocked c standings) n order among));
     }
 
 within_by : (n : ℕ) (order : List ℕ) (i : ℕ) → list_all (λ o. nat_lt o n) order ≡ true → i < length order → get_or order i 0 < n

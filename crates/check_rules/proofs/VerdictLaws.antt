@@ -98,7 +98,8 @@ checked_is_lawful s max m h = checked_is_lawful_by s max s.checked m h
 lawful_of : (s : Standing) (found : State) (max : ℕ) (host_up : Bool) → 1 ≤ max → is_lawful s max ≡ true
     → is_lawful (standing_after (kind_and_attempt s found max host_up) found s.last_hard) max ≡ true
 lawful_of s found max host_up m h =
-    ap (λ a. is_lawful (standing_after a found s.last_hard) max) (answers s found max host_up (phase_of s) (is_problem found) (not (is_host_state found) && not host_up) refl refl refl)
+    ap (λ a. is_lawful (standing_after a found s.last_hard) max)
+    (answers s found max host_up (phase_of s) (is_problem found) (not (is_host_state found) && not host_up) refl refl refl)
     ∙ lawful_answer found s.last_hard s.attempt max (phase_of s) (is_problem found) _ m h refl
 
 -- the verdict on a result is lawful

@@ -7,34 +7,23 @@ use Rattle.check_rules.specs.declared.state.State.TheVariants as state
 
 -- Whether a state is one of hosts: UP, DOWN and UNREACHABLE are.
 abbrev pub is_host_state : State → Bool
-is_host_state state.Ok = false
-is_host_state state.Warning = false
-is_host_state state.Critical = false
-is_host_state state.Unknown = false
 is_host_state state.Up = true
 is_host_state state.Down = true
 is_host_state state.Unreachable = true
+is_host_state s = false
 
 -- Whether a state is a problem: any but OK and UP. ("State Types".)
 abbrev pub is_problem : State → Bool
 is_problem state.Ok = false
-is_problem state.Warning = true
-is_problem state.Critical = true
-is_problem state.Unknown = true
 is_problem state.Up = false
-is_problem state.Down = true
-is_problem state.Unreachable = true
+is_problem s = true
 
 -- Whether a state is that of a host that is down: DOWN and UNREACHABLE are. ("Determining Status and
 -- Reachability of Network Hosts".)
 abbrev pub is_down_state : State → Bool
-is_down_state state.Ok = false
-is_down_state state.Warning = false
-is_down_state state.Critical = false
-is_down_state state.Unknown = false
-is_down_state state.Up = false
 is_down_state state.Down = true
 is_down_state state.Unreachable = true
+is_down_state s = false
 
 -- UP for a host, OK for a service
 abbrev pub fine_state : Bool → State

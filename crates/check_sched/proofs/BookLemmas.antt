@@ -20,7 +20,9 @@ at s room = record { sched = s; room = room }
 same_opening : (s s' : State) (room : ℕ) → s'.setup ≡ s.setup → s'.start ≡ s.start → opening_at s' room ≡ opening_at s room
 same_opening s s' room e f = rw (e, f) refl
 
-module _ (s s' : State) (room pass : ℕ) (call : Call) (reply : Reply) (es es' : List (Entry Call Reply)) (is : s' ≡ (step s call).0) (answer : reply ≡ (step s call).1) (setup : s'.setup ≡ s.setup) (start : s'.start ≡ s.start) (more : es' ≡ es ++ entry pass call reply ∷ []) (was : at s room ≡ replay book_step (opening_at s room) es) where
+module _ (s s' : State) (room pass : ℕ) (call : Call) (reply : Reply) (es es' : List (Entry Call Reply))
+    (is : s' ≡ (step s call).0) (answer : reply ≡ (step s call).1) (setup : s'.setup ≡ s.setup) (start : s'.start ≡ s.start)
+    (more : es' ≡ es ++ entry pass call reply ∷ []) (was : at s room ≡ replay book_step (opening_at s room) es) where
   pub book_legal : IsLegal book_step (opening_at s room) es → IsLegal book_step (opening_at s' room) es'
   book_legal legal =
       subst (λ o. IsLegal book_step o es') (sym (same_opening s s' room setup start))

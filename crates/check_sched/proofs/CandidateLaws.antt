@@ -5,19 +5,13 @@ use Rattle.std.specs.Prelude.{nat_lt, nat_le, find, filter}
 use Rattle.std.specs.List.{list_any, list_all, filter_map, enumerate_from, cons_option}
 use Rattle.std.proofs.lemmas.Bool.Decides.{nat_tests}
 use Rattle.std.proofs.lemmas.List.Folds.{list_any-append}
+use Rattle.std.proofs.lemmas.Bool.{and_parts, and_from}
 use Rattle.check_sched.specs.Scheduling.{Scheduling, candidate_time}
 use Rattle.check_sched.specs.Candidate.{Candidate, candidate, candidates_among, due_among}
 use Rattle.check_sched.specs.Order.{is_before, least}
 use Rattle.check_sched.specs.State.{is_time, is_moment, is_in_time}
 
 -- ---- tests
-
-pub and_both : (a b : Bool) → (a && b) ≡ true → (a ≡ true) × (b ≡ true)
-and_both true b e = (refl, e)
-and_both false b e = cc
-
-pub both_and : (a b : Bool) → a ≡ true → b ≡ true → (a && b) ≡ true
-both_and a b e f = rw (e, f) refl
 
 pub or_true : (a b : Bool) → b ≡ true → (a || b) ≡ true
 or_true true b e = refl
@@ -63,7 +57,7 @@ no_later_chain c d e g h =
 
 pub all_weaker : (f g : Candidate → Bool) (cs : List Candidate) → ((x : Candidate) → f x ≡ true → g x ≡ true) → list_all f cs ≡ true → list_all g cs ≡ true
 all_weaker f g [] h e = refl
-all_weaker f g (c ∷ cs) h e = let p = and_both (f c) (list_all f cs) e in both_and (g c) (list_all g cs) (h c p.0) (all_weaker f g cs h p.1)
+all_weaker f g (c ∷ cs) h e = let p = and_parts (f c) (list_all f cs) e in and_from (g c) (list_all g cs) (h c p.0) (all_weaker f g cs h p.1)
 
 all_at_by : (f : Candidate → Bool) (p c : Candidate) (cs : List Candidate) (b : Bool) → is_same p c ≡ b → (b || list_any (is_same p) cs) ≡ true
     → f c ≡ true → (list_any (is_same p) cs ≡ true → f p ≡ true) → f p ≡ true
@@ -74,18 +68,18 @@ all_at_by f p c cs false s m here more = more m
 pub all_at : (f : Candidate → Bool) (p : Candidate) (cs : List Candidate) → list_any (is_same p) cs ≡ true → list_all f cs ≡ true → f p ≡ true
 all_at f p [] m e = cc
 all_at f p (c ∷ cs) m e =
-    let both = and_both (f c) (list_all f cs) e in
+    let both = and_parts (f c) (list_all f cs) e in
     all_at_by f p c cs (is_same p c) refl m both.0 (λ n. all_at f p cs n both.1)
 
 all_filtered_by : (f : Candidate → Bool) (c : Candidate) (cs : List Candidate) (b : Bool) → f c ≡ true → list_all f cs ≡ true
     → list_all f (cond b (c ∷ cs) cs) ≡ true
-all_filtered_by f c cs true h e = both_and (f c) (list_all f cs) h e
+all_filtered_by f c cs true h e = and_from (f c) (list_all f cs) h e
 all_filtered_by f c cs false h e = e
 
 pub all_filtered : (f p : Candidate → Bool) (cs : List Candidate) → list_all f cs ≡ true → list_all f (filter p cs) ≡ true
 all_filtered f p [] e = refl
 all_filtered f p (c ∷ cs) e =
-    let both = and_both (f c) (list_all f cs) e in
+    let both = and_parts (f c) (list_all f cs) e in
     all_filtered_by f c (filter p cs) (p c) both.0 (all_filtered f p cs both.1)
 
 any_filtered_by : (c d : Candidate) (cs ds : List Candidate) (p : Candidate → Bool) (s b : Bool) → is_same c d ≡ s → p d ≡ b → p c ≡ true
@@ -104,7 +98,7 @@ any_filtered c p (d ∷ cs) h m = any_filtered_by c d cs (filter p cs) p (is_sam
 pub none_filtered : (p : Candidate → Bool) (cs : List Candidate) → list_all (λ c. not (p c)) cs ≡ true → filter p cs ≡ []
 none_filtered p [] e = refl
 none_filtered p (c ∷ cs) e =
-    let both = and_both (not (p c)) (list_all (λ d. not (p d)) cs) e in
+    let both = and_parts (not (p c)) (list_all (λ d. not (p d)) cs) e in
     let here : p c ≡ false = grind (arith, nat_tests, both.0) in
     rw here (none_filtered p cs both.1)
 
@@ -144,7 +138,7 @@ found_in : (p : Candidate) (cs ds : List Candidate) → IsLeast p cs → list_an
     → list_all (λ d. list_any (is_same d) cs) ds ≡ true → find (λ d. list_all (is_no_later d) cs) ds ≡ Some p
 found_in p cs [] h m e = cc
 found_in p cs (d ∷ ds) h m e =
-    let both = and_both (list_any (is_same d) cs) (list_all (λ x. list_any (is_same x) cs) ds) e in
+    let both = and_parts (list_any (is_same d) cs) (list_all (λ x. list_any (is_same x) cs) ds) e in
     found_by p d cs ds (list_all (is_no_later d) cs) refl h m both.0 (λ n. found_in p cs ds h n both.1)
 
 each_among : (cs ds : List Candidate) → list_all (λ d. list_any (is_same d) (cs ++ ds)) ds ≡ true
@@ -152,8 +146,9 @@ each_among cs [] = refl
 each_among cs (d ∷ ds) =
     let here : list_any (is_same d) (cs ++ d ∷ ds) ≡ true = list_any-append (is_same d) cs (d ∷ ds) ∙ or_true (list_any (is_same d) cs)
     (list_any (is_same d) (d ∷ ds)) (rw (is_same_itself d) refl) in
-    let more : list_all (λ x. list_any (is_same x) (cs ++ d ∷ ds)) ds ≡ true = ap (λ l. list_all (λ x. list_any (is_same x) l) ds) (sym (append_assoc cs (d ∷ []) ds)) ∙ each_among (cs ++ d ∷ []) ds in
-    both_and _ _ here more
+    let more : list_all (λ x. list_any (is_same x) (cs ++ d ∷ ds)) ds ≡ true =
+    ap (λ l. list_all (λ x. list_any (is_same x) l) ds) (sym (append_assoc cs (d ∷ []) ds)) ∙ each_among (cs ++ d ∷ []) ds in
+    and_from _ _ here more
 
 -- there is one least member at most, and it is `least`
 pub least_found : (first : Option Candidate) (cs : List Candidate) → FoundLeast first cs → first ≡ least cs
@@ -170,7 +165,7 @@ one_more_by c d cs true s h = (
   record {
     among = rw (is_same_itself c) refl;
     first =
-        both_and (is_no_later c c) _ (no_later_holds c c (omega arith)
+        and_from (is_no_later c c) _ (no_later_holds c c (omega arith)
         (λ s. omega arith)) (all_weaker (is_no_later d) (is_no_later c) cs (λ x e. no_later_chain c d x s e) h.first);
   },
 )
@@ -179,7 +174,7 @@ one_more_by c d cs false s h =
       Some d,
       record {
         among = or_true (is_same d c) (list_any (is_same d) cs) h.among;
-        first = both_and (is_no_later d c) _ back h.first;
+        first = and_from (is_no_later d c) _ back h.first;
       },
     )
 
@@ -234,7 +229,7 @@ least_due now cs = least_found (if_due now (least cs)) (due_among now cs) (found
 within_by : (k n : ℕ) (t : Option ℕ) (cs : List Candidate) → k < n → list_all (λ c. nat_lt c.1 n) cs ≡ true
     → list_all (λ c. nat_lt c.1 n) (cons_option (option_map (λ time. (time, k)) t) cs) ≡ true
 within_by k n None cs l e = e
-within_by k n (Some t) cs l e = both_and (nat_lt k n) _ (grind (arith, nat_tests, l)) e
+within_by k n (Some t) cs l e = and_from (nat_lt k n) _ (grind (arith, nat_tests, l)) e
 
 within_from : (k n : ℕ) (objects : List Scheduling) → k + length objects ≤ n
     → list_all (λ c. nat_lt c.1 n) (filter_map (λ p. candidate p.0 p.1) (enumerate_from k objects)) ≡ true
@@ -252,14 +247,14 @@ time_by false next e = refl
 times_by : (k : ℕ) (t : Option ℕ) (cs : List Candidate) → is_time t ≡ true → list_all (λ c. nat_le c.0 (2 ^ 61)) cs ≡ true
     → list_all (λ c. nat_le c.0 (2 ^ 61)) (cons_option (option_map (λ time. (time, k)) t) cs) ≡ true
 times_by k None cs l e = e
-times_by k (Some t) cs l e = both_and (nat_le t (2 ^ 61)) _ l e
+times_by k (Some t) cs l e = and_from (nat_le t (2 ^ 61)) _ l e
 
 times_from : (k : ℕ) (objects : List Scheduling) → list_all is_in_time objects ≡ true
     → list_all (λ c. nat_le c.0 (2 ^ 61)) (filter_map (λ p. candidate p.0 p.1) (enumerate_from k objects)) ≡ true
 times_from k [] e = refl
 times_from k (o ∷ objects) e =
-    let both = and_both (is_in_time o) (list_all is_in_time objects) e in
-    let here = and_both (is_time o.next) (is_moment o.run) both.0 in
+    let both = and_parts (is_in_time o) (list_all is_in_time objects) e in
+    let here = and_parts (is_time o.next) (is_moment o.run) both.0 in
     times_by k (candidate_time o) _ (time_by _ o.next here.0) (times_from (k + 1) objects both.1)
 
 -- where no next time is past the limit, no candidate's is

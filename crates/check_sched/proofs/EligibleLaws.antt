@@ -3,7 +3,9 @@ use Rattle.std.proofs.Common.{◌≡◌, ℕ, zero, suc, ◌+◌, ◌<◌, ◌�
 use Rattle.std.proofs.Common.{refl, sym, ap, subst, ◌∙◌, arith}
 use Rattle.std.specs.Prelude.{filter, nat_le, nat_lt}
 use Rattle.std.specs.List.{list_all, list_any, filter_map, enumerate_from, cons_option}
+use Rattle.std.proofs.Math.Bool.{or-false}
 use Rattle.std.proofs.lemmas.Bool.Decides.{nat_tests}
+use Rattle.std.proofs.lemmas.Bool.{and_from}
 use Rattle.check_objects.specs.Configuration.{Configuration, host_count}
 use Rattle.check_sched.specs.Scheduling.{Scheduling, candidate_time}
 use Rattle.check_sched.specs.Candidate.{Candidate, candidate, candidates_among, due_among}
@@ -12,14 +14,14 @@ use Rattle.check_sched.specs.declared.call.Reply.{Reply}
 use Rattle.check_sched.specs.declared.call.Reply.TheVariants as reply
 use Rattle.check_sched.specs.State.{State, has_room, is_host}
 use Rattle.check_sched.specs.Step.{candidates, due, eligible, is_open, waiting_reply}
-use Rattle.check_sched.proofs.CandidateLaws.{FoundLeast, IsLeast, all_at_least, any_filtered, both_and, if_due, is_same, least_due, least_is_found}
+use Rattle.check_sched.proofs.CandidateLaws.{FoundLeast, IsLeast, all_at_least, any_filtered, if_due, is_same, least_due, least_is_found}
 use Rattle.check_sched.proofs.CandidateLaws.{none_filtered, same_is}
 
 -- ---- filters
 
 filtered_by : (p : Candidate → Bool) (c : Candidate) (cs : List Candidate) (b : Bool) → p c ≡ b → list_all p (filter p cs) ≡ true
     → list_all p (cond b (c ∷ filter p cs) (filter p cs)) ≡ true
-filtered_by p c cs true e h = both_and (p c) _ e h
+filtered_by p c cs true e h = and_from (p c) _ e h
 filtered_by p c cs false e h = h
 
 -- what a filter lets through passes its test
@@ -44,10 +46,6 @@ filter_swap : (p q : Candidate → Bool) (cs : List Candidate) → filter p (fil
 filter_swap p q [] = refl
 filter_swap p q (c ∷ cs) = swap_by p q c cs (p c) (q c) refl refl (filter_swap p q cs)
 
-or_false : (b : Bool) → (b || false) ≡ b
-or_false true = refl
-or_false false = refl
-
 or_right : (b : Bool) → (b || true) ≡ true
 or_right true = refl
 or_right false = refl
@@ -61,7 +59,7 @@ numbered k objects = filter_map (λ p. candidate p.0 p.1) (enumerate_from k obje
 past_by : (k n : ℕ) (t : Option ℕ) (cs : List Candidate) → n ≤ k → list_all (λ c. not (nat_lt c.1 n)) cs ≡ true
     → list_all (λ c. not (nat_lt c.1 n)) (cons_option (option_map (λ time. (time, k)) t) cs) ≡ true
 past_by k n None cs l e = e
-past_by k n (Some t) cs l e = both_and (not (nat_lt k n)) _ (grind (arith, nat_tests, l)) e
+past_by k n (Some t) cs l e = and_from (not (nat_lt k n)) _ (grind (arith, nat_tests, l)) e
 
 numbered_past : (k n : ℕ) (objects : List Scheduling) → n ≤ k → list_all (λ c. not (nat_lt c.1 n)) (numbered k objects) ≡ true
 numbered_past k n [] l = refl
@@ -80,10 +78,11 @@ numbered_first k (suc m) n (o ∷ objects) e = first_by k n (candidate_time o) _
 -- ---- those whose check may begin
 
 open_by : (now : ℕ) (setup : Configuration) (objects : List Scheduling) (room : Bool)
-    → filter (λ c. is_host setup c.1 || room) (due_among now (candidates_among objects)) ≡ due_among now (candidates_among (cond room objects (take (host_count setup) objects)))
+    → filter (λ c. is_host setup c.1 || room) (due_among now (candidates_among objects))
+    ≡ due_among now (candidates_among (cond room objects (take (host_count setup) objects)))
 open_by now setup objects true = filter_every (λ c. is_host setup c.1 || true) (due_among now (candidates_among objects)) (λ c. or_right (is_host setup c.1))
 open_by now setup objects false =
-    ap (λ p. filter p (due_among now (candidates_among objects))) (λ i c. or_false (is_host setup c.1) i)
+    ap (λ p. filter p (due_among now (candidates_among objects))) (λ i c. or-false (is_host setup c.1) i)
     ∙ filter_swap (λ c. is_host setup c.1) (λ c. nat_le c.0 now) (candidates_among objects)
     ∙ ap (due_among now) (sym (numbered_first 0 (host_count setup) (host_count setup) objects (omega arith)))
 
@@ -144,11 +143,13 @@ waiting_at_limit now s c none e l =
     let among = (least_some c (due now s) (due_least now s c e l)).among in
     let service : is_host s.setup c.1 ≡ false = closed_by now s c (is_host s.setup c.1) refl (least_none (eligible now s) none) among in
     let here : not (is_host s.setup c.1) ≡ true = ap not service in
-    ap (λ b. cond b reply.AtLimit (reply.Idle (option_map (λ x. x.0) (least (candidates s))))) (any_same (λ x. not (is_host s.setup x.1)) c (due now s) here among)
+    ap (λ b. cond b reply.AtLimit (reply.Idle (option_map (λ x. x.0) (least (candidates s)))))
+    (any_same (λ x. not (is_host s.setup x.1)) c (due now s) here among)
 
 none_due : (now : ℕ) (s : State) → least (due now s) ≡ None → waiting_reply now s ≡ reply.Idle (option_map (λ x. x.0) (least (candidates s)))
 none_due now s e =
-    ap (λ l. cond (list_any (λ c. not (is_host s.setup c.1)) l) reply.AtLimit (reply.Idle (option_map (λ x. x.0) (least (candidates s))))) (least_none (due now s) e)
+    ap (λ l. cond (list_any (λ c. not (is_host s.setup c.1)) l) reply.AtLimit (reply.Idle (option_map (λ x. x.0) (least (candidates s)))))
+    (least_none (due now s) e)
 
 -- the least of all that wait isn't due, and so none is
 pub waiting_early : (now : ℕ) (s : State) (c : Candidate) → least (candidates s) ≡ Some c → now < c.0 → waiting_reply now s ≡ reply.Idle (Some c.0)

@@ -7,6 +7,7 @@ use Rattle.std.proofs.lemmas.Bool.Decides.{nat_tests}
 use Rattle.std.proofs.lemmas.List.{length-map, take_more}
 use Rattle.std.proofs.lemmas.List.FromFn.{length-enumerate_from}
 use Rattle.std.proofs.lemmas.Slice.Zip.{length-zip}
+use Rattle.std.proofs.lemmas.Bool.{and_from}
 use Rattle.check_objects.specs.declared.object.Object.{Object}
 use Rattle.check_objects.specs.Configuration.{Configuration, Named, objects_of, object_count, host_count, IsSetup}
 use Rattle.check_rules.specs.declared.standing.Standing.{Standing}
@@ -16,7 +17,6 @@ use Rattle.check_sched.specs.Scheduling.{Scheduling, opening_object}
 use Rattle.check_spread.specs.Spread.{initial_times}
 use Rattle.check_sched.specs.State.{State, IsState, IsStandingOf, IsWithinLimit, is_host, is_in_time, is_time, objects_at, opening, opening_objects}
 use Rattle.check_sched.specs.State.{opening_standings}
-use Rattle.check_sched.proofs.CandidateLaws.{both_and}
 use Rattle.check_sched.proofs.LimitLaws.{services_none}
 use Rattle.check_sched.proofs.ReportLaws.{some_attempts}
 
@@ -31,7 +31,7 @@ times_in_time : (times : List (Option ℕ)) (os : List Named) → All (λ first.
 times_in_time [] os h = refl
 times_in_time (first ∷ times) [] h = refl
 times_in_time (first ∷ times) (o ∷ os) h =
-    both_and _ _ (both_and (is_time first) true (first_in_time first (h 0 None (omega arith))) refl)
+    and_from _ _ (and_from (is_time first) true (first_in_time first (h 0 None (omega arith))) refl)
     (times_in_time times os (λ k d l. h (suc k) d (omega arith)))
 
 -- the standing at a place of the opening is pending
@@ -70,7 +70,8 @@ length-opening_standings setup = length-map (enumerate_from 0 (objects_of setup)
 -- no service is being checked at the opening
 pub opening_limit : (setup : Configuration) (start : ℕ) → IsWithinLimit (opening setup start)
 opening_limit setup start some =
-    let none = services_none (host_count setup) (λ (p : Option ℕ × Named). opening_object p.0 p.1.object.enabled) (zip (initial_times setup start) (objects_of setup)) (λ p. refl) in
+    let none = services_none (host_count setup) (λ (p : Option ℕ × Named). opening_object p.0 p.1.object.enabled)
+    (zip (initial_times setup start) (objects_of setup)) (λ p. refl) in
     omega (arith, none)
 
 -- a scheduler can be in the state that it opens with

@@ -2,6 +2,7 @@
 use Rattle.std.proofs.Common.{◌≡◌, ℕ, ◌<◌, ◌≤◌, ◌^◌, Bool, true, false, Option, Some, None, Ok, length, get_or, set, refl, ap, ◌∙◌, arith}
 use Rattle.std.specs.Prelude.{slice_get, unwrap_or}
 use Rattle.std.proofs.lemmas.Bool.Decides.{nat_tests}
+use Rattle.std.proofs.lemmas.Bool.{and_parts, and_from}
 use Rattle.check_sched.specs.Scheduling.{Scheduling, OpenRun, ended, enabled_as, freed_time, rescheduled, run_under}
 use Rattle.check_sched.specs.declared.call.Call.TheVariants as call
 use Rattle.check_sched.specs.declared.call.Reply.{Reply}
@@ -10,7 +11,6 @@ use Rattle.check_sched.specs.declared.call.Refusal.{Refusal}
 use Rattle.check_sched.specs.State.{State, IsState, is_in_time, is_moment, is_time, standing_at}
 use Rattle.check_sched.specs.Step.{known, step, with_object, within_range}
 use Rattle.check_sched.proofs.AnswerLaws.{by_test, known_is, range_is}
-use Rattle.check_sched.proofs.CandidateLaws.{and_both, both_and}
 use Rattle.check_sched.proofs.LimitLaws.{BeginsNone, limit_kept}
 use Rattle.check_sched.proofs.ReportLaws.{next_of_state}
 use Rattle.check_sched.proofs.UpdateLaws.{length-update_at, all-update_at, set_is_update}
@@ -77,11 +77,11 @@ pub freed_in_time : (now n : ℕ) (o : Scheduling) (s : State) → IsState s →
 freed_in_time now n o s is_state e m = freed_by now o.next m (next_of_state s n o is_state e)
 
 pub ended_in_time : (next : Option ℕ) (o : Scheduling) → is_time next ≡ true → is_in_time (ended next o) ≡ true
-ended_in_time next o e = both_and (is_time next) true e refl
+ended_in_time next o e = and_from (is_time next) true e refl
 
 pub rescheduled_in_time : (time : ℕ) (forced : Bool) (o : Scheduling) → time ≤ 2 ^ 60 → is_in_time o ≡ true → is_in_time (rescheduled time forced o) ≡ true
 rescheduled_in_time time forced o m e =
-    both_and (is_time (Some time)) (is_moment o.run) (moment_is_time time m) (and_both (is_time o.next) (is_moment o.run) e).1
+    and_from (is_time (Some time)) (is_moment o.run) (moment_is_time time m) (and_parts (is_time o.next) (is_moment o.run) e).1
 
 -- ---- what the code leaves and answers
 

@@ -7,6 +7,7 @@ use Rattle.std.proofs.Math.Nat.{mul-le-mul_left}
 use Rattle.std.proofs.lemmas.Bool.Decides.{nat_tests}
 use Rattle.std.proofs.lemmas.List.{length-map, length-append}
 use Rattle.std.proofs.lemmas.Option.{slice_get-get_or, slice_get_within, slice_get_read}
+use Rattle.std.proofs.lemmas.Bool.{and_parts, and_from}
 use Rattle.check_objects.specs.declared.object.Object.{Object}
 use Rattle.check_objects.specs.Configuration.{Configuration, Named, Service, objects_of, object_count, host_count, host_of, IsSetup, is_object_in_range}
 use Rattle.check_rules.specs.declared.state.Code.{Code}
@@ -29,7 +30,6 @@ use Rattle.check_sched.specs.declared.call.Call.TheVariants as call
 use Rattle.check_sched.specs.State.{State, IsState, IsStandingOf, is_host, is_time, is_moment, is_in_time, max_attempts_of, standing_at}
 use Rattle.check_sched.specs.Step.{known, report_taken, reported, standing_reply, step}
 use Rattle.check_sched.proofs.AnswerLaws.{by_test, known_is, under_is}
-use Rattle.check_sched.proofs.CandidateLaws.{and_both, both_and}
 use Rattle.check_sched.proofs.LimitLaws.{limit_kept}
 use Rattle.check_sched.proofs.UpdateLaws.{length-update_at, all-update_at, each-update_at, all_at_place, none_there}
 use Rattle.check_sched.specs.Report.{interval_after, judged, judged_by, milliseconds, next_after, put_off_until, time_after}
@@ -202,13 +202,13 @@ standing_of_state s n is_state h = standing_by s n (slice_get s.standings n) is_
 -- a run began at 2^60 at the latest
 pub start_of_state : (s : State) (n : ℕ) (o : Scheduling) (r : OpenRun) → IsState s → slice_get s.objects n ≡ Some o → o.run ≡ Some r → r.start ≤ 2 ^ 60
 start_of_state s n o r is_state e f =
-    let both = and_both (is_time o.next) (is_moment o.run) (all_at_place is_in_time s.objects n o is_state.times e) in
+    let both = and_parts (is_time o.next) (is_moment o.run) (all_at_place is_in_time s.objects n o is_state.times e) in
     let moment : is_moment (Some r) ≡ true = ap is_moment (sym f) ∙ both.1 in
     grind (arith, nat_tests, moment)
 
 -- a next time is at most 2^61
 pub next_of_state : (s : State) (n : ℕ) (o : Scheduling) → IsState s → slice_get s.objects n ≡ Some o → is_time o.next ≡ true
-next_of_state s n o is_state e = (and_both (is_time o.next) (is_moment o.run) (all_at_place is_in_time s.objects n o is_state.times e)).0
+next_of_state s n o is_state e = (and_parts (is_time o.next) (is_moment o.run) (all_at_place is_in_time s.objects n o is_state.times e)).0
 
 -- a report leaves the state one that a scheduler can be in
 pub reported_is_state : (n : ℕ) (standing : Standing) (next : Option ℕ) (s : State) → IsState s → is_time next ≡ true
@@ -218,7 +218,7 @@ reported_is_state n standing next s is_state t new = record {
   one_each = length-update_at n _ s.objects ∙ is_state.one_each;
   one_standing_each = length-update_at n _ s.standings ∙ is_state.one_standing_each;
   runs = is_state.runs;
-  times = all-update_at is_in_time n (ended next) s.objects is_state.times (λ o e. both_and (is_time next) true t refl);
+  times = all-update_at is_in_time n (ended next) s.objects is_state.times (λ o e. and_from (is_time next) true t refl);
   limit = limit_kept n (ended next) s (λ o e. cc) is_state.limit;
   standings = each-update_at (IsStandingOf s.setup) n standing s.standings is_state.standings new;
 }

@@ -4,7 +4,7 @@ use Rattle.std.proofs.Common.{None, Ok, Err, option_map, refl, sym, ap, ◌∙�
 use Rattle.std.specs.Prelude.{is_none, nat_le, nat_lt, option_and_then, slice_get}
 use Rattle.std.specs.List.{cons_option, enumerate_from, filter_map, list_all, list_any}
 use Rattle.std.proofs.lemmas.Bool.Decides.{nat_tests}
-use Rattle.std.proofs.lemmas.Bool.{eqb-true, eq-eqb, cases_eq}
+use Rattle.std.proofs.lemmas.Bool.{and_from, eqb-true, eq-eqb, cases_eq, or_parts}
 use Rattle.std.proofs.lemmas.List.Sums.{sum_by-cons}
 use Rattle.ticket_steps.specs.declared.kept.Entry.{Entry}
 use Rattle.ticket_steps.specs.History.{replay, IsLegal}
@@ -21,7 +21,7 @@ use Rattle.check_sched.specs.Step.{candidates, due, eligible, is_open, known, st
 use Rattle.check_sched.specs.BookState.{book_step}
 use Rattle.check_sched.specs.Runs.{begins, begins_by, ends, ends_by, runs_begun, runs_under, takes_by}
 use Rattle.check_sched.proofs.AnswerLaws.{by_test, known_is, under_is}
-use Rattle.check_sched.proofs.CandidateLaws.{all_at_least, all_filtered, both_and, candidates_within}
+use Rattle.check_sched.proofs.CandidateLaws.{all_at_least, all_filtered, candidates_within}
 use Rattle.check_sched.proofs.OperatorLaws.{abandon_cases, enable_cases, reschedule_cases, status_cases}
 use Rattle.check_sched.proofs.ReportLaws.{report_cases}
 use Rattle.check_sched.proofs.TakeLaws.{take_cases}
@@ -69,7 +69,7 @@ waits_free x t e = waits_by (is_none x.run) (x.enabled || x.forced) x.next t e
 free_by : (test : ℕ → Bool) (k : ℕ) (t : Option ℕ) (cs : List Candidate) → ((time : ℕ) → t ≡ Some time → test k ≡ true)
     → list_all (λ c. test c.1) cs ≡ true → list_all (λ c. test c.1) (cons_option (option_map (λ time. (time, k)) t) cs) ≡ true
 free_by test k None cs f h = h
-free_by test k (Some t) cs f h = both_and (test k) _ (f t refl) h
+free_by test k (Some t) cs f h = and_from (test k) _ (f t refl) h
 
 free_from : (test : ℕ → Bool) (k : ℕ) (xs : List Scheduling) → ((i : ℕ) → i < length xs → is_none (run_in i xs) ≡ true → test (k + i) ≡ true)
     → list_all (λ c. test c.1) (filter_map (λ p. candidate p.0 p.1) (enumerate_from k xs)) ≡ true
@@ -136,7 +136,8 @@ step_keeps_run s (call.Take now) o r h =
     take_cases (λ a. ends_by o r (call.Take now) a.1 ≡ false → run_in o a.0.objects ≡ Some r) now s
     (λ why e. h)
     (λ c m f e. run_kept c.1 o _ s.objects (λ x. refl) ∙ h)
-    (λ c m q f e. run_apart c.1 o _ s.objects (λ same. none_some (run_in c.1 s.objects) r (eligible_free now s c f) (ap (λ k. run_in k s.objects) same ∙ h)) ∙ h)
+    (λ c m q f e. run_apart c.1 o _ s.objects (λ same. none_some (run_in c.1 s.objects) r (eligible_free now s c f)
+    (ap (λ k. run_in k s.objects) same ∙ h)) ∙ h)
     (λ f e. h)
 step_keeps_run s (call.Report n run c) o r h =
     by_test (λ a. ends_by o r (call.Report n run c) a.1 ≡ false → run_in o a.0.objects ≡ Some r) s (known n s) _ (λ why e. h)
@@ -148,9 +149,11 @@ step_keeps_run s (call.Abandon n run now) o r h =
     (λ u m. by_test (λ a. ends_by o r (call.Abandon n run now) a.1 ≡ false → run_in o a.0.objects ≡ Some r) s (run_under run x.run) _ (λ why e. h)
     (λ q f e. run_goes_on s n run o r _ x q (known_is n s x k) f h e)))
 step_keeps_run s (call.Reschedule n time forced) o r h =
-    reschedule_cases (λ a. ends_by o r (call.Reschedule n time forced) a.1 ≡ false → run_in o a.0.objects ≡ Some r) n time forced s (λ why e. h) (λ m e. run_kept n o _ s.objects (λ x. refl) ∙ h)
+    reschedule_cases (λ a. ends_by o r (call.Reschedule n time forced) a.1 ≡ false → run_in o a.0.objects ≡ Some r) n time forced s
+    (λ why e. h) (λ m e. run_kept n o _ s.objects (λ x. refl) ∙ h)
 step_keeps_run s (call.Enable n on) o r h =
-    enable_cases (λ a. ends_by o r (call.Enable n on) a.1 ≡ false → run_in o a.0.objects ≡ Some r) n on s (λ why e. h) (λ e. run_kept n o _ s.objects (λ x. refl) ∙ h)
+    enable_cases (λ a. ends_by o r (call.Enable n on) a.1 ≡ false → run_in o a.0.objects ≡ Some r) n on s
+    (λ why e. h) (λ e. run_kept n o _ s.objects (λ x. refl) ∙ h)
 step_keeps_run s (call.Status n) o r h =
     status_cases (λ a. ends_by o r (call.Status n) a.1 ≡ false → run_in o a.0.objects ≡ Some r) n s (λ why e. h) (λ x k e. h)
 
@@ -201,14 +204,6 @@ step_begins s (call.Status n) o r = status_cases (λ a. begins_by o r a.1 ≡ tr
 
 -- ---- histories
 
-none_first : (a b : Bool) → (a || b) ≡ false → a ≡ false
-none_first true b h = cc
-none_first false b h = refl
-
-none_second : (a b : Bool) → (a || b) ≡ false → b ≡ false
-none_second true b h = cc
-none_second false b h = h
-
 not_false : (a : Bool) → not a ≡ true → a ≡ false
 not_false true h = cc
 not_false false h = refl
@@ -228,8 +223,8 @@ keeps_running : (s : State) (h : List (Entry Call Reply)) (o r : ℕ) → IsLega
     → run_in o (replay step s h).objects ≡ Some r
 keeps_running s [] o r legal runs none = runs
 keeps_running s (e ∷ h) o r legal runs none =
-    let goes_on : ends_by o r e.call (step s e.call).1 ≡ false = rw (← legal.0) (none_first (ends o r e) _ none) in
-    keeps_running (step s e.call).0 h o r legal.1 (step_keeps_run s e.call o r runs goes_on) (none_second (ends o r e) _ none)
+    let goes_on : ends_by o r e.call (step s e.call).1 ≡ false = rw (← legal.0) (or_parts (ends o r e) _ none).0 in
+    keeps_running (step s e.call).0 h o r legal.1 (step_keeps_run s e.call o r runs goes_on) (or_parts (ends o r e) _ none).1
 
 begun_by : (s : State) (e : Entry Call Reply) (o r : ℕ) → e.reply ≡ (step s e.call).1 → begins o r e ≡ true → IsBegun o r s (step s e.call).0
 begun_by s e o r legal is = step_begins s e.call o r (rw (← legal) is)

@@ -45,7 +45,8 @@ next_by b cs c false t h below =
           rw (
             list_all-append (is_no_later c) cs (c ∷ []),
             all_weaker (is_no_later b) (is_no_later c) cs
-                (λ x e. no_later_holds c x (let r = no_later_time b x e in omega (arith, r)) (λ s. let r = no_later_time b x e in absurd (omega (arith, r)))) h.first,
+                (λ x e. no_later_holds c x (let r = no_later_time b x e in omega (arith, r))
+                (λ s. let r = no_later_time b x e in absurd (omega (arith, r)))) h.first,
             no_later_holds c c (omega arith) (λ s. omega arith),
           ) refl;
     }
@@ -60,7 +61,8 @@ found_next (Some b) cs c h below = next_by b cs c (nat_le b.0 c.0) refl h below
 enumerate_push : (k : ℕ) (xs : List Scheduling) (x : Scheduling) → enumerate_from k (xs ++ x ∷ []) ≡ enumerate_from k xs ++ (k + length xs, x) ∷ []
 enumerate_push k [] x = ap (λ n. (n, x) ∷ []) (let e : k ≡ k + 0 = omega arith in e)
 enumerate_push k (y ∷ xs) x =
-    ap (λ l. (k, y) ∷ l) (enumerate_push (k + 1) xs x ∙ ap (λ n. enumerate_from (k + 1) xs ++ (n, x) ∷ []) (let e : k + 1 + length xs ≡ k + suc (length xs) = omega arith in e))
+    ap (λ l. (k, y) ∷ l) (enumerate_push (k + 1) xs x
+    ∙ ap (λ n. enumerate_from (k + 1) xs ++ (n, x) ∷ []) (let e : k + 1 + length xs ≡ k + suc (length xs) = omega arith in e))
 
 candidates_push : (xs : List Scheduling) (x : Scheduling) → candidates_among (xs ++ x ∷ []) ≡ candidates_among xs ++ cons_option (candidate (length xs) x) []
 candidates_push xs x =

@@ -1,5 +1,6 @@
 -- Laws of the step: what stays, and what is true of every state and reply.
-use Rattle.std.proofs.Common.{◌≡◌, suc, ◌^◌, List, [], ◌∷◌, length, refl, ap, ◌∙◌, Some}
+use Rattle.std.proofs.Common.{◌≡◌, List, [], ◌∷◌, refl, ◌∙◌, Some}
+use Rattle.check_spread.specs.declared.limits.TheConstants.{LAST_TIME}
 use Rattle.check_sched.specs.declared.call.Call.{Call}
 use Rattle.check_sched.specs.declared.call.Call.TheVariants as call
 use Rattle.check_sched.specs.declared.call.Refusal.{Refusal}
@@ -10,7 +11,7 @@ use Rattle.check_sched.specs.State.{State, IsState, IsWithinLimit}
 use Rattle.check_sched.proofs.LimitLaws.{limit_kept, limit_taken}
 use Rattle.check_sched.specs.Report.{put_off_until}
 use Rattle.check_sched.specs.Reply.{OnRefused, NamesObjectOf, TellsTimesUpTo}
-use Rattle.check_sched.specs.Step.{step, replies, after}
+use Rattle.check_sched.specs.Step.{step, after}
 use Rattle.check_sched.proofs.EligibleLaws.{eligible_open, waiting_cases}
 use Rattle.check_sched.proofs.OperatorLaws.{abandon_cases, ended_in_time, enable_cases, freed_in_time, reschedule_cases, rescheduled_in_time, status_cases}
 use Rattle.check_sched.proofs.OperatorLaws.{with_object_is_state}
@@ -46,7 +47,7 @@ step_keeps s (call.Status n) = status_cases (Keeps s) n s (refusal_keeps s) (λ 
 -- and a scheduler can be in the state that is left
 pub record IsAnswer (s : State) (a : State × Reply) : Type 0 where
   pub named : NamesObjectOf s.setup a.1
-  pub times : TellsTimesUpTo (2 ^ 61) a.1
+  pub times : TellsTimesUpTo (LAST_TIME) a.1
   pub is_state : IsState a.0
 
 refusal_is_answer : (s : State) → IsState s → (why : Refusal) → IsAnswer s (s, reply.Refused why)
@@ -55,9 +56,17 @@ refusal_is_answer s is_state why = record { named = tt; times = tt; is_state = i
 pub step_is_answer : (s : State) (c : Call) → IsState s → IsAnswer s (step s c)
 step_is_answer s (call.Take now) is_state =
     take_cases (IsAnswer s) now s (refusal_is_answer s is_state)
-    (λ c m e. record { named = eligible_within now s c is_state e; times = is_time_reads (put_off_until s.setup c.1 now) (put_off_in_time s.setup c.1 now is_state.valid_setup m); is_state = put_off_is_state now c.1 s is_state m })
+    (λ c m e. record {
+      named = eligible_within now s c is_state e;
+      times = is_time_reads (put_off_until s.setup c.1 now) (put_off_in_time s.setup c.1 now is_state.valid_setup m);
+      is_state = put_off_is_state now c.1 s is_state m;
+    })
     (λ c m r e. record { named = eligible_within now s c is_state e; times = tt; is_state = taken_is_state now c.1 s is_state m r (eligible_open now s c e) })
-    (λ e. record { named = waiting_cases (NamesObjectOf s.setup) now s tt tt; times = waiting_cases (TellsTimesUpTo (2 ^ 61)) now s tt (least_time s is_state); is_state = is_state })
+    (λ e. record {
+      named = waiting_cases (NamesObjectOf s.setup) now s tt tt;
+      times = waiting_cases (TellsTimesUpTo (LAST_TIME)) now s tt (least_time s is_state);
+      is_state = is_state;
+    })
 step_is_answer s (call.Report n run c) is_state =
     report_cases (IsAnswer s) n run c s (refusal_is_answer s is_state)
     (λ o r e f. let next = report_next n c o r s is_state e f in record {
@@ -85,7 +94,8 @@ step_is_answer s (call.Status n) is_state =
 -- no call passes the limit
 pub step_limit : (s : State) (c : Call) → IsWithinLimit s → IsWithinLimit (step s c).0
 step_limit s (call.Take now) within =
-    take_cases (λ a. IsWithinLimit a.0) now s (λ why. within) (λ c m e. limit_kept c.1 _ s (λ o b. b) within) (λ c m r e. limit_taken now c.1 s (eligible_open now s c e) within) (λ e. within)
+    take_cases (λ a. IsWithinLimit a.0) now s (λ why. within) (λ c m e. limit_kept c.1 _ s (λ o b. b) within)
+    (λ c m r e. limit_taken now c.1 s (eligible_open now s c e) within) (λ e. within)
 step_limit s (call.Report n run c) within =
     report_cases (λ a. IsWithinLimit a.0) n run c s (λ why. within) (λ o r e f. limit_kept n (ended _) s (λ x b. cc) within)
 step_limit s (call.Abandon n run now) within =
@@ -100,18 +110,6 @@ step_limit s (call.Status n) within = status_cases (λ a. IsWithinLimit a.0) n s
 pub after_setup : (s : State) (calls : List Call) → (after s calls).setup ≡ s.setup
 after_setup s [] = refl
 after_setup s (c ∷ calls) = after_setup (step s c).0 calls ∙ (step_keeps s c).setup
-
-pub after_start : (s : State) (calls : List Call) → (after s calls).start ≡ s.start
-after_start s [] = refl
-after_start s (c ∷ calls) = after_start (step s c).0 calls ∙ (step_keeps s c).start
-
-pub after_is_state : (s : State) (calls : List Call) → IsState s → IsState (after s calls)
-after_is_state s [] h = h
-after_is_state s (c ∷ calls) h = after_is_state (step s c).0 calls (step_is_answer s c h).is_state
-
-pub length-replies : (s : State) (calls : List Call) → length (replies s calls) ≡ length calls
-length-replies s [] = refl
-length-replies s (c ∷ calls) = ap suc (length-replies (step s c).0 calls)
 
 -- nor do calls one after another
 pub after_limit : (s : State) (calls : List Call) → IsWithinLimit s → IsWithinLimit (after s calls)

@@ -3,6 +3,7 @@ use Rattle.std.proofs.Common.{◌≡◌, ℕ, ◌+◌, ◌<◌, ◌≤◌, ◌^�
 use Rattle.std.proofs.Common.{arith, IfSome}
 use Rattle.std.specs.Prelude.{nat_lt, nat_le}
 use Rattle.std.proofs.lemmas.Bool.Decides.{nat_tests}
+use Rattle.std.proofs.lemmas.Bool.{and_parts, and_from}
 use Rattle.check_objects.specs.Configuration.{object_count}
 use Rattle.check_sched.specs.Scheduling.{Scheduling, put_off_to, running_from}
 use Rattle.check_sched.specs.Candidate.{Candidate}
@@ -19,7 +20,7 @@ use Rattle.check_sched.specs.Step.{candidates, due, eligible, is_held_back, is_o
 use Rattle.check_sched.proofs.EligibleLaws.{eligible_open}
 use Rattle.check_sched.proofs.LimitLaws.{limit_taken}
 use Rattle.check_sched.proofs.AnswerLaws.{by_test, left_is, range_is}
-use Rattle.check_sched.proofs.CandidateLaws.{all_at_least, and_both, both_and, all_filtered, candidates_within, candidates_times}
+use Rattle.check_sched.proofs.CandidateLaws.{all_at_least, all_filtered, candidates_within, candidates_times}
 use Rattle.check_sched.proofs.UpdateLaws.{length-update_at, all-update_at, set_is_update}
 
 -- ---- Take, by its answers
@@ -101,7 +102,8 @@ taken_is_state now n s is_state m r may =
 pub put_off_is_state : (now n : ℕ) (s : State) → IsState s → now ≤ 2 ^ 60 → IsState (put_off now n s)
 put_off_is_state now n s is_state m =
     with_object_is_state n (put_off_to (put_off_until s.setup n now)) s is_state
-    (λ o e. both_and (is_time (put_off_until s.setup n now)) (is_moment o.run) (put_off_in_time s.setup n now is_state.valid_setup m) (and_both (is_time o.next) (is_moment o.run) e).1)
+    (λ o e. and_from (is_time (put_off_until s.setup n now)) (is_moment o.run)
+    (put_off_in_time s.setup n now is_state.valid_setup m) (and_parts (is_time o.next) (is_moment o.run) e).1)
     (λ o e. e)
 
 -- ---- what the code leaves

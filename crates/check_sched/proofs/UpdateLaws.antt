@@ -2,8 +2,8 @@
 use Rattle.std.proofs.Common.{◌≡◌, ℕ, zero, suc, ◌<◌, ◌≤◌, Bool, true, List, [], ◌∷◌, length, get_or, set, Some, None, refl, ap, subst, arith}
 use Rattle.std.specs.Prelude.{slice_get}
 use Rattle.std.specs.List.{list_all}
+use Rattle.std.proofs.lemmas.Bool.{and_parts, and_from}
 use Rattle.check_sched.specs.Step.{update_at}
-use Rattle.check_sched.proofs.CandidateLaws.{and_both, both_and}
 
 pub length-update_at : {X : Type 0} (n : ℕ) (f : X → X) (xs : List X) → length (update_at n f xs) ≡ length xs
 length-update_at n f [] = refl
@@ -19,8 +19,8 @@ set_is_update (suc n) f (x ∷ xs) d y h e = ap (λ l. x ∷ l) (set_is_update n
 pub all-update_at : {X : Type 0} (p : X → Bool) (n : ℕ) (f : X → X) (xs : List X) → list_all p xs ≡ true → ((x : X) → p x ≡ true → p (f x) ≡ true)
     → list_all p (update_at n f xs) ≡ true
 all-update_at p n f [] e h = refl
-all-update_at p zero f (x ∷ xs) e h = let b = and_both (p x) (list_all p xs) e in both_and (p (f x)) (list_all p xs) (h x b.0) b.1
-all-update_at p (suc n) f (x ∷ xs) e h = let b = and_both (p x) (list_all p xs) e in both_and (p x) _ b.0 (all-update_at p n f xs b.1 h)
+all-update_at p zero f (x ∷ xs) e h = let b = and_parts (p x) (list_all p xs) e in and_from (p (f x)) (list_all p xs) (h x b.0) b.1
+all-update_at p (suc n) f (x ∷ xs) e h = let b = and_parts (p x) (list_all p xs) e in and_from (p x) _ b.0 (all-update_at p n f xs b.1 h)
 
 -- what is true of each, by its place, and of what is put in one place
 pub each-update_at : {X : Type 0} (P : ℕ → X → Type 0) (n : ℕ) (y : X) (xs : List X) → ((k : ℕ) (x : X) → slice_get xs k ≡ Some x → P k x) → P n y
@@ -36,8 +36,8 @@ each-update_at P (suc n) y (z ∷ xs) each new (suc k) x e = each-update_at (λ 
 -- what each passes, the one at a place passes
 pub all_at_place : {X : Type 0} (p : X → Bool) (xs : List X) (n : ℕ) (x : X) → list_all p xs ≡ true → slice_get xs n ≡ Some x → p x ≡ true
 all_at_place p [] n x h e = cc
-all_at_place p (y ∷ xs) zero x h e = let same : y ≡ x = cc in subst (λ z. p z ≡ true) same (and_both (p y) (list_all p xs) h).0
-all_at_place p (y ∷ xs) (suc n) x h e = all_at_place p xs n x (and_both (p y) (list_all p xs) h).1 e
+all_at_place p (y ∷ xs) zero x h e = let same : y ≡ x = cc in subst (λ z. p z ≡ true) same (and_parts (p y) (list_all p xs) h).0
+all_at_place p (y ∷ xs) (suc n) x h e = all_at_place p xs n x (and_parts (p y) (list_all p xs) h).1 e
 
 -- a place with nothing at it is past the end
 pub none_there : {X : Type 0} (xs : List X) (n : ℕ) → slice_get xs n ≡ None → length xs ≤ n

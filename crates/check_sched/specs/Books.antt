@@ -11,7 +11,7 @@ use Rattle.check_sched.specs.BookState.{BookState, book_opening}
 abbrev pub entries_of : Book → List (Entry Call Reply)
 entries_of book = book.entries.items
 
--- how many calls were refused for want of memory
+-- how many calls were refused when out of memory
 abbrev pub refused_of : Book → ℕ
 refused_of book = book.refused
 

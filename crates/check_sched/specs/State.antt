@@ -1,5 +1,5 @@
 -- The state of a scheduler as contracts see it, and the state that it opens with.
-use Rattle.std.specs.Prelude.{ℕ, ◌^◌, ◌<◌, ◌≤◌, ◌≡◌, ◌&&◌, ◌||◌, ◌==◌, Bool, true, false, List, length, map, zip, drop, count_by, Option, Some, None}
+use Rattle.std.specs.Prelude.{ℕ, ◌<◌, ◌≤◌, ◌≡◌, ◌&&◌, ◌||◌, ◌==◌, Bool, true, false, List, length, map, zip, drop, count_by, Option, Some, None}
 use Rattle.std.specs.Prelude.{is_some, option_map, option_and_then, slice_get, nat_le, nat_lt, unwrap_or}
 use Rattle.std.specs.List.{list_all, enumerate_from}
 use Rattle.std.specs.Option.{option_map_or}
@@ -8,7 +8,9 @@ use Rattle.check_rules.specs.declared.standing.Standing.{Standing}
 use Rattle.check_rules.specs.State.{is_host_state}
 use Rattle.check_rules.specs.Standing.{pending_standing, is_lawful}
 use Rattle.check_sched.specs.Scheduling.{OpenRun, Scheduling, opening_object}
+use Rattle.check_sched.specs.declared.sched.TheConstants.{MAX_RUNS}
 use Rattle.check_spread.specs.Spread.{initial_times}
+use Rattle.check_spread.specs.declared.limits.TheConstants.{LAST_MOMENT, LAST_TIME}
 
 pub record State : Type 0 where
   pub setup : Configuration
@@ -80,19 +82,20 @@ opening_standings setup = map (λ p. pending_standing (is_host setup p.0)) (enum
 
 -- the state that a scheduler opens with: no run was handed out
 abbrev pub opening : Configuration → ℕ → State
-opening setup start = record { setup = setup; start = start; objects = opening_objects setup start; standings = opening_standings setup; runs = 0 }
+opening setup start =
+    record { setup = setup; start = start; objects = opening_objects setup start; standings = opening_standings setup; runs = 0 }
 
 -- ---- what is true of every scheduler
 
 -- a next time, if there is one, is at most 2^61 milliseconds
 abbrev pub is_time : Option ℕ → Bool
 is_time None = true
-is_time (Some time) = nat_le time (2 ^ 61)
+is_time (Some time) = nat_le time LAST_TIME
 
 -- a run, if there is one, began at 2^60 milliseconds at the latest
 abbrev pub is_moment : Option OpenRun → Bool
 is_moment None = true
-is_moment (Some run) = nat_le run.start (2 ^ 60)
+is_moment (Some run) = nat_le run.start LAST_MOMENT
 
 -- the next time of an object, and the start of its run, are within their limits
 abbrev pub is_in_time : Scheduling → Bool
@@ -114,7 +117,7 @@ pub record IsState (s : State) : Type 0 where
   pub valid_setup : IsSetup s.setup
   pub one_each : length s.objects ≡ object_count s.setup
   pub one_standing_each : length s.standings ≡ object_count s.setup
-  pub runs : s.runs ≤ 2 ^ 60
+  pub runs : s.runs ≤ MAX_RUNS
   pub times : list_all is_in_time s.objects ≡ true
   pub limit : IsWithinLimit s
   pub standings : (number : ℕ) (standing : Standing) → slice_get s.standings number ≡ Some standing → IsStandingOf s.setup number standing

@@ -1,6 +1,7 @@
 //! The book: the scheduler with the history of its calls.
 
-ghost use Rattle.std.specs.Prelude.{◌≡◌, ℕ, ◌+◌, ◌^◌, ◌<◌, ◌≤◌, List, [], ◌∷◌, ◌++◌, length, IfOk, IfErr, OnOk, OnErr, vec_capacity, vec_len};
+ghost use Rattle.std.specs.Prelude.{◌≡◌, ◌+◌, ◌^◌, ◌<◌, ◌≤◌, [], ◌∷◌, ◌++◌, length};
+ghost use Rattle.std.specs.Prelude.{IfOk, IfErr, OnOk, OnErr, vec_capacity, vec_len};
 ghost use Rattle.check_sched.specs.BookState.{BookState, book_opening, book_step};
 ghost use Rattle.check_sched.specs.State.{opening};
 ghost use Rattle.check_sched.specs.Step.{step};
@@ -10,6 +11,7 @@ ghost use Rattle.ticket_steps.specs.History.{entry, replay, IsLegal, IsLegal-pro
 use crate::call::{Call, Reply};
 use crate::sched::Sched;
 use check_objects::Setup;
+use check_spread::LAST_MOMENT;
 use std::alloc::{AllocError, Global};
 use ticket_steps::{Entry, Kept, NoMemory};
 
@@ -21,7 +23,7 @@ mod tests;
 ///
 /// The history is always legal: each reply is the scheduler's at its place, from the opening on, and
 /// the scheduler is in the state that those calls leave. Refused calls are entries too; a call for
-/// whose entry memory is wanting isn't made, but counted.
+/// whose entry there is no memory isn't made, but counted.
 #[derive(Drop)]
 pub struct Book {
     sched: Sched,
@@ -29,7 +31,8 @@ pub struct Book {
     refused: u64,
     room: usize,
     ghost reserved: { room ≤ vec_capacity entries },
-    ghost legal: { IsLegal book_step (book_opening sched.setup sched.start room) entries.items } by { IsLegal-prop book_step (λ a b. Prim.hlevel props) (book_opening sched.setup sched.start room) entries.items },
+    ghost legal: { IsLegal book_step (book_opening sched.setup sched.start room) entries.items } by { IsLegal-prop book_step (λ a b. Prim.hlevel props)
+        (book_opening sched.setup sched.start room) entries.items },
     ghost replayed: { record { sched = sched; room = room } ≡ replay book_step (book_opening sched.setup sched.start room) entries.items },
 }
 
@@ -40,9 +43,9 @@ impl Book {
     /// moment `start`, in milliseconds. There is room for so many entries: their calls take no
     /// memory.
     ///
-    /// An Err means want of memory, and hands the setup back as it was.
+    /// An Err means out of memory, and hands the setup back as it was.
     pub fn open(alloc: Global, setup: Setup, start: u64, room: usize) -> Result<Book, Setup>
-        requires { start ≤ 2 ^ 60 }
+        requires { start ≤ LAST_MOMENT }
         ensures empty { IfOk result (λ book. (entries_of book ≡ []) × (refused_of book ≡ 0)) }
         ensures sched { IfOk result (λ book. sched_of book ≡ opening setup start) }
         ensures room { IfOk result (λ book. room_of book ≡ room) }

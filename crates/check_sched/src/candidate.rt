@@ -6,13 +6,14 @@ ghost use Rattle.check_sched.specs.Candidate.{candidates_among, due_among};
 ghost use Rattle.check_sched.specs.Order.{least};
 
 use crate::object_state::ObjectState;
+use check_spread::MAX_OBJECTS;
 
 /// An object that waits for its check: the time for which it waits, and its number.
 pub(crate) type Candidate = (u64, u32);
 
 /// The object whose check comes first of those whose time has come by now.
 pub(crate) fn least_due(objects: &[ObjectState], now: u64) -> Option<Candidate>
-    requires { length objects.now ≤ 4096 }
+    requires { length objects.now ≤ MAX_OBJECTS }
     ensures { result ≡ least (due_among now (candidates_among objects.now)) }
 {
     let least = least_candidate(objects)?;
@@ -22,7 +23,7 @@ pub(crate) fn least_due(objects: &[ObjectState], now: u64) -> Option<Candidate>
 /// The object whose check comes first: the one with the least time, and of those with equal times
 /// the one with the least number. None where no object waits for a check.
 pub(crate) fn least_candidate(objects: &[ObjectState]) -> Option<Candidate>
-    requires { length objects.now ≤ 4096 }
+    requires { length objects.now ≤ MAX_OBJECTS }
     ensures { result ≡ least (candidates_among objects.now) }
 {
     let mut least = None;

@@ -25,4 +25,5 @@ mod tests;
 
 pub use book::Book;
 pub use call::{Call, Refusal, Reply};
-pub use sched::Sched;
+pub use check_spread::{LAST_MOMENT, LAST_TIME};
+pub use sched::{MAX_RUNS, Sched};

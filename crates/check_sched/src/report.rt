@@ -1,14 +1,16 @@
 //! What the result of a check makes of an object, its standing and its next time, and to when an
 //! object is put off.
 
-ghost use Rattle.std.specs.Prelude.{◌≡◌, ◌<◌, ◌≤◌, ◌^◌, ◌*◌, IfSome, length, option_map, slice_get, Some};
-ghost use Rattle.check_objects.specs.Configuration.{IsSetup, object_count, objects_of};
+ghost use Rattle.std.specs.Prelude.{◌≡◌, ◌<◌, ◌≤◌, ◌*◌, IfSome, length, Some};
+ghost use Rattle.check_objects.specs.Configuration.{IsSetup, object_count};
 ghost use Rattle.check_rules.specs.State.{is_another_state};
 ghost use Rattle.check_sched.specs.State.{IsStandingOf, max_attempts_of, standing_at};
-ghost use Rattle.check_sched.specs.Report.{interval_after, judged, next_after, milliseconds, put_off_until, time_after};
+ghost use Rattle.check_sched.specs.Report.{interval_after, judged, next_after};
+ghost use Rattle.check_sched.specs.Report.{milliseconds, put_off_until, time_after};
 
 use check_objects::{Object, Setup};
 use check_rules::{Code, Standing, host_state, service_state, verdict};
+use check_spread::{LAST_MOMENT, LAST_TIME, MAX_INTERVAL, MAX_INTERVAL_LENGTH};
 
 /// The standing of the object with this number after its check returned this code, beside the
 /// standings of all objects, by number.
@@ -71,10 +73,10 @@ pub(crate) fn next_after(
 ) -> Option<u64>
     requires there { number < object_count setup.now }
     requires valid_setup { IsSetup setup.now }
-    requires moment { start ≤ 2 ^ 60 }
-    requires in_time { IfSome already (λ time. time ≤ 2 ^ 61) }
+    requires moment { start ≤ LAST_MOMENT }
+    requires in_time { IfSome already (λ time. time ≤ LAST_TIME) }
     ensures value { result ≡ next_after setup.now number standing start already }
-    ensures within { IfSome result (λ time. time ≤ 2 ^ 61) }
+    ensures within { IfSome result (λ time. time ≤ LAST_TIME) }
 {
     if already.is_some() {
         return already;
@@ -87,9 +89,9 @@ pub(crate) fn next_after(
 pub(crate) fn put_off_until(setup: &Setup, number: u32, now: u64) -> Option<u64>
     requires there { number < object_count setup.now }
     requires valid_setup { IsSetup setup.now }
-    requires moment { now ≤ 2 ^ 60 }
+    requires moment { now ≤ LAST_MOMENT }
     ensures value { result ≡ put_off_until setup.now number now }
-    ensures within { IfSome result (λ time. time ≤ 2 ^ 61) }
+    ensures within { IfSome result (λ time. time ≤ LAST_TIME) }
 {
     time_after(setup, now, setup.object(number).check_interval)
 }
@@ -98,10 +100,10 @@ pub(crate) fn put_off_until(setup: &Setup, number: u32, now: u64) -> Option<u64>
 /// is 0.
 fn time_after(setup: &Setup, start: u64, interval: u64) -> Option<u64>
     requires valid_setup { IsSetup setup.now }
-    requires moment { start ≤ 2 ^ 60 }
-    requires interval { interval ≤ 525600 }
+    requires moment { start ≤ LAST_MOMENT }
+    requires interval { interval ≤ MAX_INTERVAL }
     ensures value { result ≡ time_after setup.now start interval }
-    ensures within { IfSome result (λ time. time ≤ 2 ^ 61) }
+    ensures within { IfSome result (λ time. time ≤ LAST_TIME) }
 {
     if interval == 0 {
         return None;
@@ -124,9 +126,9 @@ fn interval_after(object: &Object, standing: Standing) -> u64
 /// An interval of units of `interval_length`, in milliseconds.
 fn milliseconds(setup: &Setup, interval: u64) -> u64
     requires valid_setup { IsSetup setup.now }
-    requires interval { interval ≤ 525600 }
+    requires interval { interval ≤ MAX_INTERVAL }
     ensures value { result ≡ milliseconds setup.now interval }
-    ensures within { result ≤ 525600 * 86400 * 1000 }
+    ensures within { result ≤ MAX_INTERVAL * MAX_INTERVAL_LENGTH * 1000 }
 {
     interval * setup.options().interval_length * 1000
 }

@@ -1,6 +1,6 @@
 //! The scheduler: its calls, and what can be read of it between them.
 
-ghost use Rattle.std.specs.Prelude.{◌≡◌, ◌+◌, ◌<◌, ◌≤◌, ◌^◌, IfSome, IfOk, IfErr, IsTrue, OnOk, None, length};
+ghost use Rattle.std.specs.Prelude.{◌≡◌, ◌+◌, ◌<◌, ◌≤◌, IfSome, IfOk, IfErr, IsTrue, OnOk, None, length};
 ghost use Rattle.check_objects.specs.Configuration.{IsSetup, object_count};
 ghost use Rattle.check_sched.specs.State.{
   IsStandingOf,
@@ -33,15 +33,12 @@ use crate::object_state::{ObjectState, Run};
 use crate::report::{is_changed, judged, next_after, put_off_until};
 use check_objects::Setup;
 use check_rules::{Code, Standing, blocked, pending};
-use check_spread::initial_times;
+use check_spread::{LAST_MOMENT, LAST_TIME, initial_times};
 use std::alloc::{AllocError, Global};
 use std::marker::Model;
 
-/// The greatest moment that a call may name, in milliseconds.
-const LAST_MOMENT: u64 = 1 << 60;
-
 /// How many runs are handed out at most.
-const MOST_RUNS: u64 = 1 << 60;
+pub const MAX_RUNS: u64 = 1 << 60;
 
 /// A scheduler over a setup. Contracts see it as a record `State`: the setup, the start, the state
 /// of each object by number, and how many runs were handed out.
@@ -74,10 +71,10 @@ impl Sched {
     /// setup's options say; an object that is disabled or whose check interval is 0 begins without
     /// a next time. (Manual: "Service and Host Check Scheduling".)
     ///
-    /// An Err means want of memory, and hands the setup back as it was. This is the one call that
+    /// An Err means out of memory, and hands the setup back as it was. This is the one call that
     /// needs memory.
     pub fn new(alloc: Global, setup: Setup, start: u64) -> Result<Sched, Setup>
-        requires { start ≤ 2 ^ 60 }
+        requires { start ≤ LAST_MOMENT }
         ensures ok { IfOk result (λ scheduler. scheduler ≡ opening setup start) }
         ensures err { IfErr result (λ handed_back. handed_back ≡ setup) }
     {
@@ -119,7 +116,7 @@ impl Sched {
         ensures setup { self.new.setup ≡ self.old.setup }
         ensures start { self.new.start ≡ self.old.start }
         ensures named { NamesObjectOf self.new.setup result }
-        ensures times { TellsTimesUpTo (2 ^ 61) result }
+        ensures times { TellsTimesUpTo LAST_TIME result }
     {
         match call {
             Call::Take { now } => reply_of(self.take(now)),
@@ -141,10 +138,10 @@ impl Sched {
         ensures state { self.new ≡ (step self.old (Call.Take now)).0 }
         ensures reply { reply_of result ≡ (step self.old (Call.Take now)).1 }
         ensures named { NamesObjectOf self.new.setup (reply_of result) }
-        ensures times { TellsTimesUpTo (2 ^ 61) (reply_of result) }
+        ensures times { TellsTimesUpTo LAST_TIME (reply_of result) }
     {
         test_moment(now)?;
-        if self.runs >= MOST_RUNS {
+        if self.runs >= MAX_RUNS {
             return Err(Refusal::RunsSpent);
         }
         let Some((_time, number)) = self.least_eligible(now) else {
@@ -197,10 +194,10 @@ impl Sched {
     /// Puts an object off by its check interval.
     fn put_off(&mut self, object: u32, now: u64) -> Reply
         requires there { object < object_count self.old.setup }
-        requires moment { now ≤ 2 ^ 60 }
+        requires moment { now ≤ LAST_MOMENT }
         ensures state { self.new ≡ put_off now object self.old }
         ensures reply { result ≡ Reply.PutOff object (put_off_until self.old.setup object now) }
-        ensures times { TellsTimesUpTo (2 ^ 61) result }
+        ensures times { TellsTimesUpTo LAST_TIME result }
     {
         let until = put_off_until(&self.setup, object, now);
         self.objects[object as usize].put_off(until);
@@ -210,8 +207,8 @@ impl Sched {
     /// Begins the check of an object, under the next run number.
     fn begin(&mut self, object: u32, now: u64) -> Reply
         requires there { object < object_count self.old.setup }
-        requires moment { now ≤ 2 ^ 60 }
-        requires spare { self.old.runs < 2 ^ 60 }
+        requires moment { now ≤ LAST_MOMENT }
+        requires spare { self.old.runs < MAX_RUNS }
         requires open { IsTrue (is_open self.old object) }
         ensures state { self.new ≡ taken now object self.old }
         ensures reply { result ≡ Reply.Taken object (self.old.runs + 1) }
@@ -232,7 +229,7 @@ impl Sched {
     fn waiting(&self, now: u64) -> Reply
         requires { least (eligible now self.now) ≡ None }
         ensures reply { result ≡ waiting_reply now self.now }
-        ensures times { TellsTimesUpTo (2 ^ 61) result }
+        ensures times { TellsTimesUpTo LAST_TIME result }
     {
         match least_candidate(&self.objects) {
             Some((time, _number)) if time <= now => Reply::AtLimit,
@@ -245,7 +242,7 @@ impl Sched {
     fn report(&mut self, object: u32, run: u64, code: Code) -> Result<Reply, Refusal>
         ensures state { self.new ≡ (step self.old (Call.Report object run code)).0 }
         ensures reply { reply_of result ≡ (step self.old (Call.Report object run code)).1 }
-        ensures times { TellsTimesUpTo (2 ^ 61) (reply_of result) }
+        ensures times { TellsTimesUpTo LAST_TIME (reply_of result) }
     {
         let state = self.object(object)?;
         let running = state.run_under(run)?;
@@ -267,7 +264,7 @@ impl Sched {
     fn abandon(&mut self, object: u32, run: u64, now: u64) -> Result<Reply, Refusal>
         ensures state { self.new ≡ (step self.old (Call.Abandon object run now)).0 }
         ensures reply { reply_of result ≡ (step self.old (Call.Abandon object run now)).1 }
-        ensures times { TellsTimesUpTo (2 ^ 61) (reply_of result) }
+        ensures times { TellsTimesUpTo LAST_TIME (reply_of result) }
     {
         let state = self.object(object)?;
         test_moment(now)?;
@@ -302,7 +299,7 @@ impl Sched {
     fn status(&self, object: u32) -> Result<Reply, Refusal>
         ensures state { self.now ≡ (step self.now (Call.Status object)).0 }
         ensures reply { reply_of result ≡ (step self.now (Call.Status object)).1 }
-        ensures times { TellsTimesUpTo (2 ^ 61) (reply_of result) }
+        ensures times { TellsTimesUpTo LAST_TIME (reply_of result) }
     {
         let state = self.object(object)?;
         Ok(Reply::Standing {
@@ -351,7 +348,7 @@ impl Sched {
     pub fn next_of(&self, number: u32) -> Option<u64>
         requires { number < object_count self.now.setup }
         ensures value { result ≡ next_of number self.now }
-        ensures within { IfSome result (λ time. time ≤ 2 ^ 61) }
+        ensures within { IfSome result (λ time. time ≤ LAST_TIME) }
     {
         self.objects[number as usize].next()
     }

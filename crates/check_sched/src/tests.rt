@@ -1,8 +1,8 @@
 //! The scheduler's calls on small setups: worked examples, the limits, and that each call works
-//! with ample memory. Want of memory is met by a second try, so that each allocation can be
+//! with ample memory. A try that is out of memory is met by a second, so that each allocation can be
 //! refused in turn.
 
-ghost use Rattle.std.specs.Prelude.{◌≤◌, ◌^◌};
+ghost use Rattle.std.specs.Prelude.{◌≤◌};
 
 mod dependencies;
 mod first_checks;
@@ -99,8 +99,6 @@ const HOST_ON_HOST: &[u8] =
 const BEHIND_A_PARENT: &[u8] =
     br#"{"options":{"host_inter_check_delay_method":"n"},"hosts":[{"name":"h","parents":["p"],"max_check_attempts":3},{"name":"p","max_check_attempts":3}]}"#;
 
-const LAST_MOMENT: u64 = 1_152_921_504_606_846_976;
-
 fn setup_of(alloc: Global, document: &[u8]) -> Result<Setup, LoadError> {
     match Setup::read(alloc, document) {
         Err(LoadError::Memory) => Setup::read(alloc, document),
@@ -109,7 +107,7 @@ fn setup_of(alloc: Global, document: &[u8]) -> Result<Setup, LoadError> {
 }
 
 fn opened(alloc: Global, document: &[u8], start: u64) -> Result<Sched, Fail>
-    requires { start ≤ 2 ^ 60 }
+    requires { start ≤ LAST_MOMENT }
 {
     let setup = setup_of(alloc, document)?;
     match Sched::new(alloc, setup, start) {
@@ -140,7 +138,7 @@ fn answers_from(
     start: u64,
     calls: &[(Call, Reply)],
 ) -> Result<(), Fail>
-    requires { start ≤ 2 ^ 60 }
+    requires { start ≤ LAST_MOMENT }
 {
     let mut scheduler = opened(alloc, document, start)?;
     for (call, want) in calls {

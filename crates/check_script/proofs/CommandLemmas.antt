@@ -9,7 +9,7 @@ use Rattle.serde_json.specs.View.{items_view}
 use Rattle.serde_json.specs.declared.value.Value.{Value}
 use Rattle.check_objects.specs.Tree.{tree_of}
 use Rattle.check_objects.specs.Configuration.{Configuration}
-use Rattle.check_script.specs.Command.{call_by, name_in, take_call, three_of, two_of}
+use Rattle.check_script.specs.Command.{call_by, one_of, take_call, three_of, two_of}
 use Rattle.check_script.specs.declared.refusal.InputRefusal.{InputRefusal}
 use Rattle.check_script.specs.declared.refusal.LineFault.TheVariants as fault
 
@@ -35,14 +35,14 @@ take_members (v ∷ w ∷ vs) h = refl
 
 -- the same of the members beside other words: one, two or three
 
-pub name_few : (vs : List Value) → length vs < 1 → name_in (items_view vs) ≡ None
-name_few [] h = refl
-name_few (v ∷ vs) h = absurd (omega arith)
+pub one_few : (vs : List Value) → length vs < 1 → one_of (items_view vs) ≡ None
+one_few [] h = refl
+one_few (v ∷ vs) h = absurd (omega arith)
 
-pub name_many : (vs : List Value) → 1 < length vs → name_in (items_view vs) ≡ None
-name_many [] h = refl
-name_many (v ∷ []) h = absurd (omega arith)
-name_many (v ∷ w ∷ vs) h = refl
+pub one_many : (vs : List Value) → 1 < length vs → one_of (items_view vs) ≡ None
+one_many [] h = refl
+one_many (v ∷ []) h = absurd (omega arith)
+one_many (v ∷ w ∷ vs) h = refl
 
 pub two_few : (vs : List Value) → length vs < 2 → two_of (items_view vs) ≡ None
 two_few [] h = refl
@@ -69,8 +69,8 @@ three_many (v ∷ w ∷ x ∷ []) h = absurd (omega arith)
 three_many (v ∷ w ∷ x ∷ y ∷ vs) h = refl
 
 -- a word that is none of a script's
-pub call_by_other : (c : Configuration) (word : List ℕ) (ms : Items) → bytes_eq word (codes "take") ≡ false → bytes_eq word (codes "report") ≡ false
-    → bytes_eq word (codes "abandon") ≡ false
+pub call_by_other : (c : Configuration) (word : List ℕ) (ms : Items)
+    → bytes_eq word (codes "take") ≡ false → bytes_eq word (codes "report") ≡ false → bytes_eq word (codes "abandon") ≡ false
     → bytes_eq word (codes "reschedule") ≡ false → bytes_eq word (codes "enable") ≡ false → bytes_eq word (codes "status") ≡ false
     → call_by c word ms ≡ Err fault.Shape
 call_by_other c word ms a b d e f g = rw (a, b, d, e, f, g) refl

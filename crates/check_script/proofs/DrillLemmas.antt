@@ -1,6 +1,7 @@
 -- The members of a drill's commands, and what the commands say together.
-use Rattle.std.proofs.Common.{◌≡◌, ℕ, suc, zero, ◌+◌, ◌≤◌, ◌<◌, ◌==◌, true, false, cond, ◌&&◌, List, [], ◌∷◌, ◌++◌, length, map, replicate, Option, Some}
-use Rattle.std.proofs.Common.{None, get_or, refl, sym, ◌∙◌, ap, append-nil, inl, inr, arith, Result, Ok, Err}
+use Rattle.std.proofs.Common.{◌≡◌, ℕ, suc, zero, ◌+◌, ◌≤◌, ◌<◌, ◌==◌, true, false, cond, ◌&&◌}
+use Rattle.std.proofs.Common.{List, [], ◌∷◌, ◌++◌, length, map, replicate, Option, Some, None, get_or, append-nil}
+use Rattle.std.proofs.Common.{refl, sym, ◌∙◌, ap, inl, inr, arith, Result, Ok, Err}
 use Rattle.std.specs.Prelude.{is_some, unwrap_or, filter_map, IfOk}
 use Rattle.std.specs.List.{list_all, last_or, range_with_len, cons_option}
 use Rattle.std.proofs.Math.ListN.{set}
@@ -13,12 +14,14 @@ use Rattle.serde_json.specs.declared.value.Value.{Value}
 use Rattle.check_objects.specs.Configuration.{Configuration, object_count}
 use Rattle.check_objects.specs.Tree.{◌>=>◌, whole_number}
 use Rattle.check_rules.specs.declared.state.Code.{Code}
-use Rattle.check_script.specs.DrillCommand.{Command, PluginOf, MomentAt, are_numbers, are_some_numbers, drill_command_by, number_in}
+use Rattle.check_script.specs.DrillCommand.{Command, PluginOf, MomentAt, are_numbers, are_some_numbers, drill_command_by}
 use Rattle.check_script.specs.DrillCommanded.{drill_command}
-use Rattle.check_script.specs.DrillScript.{DrillScript, drill_over, drill_script_of, given_by, moment_of, moments_in, returns_below, returns_by, returns_of}
+use Rattle.check_script.specs.DrillScript.{DrillScript, drill_over, drill_script_of, given_by, moment_of, moments_in}
+use Rattle.check_script.specs.DrillScript.{returns_below, returns_by, returns_of}
 use Rattle.check_script.specs.Line.{◌>>=◌}
 use Rattle.check_script.specs.Script.{Script, script_by}
 use Rattle.check_script.specs.declared.drill_command.DrillCommand.{DrillCommand}
+use Rattle.check_script.specs.declared.script.TheConstants.{MAX_INPUT_BYTES}
 use Rattle.check_script.specs.declared.refusal.InputRefusal.{InputRefusal}
 use Rattle.check_script.proofs.ScriptLemmas.{few_script}
 
@@ -27,16 +30,6 @@ use Rattle.check_script.proofs.ScriptLemmas.{few_script}
 -- return codes that go on with those that follow, if there are any
 abbrev pub codes_with_front : List Code → Option (List Code) → Option (List Code)
 codes_with_front front rest = rest >=> λ more. Some (front ++ more)
-
--- fewer or more members than one
-pub number_few : (vs : List Value) → length vs < 1 → number_in (items_view vs) ≡ None
-number_few [] h = refl
-number_few (v ∷ vs) h = absurd (omega arith)
-
-pub number_many : (vs : List Value) → 1 < length vs → number_in (items_view vs) ≡ None
-number_many [] h = refl
-number_many (v ∷ []) h = absurd (omega arith)
-number_many (v ∷ w ∷ vs) h = refl
 
 -- all values are numbers where all members are
 are_numbers_all : (vs : List Value) → list_all (λ v. is_some (whole_number (view v))) vs ≡ are_numbers (items_view vs)
@@ -75,9 +68,9 @@ few_over_by (Err r) s n h e =
     absurd f
 
 -- a script has no more moments than an input may have bytes
-pub few_moments : (input : List ℕ) (s : DrillScript) → drill_script_of input ≡ Ok s → length s.moments ≤ 67108864
+pub few_moments : (input : List ℕ) (s : DrillScript) → drill_script_of input ≡ Ok s → length s.moments ≤ MAX_INPUT_BYTES
 unfolding drill_script_of
-few_moments input s e = few_over_by (script_by drill_command_by input) s 67108864 (few_script drill_command_by input) e
+few_moments input s e = few_over_by (script_by drill_command_by input) s MAX_INPUT_BYTES (few_script drill_command_by input) e
 
 -- ---- return codes
 
@@ -86,17 +79,21 @@ last_or-more o [] x = refl
 last_or-more o (y ∷ xs) x = last_or-more (Some y) xs x
 
 -- what an object returns after one command more: for its own plugin, for another's, and a moment
-returns_own : (done : List Command) (named object : ℕ) (r : List Code) → (named == object) ≡ true → returns_of (done ++ PluginOf named r ∷ []) object ≡ r
+returns_own : (done : List Command) (named object : ℕ) (r : List Code) → (named == object) ≡ true
+    → returns_of (done ++ PluginOf named r ∷ []) object ≡ r
 returns_own done named object r e =
     let given = filter_map (returns_by object) done in
-    ap (λ l. unwrap_or (last_or None l) []) (filter_map-append (returns_by object) done (PluginOf named r ∷ []) ∙ ap (λ b. given ++ cons_option (cond b (Some r) None) []) e)
+    ap (λ l. unwrap_or (last_or None l) [])
+        (filter_map-append (returns_by object) done (PluginOf named r ∷ []) ∙ ap (λ b. given ++ cons_option (cond b (Some r) None) []) e)
     ∙ ap (λ o. unwrap_or o []) (last_or-more None given r)
 
 returns_other : (done : List Command) (named object : ℕ) (r : List Code) → (named == object) ≡ false
     → returns_of (done ++ PluginOf named r ∷ []) object ≡ returns_of done object
 returns_other done named object r e =
     let given = filter_map (returns_by object) done in
-    ap (λ l. unwrap_or (last_or None l) []) (filter_map-append (returns_by object) done (PluginOf named r ∷ []) ∙ ap (λ b. given ++ cons_option (cond b (Some r) None) []) e ∙ append-nil given)
+    ap (λ l. unwrap_or (last_or None l) [])
+        (filter_map-append (returns_by object) done (PluginOf named r ∷ [])
+        ∙ ap (λ b. given ++ cons_option (cond b (Some r) None) []) e ∙ append-nil given)
 
 returns_moment : (done : List Command) (now object : ℕ) → returns_of (done ++ MomentAt now ∷ []) object ≡ returns_of done object
 returns_moment done now object =

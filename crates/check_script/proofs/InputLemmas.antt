@@ -14,7 +14,8 @@ pub Consumes-none : (known : Option (List ℕ)) → Consumes known known []
 Consumes-none None = tt
 Consumes-none (Some xs) = refl
 
-pub Consumes-trans : (old mid new : Option (List ℕ)) (xs ys : List ℕ) → Consumes old mid xs → Consumes mid new ys → Consumes old new (xs ++ ys)
+pub Consumes-trans : (old mid new : Option (List ℕ)) (xs ys : List ℕ) → Consumes old mid xs → Consumes mid new ys
+    → Consumes old new (xs ++ ys)
 Consumes-trans None mid new xs ys h k = tt
 Consumes-trans (Some a) None new xs ys h k = absurd h
 Consumes-trans (Some a) (Some b) None xs ys h k = absurd k
@@ -29,7 +30,8 @@ one_first n = omega arith
 drop_least : (n : ℕ) (bs : List ℕ) → drop (min (length bs) n) bs ≡ drop n bs
 drop_least n bs = ap (λ k. drop k bs) (let e : min (length bs) n ≡ min n (length bs) = omega arith in e) ∙ drop_min n bs
 
-pub lines_first : (b : ℕ) (bs : List ℕ) → lines_of (b ∷ bs) ≡ first_line_of (b ∷ bs) ∷ lines_of (drop (length (first_line_of (b ∷ bs)) + 1) (b ∷ bs))
+pub lines_first : (b : ℕ) (bs : List ℕ)
+    → lines_of (b ∷ bs) ≡ first_line_of (b ∷ bs) ∷ lines_of (drop (length (first_line_of (b ∷ bs)) + 1) (b ∷ bs))
 lines_first b [] =
     elim (b == 10) as (λ v. (cond v ([] ∷ []) ((b ∷ []) ∷ [])) ≡ (cond v [] (b ∷ [])) ∷ lines_of (drop (length (cond v [] (b ∷ [])) + 1) (b ∷ []))) [
       | true ↦ refl
@@ -37,9 +39,12 @@ lines_first b [] =
     ]
 lines_first b (c ∷ cs) =
     let again = lines_first c cs in
-    elim (b == 10) as (λ v. (cond v ([] ∷ lines_of (c ∷ cs)) (onto_first b (lines_of (c ∷ cs)))) ≡ (cond v [] (b ∷ first_line_of (c ∷ cs))) ∷ lines_of (drop (length (cond v [] (b ∷ first_line_of (c ∷ cs))) + 1) (b ∷ c ∷ cs))) [
+    elim (b == 10) as (λ v. (cond v ([] ∷ lines_of (c ∷ cs)) (onto_first b (lines_of (c ∷ cs))))
+        ≡ (cond v [] (b ∷ first_line_of (c ∷ cs)))
+            ∷ lines_of (drop (length (cond v [] (b ∷ first_line_of (c ∷ cs))) + 1) (b ∷ c ∷ cs))) [
       | true ↦ refl
-      | false ↦ ap (onto_first b) again ∙ ap (λ k. (b ∷ first_line_of (c ∷ cs)) ∷ lines_of (drop k (b ∷ c ∷ cs))) (suc_first (length (first_line_of (c ∷ cs))))
+      | false ↦ ap (onto_first b) again
+          ∙ ap (λ k. (b ∷ first_line_of (c ∷ cs)) ∷ lines_of (drop k (b ∷ c ∷ cs))) (suc_first (length (first_line_of (c ∷ cs))))
     ]
 
 pub first_line_of-take : (bs : List ℕ) → first_line_of bs ≡ take (position_or_len (λ b. b == 10) bs) bs

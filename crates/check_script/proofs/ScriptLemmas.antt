@@ -13,6 +13,7 @@ use Rattle.check_script.specs.Line.{◌>>=◌, command_of, is_blank}
 use Rattle.check_script.specs.Input.{lines_of, onto_first}
 use Rattle.check_script.specs.Script.{Script, all_or_first, commands_of, in_setup, numbered_from, script_by, script_in, script_over}
 use Rattle.check_script.specs.declared.input.Lines.{Lines}
+use Rattle.check_script.specs.declared.script.TheConstants.{MAX_INPUT_BYTES}
 use Rattle.check_script.specs.declared.refusal.InputRefusal.{InputRefusal}
 use Rattle.check_script.specs.declared.refusal.LineFault.{LineFault}
 use Rattle.check_script.specs.declared.refusal.ScriptError.{ScriptError}
@@ -43,13 +44,15 @@ commands_numbered meaning n [] = refl
 commands_numbered meaning n (line ∷ ls) =
     let again = commands_numbered meaning (n + 1) ls in
     elim (is_blank line) as (λ v. commands_at meaning (cond (not v) ((n, line) ∷ numbered_from (n + 1) ls) (numbered_from (n + 1) ls))
-    ≡ cond v (commands_from meaning (n + 1) ls) (command_of meaning n line >>= λ first. (commands_from meaning (n + 1) ls >>= λ more. Ok (first ∷ more)))) [
+    ≡ cond v (commands_from meaning (n + 1) ls)
+        (command_of meaning n line >>= λ first. (commands_from meaning (n + 1) ls >>= λ more. Ok (first ∷ more)))) [
       | true ↦ again
       | false ↦ ap (λ r. command_of meaning n line >>= λ first. (r >>= λ more. Ok (first ∷ more))) again
     ]
 
 -- one line after another gives the commands of all
-pub commands_by_line : {K : Type 0} (meaning : List ℕ → Items → Result K LineFault) (ls : List (List ℕ)) → commands_of meaning ls ≡ commands_from meaning 2 ls
+pub commands_by_line : {K : Type 0} (meaning : List ℕ → Items → Result K LineFault) (ls : List (List ℕ))
+    → commands_of meaning ls ≡ commands_from meaning 2 ls
 commands_by_line meaning ls = commands_numbered meaning 2 ls
 
 -- ---- how many lines there are
@@ -66,7 +69,7 @@ pub length-lines_of : (bs : List ℕ) → length (lines_of bs) ≤ length bs
 length-lines_of [] = omega arith
 length-lines_of (b ∷ bs) = let h = length_by b (lines_of bs) (length bs) (b == 10) (length-lines_of bs) in omega (arith, h)
 
-pub few_lines : (bs : List ℕ) → length bs ≤ 67108864 → length (lines_of bs) ≤ 67108864
+pub few_lines : (bs : List ℕ) → length bs ≤ MAX_INPUT_BYTES → length (lines_of bs) ≤ MAX_INPUT_BYTES
 few_lines bs h = omega (arith, length-lines_of bs, h)
 
 pub few_left : (s t : Lines) (r : Option (Bor (List ℕ))) (n : ℕ) → YieldsFirstRef (λ l. lines_of l.rest.now) s r t
@@ -77,7 +80,8 @@ few_left s t (Some x) n h b = omega (arith, ap length h)
 -- ---- a document and the lines after it
 
 -- the document is refused
-pub over_setup_fails : {K : Type 0} (meaning : Configuration → List ℕ → Items → Result K LineFault) (e : ScriptError) (document : List ℕ) (ls : List (List ℕ))
+pub over_setup_fails : {K : Type 0} (meaning : Configuration → List ℕ → Items → Result K LineFault) (e : ScriptError)
+    (document : List ℕ) (ls : List (List ℕ))
     → Fails e (in_setup (setup_of document)) → Fails e (script_over meaning document ls)
 over_setup_fails meaning errors.Memory document ls f = tt
 over_setup_fails meaning (errors.Refused r) document ls f = rw f refl
@@ -92,7 +96,8 @@ over_commands_fail meaning (errors.Refused r) c document ls s f = rw (s, f) refl
 -- nothing is refused
 pub over_reads : {K : Type 0} (meaning : Configuration → List ℕ → Items → Result K LineFault) (c : Configuration) (all : List K) (document : List ℕ)
     (ls : List (List ℕ))
-    → in_setup (setup_of document) ≡ Ok c → commands_of (meaning c) ls ≡ Ok all → script_over meaning document ls ≡ Ok (record { setup = c; commands = all })
+    → in_setup (setup_of document) ≡ Ok c → commands_of (meaning c) ls ≡ Ok all
+    → script_over meaning document ls ≡ Ok (record { setup = c; commands = all })
 over_reads meaning c all document ls s f = rw (s, f) refl
 
 -- ---- how many commands there are
@@ -116,14 +121,16 @@ few_by false first more n h = few_more first more n h
 few_commands : {K : Type 0} (meaning : List ℕ → Items → Result K LineFault) (n : ℕ) (ls : List (List ℕ))
     → IfOk (commands_from meaning n ls) (λ all. length all ≤ length ls)
 few_commands meaning n [] = omega arith
-few_commands meaning n (l ∷ ls) = few_by (is_blank l) (command_of meaning n l) (commands_from meaning (n + 1) ls) (length ls) (few_commands meaning (n + 1) ls)
+few_commands meaning n (l ∷ ls) =
+    few_by (is_blank l) (command_of meaning n l) (commands_from meaning (n + 1) ls) (length ls) (few_commands meaning (n + 1) ls)
 
 few_with : {K : Type 0} (c : Configuration) (all : Result (List K) InputRefusal) (n m : ℕ) → n ≤ m → IfOk all (λ l. length l ≤ n)
     → IfOk (all >>= λ l. Ok (script_with c l)) (λ s. length s.commands ≤ m)
 few_with c (Ok l) n m b h = omega (arith, b, h)
 few_with c (Err e) n m b h = tt
 
-few_over : {K : Type 0} (meaning : Configuration → List ℕ → Items → Result K LineFault) (setup : Result Configuration InputRefusal) (ls : List (List ℕ)) (m : ℕ)
+few_over : {K : Type 0} (meaning : Configuration → List ℕ → Items → Result K LineFault)
+    (setup : Result Configuration InputRefusal) (ls : List (List ℕ)) (m : ℕ)
     → length ls ≤ m
     → IfOk (setup >>= λ c. (commands_of (meaning c) ls >>= λ all. Ok (script_with c all))) (λ s. length s.commands ≤ m)
 few_over meaning (Err e) ls m b = tt
@@ -136,15 +143,15 @@ few_in meaning [] m b = few_over meaning (in_setup (setup_of [])) [] m b
 few_in meaning (l ∷ ls) m b = few_over meaning (in_setup (setup_of l)) ls m (omega (arith, b))
 
 few_script_by : {K : Type 0} (meaning : Configuration → List ℕ → Items → Result K LineFault) (input : List ℕ)
-    → (67108864 < length input) ⊎ (length input ≤ 67108864)
-    → IfOk (script_by meaning input) (λ s. length s.commands ≤ 67108864)
+    → (MAX_INPUT_BYTES < length input) ⊎ (length input ≤ MAX_INPUT_BYTES)
+    → IfOk (script_by meaning input) (λ s. length s.commands ≤ MAX_INPUT_BYTES)
 unfolding script_by
-few_script_by meaning input (inl h) = let a : nat_lt 67108864 (length input) ≡ true = grind (arith, nat_tests, h) in rw a tt
+few_script_by meaning input (inl h) = let a : nat_lt MAX_INPUT_BYTES (length input) ≡ true = grind (arith, nat_tests, h) in rw a tt
 few_script_by meaning input (inr h) =
-    let a : nat_lt 67108864 (length input) ≡ false = grind (arith, nat_tests, h) in
-    rw a (few_in meaning (lines_of input) 67108864 (few_lines input h))
+    let a : nat_lt MAX_INPUT_BYTES (length input) ≡ false = grind (arith, nat_tests, h) in
+    rw a (few_in meaning (lines_of input) MAX_INPUT_BYTES (few_lines input h))
 
 -- the script of an input has no more commands than an input may have bytes
 pub few_script : {K : Type 0} (meaning : Configuration → List ℕ → Items → Result K LineFault) (input : List ℕ)
-    → IfOk (script_by meaning input) (λ s. length s.commands ≤ 67108864)
-few_script meaning input = few_script_by meaning input (cases_lt 67108864 (length input))
+    → IfOk (script_by meaning input) (λ s. length s.commands ≤ MAX_INPUT_BYTES)
+few_script meaning input = few_script_by meaning input (cases_lt MAX_INPUT_BYTES (length input))

@@ -1,10 +1,10 @@
--- How the code's reading of an input agrees with the definitions, want of memory aside.
+-- How the code's reading of an input agrees with the definitions, out of memory aside.
 use Rattle.std.specs.Prelude.{◌≡◌, Result, Ok, Err}
 use Rattle.check_script.specs.declared.refusal.InputRefusal.{InputRefusal}
 use Rattle.check_script.specs.declared.refusal.ScriptError.{ScriptError}
 use Rattle.check_script.specs.declared.refusal.ScriptError.TheVariants as errors
 
--- An error of the code is the refusal that is expected. Want of memory says nothing of what is
+-- An error of the code is the refusal that is expected. Out of memory says nothing of what is
 -- expected.
 abbrev pub Fails : {Y : Type 0} → ScriptError → Result Y InputRefusal → Type 0
 Fails errors.Memory expected = Unit {0}

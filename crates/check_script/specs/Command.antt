@@ -14,6 +14,10 @@ use Rattle.check_script.specs.Line.{◌>>=◌}
 
 -- ---- the members after a word
 
+abbrev pub one_of : Items → Option Data
+one_of (item a no_items) = Some a
+one_of members = None
+
 abbrev pub two_of : Items → Option (Data × Data)
 two_of (item a (item b no_items)) = Some (a, b)
 two_of members = None
@@ -24,8 +28,7 @@ three_of members = None
 
 -- a name alone
 abbrev pub name_in : Items → Option (List ℕ)
-name_in (item name no_items) = as_str name
-name_in members = None
+name_in members = one_of members >=> as_str
 
 -- a name, and true or false
 abbrev pub name_and_switch : Items → Option (List ℕ × Bool)
@@ -38,7 +41,8 @@ name_and_numbers members =
 
 -- a name, a number, and true or false
 abbrev pub name_number_switch : Items → Option (List ℕ × ℕ × Bool)
-name_number_switch members = three_of members >=> λ p. (as_str p.0 >=> λ name. (whole_number p.1 >=> λ n. (as_bool p.2 >=> λ on. Some (name, n, on))))
+name_number_switch members =
+    three_of members >=> λ p. (as_str p.0 >=> λ name. (whole_number p.1 >=> λ n. (as_bool p.2 >=> λ on. Some (name, n, on))))
 
 -- the number of the object with this full name
 abbrev pub object_named : Configuration → List ℕ → Result ℕ LineFault

@@ -8,7 +8,7 @@ use Rattle.check_rules.specs.declared.state.Code.{Code}
 use Rattle.check_script.specs.declared.refusal.LineFault.{LineFault}
 use Rattle.check_script.specs.declared.refusal.LineFault.TheVariants as fault
 use Rattle.check_script.specs.Line.{◌>>=◌}
-use Rattle.check_script.specs.Command.{code_of, object_named}
+use Rattle.check_script.specs.Command.{code_of, object_named, one_of}
 
 -- a command of a drill
 pub data Command : Type 0 where
@@ -36,8 +36,7 @@ name_and_returned (item name returned) = if are_some_numbers returned then (as_s
 
 -- a number alone
 abbrev pub number_in : Items → Option ℕ
-number_in (item n no_items) = whole_number n
-number_in members = None
+number_in members = one_of members >=> whole_number
 
 -- the return code that a member is
 abbrev pub code_in : Data → Option Code
@@ -52,7 +51,8 @@ codes_in (item d ds) = code_in d >=> λ first. (codes_in ds >=> λ more. Some (f
 
 -- `["plugin",name,code,..]`: the plugin of the object `name` returns these codes, one after another
 abbrev pub plugin_command : Configuration → Items → Result Command LineFault
-plugin_command c members = ok_or (name_and_returned members) fault.Shape >>= λ p. (ok_or (codes_in p.1) fault.Code >>= λ returned.
+plugin_command c members =
+    ok_or (name_and_returned members) fault.Shape >>= λ p. (ok_or (codes_in p.1) fault.Code >>= λ returned.
     (object_named c p.0 >>= λ object. Ok (PluginOf object returned)))
 
 -- `["moment",now]`: one more moment, `now`

@@ -5,6 +5,7 @@ use Rattle.std.specs.List.{list_all}
 use Rattle.serde_json.specs.Data.{Data, Items, no_items, item}
 use Rattle.serde_json.specs.Find.{as_array, as_str}
 use Rattle.check_objects.specs.Tree.{◌>=>◌, tree_of}
+use Rattle.check_script.specs.declared.line.TheConstants.{MAX_LINE_BYTES}
 use Rattle.check_script.specs.declared.refusal.LineFault.{LineFault}
 use Rattle.check_script.specs.declared.refusal.LineFault.TheVariants as fault
 use Rattle.check_script.specs.declared.refusal.InputRefusal.{InputRefusal}
@@ -40,5 +41,5 @@ command_in meaning d = ok_or (word_and_members d) fault.Shape >>= λ p. meaning 
 
 -- the command of the line with number n, or its first fault: too long, then no JSON, then those of the command
 unfoldable pub command_of : {K : Type 0} → (List ℕ → Items → Result K LineFault) → ℕ → List ℕ → Result K InputRefusal
-command_of meaning n line = if nat_lt 4096 (length line) then Err (refusal.Line fault.TooLong n)
+command_of meaning n line = if nat_lt MAX_LINE_BYTES (length line) then Err (refusal.Line fault.TooLong n)
     else (ok_or (tree_of line) (refusal.Line fault.NotJson n) >>= λ d. at_line n (command_in meaning d))

@@ -7,6 +7,7 @@ use Rattle.check_objects.specs.Configuration.{Configuration}
 use Rattle.check_objects.specs.Setup.{setup_of}
 use Rattle.check_objects.specs.declared.error.LoadError.{LoadError}
 use Rattle.check_sched.specs.declared.call.Call.{Call}
+use Rattle.check_script.specs.declared.script.TheConstants.{MAX_INPUT_BYTES}
 use Rattle.check_script.specs.declared.refusal.LineFault.{LineFault}
 use Rattle.check_script.specs.declared.refusal.LineFault.TheVariants as fault
 use Rattle.check_script.specs.declared.refusal.InputRefusal.{InputRefusal}
@@ -39,7 +40,8 @@ in_setup (Ok c) = Ok c
 in_setup (Err e) = Err (refusal.Setup e)
 
 -- the script of a setup document and the lines after it
-abbrev pub script_over : {K : Type 0} → (Configuration → List ℕ → Items → Result K LineFault) → List ℕ → List (List ℕ) → Result (Script K) InputRefusal
+abbrev pub script_over : {K : Type 0} → (Configuration → List ℕ → Items → Result K LineFault) → List ℕ → List (List ℕ)
+    → Result (Script K) InputRefusal
 script_over meaning document lines = in_setup (setup_of document) >>= λ c.
     (commands_of (meaning c) lines >>= λ all. Ok (record { setup = c; commands = all }))
 
@@ -50,7 +52,8 @@ script_in meaning (line ∷ lines) = script_over meaning line lines
 
 -- the script of an input by what its words mean over a setup; the input's length is tested before all else
 unfoldable pub script_by : {K : Type 0} → (Configuration → List ℕ → Items → Result K LineFault) → List ℕ → Result (Script K) InputRefusal
-script_by meaning input = if nat_lt 67108864 (length input) then Err (refusal.Line fault.TooLong 0) else script_in meaning (lines_of input)
+script_by meaning input =
+    if nat_lt MAX_INPUT_BYTES (length input) then Err (refusal.Line fault.TooLong 0) else script_in meaning (lines_of input)
 
 -- the script of an input of `run`, whose commands are calls
 abbrev pub script_of : List ℕ → Result (Script Call) InputRefusal

@@ -1,8 +1,11 @@
 //! The words of `run`: the calls of a script. Each word has one function here and one definition in
 //! `specs/Command.antt`.
 ghost use Rattle.std.specs.Prelude.{◌≡◌, option_map, Err};
-ghost use Rattle.serde_json.specs.View.{view, items_view};
-ghost use Rattle.check_script.specs.Command.{call_by, take_call, report_call, abandon_call, reschedule_call, enable_call, status_call, name_in, name_and_switch, name_and_numbers, name_number_switch, object_named, code_of};
+ghost use Rattle.serde_json.specs.View.{items_view};
+ghost use Rattle.check_script.specs.Command.{call_by, take_call, report_call, abandon_call};
+ghost use Rattle.check_script.specs.Command.{reschedule_call, enable_call, status_call};
+ghost use Rattle.check_script.specs.Command.{name_in, name_and_switch, name_and_numbers};
+ghost use Rattle.check_script.specs.Command.{name_number_switch, object_named, code_of};
 ghost use Rattle.check_sched.specs.declared.call.Call.{Call};
 
 use crate::line::{Command, refused};
@@ -130,7 +133,7 @@ fn status_call(setup: &Setup, members: &[Value]) -> Result<Call, LineFault>
 }
 
 /// A name alone.
-#[tactic(auto, using(crate::proofs::CommandLemmas::name_few, crate::proofs::CommandLemmas::name_many))]
+#[tactic(auto, using(crate::proofs::CommandLemmas::one_few, crate::proofs::CommandLemmas::one_many))]
 fn name_in(members: &[Value]) -> Option<&str>
     ensures { option_map (λ name. name.now) result ≡ name_in (items_view members.now) }
 {

@@ -5,7 +5,9 @@ ghost use Rattle.std.specs.List.{list_all};
 ghost use Rattle.serde_json.specs.View.{view, items_view};
 ghost use Rattle.check_objects.specs.Tree.{whole_number};
 ghost use Rattle.check_script.specs.Line.{at_line};
-ghost use Rattle.check_script.specs.DrillCommand.{plugin_command, moment_command, name_and_returned, are_some_numbers, number_in, code_in, codes_in};
+ghost use Rattle.check_script.specs.DrillCommand.{plugin_command, moment_command};
+ghost use Rattle.check_script.specs.DrillCommand.{name_and_returned, are_some_numbers};
+ghost use Rattle.check_script.specs.DrillCommand.{number_in, code_in, codes_in};
 ghost use Rattle.check_script.specs.DrillScript.{moment_of};
 ghost use Rattle.check_script.specs.Agreement.{Gives};
 
@@ -133,7 +135,7 @@ fn are_numbers(values: &[Value]) -> bool
 }
 
 /// A number alone.
-#[tactic(auto, using(crate::proofs::DrillLemmas::number_few, crate::proofs::DrillLemmas::number_many))]
+#[tactic(auto, using(crate::proofs::CommandLemmas::one_few, crate::proofs::CommandLemmas::one_many))]
 fn number_in(members: &[Value]) -> Option<u64>
     ensures { result ≡ number_in (items_view members.now) }
 {

@@ -1,7 +1,8 @@
 //! The script of a drill: what the commands of an input say together.
-ghost use Rattle.std.specs.Prelude.{◌≡◌, [], IfOk, filter_map, map, replicate, slice_set};
+ghost use Rattle.std.specs.Prelude.{◌≡◌, [], IfOk, filter_map, map, replicate};
 ghost use Rattle.check_script.specs.DrillCommanded.{drill_command};
-ghost use Rattle.check_script.specs.DrillScript.{drill_script_of, drill_over, moment_of, returns_below, given_by};
+ghost use Rattle.check_script.specs.DrillScript.{drill_script_of, drill_over};
+ghost use Rattle.check_script.specs.DrillScript.{moment_of, returns_below, given_by};
 ghost use Rattle.check_script.specs.Agreement.{Gives};
 
 use crate::drill_command::DrillCommand;
@@ -27,7 +28,7 @@ impl DrillScript {
     ghost use Rattle.check_script.specs.Scripted.{script};
 
     /// Reads an input, every line of it, or gives its first refusal, in the order in which a script
-    /// is tested. Of several commands for the plugin of one object the last counts. Want of memory is
+    /// is tested. Of several commands for the plugin of one object the last counts. Out of memory is
     /// an error of its own.
     #[tactic(auto, unfolding(crate::specs::DrillScript::drill_script_of))]
     pub fn read(alloc: Global, input: &[u8]) -> Result<DrillScript, ScriptError>

@@ -13,7 +13,7 @@ pub enum DriveError {
     /// was written.
     #[error("the output could not be written")]
     Write,
-    /// Memory was wanted. A front of the text was written, and nothing where the input was not
+    /// Out of memory. A front of the text was written, and nothing where the input was not
     /// read.
     #[error("out of memory")]
     Memory,

@@ -1,5 +1,5 @@
 //! The bytes of an input and its lines. What a line says is read in `script` and `command`.
-ghost use Rattle.std.specs.Prelude.{◌≡◌, ◌==◌, ◌<◌, ℕ, List, length, position, ◌≢◌, take, IfOk, IfErr, IfSome, vec_items};
+ghost use Rattle.std.specs.Prelude.{◌≡◌, ◌==◌, ◌<◌, ℕ, List, length, position, ◌≢◌, take, IfOk, IfErr, IfSome};
 ghost use Rattle.std.specs.Io.KnownBytes.{Consumes};
 ghost use Rattle.std.specs.Iterator.{YieldsFirstRef, item_count};
 ghost use Rattle.check_script.specs.Input.{AreLines, lines_of, first_line_of};
@@ -10,27 +10,27 @@ use std::io::Read;
 
 /// How many bytes are read at most: one more than an input may have, so that a longer one is known
 /// to be too long.
-pub const READ_LIMIT: usize = 67_108_865;
+pub const MAX_READ_BYTES: usize = 67_108_865;
 
 /// How many bytes are asked of the reader at a time.
 const CHUNK: usize = 65_536;
 
 const LINE_FEED: u8 = b'\n';
 
-/// Reads to the end of the input or to `READ_LIMIT` bytes, whichever comes first.
+/// Reads to the end of the input or to `MAX_READ_BYTES` bytes, whichever comes first.
 ///
 /// Each error of the reader is a fault, an interruption among them: nothing is tried again.
 pub fn read_input<R: Read>(alloc: Global, reader: &mut R) -> Result<Vec<u8>, DriveError>
     ensures all { IfOk result (λ input.
-        IfSome (R.remaining reader.old) (λ bytes. input.items ≡ take READ_LIMIT bytes)) }
+        IfSome (R.remaining reader.old) (λ bytes. input.items ≡ take MAX_READ_BYTES bytes)) }
     ensures left { IfOk result (λ input.
         Consumes (R.remaining reader.old) (R.remaining reader.new) input.items) }
     ensures errors { IfErr result (λ e. e ≢ DriveError.Write) }
 {
     let mut input = Vec::new(alloc);
     let mut chunk = [0; CHUNK];
-    while input.len() < READ_LIMIT {
-        let wanted = CHUNK.min(READ_LIMIT - input.len());
+    while input.len() < MAX_READ_BYTES {
+        let wanted = CHUNK.min(MAX_READ_BYTES - input.len());
         let Ok(count) = reader.read(&mut chunk[..wanted]) else {
             return Err(DriveError::Read);
         };

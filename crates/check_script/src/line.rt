@@ -1,13 +1,13 @@
 //! One line of a script: it is blank, or a JSON array that is a command. The array's first member is
 //! its word. Each subcommand has a vocabulary of its own, a type that is a [`Command`].
 ghost use Rattle.std.specs.Prelude.{◌≡◌, List, ℕ, Result, ok_or, option_map};
-ghost use Rattle.std.specs.List.{list_all};
 ghost use Rattle.serde_json.specs.Data.{Items};
 ghost use Rattle.serde_json.specs.View.{view, items_view};
 ghost use Rattle.check_objects.specs.Configuration.{Configuration};
 ghost use Rattle.check_objects.specs.Tree.{tree_of};
 ghost use Rattle.check_script.specs.declared.refusal.LineFault.{LineFault};
-ghost use Rattle.check_script.specs.Line.{is_blank, word_and_members, word_and_members_in, at_line, command_of};
+ghost use Rattle.check_script.specs.Line.{is_blank, word_and_members, word_and_members_in};
+ghost use Rattle.check_script.specs.Line.{at_line, command_of};
 ghost use Rattle.check_script.specs.Agreement.{Gives};
 
 use crate::refusal::{InputRefusal, LineFault, ScriptError};
@@ -16,7 +16,7 @@ use serde_json::Value;
 use std::alloc::Global;
 
 /// How many bytes a line may have without its line feed.
-const MAX_LINE: usize = 4096;
+const MAX_LINE_BYTES: usize = 4096;
 
 /// A command of a vocabulary. An implementation names a command as the definitions see it (`Seen`,
 /// `seen`), and what a word with the members after it means over a setup (`meaning`).
@@ -29,7 +29,7 @@ pub trait Command: Drop {
 
     /// The command of a word with these members after it, or its first fault: another shape, then a
     /// return code above 3, then a name that the setup doesn't have. A fault is told as that of the
-    /// line with this number. Want of memory is an error of its own.
+    /// line with this number. Out of memory is an error of its own.
     fn read(
         alloc: Global,
         setup: &Setup,
@@ -61,7 +61,7 @@ pub fn read_command<C: Command>(
 ) -> Result<C, ScriptError>
     ensures { Gives C.seen result (command_of (C.meaning setup.now) number line.now) }
 {
-    if line.len() > MAX_LINE {
+    if line.len() > MAX_LINE_BYTES {
         return Err(refused(LineFault::TooLong, number));
     }
     let tree = read_tree(alloc, line, number)?;

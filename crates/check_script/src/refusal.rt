@@ -33,7 +33,7 @@ pub enum InputRefusal {
 pub enum ScriptError {
     /// The input is refused, and the run writes this refusal.
     Refused(InputRefusal),
-    /// Memory was wanted, which says nothing of the input.
+    /// Out of memory, which says nothing of the input.
     Memory,
 }
 

@@ -1,6 +1,6 @@
 //! The script of an input: line 1 is the setup document, and each later line that isn't blank is
 //! one command, of the vocabulary that is asked for.
-ghost use Rattle.std.specs.Prelude.{◌≡◌, ◌≤◌, length, map};
+ghost use Rattle.std.specs.Prelude.{◌≤◌, length, map};
 ghost use Rattle.check_objects.specs.Setup.{setup_of};
 ghost use Rattle.check_script.specs.Input.{lines_of};
 ghost use Rattle.check_script.specs.Script.{commands_of, script_by, script_over, in_setup};
@@ -13,8 +13,8 @@ use crate::refusal::{InputRefusal, LineFault, ScriptError};
 use check_objects::{LoadError, Setup};
 use std::alloc::Global;
 
-/// How many bytes an input may have.
-const MAX_INPUT: usize = 67_108_864;
+/// How many bytes an input may have at most.
+pub const MAX_INPUT_BYTES: usize = 67_108_864;
 
 /// A setup, and the commands over it in their order.
 #[derive(Drop)]
@@ -25,13 +25,13 @@ pub struct Script<C> {
 
 impl<C: Command> Script<C> {
     /// Reads an input, every line of it, or gives its first refusal: the input's length is tested
-    /// first, then the setup document, then the lines in their order. Want of memory is an error of
+    /// first, then the setup document, then the lines in their order. Out of memory is an error of
     /// its own.
     #[tactic(auto, unfolding(crate::specs::Script::script_by))]
     pub fn read(alloc: Global, input: &[u8]) -> Result<Script<C>, ScriptError>
         ensures { Gives (script C.seen) result (script_by C.meaning input.now) }
     {
-        if input.len() > MAX_INPUT {
+        if input.len() > MAX_INPUT_BYTES {
             return Err(refused(LineFault::TooLong, 0));
         }
         let mut lines = Lines::new(input);
@@ -46,7 +46,7 @@ fn read_over<C: Command>(
     document: &[u8],
     lines: Lines<'_>,
 ) -> Result<Script<C>, ScriptError>
-    requires { length (lines_of lines.rest.now) ≤ 67108864 }
+    requires { length (lines_of lines.rest.now) ≤ MAX_INPUT_BYTES }
     ensures { Gives (script C.seen) result
         (script_over C.meaning document.now (lines_of lines.entry.rest.now)) }
 {
@@ -73,7 +73,7 @@ fn read_commands<C: Command>(
     setup: &Setup,
     lines: Lines<'_>,
 ) -> Result<Vec<C>, ScriptError>
-    requires { length (lines_of lines.rest.now) ≤ 67108864 }
+    requires { length (lines_of lines.rest.now) ≤ MAX_INPUT_BYTES }
     ensures { Gives (λ v. map C.seen v.items) result
         (commands_of (C.meaning setup.now) (lines_of lines.entry.rest.now)) }
 {

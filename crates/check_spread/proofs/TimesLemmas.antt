@@ -11,9 +11,11 @@ use Rattle.check_objects.specs.declared.object.Object.{Object}
 use Rattle.check_objects.specs.Configuration.{Configuration, Named, Host, Service, named_host, named_service, objects_of, object_count, is_object_in_range}
 use Rattle.check_objects.specs.Configuration.{IsSetup}
 use Rattle.check_objects.proofs.DepthLemmas.{and_first, and_second}
-use Rattle.check_spread.specs.declared.spread.Load.{Load}
+use Rattle.check_spread.specs.declared.limits.TheConstants.{MAX_INTERVAL}
+use Rattle.check_spread.specs.declared.spread.Scheduled.{Scheduled}
 use Rattle.check_spread.specs.declared.spread.Spread.{Spread}
-use Rattle.check_spread.specs.Spread.{all_objects, host_objects, service_objects, first_time, first_times, is_scheduled, load_of, rank, time_at}
+use Rattle.check_spread.specs.Spread.{all_objects, host_objects, service_objects, first_time, first_times}
+use Rattle.check_spread.specs.Spread.{is_scheduled, scheduled_among, rank, time_at}
 
 -- ---- the objects
 
@@ -46,22 +48,24 @@ objects_more c n x h e =
     take_more (all_objects c) n x (let l = length-all_objects c in omega (arith, l)) ∙ ap (λ y. take n (all_objects c) ++ y ∷ []) at
 
 range_at : (os : List Named) → list_all (λ o. is_object_in_range o.object) os ≡ true → (k : ℕ) (d : Object) → k < length (map (λ o. o.object) os)
-    → (get_or (map (λ o. o.object) os) k d).check_interval ≤ 525600
+    → (get_or (map (λ o. o.object) os) k d).check_interval ≤ MAX_INTERVAL
 range_at [] h k d l = absurd (omega arith)
 range_at (o ∷ os) h zero d l =
-    let in_range : nat_le o.object.check_interval 525600 ≡ true = and_first _ _
+    let in_range : nat_le o.object.check_interval MAX_INTERVAL ≡ true = and_first _ _
     (and_first _ _ (and_first _ _ (and_first (is_object_in_range o.object) _ h))) in grind (arith, nat_tests, in_range)
 range_at (o ∷ os) h (suc k) d l = range_at os (and_second (is_object_in_range o.object) _ h) k d (omega arith)
 
-pub intervals_in_range : (c : Configuration) → IsSetup c → All (λ o. o.check_interval ≤ 525600) (all_objects c)
+pub intervals_in_range : (c : Configuration) → IsSetup c → All (λ o. o.check_interval ≤ MAX_INTERVAL) (all_objects c)
 intervals_in_range c is = rw (← parts c) (range_at (objects_of c) is.ranges)
 
-pub front_in_range : (n : ℕ) (objects : List Object) → All (λ o. o.check_interval ≤ 525600) objects → All (λ o. o.check_interval ≤ 525600) (take n objects)
+pub front_in_range : (n : ℕ) (objects : List Object) → All (λ o. o.check_interval ≤ MAX_INTERVAL) objects
+    → All (λ o. o.check_interval ≤ MAX_INTERVAL) (take n objects)
 front_in_range n objects all k d h =
     let size = length-take n objects in
     rw (get_or-take n objects k d (omega (arith, size, h))) (all k d (omega (arith, size, h)))
 
-pub back_in_range : (n : ℕ) (objects : List Object) → All (λ o. o.check_interval ≤ 525600) objects → All (λ o. o.check_interval ≤ 525600) (drop n objects)
+pub back_in_range : (n : ℕ) (objects : List Object) → All (λ o. o.check_interval ≤ MAX_INTERVAL) objects
+    → All (λ o. o.check_interval ≤ MAX_INTERVAL) (drop n objects)
 back_in_range n objects all k d h =
     let size = length-drop n objects in
     rw (get_or-drop n objects k d) (all (n + k) d (omega (arith, size, h)))
@@ -89,10 +93,10 @@ first_times_more spread objects n d h =
     take_more (first_times spread objects) n (f (n, d)) (let l = length-first_times spread objects in omega (arith, l)) ∙ ap
     (λ y. take n (first_times spread objects) ++ y ∷ []) at
 
-pub first_time_is : (spread : Spread) (objects : List Object) (n r : ℕ) (o : Object) (load : Load) → is_scheduled o ≡ true
-    → load ≡ load_of spread.interval_length objects → r ≡ rank spread.factor objects n
-    → first_time spread objects n o ≡ Some (time_at spread load r)
-first_time_is spread objects n r o load s l e = rw (s, l, e) refl
+pub first_time_is : (spread : Spread) (objects : List Object) (n r : ℕ) (o : Object) (scheduled : Scheduled) → is_scheduled o ≡ true
+    → scheduled ≡ scheduled_among spread.interval_length objects → r ≡ rank spread.factor objects n
+    → first_time spread objects n o ≡ Some (time_at spread scheduled r)
+first_time_is spread objects n r o scheduled s l e = rw (s, l, e) refl
 
 pub first_time_none : (spread : Spread) (objects : List Object) (n : ℕ) (o : Object) → is_scheduled o ≡ false → first_time spread objects n o ≡ None
 first_time_none spread objects n o s = rw s refl

@@ -1,8 +1,9 @@
 -- Counts of visits, position by position and remainder by remainder.
 use Rattle.std.proofs.Common.{◌≡◌, ◌≢◌, ℕ, zero, suc, ◌+◌, ◌%◌, ◌<◌, ◌≤◌, ◌==◌, ◌&&◌, ◌||◌, Bool, true, false, cond, List, [], ◌∷◌, length, take, get_or}
-use Rattle.std.proofs.Common.{replicate, sum, refl, sym, ap, ◌∙◌, arith, inl, inr, Result, Ok, Err, IfOk}
+use Rattle.std.proofs.Common.{replicate, sum, refl, sym, ap, ◌∙◌, arith, inl, inr}
 use Rattle.std.specs.Prelude.{nat_lt, count_by}
 use Rattle.std.specs.List.{enumerate_from}
+use Rattle.std.proofs.Math.Bool.{or-false}
 use Rattle.std.proofs.lemmas.Bool.{eqb-true, eq-eqb, ne_eqb, cases_lt, cases_eq}
 use Rattle.std.proofs.lemmas.Bool.Decides.{nat_tests}
 use Rattle.std.proofs.lemmas.List.{get_or-set_same, get_or-set_other, length-set, get_or-replicate, length-replicate, take_more, take_all}
@@ -193,10 +194,6 @@ counts_first factor xs counts e = record {
       ∙ sym (visits_none (has_remainder_before factor 0 r) 0 xs (λ j. rw (nothing_below j) (false_second (j % factor == r))));
 }
 
-or_false : (b : Bool) → (b || false) ≡ b
-or_false true = refl
-or_false false = refl
-
 true_second : (b : Bool) → (b && true) ≡ b
 true_second true = refl
 true_second false = refl
@@ -324,9 +321,5 @@ earlier_first factor xs ranks has = record {
   at =
       λ r h. has.at r h
       ∙ visits_same (has_less_remainder factor r) (is_visited_earlier factor 0 r) 0 xs
-      (λ j l m. sym (rw (nothing_below j, false_second (j % factor == r)) (or_false (nat_lt (j % factor) r))));
+      (λ j l m. sym (rw (nothing_below j, false_second (j % factor == r)) (or-false (nat_lt (j % factor) r))));
 }
-
-pub ok_weaker : {A E : Type 0} {P Q : A → Type 0} (r : Result A E) → ((x : A) → P x → Q x) → IfOk r P → IfOk r Q
-ok_weaker (Ok x) f h = f x h
-ok_weaker (Err e) f h = tt

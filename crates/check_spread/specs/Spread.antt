@@ -9,8 +9,9 @@ use Rattle.check_objects.specs.declared.options.DelayMethod.TheVariants as metho
 use Rattle.check_objects.specs.declared.options.InterleaveFactor.{InterleaveFactor}
 use Rattle.check_objects.specs.declared.options.InterleaveFactor.TheVariants as interleave
 use Rattle.check_objects.specs.Configuration.{Configuration}
+use Rattle.check_spread.specs.declared.limits.TheConstants.{MINUTE}
 use Rattle.check_spread.specs.declared.spread.Spread.{Spread}
-use Rattle.check_spread.specs.declared.spread.Load.{Load}
+use Rattle.check_spread.specs.declared.spread.Scheduled.{Scheduled}
 
 -- ---- what is scheduled
 
@@ -23,10 +24,10 @@ is_scheduled o = o.enabled && not (o.check_interval == 0)
 abbrev pub interval_of : ℕ → Object → ℕ
 interval_of interval_length o = o.check_interval * interval_length * 1000
 
--- how many of the objects are scheduled, and the sum of their check intervals
-abbrev pub load_of : ℕ → List Object → Load
-load_of interval_length objects =
-    record { scheduled = count_by is_scheduled objects; total = sum_by (interval_of interval_length) (filter is_scheduled objects) }
+-- those of the objects that are scheduled: how many they are, and the sum of their check intervals
+abbrev pub scheduled_among : ℕ → List Object → Scheduled
+scheduled_among interval_length objects =
+    record { count = count_by is_scheduled objects; total_interval = sum_by (interval_of interval_length) (filter is_scheduled objects) }
 
 -- ---- the order
 
@@ -34,41 +35,44 @@ load_of interval_length objects =
 -- and so on, then again from the first not yet visited. So one position is visited before another
 -- where its remainder by the factor is smaller, or the remainders are equal and it is smaller.
 abbrev pub is_visited_before : ℕ → ℕ → ℕ → ℕ → Bool
-is_visited_before factor remainder position other = nat_lt (other % factor) remainder || (other % factor == remainder && nat_lt other position)
+is_visited_before factor remainder position other =
+    nat_lt (other % factor) remainder || (other % factor == remainder && nat_lt other position)
 
 -- The rank of the object at this position: how many that are scheduled are visited before it. The
 -- others leave no gap.
 abbrev pub rank : ℕ → List Object → ℕ → ℕ
-rank factor objects position = count_by (λ p. is_scheduled p.1 && is_visited_before factor (position % factor) position p.0) (enumerate_from 0 objects)
+rank factor objects position =
+    count_by (λ p. is_scheduled p.1 && is_visited_before factor (position % factor) position p.0) (enumerate_from 0 objects)
 
 -- ---- the delay
 
 -- The smart delay is the average check interval divided by the number of objects; the maximum
 -- spread shortens it. It is multiplied by the rank first and rounded down then. (The rounding is
 -- our own profile.)
-abbrev pub smart_delay : ℕ → Load → ℕ → ℕ
-smart_delay longest load k =
-    if nat_le load.total (longest * load.scheduled) then k * load.total / (load.scheduled * load.scheduled)
-    else k * longest / load.scheduled
+abbrev pub smart_delay : ℕ → Scheduled → ℕ → ℕ
+smart_delay max_spread scheduled k =
+    if nat_le scheduled.total_interval (max_spread * scheduled.count) then k * scheduled.total_interval / (scheduled.count * scheduled.count)
+    else k * max_spread / scheduled.count
 
 -- How long after the start the check of rank k is due: with a delay the ranks follow one another by
 -- it. The maximum spread acts on the smart delay alone. (Our own profile.)
-abbrev pub delay_by : DelayMethod → ℕ → Load → ℕ → ℕ
-delay_by method.NoDelay longest load k = 0
-delay_by method.Dumb longest load k = 1000 * k
-delay_by (method.Fixed delay) longest load k = delay * k
-delay_by method.Smart longest load k = smart_delay longest load k
+abbrev pub delay_by : DelayMethod → ℕ → Scheduled → ℕ → ℕ
+delay_by method.NoDelay max_spread scheduled k = 0
+delay_by method.Dumb max_spread scheduled k = 1000 * k
+delay_by (method.Fixed delay) max_spread scheduled k = delay * k
+delay_by method.Smart max_spread scheduled k = smart_delay max_spread scheduled k
 
 -- the time of the check of rank k
-abbrev pub time_at : Spread → Load → ℕ → ℕ
-time_at spread load k = spread.start + delay_by spread.method spread.longest load k
+abbrev pub time_at : Spread → Scheduled → ℕ → ℕ
+time_at spread scheduled k = spread.start + delay_by spread.method spread.max_spread scheduled k
 
 -- ---- the times of all objects
 
 -- the time of the first check of an object at its position among its sort, if it is scheduled
 abbrev pub first_time : Spread → List Object → ℕ → Object → Option ℕ
 first_time spread objects position object =
-    if is_scheduled object then Some (time_at spread (load_of spread.interval_length objects) (rank spread.factor objects position)) else None
+    if is_scheduled object then Some (time_at spread (scheduled_among spread.interval_length objects) (rank spread.factor objects position))
+    else None
 
 -- the times of the first checks of one sort of object, by position
 abbrev pub first_times : Spread → List Object → List (Option ℕ)
@@ -94,26 +98,26 @@ all_objects c = host_objects c ++ service_objects c
 
 -- minutes in milliseconds
 abbrev pub minutes : ℕ → ℕ
-minutes n = n * 60000
+minutes n = n * MINUTE
+
+-- by this method, with a maximum spread of so many minutes, and this interleave factor
+abbrev pub spread_by : Configuration → ℕ → DelayMethod → ℕ → ℕ → Spread
+spread_by c start method max_minutes factor = record {
+  start = start;
+  method = method;
+  max_spread = minutes max_minutes;
+  interval_length = c.options.interval_length;
+  factor = factor;
+}
 
 -- Hosts are visited in the order of their numbers: with the factor 1. (Our own profile.)
 abbrev pub host_spread : Configuration → ℕ → Spread
-host_spread c start = record {
-  start = start;
-  method = c.options.host_inter_check_delay_method;
-  longest = minutes c.options.max_host_check_spread;
-  interval_length = c.options.interval_length;
-  factor = 1;
-}
+host_spread c start = spread_by c start c.options.host_inter_check_delay_method c.options.max_host_check_spread 1
 
 abbrev pub service_spread : Configuration → ℕ → Spread
-service_spread c start = record {
-  start = start;
-  method = c.options.service_inter_check_delay_method;
-  longest = minutes c.options.max_service_check_spread;
-  interval_length = c.options.interval_length;
-  factor = factor_by c.options.service_interleave_factor (length c.services) (length c.hosts);
-}
+service_spread c start =
+    spread_by c start c.options.service_inter_check_delay_method c.options.max_service_check_spread
+    (factor_by c.options.service_interleave_factor (length c.services) (length c.hosts))
 
 -- The time of the first check of each object, by number; none for those that aren't scheduled.
 unfoldable pub initial_times : Configuration → ℕ → List (Option ℕ)

@@ -1,3 +1,4 @@
+#![tactic(auto)]
 //! The times of the first checks: how the checks of hosts and of services are spread over time when
 //! scheduling starts.
 //!
@@ -6,13 +7,14 @@
 //! choice, the profile of this project makes it, and the item says so.
 //!
 //! The modules: `times` has the times of all objects of a setup, `spread` the time of one rank, and
-//! `visits` the order in which objects are visited.
-#![tactic(auto)]
+//! `visits` the order in which objects are visited. `limits` has the limits of moments and times.
 
+mod limits;
 mod spread;
 #[cfg(test)]
 mod tests;
 mod times;
 mod visits;
 
+pub use limits::{LAST_MOMENT, LAST_TIME, MAX_INTERVAL, MAX_INTERVAL_LENGTH, MAX_OBJECTS};
 pub use times::initial_times;

@@ -1,9 +1,12 @@
 //! When the check of a rank is due.
 
-ghost use Rattle.std.specs.Prelude.{◌≡◌, ◌<◌, ◌≤◌, ◌^◌, ◌*◌, length, count_by, filter, sum_by, All};
-ghost use Rattle.check_spread.specs.Spread.{interval_of, is_scheduled, load_of, smart_delay, time_at};
+ghost use Rattle.std.specs.Prelude.{◌≡◌, ◌<◌, ◌≤◌, ◌*◌, length, count_by, filter, sum_by, All};
+ghost use Rattle.check_spread.specs.Spread.{interval_of, is_scheduled, scheduled_among, smart_delay, time_at};
 ghost use Rattle.check_spread.specs.Limits.{IsInLimits};
 
+use crate::limits::{
+    LAST_TIME, MAX_INTERVAL, MAX_INTERVAL_LENGTH, MAX_OBJECTS, MAX_SPREAD, MINUTE,
+};
 use check_objects::{DelayMethod, Object};
 
 /// How the first checks of one sort of object are spread over time.
@@ -14,19 +17,19 @@ pub(crate) struct Spread {
     /// The inter-check delay.
     pub(crate) method: DelayMethod,
     /// The maximum spread, in milliseconds.
-    pub(crate) longest: u64,
+    pub(crate) max_spread: u64,
     /// How many seconds a unit of the intervals lasts.
     pub(crate) interval_length: u64,
     /// The interleave factor: by how many positions a visit goes on.
     pub(crate) factor: usize,
 }
 
-/// What a sort of object brings: how many of them are scheduled, and the sum of their check
+/// The objects of one sort that are scheduled: how many they are, and the sum of their check
 /// intervals in milliseconds.
 #[derive(Clone, Copy, Debug)]
-pub(crate) struct Load {
-    pub(crate) scheduled: u64,
-    pub(crate) total: u64,
+pub(crate) struct Scheduled {
+    pub(crate) count: u64,
+    pub(crate) total_interval: u64,
 }
 
 /// Whether the object is checked at first: it is enabled and its check interval isn't 0.
@@ -36,17 +39,17 @@ pub(crate) fn is_scheduled(object: &Object) -> bool
     object.enabled && object.check_interval != 0
 }
 
-impl Load {
-    /// What these objects bring.
-    pub(crate) fn of(objects: &[Object], interval_length: u64) -> Load
-        requires few { length objects.now ≤ 4096 }
-        requires unit { interval_length ≤ 86400 }
-        requires intervals { All (λ o. o.check_interval ≤ 525600) objects.now }
-        ensures { result ≡ load_of interval_length objects.now }
+impl Scheduled {
+    /// Those of these objects that are scheduled.
+    pub(crate) fn of(objects: &[Object], interval_length: u64) -> Scheduled
+        requires few { length objects.now ≤ MAX_OBJECTS }
+        requires unit { interval_length ≤ MAX_INTERVAL_LENGTH }
+        requires intervals { All (λ o. o.check_interval ≤ MAX_INTERVAL) objects.now }
+        ensures { result ≡ scheduled_among interval_length objects.now }
     {
-        Load {
-            scheduled: count_scheduled(objects) as u64,
-            total: total(objects, interval_length),
+        Scheduled {
+            count: count_scheduled(objects) as u64,
+            total_interval: sum_intervals(objects, interval_length),
         }
     }
 }
@@ -59,10 +62,10 @@ fn count_scheduled(objects: &[Object]) -> usize
 }
 
 /// The sum of the check intervals of those that are scheduled, in milliseconds.
-fn total(objects: &[Object], interval_length: u64) -> u64
-    requires few { length objects.now ≤ 4096 }
-    requires unit { interval_length ≤ 86400 }
-    requires intervals { All (λ o. o.check_interval ≤ 525600) objects.now }
+fn sum_intervals(objects: &[Object], interval_length: u64) -> u64
+    requires few { length objects.now ≤ MAX_OBJECTS }
+    requires unit { interval_length ≤ MAX_INTERVAL_LENGTH }
+    requires intervals { All (λ o. o.check_interval ≤ MAX_INTERVAL) objects.now }
     ensures { result ≡ sum_by (interval_of interval_length) (filter is_scheduled objects.now) }
 {
     let mut total = 0;
@@ -76,18 +79,18 @@ fn total(objects: &[Object], interval_length: u64) -> u64
 
 impl Spread {
     /// The time of the check of this rank, in milliseconds.
-    pub(crate) fn time(self, load: Load, rank: u64) -> u64
+    pub(crate) fn time(self, scheduled: Scheduled, rank: u64) -> u64
         requires limits { IsInLimits self }
-        requires among { rank < load.scheduled }
-        requires few { load.scheduled ≤ 4096 }
-        ensures time { result ≡ time_at self load rank }
-        ensures within { result < 2 ^ 61 }
+        requires among { rank < scheduled.count }
+        requires few { scheduled.count ≤ MAX_OBJECTS }
+        ensures time { result ≡ time_at self scheduled rank }
+        ensures within { result < LAST_TIME }
     {
         let delay = match self.method {
             DelayMethod::NoDelay => 0,
             DelayMethod::Dumb => 1000 * rank,
             DelayMethod::Fixed(delay) => delay * rank,
-            DelayMethod::Smart => smart_delay(self.longest, load, rank),
+            DelayMethod::Smart => smart_delay(self.max_spread, scheduled, rank),
         };
         self.start + delay
     }
@@ -95,16 +98,16 @@ impl Spread {
 
 /// The smart delay: the average check interval divided by the number of objects, shortened so that
 /// no more than the maximum spread passes from the first check to the last.
-fn smart_delay(longest: u64, load: Load, rank: u64) -> u64
-    requires spread { longest ≤ 525600 * 60000 }
-    requires among { rank < load.scheduled }
-    requires few { load.scheduled ≤ 4096 }
-    ensures delay { result ≡ smart_delay longest load rank }
-    ensures within { result ≤ 525600 * 60000 * 4096 * 4096 }
+fn smart_delay(max_spread: u64, scheduled: Scheduled, rank: u64) -> u64
+    requires spread { max_spread ≤ MAX_SPREAD * MINUTE }
+    requires among { rank < scheduled.count }
+    requires few { scheduled.count ≤ MAX_OBJECTS }
+    ensures delay { result ≡ smart_delay max_spread scheduled rank }
+    ensures within { result ≤ MAX_SPREAD * MINUTE * MAX_OBJECTS * MAX_OBJECTS }
 {
-    if load.total <= longest * load.scheduled {
-        rank * load.total / (load.scheduled * load.scheduled)
+    if scheduled.total_interval <= max_spread * scheduled.count {
+        rank * scheduled.total_interval / (scheduled.count * scheduled.count)
     } else {
-        rank * longest / load.scheduled
+        rank * max_spread / scheduled.count
     }
 }

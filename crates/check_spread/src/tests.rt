@@ -1,8 +1,8 @@
 //! Tests of what no clause says: worked times that were written down beforehand.
 
-ghost use Rattle.std.specs.Prelude.{◌≤◌, ◌^◌};
+ghost use Rattle.std.specs.Prelude.{◌≤◌};
 
-use crate::initial_times;
+use crate::{LAST_MOMENT, initial_times};
 use check_objects::{LoadError, Setup};
 use std::alloc::{AllocError, Global};
 use std::process::Abort;
@@ -25,10 +25,10 @@ const FIVE_DUMB: &[u8] =
 const FIVE_FIXED: &[u8] =
     br#"{"options":{"service_inter_check_delay_method":250,"service_interleave_factor":2},"hosts":[{"name":"h","check_interval":0,"max_check_attempts":3}],"services":[{"host":"h","description":"a","max_check_attempts":3},{"host":"h","description":"b","max_check_attempts":3},{"host":"h","description":"c","enabled":false,"max_check_attempts":3},{"host":"h","description":"d","max_check_attempts":3},{"host":"h","description":"e","max_check_attempts":3}]}"#;
 
-/// The times of the first checks of a document's objects. Where the first try meets want of memory,
+/// The times of the first checks of a document's objects. Where the first try is out of memory,
 /// the second one counts.
 fn times_of(alloc: Global, document: &[u8], start: u64) -> Result<Vec<Option<u64>>, Fail>
-    requires { start ≤ 2 ^ 60 }
+    requires { start ≤ LAST_MOMENT }
 {
     let setup = match Setup::read(alloc, document) {
         Err(LoadError::Memory) => Setup::read(alloc, document)?,
@@ -84,7 +84,7 @@ fn a_disabled_service_leaves_no_gap(rt: HostRuntime) -> Result<(), Fail> {
 
 /// The times of the first checks are those from the start 0, counted from this one.
 fn counts_from(rt: &impl Abort, alloc: Global, start: u64) -> Result<(), Fail>
-    requires { start ≤ 2 ^ 60 }
+    requires { start ≤ LAST_MOMENT }
 {
     let times = times_of(alloc, FIVE_ON_TWO, start)?;
     let want = [0, 150_000, 0, 120_000, 240_000, 60_000, 180_000];

@@ -1,17 +1,16 @@
 //! The times of the first checks of all objects of a setup.
 
-ghost use Rattle.std.specs.Prelude.{◌≡◌, ◌<◌, ◌≤◌, ◌^◌, ◌++◌, IfOk, IfSome, OnOk, All, length};
+ghost use Rattle.std.specs.Prelude.{◌≡◌, ◌<◌, ◌≤◌, ◌++◌, IfOk, IfSome, OnOk, All, length};
 ghost use Rattle.check_objects.specs.Configuration.{object_count, IsSetup};
-ghost use Rattle.check_spread.specs.Spread.{all_objects, factor_by, first_times, host_spread, initial_times, service_spread};
+ghost use Rattle.check_spread.specs.Spread.{all_objects, factor_by, first_times, initial_times};
+ghost use Rattle.check_spread.specs.Spread.{host_spread, service_spread};
 ghost use Rattle.check_spread.specs.Limits.{IsInLimits};
 
-use crate::spread::{Load, Spread, is_scheduled};
+use crate::limits::{LAST_MOMENT, LAST_TIME, MAX_INTERVAL, MAX_OBJECTS, MINUTE};
+use crate::spread::{Scheduled, Spread, is_scheduled};
 use crate::visits::first_ranks;
 use check_objects::{InterleaveFactor, Object, Setup};
 use std::alloc::{AllocError, Global};
-
-/// How many milliseconds a minute has.
-const MINUTE: u64 = 60_000;
 
 /// The time of the first check of each object of the setup, by number, in milliseconds, where
 /// scheduling starts at the moment `start`, in milliseconds. None for an object that isn't
@@ -20,24 +19,25 @@ const MINUTE: u64 = 60_000;
 /// Hosts and services are spread each by their own inter-check delay method and maximum spread, and
 /// services are interleaved. (Manual: "Service and Host Check Scheduling"; the rounding of the
 /// smart delay, and that the maximum spread acts on it alone, are our own profile.) It takes time
-/// linear in the objects. An Err means want of memory.
+/// linear in the objects. An Err means out of memory.
 #[tactic(auto, unfolding(crate::specs::Spread::initial_times))]
 pub fn initial_times(
     alloc: Global,
     setup: &Setup,
     start: u64,
 ) -> Result<Vec<Option<u64>>, AllocError>
-    requires { start ≤ 2 ^ 60 }
+    requires { start ≤ LAST_MOMENT }
     ensures times { IfOk result (λ times. times.items ≡ initial_times setup.now start) }
     ensures one_each { IfOk result (λ times. length times.items ≡ object_count setup.now) }
     ensures within { IfOk result (λ times.
-        All (λ first. IfSome first (λ time. time < 2 ^ 61)) times.items) }
+        All (λ first. IfSome first (λ time. time < LAST_TIME)) times.items) }
 {
     let mut times = Vec::with_capacity(alloc, setup.len())?;
-    let objects = objects(alloc, setup)?;
+    let objects = copy_objects(alloc, setup)?;
     let (hosts, services) = objects.split_at(setup.hosts());
-    push_first_times(alloc, hosts, host_spread(setup, start), &mut times)?;
-    push_first_times(alloc, services, service_spread(setup, start), &mut times)?;
+    let (host_spread, service_spread) = find_spreads(setup, start);
+    push_first_times(alloc, hosts, host_spread, &mut times)?;
+    push_first_times(alloc, services, service_spread, &mut times)?;
     Ok(times)
 }
 
@@ -48,21 +48,21 @@ fn push_first_times(
     spread: Spread,
     times: &mut Vec<Option<u64>>,
 ) -> Result<(), AllocError>
-    requires few { length objects.now ≤ 4096 }
-    requires intervals { All (λ o. o.check_interval ≤ 525600) objects.now }
+    requires few { length objects.now ≤ MAX_OBJECTS }
+    requires intervals { All (λ o. o.check_interval ≤ MAX_INTERVAL) objects.now }
     requires limits { IsInLimits spread }
-    requires within { All (λ first. IfSome first (λ time. time < 2 ^ 61)) times.old.items }
+    requires within { All (λ first. IfSome first (λ time. time < LAST_TIME)) times.old.items }
     ensures times { OnOk result
         (times.new.items ≡ times.old.items ++ first_times spread objects.now) }
     ensures within { OnOk result
-        (All (λ first. IfSome first (λ time. time < 2 ^ 61)) times.new.items) }
+        (All (λ first. IfSome first (λ time. time < LAST_TIME)) times.new.items) }
 {
-    let load = Load::of(objects, spread.interval_length);
+    let scheduled = Scheduled::of(objects, spread.interval_length);
     let mut ranks = first_ranks(alloc, objects, spread.factor)?;
     for (position, object) in objects.iter().enumerate() {
         if is_scheduled(object) {
             let remainder = position % spread.factor;
-            times.push(Some(spread.time(load, ranks[remainder])))?;
+            times.push(Some(spread.time(scheduled, ranks[remainder])))?;
             ranks[remainder] += 1;
         } else {
             times.push(None)?;
@@ -71,38 +71,29 @@ fn push_first_times(
     Ok(())
 }
 
-/// How the first checks of hosts are spread: without interleaving.
-fn host_spread(setup: &Setup, start: u64) -> Spread
-    requires start { start ≤ 2 ^ 60 }
+/// How the first checks of hosts are spread, which is without interleaving, and those of services.
+fn find_spreads(setup: &Setup, start: u64) -> (Spread, Spread)
+    requires start { start ≤ LAST_MOMENT }
     requires valid_setup { IsSetup setup.now }
-    ensures spread { result ≡ host_spread setup.now start }
-    ensures limits { IsInLimits result }
+    ensures hosts { result.0 ≡ host_spread setup.now start }
+    ensures services { result.1 ≡ service_spread setup.now start }
+    ensures limits { IsInLimits result.0 × IsInLimits result.1 }
 {
     let options = setup.options();
-    Spread {
+    let hosts = Spread {
         start,
         method: options.host_inter_check_delay_method,
-        longest: options.max_host_check_spread * MINUTE,
+        max_spread: options.max_host_check_spread * MINUTE,
         interval_length: options.interval_length,
         factor: 1,
-    }
-}
-
-/// How the first checks of services are spread.
-fn service_spread(setup: &Setup, start: u64) -> Spread
-    requires start { start ≤ 2 ^ 60 }
-    requires valid_setup { IsSetup setup.now }
-    ensures spread { result ≡ service_spread setup.now start }
-    ensures limits { IsInLimits result }
-{
-    let options = setup.options();
-    Spread {
-        start,
+    };
+    let services = Spread {
         method: options.service_inter_check_delay_method,
-        longest: options.max_service_check_spread * MINUTE,
-        interval_length: options.interval_length,
+        max_spread: options.max_service_check_spread * MINUTE,
         factor: interleave_factor(setup),
-    }
+        ..hosts
+    };
+    (hosts, services)
 }
 
 /// The interleave factor: the one that the setup names, or the number of services for each host,
@@ -123,10 +114,10 @@ fn interleave_factor(setup: &Setup) -> usize
 }
 
 /// All objects in the order of their numbers.
-fn objects(alloc: Global, setup: &Setup) -> Result<Vec<Object>, AllocError>
+fn copy_objects(alloc: Global, setup: &Setup) -> Result<Vec<Object>, AllocError>
     ensures objects { IfOk result (λ objects. objects.items ≡ all_objects setup.now) }
     ensures intervals { IfOk result (λ objects.
-        All (λ o. o.check_interval ≤ 525600) objects.items) }
+        All (λ o. o.check_interval ≤ MAX_INTERVAL) objects.items) }
     ensures valid_setup { OnOk result (IsSetup setup.now) }
 {
     let mut objects = Vec::with_capacity(alloc, setup.len())?;

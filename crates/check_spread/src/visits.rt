@@ -7,6 +7,7 @@
 ghost use Rattle.std.specs.Prelude.{◌≡◌, ◌<◌, ◌≤◌, IfOk, length, sum};
 ghost use Rattle.check_spread.specs.Visits.{has_less_remainder, has_remainder, sums_before, HasCounts};
 
+use crate::limits::MAX_OBJECTS;
 use crate::spread::is_scheduled;
 use check_objects::Object;
 use std::alloc::{AllocError, Global};
@@ -17,7 +18,7 @@ pub(crate) fn first_ranks(
     objects: &[Object],
     factor: usize,
 ) -> Result<Vec<u64>, AllocError>
-    requires few { length objects.now ≤ 4096 }
+    requires few { length objects.now ≤ MAX_OBJECTS }
     requires steps { 0 < factor }
     ensures { IfOk result (λ ranks.
         HasCounts (has_less_remainder factor) factor objects.now ranks.items) }
@@ -32,7 +33,7 @@ fn counts_by_remainder(
     objects: &[Object],
     factor: usize,
 ) -> Result<Vec<u64>, AllocError>
-    requires few { length objects.now ≤ 4096 }
+    requires few { length objects.now ≤ MAX_OBJECTS }
     requires steps { 0 < factor }
     ensures { IfOk result (λ counts.
         HasCounts (has_remainder factor) factor objects.now counts.items) }
@@ -48,7 +49,7 @@ fn counts_by_remainder(
 
 /// For each place the sum of the counts before it.
 fn sums_before(alloc: Global, counts: &[u64]) -> Result<Vec<u64>, AllocError>
-    requires { sum counts.now ≤ 4096 }
+    requires { sum counts.now ≤ MAX_OBJECTS }
     ensures { IfOk result (λ sums. sums.items ≡ sums_before 0 counts.now) }
 {
     let mut sums = Vec::with_capacity(alloc, counts.len())?;

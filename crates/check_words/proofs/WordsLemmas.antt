@@ -1,7 +1,7 @@
 -- What the program's words ask for.
-use Rattle.std.proofs.Common.{rules, ◌≡◌, ◌∙◌, ℕ, ◌^◌, ◌<◌, ◌≤◌, Bool, true, false, List, None, Some, Ok, Err, IfOk, IfErr, Option, refl, sym, ap, subst}
-use Rattle.std.proofs.Common.{inl, inr}
-use Rattle.std.specs.Prelude.{if◌then◌else◌, OnOk, Result, ◌⊎◌}
+use Rattle.std.proofs.Common.{rules, ◌≡◌, ◌∙◌, ℕ, ◌^◌, ◌<◌, ◌≤◌, Bool, true, false, List, refl, sym, ap, subst}
+use Rattle.std.proofs.Common.{None, Some, Ok, Err, IfOk, IfErr, Option, inl, inr}
+use Rattle.std.specs.Prelude.{if◌then◌else◌, Result, ◌⊎◌}
 use Rattle.std.specs.Str.Parse.{IsNumeral, digits_value, without_leading_plus}
 use Rattle.clap.specs.ValueTests.{is_unsigned_in}
 use Rattle.clap.specs.Words.{IsAmong, Text, fault_of}
@@ -15,9 +15,11 @@ use Rattle.check_words.specs.declared.words.WordsError.{WordsError}
 use Rattle.check_words.specs.declared.words.WordsError.TheVariants as error
 
 -- a text that std reads as a number within the limits
-pub number_some : (least most : ℕ) (text : Text) (n : ℕ) → IsNumeral 10 (without_leading_plus text) × (digits_value 10 (without_leading_plus text) < 2 ^ 64)
+pub number_some : (least most : ℕ) (text : Text) (n : ℕ)
+    → IsNumeral 10 (without_leading_plus text) × (digits_value 10 (without_leading_plus text) < 2 ^ 64)
     → n ≡ digits_value 10 (without_leading_plus text) → least ≤ n → n ≤ most → Some n ≡ number_between least most text
-number_some least most text n h e above below = rw (Accepts-accepts false (vp.Unsigned least most) text (h.0, h.1, rw (← e) above, rw (← e) below)) (ap Some e)
+number_some least most text n h e above below =
+    rw (Accepts-accepts false (vp.Unsigned least most) text (h.0, h.1, rw (← e) above, rw (← e) below)) (ap Some e)
 
 none_by : (b : Bool) (n : ℕ) → (b ≡ true → ⊥) → None ≡ (if b then Some n else None)
 none_by true n h = absurd (h refl)
@@ -27,7 +29,8 @@ none_by false n h = refl
 pub number_none : (least most : ℕ) (text : Text)
     → (IsNumeral 10 (without_leading_plus text) × (digits_value 10 (without_leading_plus text) < 2 ^ 64) → ⊥)
     → None ≡ number_between least most text
-number_none least most text h = none_by (is_unsigned_in least most text) _ (λ e. let a = accepts-Accepts false (vp.Unsigned least most) text e in h (a.0, a.1))
+number_none least most text h =
+    none_by (is_unsigned_in least most text) _ (λ e. let a = accepts-Accepts false (vp.Unsigned least most) text e in h (a.0, a.1))
 
 -- ---- what a reading says
 
@@ -41,14 +44,9 @@ reads_errors words (Err (error.Help text)) e same h = absurd h
 reads_errors words (Err error.Refused) e same h = inr (sym same ∙ h)
 reads_errors words (Err error.Memory) e same h = absurd h
 
--- what holds anyway holds where a job is given
-pub on_ok_any : {T E P : Type 0} (r : Result T E) → P → OnOk r P
-on_ok_any (Ok x) p = p
-on_ok_any (Err e) p = tt
-
 -- an error of `clap` that is among the kinds of the words' faults
-pub tells_explains : (words : List Text) (k : ErrorKind) (e : WordsError) → (k ≡ kind.OutOfMemory) ⊎ IsAmong k (fault_of program words) → Tells k e
-    → Explains words e
+pub tells_explains : (words : List Text) (k : ErrorKind) (e : WordsError)
+    → (k ≡ kind.OutOfMemory) ⊎ IsAmong k (fault_of program words) → Tells k e → Explains words e
 tells_explains words k (error.Help text) (inl h) t = let bad : kind.DisplayHelp ≡ kind.OutOfMemory = sym t ∙ h in absurd (search (rules, bad))
 tells_explains words k (error.Help text) (inr h) t = subst (λ (q : ErrorKind). IsAmong q (fault_of program words)) t h
 tells_explains words k error.Refused (inl h) t = absurd (t.1 h)

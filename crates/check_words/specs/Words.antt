@@ -1,18 +1,19 @@
 -- What the program's words ask for, as `clap` reads them.
-use Rattle.std.specs.Prelude.{ℕ, ◌^◌, ◌≤◌, ◌≡◌, ◌≢◌, ◌⊎◌, ⊤, List, [], ◌∷◌, if◌then◌else◌, Option, Some, None, Result, Ok, Err, codes, option_map}
-use Rattle.std.specs.Prelude.{option_and_then}
+use Rattle.std.specs.Prelude.{ℕ, ◌≤◌, ◌≡◌, ◌≢◌, ◌⊎◌, ⊤, List, [], ◌∷◌, if◌then◌else◌}
+use Rattle.std.specs.Prelude.{Option, Some, None, Result, Ok, Err, codes, option_map, option_and_then}
 use Rattle.std.specs.Str.{bytes_eq}
 use Rattle.std.specs.Str.Parse.{digits_value, without_leading_plus}
 use Rattle.clap.specs.ValueTests.{is_unsigned_in}
 use Rattle.clap.specs.Words.{App, IsAmong, Row, Rule, Text, fault_of, first_of, new_app, new_rule, subcommand_of, with_rule, with_subcommand}
 use Rattle.clap.specs.declared.error.kind.ErrorKind.{ErrorKind}
 use Rattle.clap.specs.declared.error.kind.ErrorKind.TheVariants as kind
+use Rattle.check_words.specs.declared.job.TheConstants.{LAST_MOMENT, MAX_ROOM, MAX_WORKERS}
 use Rattle.check_words.specs.declared.words.Job.{Job}
 use Rattle.check_words.specs.declared.words.Job.TheVariants as job
 use Rattle.check_words.specs.declared.words.WordsError.{WordsError}
 use Rattle.check_words.specs.declared.words.WordsError.TheVariants as error
 
--- ---- the program's command
+-- ---- the words that the program takes
 
 -- an option `--name N` of a number, which is `otherwise` where it isn't given
 abbrev pub number_option : Text → Text → Rule
@@ -35,16 +36,16 @@ abbrev pub room_option : Rule
 room_option = number_option (codes "room") (codes "1000")
 
 -- the subcommand `run`, with its option
-abbrev pub run_command : App
-run_command = with_rule (new_app (codes "run")) start_option
+abbrev pub run_subcommand : App
+run_subcommand = with_rule (new_app (codes "run")) start_option
 
 -- the subcommand `drill`, with its three options
-abbrev pub drill_command : App
-drill_command = with_rule (with_rule (with_rule (new_app (codes "drill")) start_option) workers_option) room_option
+abbrev pub drill_subcommand : App
+drill_subcommand = with_rule (with_rule (with_rule (new_app (codes "drill")) start_option) workers_option) room_option
 
--- the program's command, with its two subcommands
+-- the program's words, with its two subcommands
 abbrev pub program : App
-program = with_subcommand (with_subcommand (new_app (codes "nagsched")) run_command.top) drill_command.top
+program = with_subcommand (with_subcommand (new_app (codes "nagsched")) run_subcommand.top) drill_subcommand.top
 
 -- ---- what the words ask for
 
@@ -58,15 +59,15 @@ number_of name least most options = option_and_then (number_between least most) 
 
 -- the moment at which the scheduler starts, by the options that were read
 abbrev pub start_of : List Row → Option ℕ
-start_of = number_of (codes "start") 0 (2 ^ 60)
+start_of = number_of (codes "start") 0 LAST_MOMENT
 
 -- how many workers there are, by the options that were read
 abbrev pub workers_of : List Row → Option ℕ
-workers_of = number_of (codes "workers") 1 64
+workers_of = number_of (codes "workers") 1 MAX_WORKERS
 
 -- for how many entries there is room, by the options that were read
 abbrev pub room_of : List Row → Option ℕ
-room_of = number_of (codes "room") 0 1000000
+room_of = number_of (codes "room") 0 MAX_ROOM
 
 -- `run`, by the options that were read for it
 abbrev pub run_of : List Row → Option Job
@@ -93,8 +94,8 @@ job_asked words = job_of (subcommand_of program words)
 
 -- the numbers of a job are within their limits
 abbrev pub IsWithinLimits : Job → Type 0
-IsWithinLimits (job.Run start) = start ≤ 2 ^ 60
-IsWithinLimits (job.Drill start workers room) = (start ≤ 2 ^ 60) × (1 ≤ workers) × (workers ≤ 64) × (room ≤ 1000000)
+IsWithinLimits (job.Run start) = start ≤ LAST_MOMENT
+IsWithinLimits (job.Drill start workers room) = (start ≤ LAST_MOMENT) × (1 ≤ workers) × (workers ≤ MAX_WORKERS) × (room ≤ MAX_ROOM)
 
 -- ---- where the words are no job
 
@@ -110,7 +111,7 @@ HasFault words = (k : ErrorKind) × (k ≢ kind.DisplayHelp) × IsAmong k (fault
 abbrev pub IsRefused : List Text → Type 0
 IsRefused words = HasFault words ⊎ (job_asked words ≡ None)
 
--- why the words are no job, of which want of memory says nothing
+-- why the words are no job; out of memory says nothing of them
 abbrev pub Explains : List Text → WordsError → Type 0
 Explains words (error.Help text) = AsksHelp words
 Explains words error.Refused = IsRefused words

@@ -1,10 +1,10 @@
 //! What the program's words ask for, as `clap` reads them. What the program then does is no
 //! matter of this crate.
-ghost use Rattle.std.specs.Prelude.{◌≡◌, ◌≤◌, ◌^◌, Some, [], false, IfOk, OnOk, IfErr, IfSome};
+ghost use Rattle.std.specs.Prelude.{◌≡◌, ◌≤◌, Some, [], false, IfOk, OnOk, IfErr, IfSome};
 ghost use Rattle.clap.specs.declared.builder.command.Command.TheViews.{out-Command};
 ghost use Rattle.clap.specs.Words.{app_of, fault_of, kind_of, rows_of, rule_of, found_of, subcommand_rows_of};
 ghost use Rattle.clap.specs.Walk.{texts};
-ghost use Rattle.check_words.specs.Words.{program, run_command, drill_command, start_option, number_option};
+ghost use Rattle.check_words.specs.Words.{program, run_subcommand, drill_subcommand, start_option, number_option};
 ghost use Rattle.check_words.specs.Words.{job_asked, job_of, run_of, drill_of, start_of, workers_of, room_of};
 ghost use Rattle.check_words.specs.Words.{number_of, number_between, Explains, IsWithinLimits, Reads, Tells};
 
@@ -72,13 +72,13 @@ Exit status:
   4  there was not enough memory, or a thread couldn't be had";
 
 /// The latest moment at which a scheduler may start, in milliseconds.
-const LATEST_START: u64 = 1 << 60;
+const LAST_MOMENT: u64 = 1 << 60;
 
 /// The most workers that a drill may have.
-const MOST_WORKERS: u64 = 64;
+const MAX_WORKERS: u64 = 64;
 
 /// The most entries for which a drill may have room from the outset.
-const MOST_ROOM: u64 = 1_000_000;
+const MAX_ROOM: u64 = 1_000_000;
 
 /// Reads the program's words, its own name first: `run [--start N]`, or
 /// `drill [--start N] [--workers N] [--room N]`, or nothing, which is `run --start 0`. N is read as
@@ -90,18 +90,18 @@ pub fn job(alloc: Global, words: &[&str]) -> Result<Job, WordsError>
     ensures limits { IfOk result IsWithinLimits }
     ensures errors { IfErr result (Explains (texts words.now)) }
 {
-    match command(alloc)?.try_get_matches_from(words) {
-        Ok(matches) => job_in(&matches),
-        Err(error) => Err(words_error(alloc, &error)),
+    match build_program(alloc)?.try_get_matches_from(words) {
+        Ok(matches) => read_job(&matches),
+        Err(error) => Err(explain(alloc, &error)),
     }
 }
 
-/// The program's command.
-fn command<'a>(alloc: Global) -> Result<Command<'a>, AllocError>
+/// The words that the program takes, with their help.
+fn build_program<'a>(alloc: Global) -> Result<Command<'a>, AllocError>
     ensures { IfOk result (λ c. app_of c ≡ program) }
 {
-    let run = run_command(alloc)?;
-    let drill = drill_command(alloc)?;
+    let run = build_run(alloc)?;
+    let drill = build_drill(alloc)?;
     Command::new(alloc, "nagsched")
         .about(ABOUT)
         .after_help(NOTES)
@@ -110,9 +110,9 @@ fn command<'a>(alloc: Global) -> Result<Command<'a>, AllocError>
 }
 
 /// The subcommand `run`.
-fn run_command<'a>(alloc: Global) -> Result<Command<'a>, AllocError>
+fn build_run<'a>(alloc: Global) -> Result<Command<'a>, AllocError>
     ensures { IfOk result (λ c.
-        (app_of c ≡ run_command) × ((out-Command c).has_globals ≡ false)) }
+        (app_of c ≡ run_subcommand) × ((out-Command c).has_globals ≡ false)) }
 {
     Command::new(alloc, "run")
         .about(ABOUT_RUN)
@@ -121,9 +121,9 @@ fn run_command<'a>(alloc: Global) -> Result<Command<'a>, AllocError>
 }
 
 /// The subcommand `drill`.
-fn drill_command<'a>(alloc: Global) -> Result<Command<'a>, AllocError>
+fn build_drill<'a>(alloc: Global) -> Result<Command<'a>, AllocError>
     ensures { IfOk result (λ c.
-        (app_of c ≡ drill_command) × ((out-Command c).has_globals ≡ false)) }
+        (app_of c ≡ drill_subcommand) × ((out-Command c).has_globals ≡ false)) }
 {
     let workers = number_option(alloc, "workers", "2").help(ABOUT_WORKERS);
     let room = number_option(alloc, "room", "1000").help(ABOUT_ROOM);
@@ -155,76 +155,76 @@ fn number_option<'a>(alloc: Global, name: &'a str, otherwise: &'a str) -> Arg<'a
 }
 
 /// The job that was read.
-fn job_in(matches: &ArgMatches<'_>) -> Result<Job, WordsError>
+fn read_job(matches: &ArgMatches<'_>) -> Result<Job, WordsError>
     ensures asked { Reads result (job_of (subcommand_rows_of matches.now)) }
     ensures limits { IfOk result IsWithinLimits }
 {
     match matches.subcommand() {
         None => Ok(Job::Run { start: 0 }),
-        Some(("run", options)) => run_in(options).ok_or(WordsError::Refused),
-        Some(("drill", options)) => drill_in(options).ok_or(WordsError::Refused),
+        Some(("run", options)) => read_run(options).ok_or(WordsError::Refused),
+        Some(("drill", options)) => read_drill(options).ok_or(WordsError::Refused),
         Some(_) => Err(WordsError::Refused),
     }
 }
 
 /// The job of `run` with these options.
-fn run_in(options: &ArgMatches<'_>) -> Option<Job>
+fn read_run(options: &ArgMatches<'_>) -> Option<Job>
     ensures asked { result ≡ run_of (rows_of (found_of options.now)) }
     ensures limits { IfSome result IsWithinLimits }
 {
     Some(Job::Run {
-        start: start_in(options)?,
+        start: read_start(options)?,
     })
 }
 
 /// The job of `drill` with these options.
-fn drill_in(options: &ArgMatches<'_>) -> Option<Job>
+fn read_drill(options: &ArgMatches<'_>) -> Option<Job>
     ensures asked { result ≡ drill_of (rows_of (found_of options.now)) }
     ensures limits { IfSome result IsWithinLimits }
 {
     Some(Job::Drill {
-        start: start_in(options)?,
-        workers: workers_in(options)?,
-        room: room_in(options)?,
+        start: read_start(options)?,
+        workers: read_workers(options)?,
+        room: read_room(options)?,
     })
 }
 
 /// The number of the option `--start`, where a scheduler may start then.
-fn start_in(options: &ArgMatches<'_>) -> Option<u64>
+fn read_start(options: &ArgMatches<'_>) -> Option<u64>
     ensures value { result ≡ start_of (rows_of (found_of options.now)) }
-    ensures limits { IfSome result (λ start. start ≤ 2 ^ 60) }
+    ensures limits { IfSome result (λ start. start ≤ LAST_MOMENT) }
 {
-    number_of(options, "start", 0, LATEST_START)
+    read_number(options, "start", 0, LAST_MOMENT)
 }
 
 /// The number of the option `--workers`, where a drill may have so many.
-fn workers_in(options: &ArgMatches<'_>) -> Option<u32>
+fn read_workers(options: &ArgMatches<'_>) -> Option<u32>
     ensures value { result ≡ workers_of (rows_of (found_of options.now)) }
-    ensures limits { IfSome result (λ workers. (1 ≤ workers) × (workers ≤ 64)) }
+    ensures limits { IfSome result (λ workers. (1 ≤ workers) × (workers ≤ MAX_WORKERS)) }
 {
-    let workers = number_of(options, "workers", 1, MOST_WORKERS)?;
+    let workers = read_number(options, "workers", 1, MAX_WORKERS)?;
     Some(workers as u32)
 }
 
 /// The number of the option `--room`, where a drill may have that room.
-fn room_in(options: &ArgMatches<'_>) -> Option<usize>
+fn read_room(options: &ArgMatches<'_>) -> Option<usize>
     ensures value { result ≡ room_of (rows_of (found_of options.now)) }
-    ensures limits { IfSome result (λ room. room ≤ 1000000) }
+    ensures limits { IfSome result (λ room. room ≤ MAX_ROOM) }
 {
-    let room = number_of(options, "room", 0, MOST_ROOM)?;
+    let room = read_number(options, "room", 0, MAX_ROOM)?;
     Some(room as usize)
 }
 
 /// The number of an option, where it is within these limits.
-fn number_of(options: &ArgMatches<'_>, name: &str, least: u64, most: u64) -> Option<u64>
+fn read_number(options: &ArgMatches<'_>, name: &str, least: u64, most: u64) -> Option<u64>
     ensures value { result ≡ number_of name.now least most (rows_of (found_of options.now)) }
     ensures limits { IfSome result (λ number. (least ≤ number) × (number ≤ most)) }
 {
-    number_in(options.get_str(name)?, least, most)
+    parse_number(options.get_str(name)?, least, most)
 }
 
 /// The number that std reads as a `u64` from a text, where it is within these limits.
-fn number_in(text: &str, least: u64, most: u64) -> Option<u64>
+fn parse_number(text: &str, least: u64, most: u64) -> Option<u64>
     ensures value { result ≡ number_between least most text.now }
     ensures limits { IfSome result (λ number. (least ≤ number) × (number ≤ most)) }
 {
@@ -236,7 +236,7 @@ fn number_in(text: &str, least: u64, most: u64) -> Option<u64>
 }
 
 /// What an error of `clap` says of the words.
-fn words_error(alloc: Global, error: &clap::Error) -> WordsError
+fn explain(alloc: Global, error: &clap::Error) -> WordsError
     ensures { Tells (kind_of error.now) result }
 {
     match error.kind() {

@@ -30,7 +30,7 @@ pub enum WordsError {
     /// They name no job, or a value that is no number within its limits.
     #[error("refused words")]
     Refused,
-    /// Memory was wanted, which says nothing of the words.
+    /// Out of memory, which says nothing of the words.
     #[error("out of memory")]
     Memory,
 }

@@ -19,7 +19,7 @@ use ticket_steps::Kept;
 const ONE_SERVICE: &[u8] =
     br#"{"options":{"service_inter_check_delay_method":"n","host_inter_check_delay_method":"n"},"hosts":[{"name":"h","check_interval":0,"max_check_attempts":3}],"services":[{"host":"h","description":"s","max_check_attempts":3}]}"#;
 
-/// The setup, at the second try where the first meets want of memory.
+/// The setup, at the second try where the first is out of memory.
 fn setup_of(alloc: Global) -> Result<Setup, LoadError> {
     match Setup::read(alloc, ONE_SERVICE) {
         Err(LoadError::Memory) => Setup::read(alloc, ONE_SERVICE),
@@ -27,7 +27,7 @@ fn setup_of(alloc: Global) -> Result<Setup, LoadError> {
     }
 }
 
-/// A book with this room. Want of memory hands the setup back, and a second try succeeds.
+/// A book with this room. Out of memory, it hands the setup back, and a second try succeeds.
 fn book_of(alloc: Global, room: usize) -> Result<Book, Fail>
     ensures { IfOk result (λ book. (entries_of book ≡ []) × (refused_of book ≡ 0)) }
 {

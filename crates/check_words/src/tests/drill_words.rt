@@ -13,13 +13,15 @@ fn asked(alloc: Global, words: &[&str]) -> Option<Job> {
     }
 }
 
-/// A drill with these numbers.
-fn drill(start: u64, workers: u32, room: usize) -> Option<Job> {
-    Some(Job::Drill {
+/// Tests whether the words ask for a drill with this start, these workers and this room.
+fn are_drill(alloc: Global, words: &[&str], numbers: (u64, u32, usize)) -> bool {
+    let (start, workers, room) = numbers;
+    let drill = Job::Drill {
         start,
         workers,
         room,
-    })
+    };
+    asked(alloc, words) == Some(drill)
 }
 
 /// Tests whether the words are refused.
@@ -38,27 +40,24 @@ fn help_of(alloc: Global, words: &[&str]) -> Result<String, Fail> {
 #[test]
 fn reads_the_options_of_drill(rt: HostRuntime) {
     let alloc = rt.alloc();
-    assert_eq!(rt; asked(alloc, &["nagsched", "drill"]), drill(0, 2, 1_000));
-    assert_eq!(rt;
-        asked(alloc, &["nagsched", "drill", "--start", "7"]),
-        drill(7, 2, 1_000)
+    assert!(rt; are_drill(alloc, &["nagsched", "drill"], (0, 2, 1_000)));
+    assert!(rt; are_drill(alloc, &["nagsched", "drill", "--start", "7"], (7, 2, 1_000)));
+    assert!(rt; are_drill(alloc, &["nagsched", "drill", "--start=7"], (7, 2, 1_000)));
+    assert!(rt;
+        are_drill(
+            alloc,
+            &["nagsched", "drill", "--workers", "5"],
+            (0, 5, 1_000)
+        )
     );
-    assert_eq!(rt;
-        asked(alloc, &["nagsched", "drill", "--start=7"]),
-        drill(7, 2, 1_000)
+    assert!(rt;
+        are_drill(
+            alloc,
+            &["nagsched", "drill", "--workers=+05"],
+            (0, 5, 1_000)
+        )
     );
-    assert_eq!(rt;
-        asked(alloc, &["nagsched", "drill", "--workers", "5"]),
-        drill(0, 5, 1_000)
-    );
-    assert_eq!(rt;
-        asked(alloc, &["nagsched", "drill", "--workers=+05"]),
-        drill(0, 5, 1_000)
-    );
-    assert_eq!(rt;
-        asked(alloc, &["nagsched", "drill", "--room", "9"]),
-        drill(0, 2, 9)
-    );
+    assert!(rt; are_drill(alloc, &["nagsched", "drill", "--room", "9"], (0, 2, 9)));
     let all = [
         "nagsched",
         "drill",
@@ -69,33 +68,36 @@ fn reads_the_options_of_drill(rt: HostRuntime) {
         "--workers",
         "5",
     ];
-    assert_eq!(rt; asked(alloc, &all), drill(7, 5, 9));
+    assert!(rt; are_drill(alloc, &all, (7, 5, 9)));
 }
 
 #[test]
 fn reads_numbers_at_their_limits(rt: HostRuntime) {
     let alloc = rt.alloc();
-    assert_eq!(rt;
-        asked(alloc, &["nagsched", "drill", "--workers", "1"]),
-        drill(0, 1, 1_000)
+    assert!(rt;
+        are_drill(
+            alloc,
+            &["nagsched", "drill", "--workers", "1"],
+            (0, 1, 1_000)
+        )
     );
-    assert_eq!(rt;
-        asked(alloc, &["nagsched", "drill", "--workers", "64"]),
-        drill(0, 64, 1_000)
+    assert!(rt;
+        are_drill(
+            alloc,
+            &["nagsched", "drill", "--workers", "64"],
+            (0, 64, 1_000)
+        )
     );
-    assert_eq!(rt;
-        asked(alloc, &["nagsched", "drill", "--room", "0"]),
-        drill(0, 2, 0)
-    );
-    assert_eq!(rt;
-        asked(alloc, &["nagsched", "drill", "--room", "1000000"]),
-        drill(0, 2, 1_000_000)
+    assert!(rt; are_drill(alloc, &["nagsched", "drill", "--room", "0"], (0, 2, 0)));
+    assert!(rt;
+        are_drill(
+            alloc,
+            &["nagsched", "drill", "--room", "1000000"],
+            (0, 2, 1_000_000)
+        )
     );
     let latest = ["nagsched", "drill", "--start", "1152921504606846976"];
-    assert_eq!(rt;
-        asked(alloc, &latest),
-        drill(1_152_921_504_606_846_976, 2, 1_000)
-    );
+    assert!(rt; are_drill(alloc, &latest, (1_152_921_504_606_846_976, 2, 1_000)));
 }
 
 #[test]

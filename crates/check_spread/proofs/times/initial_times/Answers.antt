@@ -15,11 +15,11 @@ push_first_times-requires-2-clause-intervals c =
 pub returns-clause-one_each : goal.returns-clause-one_each
 returns-clause-one_each c =
     let hosts = ap length c.in_ok-push_first_times.ensures.times ∙ length-append c.in_ok-times.times.items
-    (first_times c.host_spread.result c.split_at.result.0.now) in
+    (first_times c.find_spreads.result.0 c.split_at.result.0.now) in
     let services = ap length c.in_ok-push_first_times-2.ensures.times ∙ length-append c.push_first_times.new.times.items
-    (first_times c.service_spread.result c.split_at.result.1.now) in
-    let host_times = length-first_times c.host_spread.result c.split_at.result.0.now in
-    let service_times = length-first_times c.service_spread.result c.split_at.result.1.now in
+    (first_times c.find_spreads.result.1 c.split_at.result.1.now) in
+    let host_times = length-first_times c.find_spreads.result.0 c.split_at.result.0.now in
+    let service_times = length-first_times c.find_spreads.result.1 c.split_at.result.1.now in
     let none = ap length c.in_ok-times.ensures.items in
     let parts = ap length c.split_at.ensures.front in
     let rest = ap length c.split_at.ensures.back in

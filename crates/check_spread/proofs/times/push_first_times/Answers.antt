@@ -1,4 +1,4 @@
-use Rattle.std.proofs.Common.{◌%◌, ◌<◌, ◌+◌, ◌^◌, ◌++◌, Some, None, false, arith, sym, ap, ◌∙◌, IfSome}
+use Rattle.std.proofs.Common.{◌%◌, ◌<◌, ◌+◌, ◌++◌, Some, None, false, arith, sym, ap, ◌∙◌, IfSome}
 use Rattle.std.specs.Prelude.{slice_index_or}
 use Rattle.std.proofs.Math.Nat.{mod-lt}
 use Rattle.std.proofs.lemmas.Grind.{get_or_default_zero}
@@ -6,6 +6,7 @@ use Rattle.std.proofs.lemmas.List.{take_all}
 use Rattle.std.proofs.lemmas.List.Elements.{All-push}
 use Rattle.check_objects.specs.declared.object.Object.{Object}
 use Rattle.check_spread.specs.Spread.{first_times}
+use Rattle.check_spread.specs.declared.limits.TheConstants.{LAST_TIME}
 use Rattle.check_spread.specs.Visits.{is_visited_earlier}
 use Rattle.check_spread.proofs.VisitLemmas.{counts_add, counts_skip, earlier_same, earlier_more, rank_less, visits_few}
 use Rattle.check_spread.proofs.TimesLemmas.{first_times_more, length-first_times, first_time_is, first_time_none, pushed}
@@ -21,7 +22,7 @@ time-requires-clause-among c =
     (omega (arith, below, has.size)) in
     let less = rank_less c.args.spread.factor c.loop-position.position c.args.objects.now _ c.loop-position-test.true
     (sym c.is_scheduled.ensures ∙ c.if-is_scheduled.true) in
-    rw c.of-load.ensures (omega (arith, c.index.ensures, at, same, less))
+    rw c.of-scheduled.ensures (omega (arith, c.index.ensures, at, same, less))
 
 pub overflow_add-index_mut : goal.overflow_add-index_mut
 overflow_add-index_mut c =
@@ -54,10 +55,11 @@ loop-position-preserved c =
                 (earlier_more spread.factor position) has),
             rw w.times-is (pushed c.args.times.now.items c.loop-position.times.items w.push.new.self.items _ _
                 (Some w.time.result) _ w.in_ok-push.ensures.items c.loop-position.invariant.1 more
-                (first_time_is spread objects position w.index.result.now (slice_index_or objects position none) c.of-load.result is c.of-load.ensures
+                (first_time_is spread objects position w.index.result.now (slice_index_or objects position none) c.of-scheduled.result is c.of-scheduled.ensures
                 (let at = has.at (position % spread.factor) below in w.index.ensures ∙ rank_at ∙ at) ∙ ap Some (sym w.time.ensures.time))),
             rw (w.times-is, w.in_ok-push.ensures.items) (All-push
-                (λ first. IfSome first (λ time. time < 2 ^ 61)) c.loop-position.times.items (Some w.time.result) c.loop-position.invariant.2 w.time.ensures.within),
+                (λ first. IfSome first (λ time. time < LAST_TIME)) c.loop-position.times.items (Some w.time.result)
+                c.loop-position.invariant.2 w.time.ensures.within),
           )
       | else-is_scheduled+in_ok-push-2 w ↦ (
         rw w.ranks-is (counts_skip (is_visited_earlier spread.factor position) (is_visited_earlier spread.factor (position + 1)) spread.factor position
@@ -67,7 +69,7 @@ loop-position-preserved c =
             w.in_ok-push-2.ensures.items c.loop-position.invariant.1 more
             (first_time_none spread objects position (slice_index_or objects position none) (sym c.is_scheduled.ensures ∙ w.if-is_scheduled.false))),
         rw (w.times-is, w.in_ok-push-2.ensures.items) (All-push
-            (λ first. IfSome first (λ time. time < 2 ^ 61)) c.loop-position.times.items None c.loop-position.invariant.2 tt),
+            (λ first. IfSome first (λ time. time < LAST_TIME)) c.loop-position.times.items None c.loop-position.invariant.2 tt),
       )
     ]
 

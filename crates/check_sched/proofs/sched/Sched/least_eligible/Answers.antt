@@ -12,7 +12,8 @@ use Rattle.check_sched.proofs.sched.Sched.least_eligible.Goals as goal
 with_room : (c : goal.After-least_due) → c.least_due.result ≡ least (eligible c.args.now (state_of c.self.inside))
 with_room c =
     let room = ap has_room c.self.view_is ∙ sym c.if-has_room.ensures in
-    c.least_due.ensures ∙ ap (λ objects. least (due_among c.args.now (candidates_among objects))) c.deref.ensures.value ∙ ap least (sym (eligible_is c.args.now (state_of c.self.inside) true room))
+    c.least_due.ensures ∙ ap (λ objects. least (due_among c.args.now (candidates_among objects))) c.deref.ensures.value
+    ∙ ap least (sym (eligible_is c.args.now (state_of c.self.inside) true room))
 
 without_room : (c : goal.After-least_due-else-has_room) → c.least_due-else-has_room.result ≡ least (eligible c.args.now (state_of c.self.inside))
 without_room c =

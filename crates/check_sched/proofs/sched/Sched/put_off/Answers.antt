@@ -1,8 +1,7 @@
-use Rattle.std.proofs.Common.{◌<◌, ap, arith, length, refl}
-use Rattle.check_objects.specs.Configuration.{object_count}
+use Rattle.std.proofs.Common.{refl}
 use Rattle.check_sched.specs.Scheduling.{put_off_to}
 use Rattle.check_sched.specs.Sched.{state_of}
-use Rattle.check_sched.specs.State.{State}
+use Rattle.check_sched.proofs.AnswerLaws.{there_by}
 use Rattle.check_sched.proofs.OperatorLaws.{written}
 use Rattle.check_sched.proofs.TakeLaws.{put_off_is_state}
 use Rattle.check_sched.proofs.sched.Sched.put_off.Goals as goal
@@ -10,9 +9,7 @@ use Rattle.check_sched.proofs.sched.Sched.put_off.Goals as goal
 pub invariant_of-self : goal.invariant_of-self
 invariant_of-self c =
     let s = state_of c.self.inside in
-    let count = ap (λ (t : State). object_count t.setup) c.self.view_is in
-    let there : c.args.object < length c.self.inside.objects.items = let l = c.self.invariant.state.one_each in let m = c.requires.there in omega
-    (arith, l, m, count) in
+    let there = there_by c.args.object s _ c.self.invariant.state c.self.view_is c.requires.there in
     let left = written c.args.object (put_off_to c.put_off_until-until.result) s c.index_mut.result.now c.put_off.new.self there
     c.index_mut.ensures.value c.put_off.ensures in
     record {
@@ -23,9 +20,7 @@ invariant_of-self c =
 pub returns-clause-state : goal.returns-clause-state
 returns-clause-state c =
     let s = state_of c.self.inside in
-    let count = ap (λ (t : State). object_count t.setup) c.self.view_is in
-    let there : c.args.object < length c.self.inside.objects.items = let l = c.self.invariant.state.one_each in let m = c.requires.there in omega
-    (arith, l, m, count) in
+    let there = there_by c.args.object s _ c.self.invariant.state c.self.view_is c.requires.there in
     let left = written c.args.object (put_off_to c.put_off_until-until.result) s c.index_mut.result.now c.put_off.new.self there
     c.index_mut.ensures.value c.put_off.ensures in
     rw (← c.self.view_is, ← c.put_off_until-until.ensures.value) left

@@ -93,7 +93,8 @@ standings_left : (c : goal.After-self-2-1)
     → set c.self.inside.standings.items c.args.object c.judged-standing.result ≡ update_at c.args.object
     (λ (before : Standing). c.judged-standing.result) c.self.inside.standings.items
 standings_left c =
-    set_is_update _ (λ (before : Standing). c.judged-standing.result) _ c.judged-standing.result _ (standing_there c.self.inside c.args.object c.in_ok-state.state c.self.invariant.state (found c)) refl
+    set_is_update _ (λ (before : Standing). c.judged-standing.result) _ c.judged-standing.result _
+    (standing_there c.self.inside c.args.object c.in_ok-state.state c.self.invariant.state (found c)) refl
 
 state_left : (c : goal.After-self-2-1) (objects : List Scheduling) (standings : List Standing)
     → objects ≡ update_at c.args.object (ended c.next_after-next.result) c.self.inside.objects.items

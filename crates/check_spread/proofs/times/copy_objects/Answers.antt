@@ -1,7 +1,7 @@
 use Rattle.std.proofs.Common.{◌∙◌, ◌++◌, ◌∷◌, [], ap, sym, arith}
 use Rattle.std.proofs.lemmas.List.{take_all}
 use Rattle.check_spread.proofs.TimesLemmas.{objects_more, length-all_objects, intervals_in_range}
-use Rattle.check_spread.proofs.times.objects.Goals as goal
+use Rattle.check_spread.proofs.times.copy_objects.Goals as goal
 
 pub loop-number-preserved : goal.loop-number-preserved
 loop-number-preserved c =

@@ -3,7 +3,7 @@ use Rattle.std.proofs.lemmas.Result.{IfOk-weaker}
 use Rattle.clap.specs.Simple.{app_of_fields}
 use Rattle.clap.specs.Words.{App, app_of, new_app, with_subcommand}
 use Rattle.std.specs.Prelude.{codes}
-use Rattle.check_words.proofs.job.command.Goals as goal
+use Rattle.check_words.proofs.job.build_program.Goals as goal
 
 pub returns : goal.returns
 returns c =
