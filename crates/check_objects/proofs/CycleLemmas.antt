@@ -3,7 +3,7 @@ use Rattle.std.proofs.Common.{◌≡◌, Bool, true, false, cond, List, Result, 
 use Rattle.check_objects.specs.declared.error.LoadError.{LoadError}
 use Rattle.check_objects.specs.declared.error.LoadError.TheVariants as errors
 use Rattle.check_objects.specs.Configuration.{Configuration, Host, masters_of, parents_by_host}
-use Rattle.check_objects.specs.Depth.{has_cycle}
+use Rattle.link_order.specs.Cycles.{has_cycle}
 use Rattle.check_objects.specs.LoadError.{◌>>=◌, Fails}
 use Rattle.check_objects.specs.Setup.{no_parent_cycle, without_parent_cycle, without_cycles}
 

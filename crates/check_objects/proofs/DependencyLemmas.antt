@@ -11,11 +11,11 @@ use Rattle.std.proofs.lemmas.List.{ext_get_or, get_or-set_same, get_or-set_other
 use Rattle.std.proofs.lemmas.List.Elements.{filter-append}
 use Rattle.std.proofs.lemmas.List.FromFn.{length-map-range_with_len, get_or-map-range_with_len}
 use Rattle.check_objects.specs.declared.dependency.Dependency.{Dependency}
-use Rattle.check_objects.specs.Closing.{are_within}
+use Rattle.link_order.specs.Cycles.{are_within}
 use Rattle.check_objects.specs.Configuration.{Named, masters_in, number_among}
 use Rattle.check_objects.specs.Draft.{DependencyDraft}
 use Rattle.check_objects.specs.Numbering.{numbered_dependency, dependencies_among, dependency_lists}
-use Rattle.check_objects.proofs.DepthLemmas.{and_first, and_second, and_both}
+use Rattle.link_order.proofs.TestLemmas.{and_first, and_second, and_both}
 
 -- ---- one dependency after another
 

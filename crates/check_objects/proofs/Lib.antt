@@ -5,10 +5,6 @@ pub mod FaultLemmas
 pub mod NumberingLemmas
 pub mod SetupLemmas
 pub mod GetterLemmas
-pub mod DepthLemmas
-pub mod LoopLemmas
-pub mod ClosingLemmas
-pub mod DependentLemmas
 pub mod DependencyLemmas
 pub mod Placed
 pub mod RepeatLemmas

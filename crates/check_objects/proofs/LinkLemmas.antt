@@ -16,7 +16,7 @@ use Rattle.check_objects.specs.Numbering.{number_in, numbered_host, numbered_dep
 use Rattle.check_objects.specs.Numbering.{hosts_in_order, services_in_order, names_in_order, configuration}
 use Rattle.check_objects.proofs.ListLemmas.{list_any-map, list_all-map}
 use Rattle.check_objects.proofs.BucketLemmas.{bucket, in_buckets, joined_same}
-use Rattle.check_objects.proofs.DepthLemmas.{and_first, and_second, and_both, or_second}
+use Rattle.link_order.proofs.TestLemmas.{and_first, and_second, and_both, or_second}
 use Rattle.check_objects.proofs.DependencyLemmas.{list_of_object}
 use Rattle.check_objects.proofs.NameLemmas.{HasNames, found, name_leads_back, all_moved}
 use Rattle.check_objects.proofs.NumberLaws.{hosts_all, services_all}

@@ -19,7 +19,7 @@ use Rattle.check_objects.specs.Numbering.{is_host_name}
 use Rattle.check_objects.proofs.ListLemmas.{position-map}
 use Rattle.check_objects.proofs.GetterLemmas.{slice_get-front, slice_get-back, position-front, position-back}
 use Rattle.check_objects.proofs.NumberingLemmas.{new_by_order, texts_apart, names_apart, all_good}
-use Rattle.check_objects.proofs.DepthLemmas.{and_first, and_second, and_both}
+use Rattle.link_order.proofs.TestLemmas.{and_first, and_second, and_both}
 
 -- ---- places
 

@@ -21,7 +21,7 @@ use Rattle.check_objects.specs.Numbering.{number_in, numbered_host, numbered_ser
 use Rattle.check_objects.proofs.ListLemmas.{list_any-map, position-map, sum_by-map}
 use Rattle.check_objects.proofs.GetterLemmas.{position-front, position-back}
 use Rattle.check_objects.proofs.NumberingLemmas.{map_twice}
-use Rattle.check_objects.proofs.DepthLemmas.{and_first, and_second}
+use Rattle.link_order.proofs.TestLemmas.{and_first, and_second}
 use Rattle.check_objects.proofs.NameLemmas.{found, nowhere, no_host_has, name_of_host}
 
 -- what is kept of a host, and of a service

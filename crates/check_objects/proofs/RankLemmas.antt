@@ -17,7 +17,7 @@ use Rattle.std.proofs.lemmas.List.Sums.{sum_by-append, sum_by-cons, count_by-le-
 use Rattle.std.proofs.lemmas.Option.{slice_get-get_or}
 use Rattle.check_objects.specs.Numbering.{smaller_among, at_place, in_order}
 use Rattle.check_objects.proofs.BucketLemmas.{bucket, buckets, in_buckets}
-use Rattle.check_objects.proofs.DepthLemmas.{and_both}
+use Rattle.link_order.proofs.TestLemmas.{and_both}
 use Rattle.check_objects.proofs.ListLemmas.{sum_by-map}
 use Rattle.check_objects.proofs.NumberingLemmas.{map_twice}
 

@@ -24,8 +24,7 @@ use Rattle.check_objects.specs.declared.object.Object.{Object}
 use Rattle.check_objects.specs.Configuration.{Configuration, Host, IsSetup, IsWithin, IsDelayInRange, IsFactorInRange, is_object_in_range, named_host}
 use Rattle.check_objects.specs.Configuration.{named_service, objects_of, object_count, masters_in, masters_of, parents_by_host, host_count, full_name}
 use Rattle.check_objects.specs.Configuration.{pair_of, IsSameSort}
-use Rattle.check_objects.specs.Depth.{has_cycle}
-use Rattle.check_objects.specs.Closing.{are_within}
+use Rattle.link_order.specs.Cycles.{has_cycle, are_within}
 use Rattle.check_objects.specs.Drafted.{texts}
 use Rattle.check_objects.specs.Draft.{Drafts, HostDraft, ServiceDraft, DependencyDraft}
 use Rattle.check_objects.specs.Fault.{is_faultless, few_items, few_dependencies, full_names, known_ends, known_links, is_known, names_of, few_objects}

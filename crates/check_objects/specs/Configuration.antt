@@ -10,8 +10,7 @@ use Rattle.check_objects.specs.declared.options.DelayMethod.TheVariants as metho
 use Rattle.check_objects.specs.declared.options.InterleaveFactor.{InterleaveFactor}
 use Rattle.check_objects.specs.declared.options.InterleaveFactor.TheVariants as factor
 use Rattle.check_objects.specs.declared.options.Options.{Options}
-use Rattle.check_objects.specs.Closing.{are_within}
-use Rattle.check_objects.specs.Depth.{has_cycle}
+use Rattle.link_order.specs.Cycles.{are_within, has_cycle}
 use Rattle.check_objects.specs.Name.{is_name, text_order, pair_order}
 
 -- an object and its full name

@@ -1,7 +1,7 @@
 -- The setup of the code, as contracts see it.
 use Rattle.std.specs.Prelude.{map}
 use Rattle.check_objects.specs.Configuration.{Configuration, IsSetup, masters_of}
-use Rattle.check_objects.specs.Depth.{IsOrder}
+use Rattle.link_order.specs.Orders.{IsOrder}
 use Rattle.check_objects.specs.Entries.{host_entry, service_entry}
 use Rattle.check_objects.specs.declared.setup.Setup.TheInside.{Inside}
 

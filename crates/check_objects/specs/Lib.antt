@@ -9,8 +9,6 @@ pub mod Draft
 pub mod Fault
 pub mod Numbering
 pub mod Links
-pub mod Depth
-pub mod Closing
 pub mod Setup
 pub mod Drafted
 pub mod Entries

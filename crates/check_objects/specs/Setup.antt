@@ -4,7 +4,7 @@ use Rattle.serde_json.specs.Data.{Data}
 use Rattle.check_objects.specs.declared.error.LoadError.{LoadError}
 use Rattle.check_objects.specs.declared.error.LoadError.TheVariants as errors
 use Rattle.check_objects.specs.Configuration.{Configuration, Host, masters_of, parents_by_host}
-use Rattle.check_objects.specs.Depth.{has_cycle}
+use Rattle.link_order.specs.Cycles.{has_cycle}
 use Rattle.check_objects.specs.LoadError.{◌>>=◌}
 use Rattle.check_objects.specs.Tree.{tree_of}
 use Rattle.check_objects.specs.Draft.{drafts_of}

@@ -1,9 +1,9 @@
 //! The dependencies of each object by number, and an order of the objects that they agree with.
 ghost use Rattle.std.specs.Prelude.{◌≡◌, ◌<◌, ◌≤◌, ◌++◌, ◌∷◌, [], length, map, replicate, slice_set, slice_index_or, vec_len, nat_lt, true, IfOk, OnOk, IsOkUnless, MatchOption};
 ghost use Rattle.std.specs.List.{list_all};
-ghost use Rattle.check_objects.specs.Closing.{are_within};
+ghost use Rattle.link_order.specs.Cycles.{are_within, has_cycle};
+ghost use Rattle.link_order.specs.Orders.{IsOrder};
 ghost use Rattle.check_objects.specs.Configuration.{masters_in, number_among};
-ghost use Rattle.check_objects.specs.Depth.{has_cycle, IsOrder};
 ghost use Rattle.check_objects.specs.Drafted.{dependency, drafts};
 ghost use Rattle.check_objects.specs.Entries.{objects_in};
 ghost use Rattle.check_objects.specs.Numbering.{numbered_dependency, all_dependencies, dependencies_by_number, dependency_lists};
@@ -12,8 +12,8 @@ use crate::dependency::Dependency;
 use crate::draft::{DependencyDraft, Drafts};
 use crate::error::LoadError;
 use crate::numbering::{Host, Service, object_number};
-use crate::order::order_by_links;
 use indexmap::IndexMap;
+use link_order::order_by_links;
 use smallvec::SmallVec;
 use std::alloc::{AllocError, Global};
 

@@ -1,10 +1,8 @@
 //! Laws of the definitions, each the contract of a function without parameters and code.
-ghost use Rattle.std.specs.Prelude.{◌≡◌, ◌<◌, ℕ, List, Ok, Some, None, map, length, true, bytes_eq, slice_get};
+ghost use Rattle.std.specs.Prelude.{◌≡◌, ◌<◌, ℕ, Ok, Some, None, map, bytes_eq, slice_get};
 ghost use Rattle.std.specs.List.{filter};
 ghost use Rattle.std.specs.List.Sorted.{IsPermutation, IsStrictlySortedBy};
 ghost use Rattle.check_objects.specs.Configuration.{Configuration, IsSetup, Service, number_of, name_of, pair_of, object_count, host_count};
-ghost use Rattle.check_objects.specs.Closing.{are_within};
-ghost use Rattle.check_objects.specs.Depth.{has_cycle, LeadsBack, IsCyclic};
 ghost use Rattle.check_objects.specs.Draft.{Drafts};
 ghost use Rattle.check_objects.specs.Fault.{is_faultless, key_of, same_key, names_of, first_repeat};
 ghost use Rattle.check_objects.specs.Links.{named_parents, named_dependencies, all_named_dependencies};
@@ -47,16 +45,6 @@ pub fn numbers_are_counts()
 pub fn names_lead_back()
     ensures { (c : Configuration) → (n : ℕ) → IsSetup c → n < object_count c
         → number_of c (name_of c n) ≡ Some n }
-{}
-
-/// What a cycle is: among links that all lead to objects there is one exactly where some object is
-/// reached from itself by one link or more. `back` finds the object of a cycle; `cycle` says that an
-/// object that leads back to itself makes one, wherever the other links lead.
-pub fn cycles_lead_back()
-    ensures back { (links : List (List ℕ)) → are_within (length links) links ≡ true
-        → has_cycle links ≡ true → IsCyclic links }
-    ensures cycle { (links : List (List ℕ)) → (object : ℕ) → object < length links
-        → LeadsBack links object → has_cycle links ≡ true }
 {}
 
 /// The links of a document without a fault are all kept, and no other is made, whatever the

@@ -16,7 +16,6 @@ pub mod laws;
 mod numbering;
 mod object;
 mod options;
-mod order;
 mod place;
 mod setup;
 #[cfg(test)]

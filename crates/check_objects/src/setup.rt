@@ -2,7 +2,7 @@
 ghost use Rattle.std.specs.Prelude.{◌≡◌, ◌<◌, ◌≤◌, length, map, Ok, option_map, slice_get, Some, IfSome, IfOk, IsOkUnless, Err, ◌==◌, All, nat_lt, true};
 ghost use Rattle.std.specs.List.{list_all};
 ghost use Rattle.check_objects.specs.Configuration.{object_count, host_count, objects_of, number_of, name_of, host_of, parents_of, dependencies_of, masters_of, IsSetup};
-ghost use Rattle.check_objects.specs.Depth.{IsOrder};
+ghost use Rattle.link_order.specs.Orders.{IsOrder};
 ghost use Rattle.check_objects.specs.Numbering.{configuration};
 ghost use Rattle.check_objects.specs.Setup.{setup_of, without_cycles, no_parent_cycle};
 ghost use Rattle.check_objects.specs.Fault.{is_faultless};
@@ -20,9 +20,9 @@ use crate::numbering::{
 };
 use crate::object::Object;
 use crate::options::Options;
-use crate::order::order_by_links;
 use crate::tree::read_tree;
 use indexmap::IndexMap;
+use link_order::order_by_links;
 use smallvec::SmallVec;
 use std::alloc::Global;
 use std::marker::Model;

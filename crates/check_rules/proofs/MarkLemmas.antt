@@ -11,8 +11,10 @@ use Rattle.std.proofs.lemmas.List.{length-map, get_or-set_same, get_or-set_other
 use Rattle.std.proofs.lemmas.List.Folds.{list_any_more}
 use Rattle.check_objects.specs.declared.dependency.Dependency.{Dependency}
 use Rattle.check_objects.specs.Configuration.{Configuration, dependencies_of, masters_in, masters_of, object_count, IsSetup}
-use Rattle.check_objects.specs.Depth.{links_of, is_among, follows, IsOrder}
-use Rattle.check_objects.proofs.DepthLemmas.{and_first, and_second, among_times}
+use Rattle.link_order.specs.Cycles.{links_of}
+use Rattle.link_order.specs.Orders.{is_among, follows, IsOrder}
+use Rattle.link_order.proofs.TestLemmas.{and_first, and_second}
+use Rattle.link_order.proofs.ChainLemmas.{among_times}
 use Rattle.check_rules.specs.declared.standing.Standing.{Standing}
 use Rattle.check_rules.specs.Dependencies.{is_met, is_blocked}
 use Rattle.check_rules.specs.Marks.{is_marked, is_inherited}

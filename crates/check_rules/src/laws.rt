@@ -3,7 +3,7 @@
 ghost use Rattle.std.specs.Prelude.{ℕ, ◌≡◌, Bool, false, List, length};
 ghost use Rattle.std.specs.List.{list_any};
 ghost use Rattle.check_objects.specs.Configuration.{Configuration, dependencies_of, masters_of, object_count};
-ghost use Rattle.check_objects.specs.Depth.{has_cycle};
+ghost use Rattle.link_order.specs.Cycles.{has_cycle};
 ghost use Rattle.check_rules.specs.Dependencies.{fails, is_blocked};
 ghost use Rattle.check_rules.specs.declared.standing.Standing.{Standing};
 

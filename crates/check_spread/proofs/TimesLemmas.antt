@@ -10,7 +10,7 @@ use Rattle.std.proofs.lemmas.List.FromFn.{length-enumerate_from, get_or-enumerat
 use Rattle.check_objects.specs.declared.object.Object.{Object}
 use Rattle.check_objects.specs.Configuration.{Configuration, Named, Host, Service, named_host, named_service, objects_of, object_count, is_object_in_range}
 use Rattle.check_objects.specs.Configuration.{IsSetup}
-use Rattle.check_objects.proofs.DepthLemmas.{and_first, and_second}
+use Rattle.link_order.proofs.TestLemmas.{and_first, and_second}
 use Rattle.check_spread.specs.declared.limits.TheConstants.{MAX_INTERVAL}
 use Rattle.check_spread.specs.declared.spread.Scheduled.{Scheduled}
 use Rattle.check_spread.specs.declared.spread.Spread.{Spread}

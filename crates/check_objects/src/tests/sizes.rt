@@ -103,7 +103,6 @@ fn laws_are_there() {
     crate::laws::numbers_follow_names();
     crate::laws::numbers_are_counts();
     crate::laws::names_lead_back();
-    crate::laws::cycles_lead_back();
     crate::laws::links_are_kept();
 }
 

@@ -1,5 +1,5 @@
 use Rattle.std.proofs.Common.{arith}
-use Rattle.check_objects.proofs.DependentLemmas.{push_in}
+use Rattle.link_order.proofs.DependentLemmas.{push_in}
 use Rattle.check_objects.proofs.dependency_lists.push_at.Goals as goal
 
 pub returns-clause-pushed : goal.returns-clause-pushed

@@ -3,9 +3,9 @@ use Rattle.std.specs.List.{list_all}
 use Rattle.std.specs.Prelude.{nat_lt}
 use Rattle.std.proofs.lemmas.List.{length-map}
 use Rattle.check_objects.specs.declared.error.LoadError.TheVariants as errors
-use Rattle.check_objects.specs.Depth.{has_cycle}
+use Rattle.link_order.specs.Cycles.{has_cycle}
 use Rattle.check_objects.specs.Entries.{host_entry}
-use Rattle.check_objects.proofs.DepthLemmas.{order_has_no_cycle}
+use Rattle.link_order.proofs.ChainLemmas.{order_has_no_cycle}
 use Rattle.check_objects.proofs.SetupLemmas.{links_within}
 use Rattle.check_objects.proofs.setup.test_parent_cycle.Goals as goal
 

@@ -3,14 +3,14 @@ use Rattle.std.proofs.lemmas.List.{length-map}
 use Rattle.std.specs.Prelude.{nat_lt}
 use Rattle.std.specs.List.{list_all}
 use Rattle.check_objects.specs.Configuration.{IsSetup, objects_of, masters_of, masters_in, parents_by_host, named_host, named_service}
-use Rattle.check_objects.specs.Depth.{has_cycle}
+use Rattle.link_order.specs.Cycles.{has_cycle}
 use Rattle.check_objects.specs.Drafted.{host, service, drafts}
 use Rattle.check_objects.specs.Entries.{sorted_service, objects_in, host_entry}
 use Rattle.check_objects.specs.Numbering.{configuration, numbered, numbered_host, numbered_service, numbered_dependency, all_dependencies}
 use Rattle.check_objects.specs.Numbering.{dependencies_by_number, hosts_in_order, services_in_order, is_host_name}
 use Rattle.check_objects.specs.Setup.{no_parent_cycle, without_cycles}
 use Rattle.check_objects.proofs.CycleLemmas.{fails_later, cyclic_parents, no_cycle_of, acyclic_setup, cyclic_dependencies}
-use Rattle.check_objects.proofs.DepthLemmas.{order_has_no_cycle}
+use Rattle.link_order.proofs.ChainLemmas.{order_has_no_cycle}
 use Rattle.check_objects.specs.Fault.{first_repeat, names_of, same_key, key_of}
 use Rattle.check_objects.proofs.NumberLaws.{once}
 use Rattle.check_objects.proofs.ListLemmas.{list_all-map}

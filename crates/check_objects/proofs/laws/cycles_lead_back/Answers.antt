@@ -1,8 +1,0 @@
-use Rattle.check_objects.proofs.LoopLemmas.{back_is_cycle, cycle_leads_back}
-use Rattle.check_objects.proofs.laws.cycles_lead_back.Goals as goal
-
-pub returns-clause-back : goal.returns-clause-back
-returns-clause-back c = cycle_leads_back
-
-pub returns-clause-cycle : goal.returns-clause-cycle
-returns-clause-cycle c = back_is_cycle

@@ -1,6 +1,0 @@
-use Rattle.std.proofs.Common.{length, take, map}
-use Rattle.check_objects.specs.Closing.{HasDependents}
-use Rattle.check_objects.proofs.order.dependents_of.Given as goal
-
-abbrev pub invariant-loop-object : goal.invariant-loop-object
-invariant-loop-object l = HasDependents (length l.links) (take l.object (map (λ list. list.items) l.links)) (map (λ list. list.items) l.dependents.items)

@@ -1,0 +1,3 @@
+pub mod Cycles
+pub mod Orders
+pub mod Growth

@@ -1,0 +1,72 @@
+//! What no clause says: that a call with ample memory tells the order, or that there is none.
+
+ghost use Rattle.std.specs.Prelude.{◌≡◌, ◌≤◌, IfOk, length, map, true};
+ghost use Rattle.link_order.specs.Cycles.{are_within};
+
+use crate::order_by_links;
+use smallvec::SmallVec;
+use std::alloc::{AllocError, Global};
+use std::test::Fail;
+
+/// The links of as many objects as there are rows, each to those that stand in its row.
+fn links_in(alloc: Global, rows: &[&[u32]]) -> Result<Vec<SmallVec<u32, 4>>, AllocError>
+    ensures { IfOk result (λ links. map (λ list. list.items) links.items ≡ map (λ row. row.now) rows.now) }
+{
+    let mut links = Vec::new(alloc);
+    for row in rows {
+        links.push(SmallVec::from_slice(alloc, row)?)?;
+    }
+    Ok(links)
+}
+
+/// The order of objects with these links, or that there is none. Where the first try runs out of
+/// memory, the second one counts.
+fn order_of(alloc: Global, rows: &[&[u32]]) -> Result<Option<Vec<u32>>, AllocError>
+    requires few { length rows.now ≤ 4096 }
+    requires within { are_within (length rows.now) (map (λ row. row.now) rows.now) ≡ true }
+{
+    let links = match links_in(alloc, rows) {
+        Ok(links) => links,
+        Err(AllocError) => links_in(alloc, rows)?,
+    };
+    match order_by_links(alloc, &links) {
+        Ok(order) => Ok(order),
+        Err(AllocError) => order_by_links(alloc, &links),
+    }
+}
+
+/// Nothing is before the objects without links, which come by their numbers; then each comes when the
+/// last of those that it links to was looked at.
+#[test]
+fn an_order_has_each_object_behind_its_links(rt: HostRuntime) -> Result<(), Fail> {
+    let order = order_of(rt.alloc(), &[&[2, 4], &[], &[1, 1], &[0], &[1]])?;
+    match order {
+        Some(order) => assert_eq!(rt; order.as_slice(), [1, 2, 4, 0, 3].as_slice()),
+        None => panic!(rt; "there is an order"),
+    }
+    Ok(())
+}
+
+#[test]
+fn no_objects_have_an_order(rt: HostRuntime) -> Result<(), Fail> {
+    assert!(rt; order_of(rt.alloc(), &[])?.is_some());
+    Ok(())
+}
+
+#[test]
+fn a_cycle_has_no_order(rt: HostRuntime) -> Result<(), Fail> {
+    assert!(rt; order_of(rt.alloc(), &[&[1], &[2], &[0], &[]])?.is_none());
+    Ok(())
+}
+
+#[test]
+fn an_object_linked_to_itself_has_no_order(rt: HostRuntime) -> Result<(), Fail> {
+    assert!(rt; order_of(rt.alloc(), &[&[], &[1]])?.is_none());
+    Ok(())
+}
+
+/// The laws have no code; a call of each shows that there is something to call.
+#[test]
+fn laws_are_there() {
+    crate::laws::cycles_lead_back();
+}
