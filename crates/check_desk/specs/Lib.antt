@@ -1,3 +1,4 @@
 pub mod Passes
 pub mod Desks
+pub mod Belonging
 pub mod Schedules

@@ -50,13 +50,14 @@ pub enum Answer {
 }
 
 impl Desk {
-    ghost use Rattle.check_desk.specs.Desks.{AreNewPasses, HasNoMemory, HasRecorded, IsHistoryOf, IsHolderAt, IsPassOf, IsWaitingAt, MatchAnswer, MatchPoll, opened_with, passes_of, recorded};
+    ghost use Rattle.check_desk.specs.Desks.{AreNewPasses, HasNoMemory, HasRecorded, IsHistoryOf, IsHolderAt, IsPassOf, IsWaitingAt, MatchAnswer};
+    ghost use Rattle.check_desk.specs.Desks.{MatchPoll, opened_with, passes_of, recorded};
     ghost use Rattle.check_desk.specs.Passes.{book_in_hand, drawn_ticket, holder_of, pass_of, waiting_of};
 
     /// A desk over the book, and its passes in the order of their numbers, from 0. Each has 2^32 - 1
     /// calls, stands for itself alone, and has made no call and seen nothing.
     ///
-    /// An Err means want of memory, and hands the book back as it was. No other call but
+    /// An Err means out of memory, and hands the book back as it was. No other call but
     /// [`Desk::finish`] and [`Desk::ask`] needs memory, and they only where the book's room is used
     /// up.
     pub fn open(alloc: Global, book: Book, passes: u32) -> Result<(Desk, Vec<Pass>), Book>
@@ -66,6 +67,7 @@ impl Desk {
         ensures passes { IfOk result (λ made. passes_of made.0 ≡ passes) }
         ensures list { IfOk result (λ made. length made.1.items ≡ passes) }
         ensures new { IfOk result (λ made. AreNewPasses made.0 0 made.1.items) }
+        ensures own { IfOk result (λ made. All (IsPassOf made.0) made.1.items) }
         ensures err { IfErr result (λ back. back ≡ book) }
     {
         let Ok(mut list) = Vec::with_capacity(alloc, passes as usize) else {
@@ -90,6 +92,7 @@ impl Desk {
         requires room { passes_of self.now ≤ vec_capacity list.old }
         ensures list { length list.new.items ≡ passes_of self.now }
         ensures new { AreNewPasses self.now 0 list.new.items }
+        ensures own { All (IsPassOf self.now) list.new.items }
     {
         let mut rest = seat;
         for _number in 0..self.passes - 1 {

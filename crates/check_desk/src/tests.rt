@@ -1,7 +1,7 @@
 //! What no clause says: that turns come while other passes are out, that calls succeed, threads, and
 //! worked replies.
 //!
-//! Desks are opened at the second try where the first meets want of memory.
+//! Desks are opened at the second try where the first runs out of memory.
 
 ghost use Rattle.std.specs.Prelude.{◌≡◌, ◌<◌, ◌≤◌, [], IfOk, length};
 ghost use Rattle.check_sched.specs.Books.{entries_of, refused_of};

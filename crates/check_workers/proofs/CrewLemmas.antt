@@ -19,7 +19,6 @@ use Rattle.check_desk.specs.declared.desk.Desk.{Desk}
 use Rattle.check_desk.specs.declared.passes.Pass.{Pass}
 use Rattle.check_desk.specs.Desks.{opened_with}
 use Rattle.check_desk.specs.Passes.{pass_of}
-use Rattle.check_desk.proofs.PassLemmas.{some_number}
 use Rattle.check_workers.specs.declared.crews.CrewError.{CrewError}
 use Rattle.check_workers.specs.declared.crews.CrewError.TheVariants as error
 use Rattle.check_workers.specs.declared.tally.Stop.{Stop}
@@ -61,10 +60,9 @@ one_shift allows moments desk pass back t history w f = record {
 
 -- the worker of a pass has made few calls more
 pub worked_tallied : (allows : ℕ → ℕ → ℕ → Code → Type 0) (moments : List ℕ) (desk : Desk) (pass back : Pass) (t : Tally)
-    → IsWorked allows moments desk pass back t → IsTallied desk back t
-worked_tallied allows moments desk pass back t w =
-    let calls = w.worked.made.calls in
-    let some = some_number back in (
+    → 0 < length (pass_of back).numbers → IsWorked allows moments desk pass back t → IsTallied desk back t
+worked_tallied allows moments desk pass back t some w =
+    let calls = w.worked.made.calls in (
       w.of_desk,
       subst (IsWithin (pass_of back).calls (length (pass_of back).numbers)) (sym w.counted)
           (tally_within (shift_entries w.shift) w.shift.stopped (pass_of back).calls (length (pass_of back).numbers) (omega arith) (omega arith)),
@@ -106,7 +104,7 @@ shift_short s moments p =
     let same = length-map s.rounds (λ r. r.now) in
     omega arith
 
--- where calls are left, a worker stops for want of memory alone
+-- where calls are left, a worker stops out of memory alone
 stops_by : (room recorded left before calls moments : ℕ) (o : Option Stop) → IsReason room recorded left o → before ≡ left + calls + unanswered o
     → calls ≤ 2 * moments → 2 * moments < before → length (stops_of o) ≡ unanswered o
 stops_by room recorded left before calls moments None r e short many = refl
@@ -154,12 +152,13 @@ module _ (allows : ℕ → ℕ → ℕ → Code → Type 0) (moments : List ℕ)
   all_begin history (p ∷ ps) (w ∷ ws) h f (suc k) d lt =
       all_begin history ps ws (rest_worked p ps w ws h) (All-tail (λ v. Follows (pass_of v.0).numbers (pass_of v.0).seen history) w ws f) k d (omega arith)
 
-  pub all_tallied : (ps : List Pass) (ws : List (Pass × Tally)) → AreWorked allows moments desk ps ws → All (λ w. IsTallied desk w.0 w.1) ws
-  all_tallied [] [] h k d lt = absurd (omega arith)
-  all_tallied [] (w ∷ ws) h k d lt = absurd (let c = h.count in omega arith)
-  all_tallied (p ∷ ps) [] h k d lt = absurd (omega arith)
-  all_tallied (p ∷ ps) (w ∷ ws) h zero d lt = worked_tallied allows moments desk p w.0 w.1 (first_worked p ps w ws h)
-  all_tallied (p ∷ ps) (w ∷ ws) h (suc k) d lt = all_tallied ps ws (rest_worked p ps w ws h) k d (omega arith)
+  pub all_tallied : ((pass : Pass) → 0 < length (pass_of pass).numbers) → (ps : List Pass) (ws : List (Pass × Tally))
+      → AreWorked allows moments desk ps ws → All (λ w. IsTallied desk w.0 w.1) ws
+  all_tallied some [] [] h k d lt = absurd (omega arith)
+  all_tallied some [] (w ∷ ws) h k d lt = absurd (let c = h.count in omega arith)
+  all_tallied some (p ∷ ps) [] h k d lt = absurd (omega arith)
+  all_tallied some (p ∷ ps) (w ∷ ws) h zero d lt = worked_tallied allows moments desk p w.0 w.1 (some w.0) (first_worked p ps w ws h)
+  all_tallied some (p ∷ ps) (w ∷ ws) h (suc k) d lt = all_tallied some ps ws (rest_worked p ps w ws h) k d (omega arith)
 
   -- the sum of the tallies is the tally of all
   pub sum_is : (ps : List Pass) (ws : List (Pass × Tally)) (h : AreWorked allows moments desk ps ws) → sum_of ws ≡ tally_of_all (shifts_from ps ws h)
@@ -169,7 +168,8 @@ module _ (allows : ℕ → ℕ → ℕ → Code → Type 0) (moments : List ℕ)
   sum_is (p ∷ ps) (w ∷ ws) h =
       let first = first_worked p ps w ws h in
       let rest = shifts_from ps ws (rest_worked p ps w ws h) in
-      ap (λ t. plus t (sum_of ws)) first.counted ∙ ap (plus (tally_of (shift_entries first.shift) (stops_of first.shift.stopped))) (sum_is ps ws (rest_worked p ps w ws h))
+      ap (λ t. plus t (sum_of ws)) first.counted
+      ∙ ap (plus (tally_of (shift_entries first.shift) (stops_of first.shift.stopped))) (sum_is ps ws (rest_worked p ps w ws h))
       ∙ sym (tally_append (shift_entries first.shift) (flat_map shift_entries rest) (stops_of first.shift.stopped) (flat_map (λ s. stops_of s.stopped) rest))
       ∙ ap (λ l. tally_of l (stops_of first.shift.stopped ++ flat_map (λ s. stops_of s.stopped) rest)) (sym (flat_map-cons shift_entries first.shift rest))
       ∙ ap (tally_of (flat_map shift_entries (first.shift ∷ rest))) (sym (flat_map-cons (λ s. stops_of s.stopped) first.shift rest))

@@ -19,7 +19,6 @@ use Rattle.check_desk.specs.declared.desk.Desk.{Desk}
 use Rattle.check_desk.specs.declared.passes.Pass.{Pass}
 use Rattle.check_desk.specs.Desks.{IsPassOf}
 use Rattle.check_desk.specs.Passes.{pass_of}
-use Rattle.check_desk.proofs.PassLemmas.{few_calls, few_numbers}
 use Rattle.check_workers.specs.declared.tally.Tally.{Tally}
 use Rattle.check_workers.specs.Crews.{AreGathered, IsTallied, IsWithin}
 use Rattle.check_workers.specs.Tallies.{IsFew, plus, tally_of}
@@ -58,8 +57,9 @@ within_plus c d n m t u v w = record {
 }
 
 -- a pass is gathered into another: its tally is few
-pub tallied_few : (desk : Desk) (pass : Pass) (t : Tally) → IsTallied desk pass t → IsFew t
-tallied_few desk pass t h = within_few (pass_of pass).calls (length (pass_of pass).numbers) t h.1 (few_calls pass) (few_numbers pass)
+pub tallied_few : (desk : Desk) (pass : Pass) (t : Tally) → (pass_of pass).calls < 2 ^ 42 → length (pass_of pass).numbers ≤ 1024 → IsTallied desk pass t
+    → IsFew t
+tallied_few desk pass t calls numbers h = within_few (pass_of pass).calls (length (pass_of pass).numbers) t h.1 calls numbers
 
 -- ---- what was seen
 
@@ -80,10 +80,12 @@ numbered : (n : ℕ) (worked : List (Pass × Tally)) (k : ℕ) (d : Pass × Tall
     → 0 < times n (flat_map (λ w. (pass_of w.0).numbers) worked)
 numbered n [] k d lt has = absurd (omega arith)
 numbered n (w ∷ worked) zero d lt has =
-    let all = ap (times n) (flat_map-cons (λ w. (pass_of w.0).numbers) w worked) ∙ times-append n (pass_of w.0).numbers (flat_map (λ w. (pass_of w.0).numbers) worked) in
+    let all = ap (times n) (flat_map-cons (λ w. (pass_of w.0).numbers) w worked)
+    ∙ times-append n (pass_of w.0).numbers (flat_map (λ w. (pass_of w.0).numbers) worked) in
     omega arith
 numbered n (w ∷ worked) (suc k) d lt has =
-    let all = ap (times n) (flat_map-cons (λ w. (pass_of w.0).numbers) w worked) ∙ times-append n (pass_of w.0).numbers (flat_map (λ w. (pass_of w.0).numbers) worked) in
+    let all = ap (times n) (flat_map-cons (λ w. (pass_of w.0).numbers) w worked)
+    ∙ times-append n (pass_of w.0).numbers (flat_map (λ w. (pass_of w.0).numbers) worked) in
     let rest = numbered n worked k d (omega arith) has in
     omega arith
 

@@ -32,7 +32,8 @@ made_own : (c : Call) (r : Reply) (fs : List (Entry Call Reply)) (n : ℕ) (befo
     → HasMade (entry before.own c r ∷ fs) n before after
 made_own c r fs n before mid after h g =
     let same : 0 + n ≡ n = omega arith in
-    subst (λ k. HasMade (entry before.own c r ∷ fs) k before after) same (made_then (entry before.own c r ∷ []) fs 0 n before mid after (made_reply c r before mid h) g)
+    subst (λ k. HasMade (entry before.own c r ∷ fs) k before after) same
+    (made_then (entry before.own c r ∷ []) fs 0 n before mid after (made_reply c r before mid h) g)
 
 same_own : (c : Call) (r : Reply) (before mid : Caller Call Reply) → HasRecorded c r before mid → mid.own ≡ before.own
 same_own c r before mid h = (made_reply c r before mid h).own

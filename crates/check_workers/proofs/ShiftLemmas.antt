@@ -60,7 +60,8 @@ working_more allows done now before mid after t u w d =
       allowed = All-append (IsRound allows) w.rounds (d.round ∷ []) w.allowed (All-cons (IsRound allows) d.round [] d.allowed (All-nil (IsRound allows)));
       moments_are = map-append (λ r. r.now) w.rounds (d.round ∷ []) ∙ ap (λ l. l ++ d.round.now ∷ []) w.moments_are ∙ ap (λ n. done ++ n ∷ []) d.at;
       made =
-          subst (λ es. HasMade es 0 before after) (sym entries) (made_then (rounds_entries before.own w.rounds) (round_entries before.own d.round) 0 0 before mid after w.made
+          subst (λ es. HasMade es 0 before after) (sym entries)
+          (made_then (rounds_entries before.own w.rounds) (round_entries before.own d.round) 0 0 before mid after w.made
           (subst (λ number. HasMade (round_entries number d.round) 0 mid after) own d.made));
       counted = rw entries (rw (w.counted, d.counted, own) (sym (tally_append (rounds_entries before.own w.rounds) (round_entries before.own d.round) [] [])));
     }

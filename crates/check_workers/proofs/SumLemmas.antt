@@ -1,5 +1,6 @@
 -- Each take and each report is counted under its reply.
-use Rattle.std.proofs.Common.{◌≡◌, ℕ, [], ◌∷◌, ◌++◌, refl, sym, ap, subst, ◌∙◌, arith}
+use Rattle.std.proofs.Common.{◌≡◌, ℕ, List, [], ◌∷◌, ◌++◌, refl, sym, ap, subst, ◌∙◌, arith}
+use Rattle.ticket_steps.specs.declared.kept.Entry.{Entry}
 use Rattle.ticket_steps.specs.History.{entry, IsLegal}
 use Rattle.ticket_lock.specs.Callers.{Caller}
 use Rattle.check_rules.specs.declared.state.Code.{Code}
@@ -9,7 +10,7 @@ use Rattle.check_sched.specs.declared.call.Call.TheVariants as call
 use Rattle.check_sched.specs.declared.call.Refusal.TheVariants as refusal
 use Rattle.check_sched.specs.declared.call.Reply.{Reply}
 use Rattle.check_sched.specs.declared.call.Reply.TheVariants as reply
-use Rattle.check_sched.proofs.ReplyLaws.{IsReportReply, IsTakeReply, report_reply, take_reply}
+use Rattle.check_sched.specs.Reply.{IsReportReply, IsTakeReply}
 use Rattle.check_desk.specs.Desks.{HasRecorded}
 use Rattle.check_workers.specs.declared.tally.Tally.{Tally}
 use Rattle.check_workers.specs.Progress.{EndsInTaken}
@@ -47,12 +48,24 @@ sum_of_report n object run code (reply.Refused refusal.WrongRun) h = (refl, refl
 
 -- ---- in a desk's history
 
+-- the last reply of a legal history is a take's
+abbrev pub AreTakeReplies : Type 0
+AreTakeReplies = (opened : BookState) (front : List (Entry Call Reply)) (pass now : ℕ) (answer : Reply)
+    → IsLegal book_step opened (front ++ entry pass (call.Take now) answer ∷ []) → IsTakeReply answer
+
+-- the last reply of a legal history is that of a report, where the check was taken before
+abbrev pub AreReportReplies : Type 0
+AreReportReplies = (opened : BookState) (front between : List (Entry Call Reply)) (taker pass now object run : ℕ) (code : Code) (answer : Reply)
+    → IsLegal book_step opened
+    (((front ++ entry taker (call.Take now) (reply.Taken object run) ∷ []) ++ between) ++ entry pass (call.Report object run code) answer ∷ [])
+    → IsReportReply answer
+
 -- a take that was recorded
-pub take_sum : (s : BookState) (now : ℕ) (r : Reply) (before after : Caller Call Reply) → HasRecorded (call.Take now) r before after
-    → IsLegal book_step s after.seen
+pub take_sum : (replies : AreTakeReplies) (s : BookState) (now : ℕ) (r : Reply) (before after : Caller Call Reply)
+    → HasRecorded (call.Take now) r before after → IsLegal book_step s after.seen
     → (number at : ℕ) → IsSum (tally_of (entry number (call.Take at) r ∷ []) [])
-take_sum s now r before after h legal number at =
-    sum_of_take number at r (take_reply s h.history before.own now r (rw h.after_is at legal))
+take_sum replies s now r before after h legal number at =
+    sum_of_take number at r (replies s h.history before.own now r (rw h.after_is at legal))
 
 -- the history then ends in it
 pub taken_ends : (now object run : ℕ) (before after : Caller Call Reply) → HasRecorded (call.Take now) (reply.Taken object run) before after
@@ -65,12 +78,12 @@ taken_ends now object run before after h = record {
 }
 
 -- a report that was recorded, of a check that was taken before
-pub report_sum : (s : BookState) (object run : ℕ) (code : Code) (r : Reply) (before after : Caller Call Reply) → EndsInTaken object run before.seen
-    → HasRecorded (call.Report object run code) r before after → IsLegal book_step s after.seen → (number : ℕ)
+pub report_sum : (replies : AreReportReplies) (s : BookState) (object run : ℕ) (code : Code) (r : Reply) (before after : Caller Call Reply)
+    → EndsInTaken object run before.seen → HasRecorded (call.Report object run code) r before after → IsLegal book_step s after.seen → (number : ℕ)
     → IsSum (tally_of (entry number (call.Report object run code) r ∷ []) [])
-report_sum s object run code r before after ends h legal number =
+report_sum replies s object run code r before after ends h legal number =
     let taken = entry ends.pass (call.Take ends.now) (reply.Taken object run) in
     let back = h.follows.0.0 in
     let history : h.history ≡ (ends.front ++ taken ∷ []) ++ back = sym h.follows.0.1 ∙ ap (λ l. l ++ back) ends.is in
-    sum_of_report number object run code r (report_reply s ends.front back ends.pass before.own ends.now object run code r
+    sum_of_report number object run code r (replies s ends.front back ends.pass before.own ends.now object run code r
     (subst (λ l. IsLegal book_step s (l ++ entry before.own (call.Report object run code) r ∷ [])) history (rw h.after_is at legal)))

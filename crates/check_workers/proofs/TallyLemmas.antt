@@ -20,7 +20,8 @@ takes_append : (p : Reply → Bool) (es fs : List (Entry Call Reply))
 takes_append p es fs = count_append (λ e. is_take e.call && p e.reply) es fs
 
 reports_append : (p : Reply → Bool) (es fs : List (Entry Call Reply))
-    → count_by (λ e. is_report e.call && p e.reply) (es ++ fs) ≡ count_by (λ e. is_report e.call && p e.reply) es + count_by (λ e. is_report e.call && p e.reply) fs
+    → count_by (λ e. is_report e.call && p e.reply) (es ++ fs)
+    ≡ count_by (λ e. is_report e.call && p e.reply) es + count_by (λ e. is_report e.call && p e.reply) fs
 reports_append p es fs = count_append (λ e. is_report e.call && p e.reply) es fs
 
 -- the tally of two lists is the sum of their tallies

@@ -21,7 +21,8 @@ use Rattle.check_workers.specs.Tallies.{IsSum, plus, tally_of}
 
 -- The shift that a worker worked on these moments with this pass, as the history of the closed book tells: of the numbers that
 -- the pass answers for, what is new since it came to the crew are the entries of the shift.
-pub record IsShiftOf (allows : ℕ → ℕ → ℕ → Code → Type 0) (moments : List ℕ) (room : ℕ) (history : List (Entry Call Reply)) (brought : Caller Call Reply) (s : Shift) : Type 0 where
+pub record IsShiftOf (allows : ℕ → ℕ → ℕ → Code → Type 0) (moments : List ℕ) (room : ℕ)
+    (history : List (Entry Call Reply)) (brought : Caller Call Reply) (s : Shift) : Type 0 where
   pub number : s.number ≡ brought.own
   pub shift : IsShift allows moments s
   pub new : (number : ℕ) → 0 < times number brought.numbers → of number history ≡ of number brought.seen ++ of number (shift_entries s)

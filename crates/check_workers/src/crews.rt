@@ -9,13 +9,15 @@ ghost use Rattle.check_sched.specs.BookState.{book_step};
 ghost use Rattle.check_sched.specs.Books.{entries_of, opening_of, refused_of, state_of};
 ghost use Rattle.check_desk.specs.Desks.{IsHistoryOf, IsPassOf, opened_with, passes_of};
 ghost use Rattle.check_desk.specs.Passes.{pass_of};
-ghost use Rattle.check_workers.specs.Crews.{AreGathered, AreShiftsOf, AreWorked, HaveLeft, IsTallied, IsWorked, MatchCrewError, MatchGathered, calls_counted, calls_in, numbers_in, numbers_of, tally_of_all};
+ghost use Rattle.check_workers.specs.Crews.{AreGathered, AreShiftsOf, AreWorked, HaveLeft, IsTallied, IsWorked, MatchCrewError, MatchGathered};
+ghost use Rattle.check_workers.specs.Crews.{calls_counted, calls_in, numbers_in, numbers_of, tally_of_all};
 ghost use Rattle.check_workers.specs.Shifts.{Shift};
 ghost use Rattle.check_workers.specs.Tallies.{IsSum};
 
 use crate::plugin::Plugin;
 use crate::tally::Tally;
 use crate::worker::work;
+use check_desk::laws::every_pass;
 use check_desk::{Desk, Pass};
 use check_sched::Book;
 use std::alloc::{AllocError, Global};
@@ -83,6 +85,8 @@ pub fn crew<R: Threads + Wait + Sync, P: Plugin + Sync>(
         × ((pass_of pass).calls ≡ calls_in passes.items + calls_counted (tally_of_all shifts))))
         (λ back. back ≡ desk)) }
 {
+    // for the proof: what every pass has seen is a history of its desk
+    every_pass();
     if passes.is_empty() {
         return Err(CrewError::NoPass(desk));
     }
@@ -156,6 +160,8 @@ fn gather_all(desk: &Desk, mut worked: Vec<(Pass, Tally)>) -> Option<(Pass, Tall
     requires { All (λ w. IsTallied desk.now w.0 w.1) worked.items }
     ensures { MatchGathered desk.now worked.items result }
 {
+    // for the proof: the calls of every pass are few, so that they can be added up
+    every_pass();
     let (mut pass, mut tally) = worked.pop()?;
     while let Some((other, more)) = worked.pop() {
         pass = desk.gather(other, pass);

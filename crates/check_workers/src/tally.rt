@@ -31,7 +31,7 @@ pub struct Tally {
     pub reported: u64,
     /// Reports that came too late: the object ran no more, or under another run.
     pub late: u64,
-    /// Calls that were refused for want of memory.
+    /// Calls that were refused when out of memory.
     pub unanswered: u64,
     /// Workers that stopped before their last moment was done.
     pub stops: u64,

@@ -1,13 +1,15 @@
 //! What no clause says: that workers work with ample memory, at the same time where there are many,
 //! worked shifts with their entries, and how the library is embedded.
 //!
-//! Books and desks are opened at the second try where the first meets want of memory.
+//! Books and desks are opened at the second try where the first runs out of memory.
 
 ghost use Rattle.std.specs.Prelude.{⊤, ◌≡◌, ◌<◌, ◌≤◌, [], IfOk, length};
+ghost use Rattle.std.specs.List.{All};
 ghost use Rattle.check_sched.specs.Books.{entries_of, refused_of};
-ghost use Rattle.check_desk.specs.Desks.{AreNewPasses, IsPassOf};
+ghost use Rattle.check_desk.specs.Desks.{IsPassOf};
 
 mod embedding;
+mod visiting;
 
 use crate::{CrewError, Plugin, Tally, crew, work};
 use check_desk::{Desk, Pass};
@@ -116,7 +118,7 @@ fn empty_book(alloc: Global, text: &[u8]) -> Result<Book, Fail>
 fn opened(alloc: Global, text: &[u8], passes: u32) -> Result<(Desk, Vec<Pass>), Fail>
     requires { (0 < passes) × (passes ≤ 1024) }
     ensures passes { IfOk result (λ made. length made.1.items ≡ passes) }
-    ensures new { IfOk result (λ made. AreNewPasses made.0 0 made.1.items) }
+    ensures own { IfOk result (λ made. All (IsPassOf made.0) made.1.items) }
 {
     match Desk::open(alloc, empty_book(alloc, text)?, passes) {
         Ok(made) => Ok(made),

@@ -9,3 +9,4 @@ pub mod Counts
 pub mod Callers
 pub mod Plays
 pub mod Tokens
+pub mod Belonging

@@ -13,9 +13,11 @@ returns c = record {
   legal = λ setup start room s is. legal_here setup start room s is;
   state = λ setup start room s is. sched_here setup start room s is;
   once =
-      λ setup start room s is front back e object run other parts begun. taken_once (opening setup start) front back e object run other (legal_parts setup start room s is front back e parts) begun;
+      λ setup start room s is front back e object run other parts begun.
+      taken_once (opening setup start) front back e object run other (legal_parts setup start room s is front back e parts) begun;
   runs =
-      λ setup start room s is front back e object run parts begun. taken_next (opening setup start) front back e object run refl (legal_parts setup start room s is front back e parts) begun;
+      λ setup start room s is front back e object run parts begun.
+      taken_next (opening setup start) front back e object run refl (legal_parts setup start room s is front back e parts) begun;
   entries = λ setup start room s is number. schedule_of book_step s is.schedule number;
   strangers = λ setup start room s is number past. schedule_strangers book_step s is.schedule number past;
   made = λ setup start room s is. (schedule_lawful book_step s is.schedule).counted ∙ sym (schedule_made book_step s is.schedule);

@@ -1,14 +1,14 @@
 use Rattle.std.proofs.Common.{◌≡◌, length, sym, ap, subst, ◌∙◌, arith}
 use Rattle.check_sched.specs.Books.{entries_of}
 use Rattle.check_desk.specs.Passes.{pass_of}
-use Rattle.check_desk.proofs.PassLemmas.{seen_history}
 use Rattle.check_workers.specs.Tallies.{IsSum}
 use Rattle.check_workers.proofs.CrewLemmas.{all_begin, all_numbers, all_tallied, are_shifts, crew_error, failed_then_so, made_then_so, missing_calls}
 use Rattle.check_workers.proofs.CrewLemmas.{none_brought, same_numbers, shifts_from, sum_calls, sum_is, sum_stops, sum_sums}
 use Rattle.check_workers.proofs.crews.crew.Goals as goal
 
 pub close-requires : goal.close-requires
-close-requires g c = all_tallied (g.P.Plugin.allows c.args.plugin.now) c.args.moments.now c.args.desk c.args.passes.items c.in-Ok.worked.items c.in-Ok.ensures
+close-requires g c = all_tallied (g.P.Plugin.allows c.args.plugin.now) c.args.moments.now c.args.desk c.every_pass.ensures.some c.args.passes.items
+    c.in-Ok.worked.items c.in-Ok.ensures
 
 pub returns-in-Ok-clause-shifts : goal.returns-in-Ok-clause-shifts
 returns-in-Ok-clause-shifts g c =
@@ -58,7 +58,7 @@ returns-in-Ok-clause-errors g c =
       omega (arith, same, x.4),
       same,
       x.3.numbers ∙ all_numbers (g.P.Plugin.allows c.args.plugin.now) c.args.moments.now c.args.desk c.args.passes.items c.in-Ok.worked.items worked,
-      seen_history c.args.desk pass x.1,
+      c.every_pass.ensures.legal c.args.desk pass x.1,
       (
         shifts_from (g.P.Plugin.allows c.args.plugin.now) c.args.moments.now c.args.desk c.args.passes.items c.in-Ok.worked.items worked,
         are_shifts (g.P.Plugin.allows c.args.plugin.now) c.args.moments.now c.args.desk

@@ -28,9 +28,12 @@ pub plus-tally-requires : goal.plus-tally-requires
 plus-tally-requires c =
     let desk = c.args.desk.now in
     let w : Pass × Tally = (c.in-Some.other, c.in-Some.more) in
+    let law = c.every_pass.ensures in
     let all = subst (λ l. All (λ v. IsTallied desk v.0 v.1) l) c.in-Some.ensures.items c.loop-other.invariant.3 in (
-      tallied_few desk c.in-Some.other c.in-Some.more (all_last (λ v. IsTallied desk v.0 v.1) c.pop-in-loop-other.new.self.items w all),
-      tallied_few desk c.loop-other.pass c.loop-other.tally c.loop-other.invariant.2.tallied,
+      tallied_few desk c.in-Some.other c.in-Some.more (law.few_calls c.in-Some.other) (law.few c.in-Some.other)
+          (all_last (λ v. IsTallied desk v.0 v.1) c.pop-in-loop-other.new.self.items w all),
+      tallied_few desk c.loop-other.pass c.loop-other.tally (law.few_calls c.loop-other.pass) (law.few c.loop-other.pass)
+          c.loop-other.invariant.2.tallied,
     )
 
 pub loop-other-preserved : goal.loop-other-preserved

@@ -20,6 +20,6 @@ returns-in-Reply-clause-came g c = record {
 
 pub returns-in-Reply-clause-sums : goal.returns-in-Reply-clause-sums
 returns-in-Reply-clause-sums g c = subst IsSum (sym (c.of_report.ensures 0 c.args.object c.args.run c.check-code.result))
-    (report_sum (opened_with c.args.desk.now) c.args.object c.args.run c.check-code.result c.in-Reply.reply (pass_of c.args.pass)
+    (report_sum c.replies.ensures.report (opened_with c.args.desk.now) c.args.object c.args.run c.check-code.result c.in-Reply.reply (pass_of c.args.pass)
     (pass_of c.ask-pass.result.0) c.requires.taken
     (rw c.in-Reply.is at c.ask-pass.ensures.answer) c.ask-pass.ensures.legal 0)

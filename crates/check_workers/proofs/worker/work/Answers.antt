@@ -1,7 +1,6 @@
 use Rattle.std.proofs.Common.{◌≡◌, ℕ, List, Some, None, ◌<◌, length, [], ◌∷◌, ◌++◌, ◌+◌, take, drop, get_or, refl, sym, ap, subst, ◌∙◌, append_assoc, arith}
 use Rattle.std.proofs.Common.{rules}
 use Rattle.std.proofs.lemmas.List.{take_all, take-append-drop, take_more}
-use Rattle.check_desk.proofs.PassLemmas.{few_calls}
 use Rattle.check_desk.specs.Desks.{opened_with}
 use Rattle.check_desk.specs.Passes.{pass_of}
 use Rattle.check_workers.specs.Tallies.{IsFew, IsSum, tally_of}
@@ -85,11 +84,11 @@ returns-clause-left g c =
 pub plus-tally-requires : goal.plus-tally-requires
 plus-tally-requires g c = (
   working_few (g.P.Plugin.allows c.args.plugin.now) (take c.loop-now.now-index c.args.moments.now) (pass_of c.args.pass)
-      (pass_of c.loop-now.pass) c.loop-now.tally c.loop-now.invariant.1 (few_calls c.loop-now.pass),
+      (pass_of c.loop-now.pass) c.loop-now.tally c.loop-now.invariant.1 (c.every_pass.ensures.few_calls c.loop-now.pass),
   counted_few (pass_of c.loop-now.pass) (pass_of c.round-back.result.0) c.round-back.result.1
       (came_counted (g.P.Plugin.allows c.args.plugin.now) _ (opened_with c.args.desk.now).room (pass_of c.loop-now.pass)
       (pass_of c.round-back.result.0) c.round-back.result.1 c.round-back.result.2 c.round-back.ensures.came)
-      (few_calls c.round-back.result.0),
+      (c.every_pass.ensures.few_calls c.round-back.result.0),
 )
 
 pub plus-requires : goal.plus-requires
@@ -99,6 +98,6 @@ plus-requires g c = (
       c.loop-now.tally c.round-back.result.1 c.loop-now.invariant.1
       (came_counted (g.P.Plugin.allows c.args.plugin.now) _ (opened_with c.args.desk.now).room (pass_of c.loop-now.pass)
       (pass_of c.round-back.result.0) c.round-back.result.1 c.round-back.result.2 c.round-back.ensures.came)
-      (few_calls c.round-back.result.0)),
+      (c.every_pass.ensures.few_calls c.round-back.result.0)),
   subst IsFew (sym c.of_stop.ensures) (few_tally [] (c.in-Stopped.stop ∷ []) (omega arith) (omega arith)),
 )

@@ -4,16 +4,12 @@ use Rattle.check_sched.proofs.RunLaws.{book_is_legal}
 use Rattle.check_sched.specs.Books.{entries_of, opening_of, refused_of, room_of}
 use Rattle.check_sched.specs.BookState.{book_opening, book_step}
 use Rattle.check_sched.specs.State.{opening}
-use Rattle.check_desk.proofs.PassLemmas.{new_at}
 use Rattle.check_desk.specs.Desks.{opened_with}
 use Rattle.check_workers.specs.Crews.{AreShiftsOf}
 use Rattle.nagsched.specs.Drill.{gives_scripted}
 use Rattle.check_script.specs.DrillScripted.{drill_script}
 use Rattle.nagsched.proofs.DrillLaws.{drill_is}
 use Rattle.nagsched.proofs.drill.work_all.Goals as goal
-
-pub crew-requires-after_bounds : goal.crew-requires-after_bounds
-crew-requires-after_bounds g c κs within k d lt = new_at c.in-Ok-open.desk 0 c.in-Ok-open.passes.items k d c.in-Ok-open.ensures.new lt
 
 pub returns-in-Ok-crew-clause-drill : goal.returns-in-Ok-crew-clause-drill
 returns-in-Ok-crew-clause-drill g c =

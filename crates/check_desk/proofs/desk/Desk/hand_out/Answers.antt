@@ -2,7 +2,7 @@ use Rattle.std.proofs.Common.{◌≡◌, ◌<◌, ◌+◌, ◌-◌, ◌∙◌, a
 use Rattle.ticket_lock.specs.Tokens.{seat_of}
 use Rattle.check_desk.specs.Desks.{passes_of}
 use Rattle.check_desk.specs.Passes.{new_pass}
-use Rattle.check_desk.proofs.PassLemmas.{last_is, more_is, new_push, own_is, rest_from, rest_size}
+use Rattle.check_desk.proofs.PassLemmas.{last_is, more_is, new_at, new_push, own_is, rest_from, rest_size}
 use Rattle.check_desk.proofs.desk.Desk.hand_out.Goals as goal
 
 pub split-own-requires-clause-count : goal.split-own-requires-clause-count
@@ -44,3 +44,6 @@ returns-clause-new c =
     let one : passes_of desk - n ≡ 1 = omega (arith, desk.passes_are, c.loop-number-test.false, c.loop-number.auto._number-end, c.requires.some) in
     rw c.push_reserved-2.ensures.items (new_push desk 0 c.loop-number.list.items _ was.new c.loop-number.invariant.1
     (last_is n (seat_of c.loop-number.rest) (was.rest_is ∙ ap (rest_from n) one) ∙ ap new_pass (omega (arith, was.count))))
+
+pub returns-clause-own : goal.returns-clause-own
+returns-clause-own c = λ k d lt. new_at c.args.self.now 0 _ k d (returns-clause-new c) lt
