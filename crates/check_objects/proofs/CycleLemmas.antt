@@ -7,7 +7,7 @@ use Rattle.link_order.specs.Cycles.{has_cycle}
 use Rattle.check_objects.specs.LoadError.{◌>>=◌, Fails}
 use Rattle.check_objects.specs.Setup.{no_parent_cycle, without_parent_cycle, without_cycles}
 
--- an error that one answer has is the other's too, want of memory aside
+-- an error that one answer has is the other's too, running out of memory aside
 pub fails_later : {A B : Type 0} (e : LoadError) (r : Result A LoadError) (s : Result B LoadError) → Fails e r
     → ((x : LoadError) → r ≡ Err x → s ≡ Err x) → Fails e s
 fails_later errors.Memory r s h f = tt

@@ -1,13 +1,12 @@
 -- The dependencies of each object by number.
-use Rattle.std.proofs.Common.{◌≡◌, append_assoc, ℕ, zero, suc, ◌+◌, ◌<◌, ◌==◌, Bool, true, false, cond, List, [], ◌∷◌, ◌++◌, map, take, length, get_or}
+use Rattle.std.proofs.Common.{◌≡◌, append_assoc, append-nil, ℕ, zero, suc, ◌+◌, ◌<◌, ◌==◌, Bool, true, false, cond, List, [], ◌∷◌, ◌++◌, map, take, length, get_or}
 use Rattle.std.proofs.Common.{Some, None, refl, sym, ap, ◌∙◌, replicate, inl, inr, arith}
 use Rattle.std.specs.Prelude.{nat_lt, unwrap_or}
 use Rattle.std.specs.List.{list_all, filter, range_with_len}
 use Rattle.std.proofs.Math.ListN.{set}
 use Rattle.std.proofs.lemmas.Bool.{eq-eqb, ne_eqb, cases_eq}
 use Rattle.std.proofs.lemmas.Bool.Decides.{nat_tests}
-use Rattle.std.proofs.lemmas.Grind.{common_steps}
-use Rattle.std.proofs.lemmas.List.{ext_get_or, get_or-set_same, get_or-set_other, length-set, map-append}
+use Rattle.std.proofs.lemmas.List.{take_more, ext_get_or, get_or-set_same, get_or-set_other, length-set, map-append}
 use Rattle.std.proofs.lemmas.List.Elements.{filter-append}
 use Rattle.std.proofs.lemmas.List.FromFn.{length-map-range_with_len, get_or-map-range_with_len}
 use Rattle.check_objects.specs.declared.dependency.Dependency.{Dependency}
@@ -44,10 +43,6 @@ among_more done d object b e =
     ∙ map-append (λ x. x.1) (filter (λ x. x.0 == object) done) (filter (λ x. x.0 == object) (d ∷ []))
     ∙ ap (λ l. dependencies_among done object ++ l) (ap (λ c. map (λ x. x.1) (cond c (d ∷ []) [])) e ∙ picked d b)
 
-append_none : {A : Type 0} (xs : List A) → xs ++ [] ≡ xs
-append_none [] = refl
-append_none (x ∷ xs) = ap (λ l. x ∷ l) (append_none xs)
-
 -- the lists with one dependency more
 pub lists_next : (count : ℕ) (done : List (ℕ × Dependency)) (d : ℕ × Dependency) → d.0 < count
     → set (dependency_lists count done) d.0 (get_or (dependency_lists count done) d.0 [] ++ d.1 ∷ []) ≡ dependency_lists count (done ++ d ∷ [])
@@ -59,12 +54,9 @@ lists_next count done d h =
     (λ o l. let below : o < count = omega (arith, l, size) in elim (cases_eq o d.0) [
       | inl e ↦ ap (λ k. get_or (set old d.0 pushed) k []) e ∙ get_or-set_same old d.0 pushed [] (omega (arith, h, length-dependency_lists count done))
           ∙ ap (λ l. l ++ d.1 ∷ []) (list_of_object count d.0 done h) ∙ sym (among_more done d d.0 true (eq-eqb d.0 d.0 refl)) ∙ sym (list_of_object count d.0 (done ++ d ∷ []) h) ∙ ap (λ k. get_or (dependency_lists count (done ++ d ∷ [])) k []) (sym e)
-      | inr n ↦ get_or-set_other old d.0 o pushed [] n ∙ list_of_object count o done below ∙ sym (append_none (dependencies_among done o))
+      | inr n ↦ get_or-set_other old d.0 o pushed [] n ∙ list_of_object count o done below ∙ sym (append-nil (dependencies_among done o))
           ∙ sym (among_more done d o false (ne_eqb d.0 o (λ e. n (sym e)))) ∙ sym (list_of_object count o (done ++ d ∷ []) below)
     ])
-
-pub take_one_more : {A : Type 0} (xs : List A) (i : ℕ) (d : A) → i < length xs → take (i + 1) xs ≡ take i xs ++ get_or xs i d ∷ []
-take_one_more xs i d h = grind (arith, common_steps)
 
 holds_at : {A : Type 0} (p : A → Bool) (xs : List A) (i : ℕ) (d : A) → i < length xs → list_all p xs ≡ true → p (get_or xs i d) ≡ true
 holds_at p [] i d h all = absurd (omega arith)
@@ -124,13 +116,13 @@ pub lists_step : (count : ℕ) (ds : List (ℕ × Dependency)) (i : ℕ) (d : �
     → new ≡ set old (get_or ds i d).0 (get_or old (get_or ds i d).0 [] ++ (get_or ds i d).1 ∷ []) → new ≡ dependency_lists count (take (i + 1) ds)
 lists_step count ds i d old new h all are is =
     let x = get_or ds i d in
-    is ∙ ap (λ ls. set ls x.0 (get_or ls x.0 [] ++ x.1 ∷ [])) are ∙ lists_next count (take i ds) x (dependent_below count ds i d h all) ∙ ap (dependency_lists count) (sym (take_one_more ds i d h))
+    is ∙ ap (λ ls. set ls x.0 (get_or ls x.0 [] ++ x.1 ∷ [])) are ∙ lists_next count (take i ds) x (dependent_below count ds i d h all) ∙ ap (dependency_lists count) (sym (take_more ds i d h))
 
 -- ---- lists that grow with those that are read
 
 pub mapped_next : {A B : Type 0} (f : A → B) (xs : List A) (i : ℕ) (x : A) → i < length xs → x ≡ get_or xs i x
     → map f (take (i + 1) xs) ≡ map f (take i xs) ++ f x ∷ []
-mapped_next f xs i x h e = ap (map f) (take_one_more xs i x h ∙ ap (λ y. take i xs ++ y ∷ []) (sym e)) ∙ map-append f (take i xs) (x ∷ [])
+mapped_next f xs i x h e = ap (map f) (take_more xs i x h ∙ ap (λ y. take i xs ++ y ∷ []) (sym e)) ∙ map-append f (take i xs) (x ∷ [])
 
 pub pushed_next : {A B C : Type 0} (g : B → C) (f : A → B) (first old new : List C) (xs : List A) (i : ℕ) (d : A) (c : C)
     → old ≡ first ++ map g (map f (take i xs)) → i < length xs → new ≡ old ++ c ∷ [] → c ≡ g (f (get_or xs i d))
@@ -139,4 +131,4 @@ pushed_next g f first old new xs i d c so_far h is same =
     is ∙ ap (λ l. l ++ c ∷ []) so_far ∙ append_assoc first (map g (map f (take i xs))) (c ∷ [])
     ∙ ap (λ l. first ++ l)
     (ap (λ x. map g (map f (take i xs)) ++ x ∷ []) same ∙ sym (map-append g (map f (take i xs)) (f (get_or xs i d) ∷ []))
-    ∙ ap (map g) (sym (map-append f (take i xs) (get_or xs i d ∷ []))) ∙ ap (λ l. map g (map f l)) (sym (take_one_more xs i d h)))
+    ∙ ap (map g) (sym (map-append f (take i xs) (get_or xs i d ∷ []))) ∙ ap (λ l. map g (map f l)) (sym (take_more xs i d h)))

@@ -16,7 +16,9 @@ use Rattle.check_objects.specs.declared.numbering.Host.{Host}
 use Rattle.check_objects.specs.declared.numbering.Service.{Service}
 use Rattle.check_objects.specs.Configuration.{Configuration, IsSetup, Named, named_host, named_service, masters_in, dependencies_of, object_count}
 use Rattle.check_objects.specs.Entries.{host_entry, service_entry}
-use Rattle.check_objects.proofs.ListLemmas.{position-map, list_all-map}
+use Rattle.link_order.proofs.TestLemmas.{both_true}
+use Rattle.std.proofs.lemmas.List.Folds.{list_all-map}
+use Rattle.check_objects.proofs.ListLemmas.{position-map}
 
 -- ---- two lists, one behind the other
 
@@ -74,10 +76,6 @@ position-back p xs ys e =
     let test : nat_lt (length xs + c) (length (xs ++ ys)) ≡ nat_lt c (length ys) = ap (nat_lt (length xs + c)) (length-append xs ys) ∙ shifted_test
     (length xs) c (length ys) in
     ap (λ k. first_of k (length (xs ++ ys))) here ∙ ap (λ b. cond b (Some (length xs + c)) None) test ∙ shifted_by (nat_lt c (length ys)) (length xs) c
-
-both_true : (a b : Bool) → (a && b) ≡ true → (a ≡ true) × (b ≡ true)
-both_true true b e = (refl, e)
-both_true false b e = cc
 
 pub all_at : {A : Type 0} (p : A → Bool) (xs : List A) (i : ℕ) (x : A) → list_all p xs ≡ true → slice_get xs i ≡ Some x → p x ≡ true
 all_at p [] i x h e = cc

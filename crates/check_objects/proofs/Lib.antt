@@ -1,7 +1,7 @@
 pub mod TreeLemmas
 pub mod DraftLemmas
 pub mod ListLemmas
-pub mod FaultLemmas
+pub mod VerificationLemmas
 pub mod NumberingLemmas
 pub mod SetupLemmas
 pub mod GetterLemmas

@@ -10,11 +10,12 @@ use Rattle.std.proofs.lemmas.List.Sorted.{IsPermutation-map}
 use Rattle.std.proofs.lemmas.Slice.Eq.{bytes_eq-Decides}
 use Rattle.check_objects.specs.Configuration.{Configuration, named_host, named_service, objects_of, object_count, number_of, name_of}
 use Rattle.check_objects.specs.Draft.{Drafts, HostDraft, DependencyDraft}
-use Rattle.check_objects.specs.Fault.{is_faultless, is_known, names_of, full_names}
+use Rattle.check_objects.specs.Verification.{is_faultless, is_known, names_of, full_names}
 use Rattle.check_objects.specs.Links.{named_parents, named_dependency, named_dependencies, all_named_dependencies}
 use Rattle.check_objects.specs.Numbering.{number_in, numbered_host, numbered_dependency, all_dependencies, dependencies_among, body_of, object_of}
 use Rattle.check_objects.specs.Numbering.{hosts_in_order, services_in_order, names_in_order, configuration}
-use Rattle.check_objects.proofs.ListLemmas.{list_any-map, list_all-map}
+use Rattle.std.proofs.lemmas.List.Folds.{list_all-map}
+use Rattle.check_objects.proofs.ListLemmas.{list_any-map}
 use Rattle.check_objects.proofs.BucketLemmas.{bucket, in_buckets, joined_same}
 use Rattle.link_order.proofs.TestLemmas.{and_first, and_second, and_both, or_second}
 use Rattle.check_objects.proofs.DependencyLemmas.{list_of_object}

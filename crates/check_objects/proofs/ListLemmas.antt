@@ -15,10 +15,6 @@ pub list_any-map : {A B : Type 0} (p : B → Bool) (f : A → B) (xs : List A) �
 list_any-map p f [] = refl
 list_any-map p f (x ∷ xs) = ap (λ b. p (f x) || b) (list_any-map p f xs)
 
-pub list_all-map : {A B : Type 0} (p : B → Bool) (f : A → B) (xs : List A) → list_all p (map f xs) ≡ list_all (λ x. p (f x)) xs
-list_all-map p f [] = refl
-list_all-map p f (x ∷ xs) = ap (λ b. p (f x) && b) (list_all-map p f xs)
-
 -- two tests that agree find the same place
 pub position-same : {A : Type 0} (p q : A → Bool) → ((x : A) → p x ≡ q x) → (xs : List A) → position p xs ≡ position q xs
 position-same p q agree xs = let e : p ≡ q = λ i x. agree x i in ap (λ t. position t xs) e

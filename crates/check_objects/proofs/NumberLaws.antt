@@ -14,8 +14,8 @@ use Rattle.std.proofs.lemmas.Map.Text.{is_eq-slice_cmp}
 use Rattle.check_objects.specs.declared.error.LoadError.{LoadError}
 use Rattle.check_objects.specs.declared.error.LoadError.TheVariants as errors
 use Rattle.check_objects.specs.Draft.{Drafts, HostDraft, ServiceDraft}
-use Rattle.check_objects.specs.Fault.{is_faultless, few_items, good_names, host_names, names_of, first_repeat, same_key, key_of, no_repeated_services}
-use Rattle.check_objects.specs.Fault.{known_links, good_ranges}
+use Rattle.check_objects.specs.Verification.{is_faultless, few_items, good_names, host_names, names_of, first_repeat, same_key, key_of, no_repeated_services}
+use Rattle.check_objects.specs.Verification.{known_links, good_ranges}
 use Rattle.check_objects.specs.LoadError.{◌>>=◌, refused_at}
 use Rattle.check_objects.specs.Numbering.{body_of, object_of, hosts_in_order, services_in_order}
 use Rattle.check_objects.specs.Name.{text_order, pair_order}

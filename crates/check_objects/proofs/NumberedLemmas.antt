@@ -16,7 +16,7 @@ use Rattle.check_objects.specs.declared.object.Object.{Object}
 use Rattle.check_objects.specs.Configuration.{Configuration, Host, Service, Named, named_host, named_service, host_count, number_of, name_of, full_name}
 use Rattle.check_objects.specs.Configuration.{pair_of}
 use Rattle.check_objects.specs.Draft.{HostDraft, ServiceDraft, DependencyDraft}
-use Rattle.check_objects.specs.Fault.{is_known, names_of, key_of, full_names}
+use Rattle.check_objects.specs.Verification.{is_known, names_of, key_of, full_names}
 use Rattle.check_objects.specs.Numbering.{number_in, numbered_host, numbered_service, numbered_dependency, dependencies_among, dependency_lists, is_host_name}
 use Rattle.check_objects.proofs.ListLemmas.{list_any-map, position-map, sum_by-map}
 use Rattle.check_objects.proofs.GetterLemmas.{position-front, position-back}

@@ -16,6 +16,7 @@ use Rattle.std.specs.Ordering.{match_ordering, ordering_reverse, ordering_then}
 use Rattle.serde_json.specs.declared.value.Value.{Value}
 use Rattle.check_objects.specs.declared.object.Object.{Object}
 use Rattle.check_objects.specs.Entries.{sorted_host, description_in}
+use Rattle.link_order.proofs.TestLemmas.{both_true, not_true}
 use Rattle.check_objects.proofs.ListLemmas.{list_any-map}
 use Rattle.check_objects.specs.Configuration.{full_name}
 use Rattle.check_objects.specs.Numbering.{is_host_name}
@@ -81,14 +82,6 @@ built_seen one view all rest more old new z e b r grew same =
 
 pub built_all : {E Y : Type 0} (one : E → Y) (all rest : List E) (made : List Y) → Built one all rest made → rest ≡ [] → made ≡ map one all
 built_all one all rest made b r = b.same ∙ ap (map one) (sym (append-nil b.done) ∙ ap (λ l. b.done ++ l) (sym r) ∙ sym b.whole)
-
-both_true : (a b : Bool) → (a && b) ≡ true → (a ≡ true) × (b ≡ true)
-both_true true b e = (refl, e)
-both_true false b e = cc
-
-not_true : (b : Bool) → not b ≡ true → b ≡ false
-not_true true e = cc
-not_true false e = refl
 
 at_end : {E : Type 0} (good : E → Bool) (done : List E) (e : E) (more : List E) → list_all good (done ++ e ∷ more) ≡ true → good e ≡ true
 at_end good [] e more h = (both_true (good e) (list_all good more) h).0

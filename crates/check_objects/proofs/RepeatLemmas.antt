@@ -3,7 +3,7 @@ use Rattle.std.proofs.Common.{◌≡◌, ℕ, suc, ◌+◌, Bool, true, false, c
 use Rattle.std.proofs.Common.{◌∙◌, append_assoc, arith}
 use Rattle.std.specs.Prelude.{slice_get, unwrap_or}
 use Rattle.std.specs.List.{list_any, position, range_with_len}
-use Rattle.check_objects.specs.Fault.{stands_before, first_repeat}
+use Rattle.check_objects.specs.Verification.{stands_before, first_repeat}
 use Rattle.check_objects.proofs.GetterLemmas.{position-front, position-back}
 use Rattle.check_objects.proofs.NameLemmas.{one_found, one_missed}
 use Rattle.check_objects.proofs.Placed.{repeat_after}

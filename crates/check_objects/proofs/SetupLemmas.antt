@@ -27,16 +27,18 @@ use Rattle.check_objects.specs.Configuration.{pair_of, IsSameSort}
 use Rattle.link_order.specs.Cycles.{has_cycle, are_within}
 use Rattle.check_objects.specs.Drafted.{texts}
 use Rattle.check_objects.specs.Draft.{Drafts, HostDraft, ServiceDraft, DependencyDraft}
-use Rattle.check_objects.specs.Fault.{is_faultless, few_items, few_dependencies, full_names, known_ends, known_links, is_known, names_of, few_objects}
-use Rattle.check_objects.specs.Fault.{has_few_parents, key_of, good_names, good_host_names, good_descriptions, host_names, first_repeat}
-use Rattle.check_objects.specs.Fault.{no_repeated_services, known_parents, known_hosts, good_ranges, good_host_ranges, good_options, good_service_ranges}
-use Rattle.check_objects.specs.Fault.{is_in_range, is_within, is_delay_in_range, is_factor_in_range, are_options_in_range}
+use Rattle.check_objects.specs.Verification.{is_faultless, few_items, few_dependencies, full_names, known_ends, known_links, is_known, names_of, few_objects}
+use Rattle.check_objects.specs.Verification.{has_few_parents, key_of, good_names, good_host_names, good_descriptions, host_names, first_repeat}
+use Rattle.check_objects.specs.Verification.{no_repeated_services, known_parents, known_hosts, good_ranges, good_host_ranges, good_options, good_service_ranges}
+use Rattle.check_objects.specs.Verification.{is_in_range, is_within, is_delay_in_range, is_factor_in_range, are_options_in_range}
 use Rattle.check_objects.specs.LoadError.{◌>>=◌, refused_at}
 use Rattle.check_objects.specs.Place.{host_at, service_at, item_of_part}
 use Rattle.check_objects.specs.Numbering.{number_in, dependencies_among, numbered_host, numbered_service, hosts_in_order, services_in_order, names_in_order}
 use Rattle.check_objects.specs.Numbering.{numbered, configuration, numbered_dependency, all_dependencies, is_host_name, object_of, body_of}
 use Rattle.check_objects.specs.Name.{is_name, is_name_byte, text_order, pair_order}
-use Rattle.check_objects.proofs.ListLemmas.{list_all-map, list_any-map}
+use Rattle.link_order.proofs.TestLemmas.{both_true, all_weaker}
+use Rattle.std.proofs.lemmas.List.Folds.{list_all-map}
+use Rattle.check_objects.proofs.ListLemmas.{list_any-map}
 use Rattle.check_objects.proofs.NumberLaws.{hosts_all, services_all, hosts_ascend, services_ascend}
 use Rattle.check_objects.proofs.NameLemmas.{HasNames, found, all_moved}
 use Rattle.check_objects.proofs.NumberedLemmas.{AreAlike, host_names_are, pairs_are, full_names_are, known_in_order, full_name_in_order, parents_counted}
@@ -82,14 +84,6 @@ all_by_position p xs e =
     ap (λ q. list_all q xs) (sym agree) ∙ prefix_all (λ x. not (not (p x))) xs (none_by _ _ e)
 
 -- ---- names and what they don't have
-
-both_true : (a b : Bool) → (a && b) ≡ true → (a ≡ true) × (b ≡ true)
-both_true true b e = (refl, e)
-both_true false b e = cc
-
-all_weaker : {A : Type 0} (p q : A → Bool) → ((x : A) → p x ≡ true → q x ≡ true) → (xs : List A) → list_all p xs ≡ true → list_all q xs ≡ true
-all_weaker p q f [] e = refl
-all_weaker p q f (x ∷ xs) e = let b = both_true (p x) (list_all p xs) e in rw (f x b.0, all_weaker p q f xs b.1) refl
 
 name_byte_parts : (a b c : Bool) → (a && b && c) ≡ true → c ≡ true
 name_byte_parts true true c e = e
@@ -562,9 +556,9 @@ pub few_names : (keys : List (Bor (List ℕ))) (sorted ordered : List (List ℕ 
 few_names keys sorted ordered e o h = omega (arith, length-map keys (λ k. k.now), ap length e, length-map sorted (λ x. x.0), ap length o)
 
 -- the links that are kept of hosts are to hosts
-pub links_within : {L : Type 0} (items : L → List ℕ) (hosts : List Host) (links : List L) → map items links ≡ map (λ h. h.parents) hosts
+pub parents_within : {L : Type 0} (items : L → List ℕ) (hosts : List Host) (links : List L) → map items links ≡ map (λ h. h.parents) hosts
     → list_all (λ h. list_all (λ p. nat_lt p (length hosts)) h.parents) hosts ≡ true
     → are_within (length links) (map items links) ≡ true
-links_within items hosts links e linked =
+parents_within items hosts links e linked =
     let n : length links ≡ length hosts = omega (arith, length-map links items, ap length e, length-map hosts (λ h. h.parents)) in
     ap (λ l. are_within (length links) l) e ∙ list_all-map (λ ls. list_all (λ p. nat_lt p (length links)) ls) (λ h. h.parents) hosts ∙ ap (λ k. list_all (λ h. list_all (λ p. nat_lt p k) h.parents) hosts) n ∙ linked

@@ -11,23 +11,22 @@ use Rattle.serde_json.specs.Find.{as_object, as_str}
 use Rattle.serde_json.specs.Read.{read}
 use Rattle.serde_json.specs.View.{view, members_view, items_view}
 use Rattle.serde_json.specs.declared.value.Value.{Value}
-use Rattle.check_objects.specs.declared.error.LoadError.TheVariants as errors
 use Rattle.check_objects.specs.Tree.{tree_of, is_among, only_members, texts_of, ◌>=>◌}
 use Rattle.check_objects.specs.Text.{text}
 
 -- ---- the tree of the bytes
 
-pub tree_some : (bytes : List ℕ) (d : Data) → IsUtf8 bytes → read bytes ≡ Some d → ok_or (tree_of bytes) errors.NotJson ≡ Ok d
+pub tree_some : {E : Type 0} (bytes : List ℕ) (d : Data) (refusal : E) → IsUtf8 bytes → read bytes ≡ Some d → ok_or (tree_of bytes) refusal ≡ Ok d
 unfolding tree_of
-tree_some bytes d u e = rw (is_utf8-from_IsUtf8 bytes u, e) refl
+tree_some bytes d refusal u e = rw (is_utf8-from_IsUtf8 bytes u, e) refl
 
 none_by : (bytes : List ℕ) (b : Bool) → (b ≡ true → read bytes ≡ None) → cond b (read bytes) None ≡ None
 none_by bytes true h = h refl
 none_by bytes false h = refl
 
-pub tree_none : (bytes : List ℕ) → (IsUtf8 bytes → read bytes ≡ None) → ok_or (tree_of bytes) errors.NotJson ≡ Err errors.NotJson
+pub tree_none : {E : Type 0} (bytes : List ℕ) (refusal : E) → (IsUtf8 bytes → read bytes ≡ None) → ok_or (tree_of bytes) refusal ≡ Err refusal
 unfolding tree_of
-tree_none bytes h = rw (none_by bytes (is_utf8 bytes) (λ e. h (IsUtf8-from_is_utf8 bytes e))) refl
+tree_none bytes refusal h = rw (none_by bytes (is_utf8 bytes) (λ e. h (IsUtf8-from_is_utf8 bytes e))) refl
 
 -- ---- members and items
 

@@ -18,8 +18,8 @@ service s = record { host = s.host.now; description = s.description.now; check =
 abbrev pub dependency : DependencyDraft → spec.DependencyDraft
 dependency d = record { dependent = d.dependent.now; master = d.master.now; criteria = d.criteria; inherits = d.inherits }
 
-abbrev pub drafts : Drafts → spec.Drafts
-drafts d = record {
+abbrev pub drafts_view : Drafts → spec.Drafts
+drafts_view d = record {
   options = d.options;
   hosts = map host d.hosts.items;
   services = map service d.services.items;

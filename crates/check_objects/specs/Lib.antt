@@ -6,7 +6,7 @@ pub mod Tree
 pub mod Text
 pub mod Criteria
 pub mod Draft
-pub mod Fault
+pub mod Verification
 pub mod Numbering
 pub mod Links
 pub mod Setup

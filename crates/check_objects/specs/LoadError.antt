@@ -1,4 +1,4 @@
--- Refusals, and how a function of the code agrees with what the definitions say, want of memory aside.
+-- Refusals, and how a function of the code agrees with what the definitions say, running out of memory aside.
 use Rattle.std.specs.Prelude.{◌≡◌, ℕ, List, ◌++◌, Option, Some, None, Result, Ok, Err}
 use Rattle.check_objects.specs.declared.error.LoadError.{LoadError}
 use Rattle.check_objects.specs.declared.error.LoadError.TheVariants as errors
@@ -18,7 +18,7 @@ refused_at fault (Some i) = Err (fault i)
 abbrev pub with_front : {A : Type 0} → List A → Result (List A) LoadError → Result (List A) LoadError
 with_front front rest = rest >>= λ more. Ok (front ++ more)
 
--- an error of the code: want of memory says nothing, and any other is the one that is defined
+-- an error of the code: that it is out of memory says nothing, and any other is the one that is defined
 abbrev pub Fails : {Y : Type 0} → LoadError → Result Y LoadError → Type 0
 Fails errors.Memory expected = Unit {0}
 Fails e expected = expected ≡ Err e

@@ -8,7 +8,7 @@ use Rattle.check_objects.specs.declared.draft.CheckDraft.{CheckDraft}
 use Rattle.check_objects.specs.declared.object.Object.{Object}
 use Rattle.check_objects.specs.Configuration.{Named, Host, Service, Configuration, objects_of, number_among, full_name}
 use Rattle.check_objects.specs.Draft.{HostDraft, ServiceDraft, DependencyDraft, Drafts}
-use Rattle.check_objects.specs.Fault.{key_of}
+use Rattle.check_objects.specs.Verification.{key_of}
 use Rattle.check_objects.specs.Name.{text_order, pair_order}
 
 -- ---- the order

@@ -8,7 +8,7 @@ use Rattle.link_order.specs.Cycles.{has_cycle}
 use Rattle.check_objects.specs.LoadError.{◌>>=◌}
 use Rattle.check_objects.specs.Tree.{tree_of}
 use Rattle.check_objects.specs.Draft.{drafts_of}
-use Rattle.check_objects.specs.Fault.{is_faultless}
+use Rattle.check_objects.specs.Verification.{is_faultless}
 use Rattle.check_objects.specs.Numbering.{configuration}
 
 -- the setup, unless some object depends on itself through one dependency or more

@@ -4,7 +4,7 @@ ghost use Rattle.std.specs.List.{list_all};
 ghost use Rattle.link_order.specs.Cycles.{are_within, has_cycle};
 ghost use Rattle.link_order.specs.Orders.{IsOrder};
 ghost use Rattle.check_objects.specs.Configuration.{masters_in, number_among};
-ghost use Rattle.check_objects.specs.Drafted.{dependency, drafts};
+ghost use Rattle.check_objects.specs.Drafted.{dependency, drafts_view};
 ghost use Rattle.check_objects.specs.Entries.{objects_in};
 ghost use Rattle.check_objects.specs.Numbering.{numbered_dependency, all_dependencies, dependencies_by_number, dependency_lists};
 
@@ -25,26 +25,21 @@ pub(crate) type Dependencies = SmallVec<Dependency, 2>;
 /// The dependencies of each object by number, in the document's order.
 pub(crate) fn list_dependencies(
     alloc: Global,
-    document: &Drafts<'_>,
+    drafts: &Drafts<'_>,
     hosts: &IndexMap<String, Host>,
     services: &IndexMap<String, Service>,
 ) -> Result<Vec<Dependencies>, LoadError>
     requires few { length (objects_in hosts.now.entries services.now.entries) ≤ 4096 }
     requires within { list_all (λ d. nat_lt d.0 (length (objects_in hosts.now.entries services.now.entries)))
         (map (numbered_dependency (objects_in hosts.now.entries services.now.entries))
-        (all_dependencies (drafts document.now))) ≡ true }
+        (all_dependencies (drafts_view drafts.now))) ≡ true }
     ensures lists { IfOk result (λ lists. map (λ list. list.items) lists.items
-        ≡ dependencies_by_number (objects_in hosts.now.entries services.now.entries) (drafts document.now)) }
+        ≡ dependencies_by_number (objects_in hosts.now.entries services.now.entries) (drafts_view drafts.now)) }
     ensures memory { IsOkUnless result LoadError.Memory }
 {
     let mut numbered = Vec::new(alloc);
-    number_dependencies(
-        &mut numbered,
-        &document.service_dependencies,
-        hosts,
-        services,
-    )?;
-    number_dependencies(&mut numbered, &document.host_dependencies, hosts, services)?;
+    number_dependencies(&mut numbered, &drafts.service_dependencies, hosts, services)?;
+    number_dependencies(&mut numbered, &drafts.host_dependencies, hosts, services)?;
     list_by_dependent(alloc, hosts.len() + services.len(), &numbered)
 }
 

@@ -8,7 +8,7 @@ ghost use Rattle.check_objects.specs.LoadError.{Gives};
 ghost use Rattle.check_objects.specs.Place.{the_hosts, host_at, the_services, service_at, list_of_part, item_of_part};
 ghost use Rattle.check_objects.specs.Draft.{host_draft, service_draft, check_draft, dependency_draft, drafts_of, items_from, list_of, delay_method, interleave_factor, options_of, has_option_members};
 ghost use Rattle.check_objects.specs.Tree.{member_or};
-ghost use Rattle.check_objects.specs.Drafted.{host, service, dependency, drafts};
+ghost use Rattle.check_objects.specs.Drafted.{host, service, dependency, drafts_view};
 
 use crate::dependency::{Criteria, HOST_LETTERS, SERVICE_LETTERS, read_criteria};
 use crate::error::LoadError;
@@ -66,7 +66,7 @@ impl<'v> Drafts<'v> {
     /// The drafts of a document's tree.
     #[tactic(auto, unfolding(crate::specs::Draft::drafts_of))]
     pub(crate) fn read(alloc: Global, tree: &'v Value) -> Result<Self, LoadError>
-        ensures { Gives drafts result (drafts_of (view tree.now)) }
+        ensures { Gives drafts_view result (drafts_of (view tree.now)) }
     {
         if !has_only(
             tree,

@@ -35,7 +35,7 @@ pub enum LoadError {
     DependencyCycle,
     /// Some host is its own parent, through one parent or more.
     ParentCycle,
-    /// Want of memory, at any growth. It may come in place of any answer but `TooLong`.
+    /// Out of memory, at any growth. It may come in place of any answer but `TooLong`.
     Memory,
 }
 

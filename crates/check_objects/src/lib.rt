@@ -11,7 +11,6 @@ mod dependency;
 mod dependency_lists;
 mod draft;
 mod error;
-mod fault;
 pub mod laws;
 mod numbering;
 mod object;
@@ -21,6 +20,7 @@ mod setup;
 #[cfg(test)]
 mod tests;
 mod tree;
+mod verification;
 
 pub use dependency::{Criteria, Dependency};
 pub use error::LoadError;

@@ -1,16 +1,16 @@
 //! The numbers of objects: hosts in the order of their names' bytes, then services in the order of
 //! their hosts' names and then of their descriptions; and the links between them by number.
-ghost use Rattle.std.specs.Prelude.{◌≡◌, ◌≤◌, ◌<◌, length, map, bytes_eq, IfOk, OnOk, IsOkUnless, All, None, true, false, [], ◌∷◌, ◌++◌, bytes_eq, string_bytes};
+ghost use Rattle.std.specs.Prelude.{◌≡◌, Ok, ◌≤◌, ◌<◌, length, map, bytes_eq, IfOk, OnOk, IsOkUnless, All, None, true, false, [], ◌∷◌, ◌++◌, string_bytes};
 ghost use Rattle.std.specs.BTreeMap.{btree_map_len};
 ghost use Rattle.std.specs.List.{list_all, list_any};
-ghost use Rattle.check_objects.specs.Numbering.{hosts_in_order, services_in_order, number_in, numbered_host, numbered_service, object_of, is_host_name};
+ghost use Rattle.check_objects.specs.Numbering.{numbered, hosts_in_order, services_in_order, number_in, numbered_host, numbered_service, object_of, is_host_name};
 ghost use Rattle.check_objects.specs.Configuration.{full_name, number_among};
-ghost use Rattle.check_objects.specs.Fault.{first_repeat, names_of, key_of, same_key};
-ghost use Rattle.check_objects.specs.Drafted.{host, service, texts, HasFewAttempts};
+ghost use Rattle.check_objects.specs.Verification.{is_faultless, first_repeat, names_of, key_of, same_key};
+ghost use Rattle.check_objects.specs.Drafted.{host, service, drafts_view, texts, HasFewAttempts};
 ghost use Rattle.check_objects.specs.Entries.{objects_in, host_entry, service_entry, sorted_host, sorted_service};
 ghost use Rattle.check_objects.specs.Text.{text};
 
-use crate::draft::{CheckDraft, HostDraft, ServiceDraft};
+use crate::draft::{CheckDraft, Drafts, HostDraft, ServiceDraft};
 use crate::error::LoadError;
 use crate::object::Object;
 use crate::tree::text;
@@ -37,9 +37,34 @@ pub(crate) struct Service {
     pub(crate) host: u32,
 }
 
+/// The hosts and the services of drafts without a fault, each at the index that is its number among
+/// those of its sort.
+pub(crate) fn number_objects(
+    alloc: Global,
+    drafts: &Drafts<'_>,
+) -> Result<(IndexMap<String, Host>, IndexMap<String, Service>), LoadError>
+    requires faultless { is_faultless (drafts_view drafts.now) ≡ Ok tt }
+    requires hosts { All (λ h. HasFewAttempts h.check) drafts.now.hosts.items }
+    requires services { All (λ s. HasFewAttempts s.check) drafts.now.services.items }
+    ensures hosts { IfOk result (λ objects.
+        map host_entry objects.0.entries ≡ (numbered (drafts_view drafts.now)).hosts) }
+    ensures services { IfOk result (λ objects.
+        map service_entry objects.1.entries ≡ (numbered (drafts_view drafts.now)).services) }
+    ensures memory { IsOkUnless result LoadError.Memory }
+{
+    let hosts = sort_hosts(alloc, &drafts.hosts)?;
+    let services = sort_services(alloc, &drafts.services)?;
+    let names = number_names(alloc, &hosts)?;
+    let hosts = index_hosts(alloc, hosts, &names)?;
+    let services = index_services(alloc, services, &names)?;
+    Ok((hosts, services))
+}
+
+// ---- the order
+
 /// The hosts, whose names are distinct, in the order of their names' bytes: of each the object, and
 /// its parents' names.
-pub(crate) fn sort_hosts<'v>(
+fn sort_hosts<'v>(
     alloc: Global,
     drafts: &[HostDraft<'v>],
 ) -> Result<BTreeMap<&'v str, (Object, &'v [Value])>, LoadError>
@@ -59,7 +84,7 @@ pub(crate) fn sort_hosts<'v>(
 
 /// The services, no two of which have both the same host and the same description, in the order of
 /// their hosts' names and then of their descriptions.
-pub(crate) fn sort_services<'v>(
+fn sort_services<'v>(
     alloc: Global,
     drafts: &[ServiceDraft<'v>],
 ) -> Result<BTreeMap<(&'v str, &'v str), Object>, LoadError>
@@ -92,7 +117,7 @@ fn object(check: CheckDraft) -> Object
 // ---- links
 
 /// The names of the hosts in order, each at the index that is its number.
-pub(crate) fn number_names<'v>(
+fn number_names<'v>(
     alloc: Global,
     sorted: &BTreeMap<&'v str, (Object, &'v [Value])>,
 ) -> Result<IndexSet<&'v str>, LoadError>
@@ -138,7 +163,7 @@ fn number_parents(
 // ---- names to objects
 
 /// The hosts by name, each at the index that is its number.
-pub(crate) fn index_hosts(
+fn index_hosts(
     alloc: Global,
     sorted: BTreeMap<&str, (Object, &[Value])>,
     names: &IndexSet<&str>,
@@ -158,7 +183,7 @@ pub(crate) fn index_hosts(
 }
 
 /// The services by full name, each at the index that is its number behind those of the hosts.
-pub(crate) fn index_services(
+fn index_services(
     alloc: Global,
     sorted: BTreeMap<(&str, &str), Object>,
     names: &IndexSet<&str>,

@@ -5,19 +5,16 @@ ghost use Rattle.check_objects.specs.Configuration.{object_count, host_count, ob
 ghost use Rattle.link_order.specs.Orders.{IsOrder};
 ghost use Rattle.check_objects.specs.Numbering.{configuration};
 ghost use Rattle.check_objects.specs.Setup.{setup_of, without_cycles, no_parent_cycle};
-ghost use Rattle.check_objects.specs.Fault.{is_faultless};
+ghost use Rattle.check_objects.specs.Verification.{is_faultless};
 ghost use Rattle.check_objects.specs.Drafted.{HasFewAttempts};
-ghost use Rattle.check_objects.specs.Entries.{host_entry};
+ghost use Rattle.check_objects.specs.Entries.{host_entry, named};
 ghost use Rattle.check_objects.specs.LoadError.{Gives};
 
 use crate::dependency::Dependency;
 use crate::dependency_lists::{Dependencies, list_dependencies, order_by_masters};
 use crate::draft::Drafts;
 use crate::error::LoadError;
-use crate::numbering::{
-    Host, Parents, Service, index_hosts, index_services, number_names, object_number, sort_hosts,
-    sort_services,
-};
+use crate::numbering::{Host, Parents, Service, number_objects, object_number};
 use crate::object::Object;
 use crate::options::Options;
 use crate::tree::read_tree;
@@ -56,7 +53,7 @@ impl Model for Setup {
 }
 
 impl Setup {
-    ghost use Rattle.check_objects.specs.Drafted.{drafts};
+    ghost use Rattle.check_objects.specs.Drafted.{drafts_view};
 
     /// Reads one setup document, in JSON, of at most 16,777,216 bytes.
     ///
@@ -72,30 +69,26 @@ impl Setup {
         }
         let tree = read_tree(alloc, bytes)?;
         let drafts = Drafts::read(alloc, &tree)?;
-        drafts.test(alloc)?;
+        drafts.verify(alloc)?;
         Setup::of_drafts(alloc, &drafts)
     }
 
     /// The setup of drafts without a fault, unless some object depends on itself through one
     /// dependency or more, or some host is its own parent through one parent or more.
-    fn of_drafts(alloc: Global, document: &Drafts<'_>) -> Result<Setup, LoadError>
-        requires faultless { is_faultless (drafts document.now) ≡ Ok tt }
-        requires hosts { All (λ h. HasFewAttempts h.check) document.now.hosts.items }
-        requires services { All (λ s. HasFewAttempts s.check) document.now.services.items }
+    fn of_drafts(alloc: Global, drafts: &Drafts<'_>) -> Result<Setup, LoadError>
+        requires faultless { is_faultless (drafts_view drafts.now) ≡ Ok tt }
+        requires hosts { All (λ h. HasFewAttempts h.check) drafts.now.hosts.items }
+        requires services { All (λ s. HasFewAttempts s.check) drafts.now.services.items }
         ensures { Gives (λ s. s) result
-            (without_cycles (configuration (drafts document.now))) }
+            (without_cycles (configuration (drafts_view drafts.now))) }
     {
-        let hosts = sort_hosts(alloc, &document.hosts)?;
-        let services = sort_services(alloc, &document.services)?;
-        let names = number_names(alloc, &hosts)?;
-        let hosts = index_hosts(alloc, hosts, &names)?;
-        let services = index_services(alloc, services, &names)?;
-        let dependencies = list_dependencies(alloc, document, &hosts, &services)?;
+        let (hosts, services) = number_objects(alloc, drafts)?;
+        let dependencies = list_dependencies(alloc, drafts, &hosts, &services)?;
         match order_by_masters(alloc, &dependencies)? {
             Some(order) => {
-                test_parent_cycle(alloc, &hosts)?;
+                verify_no_parent_cycle(alloc, &hosts)?;
                 Ok(Setup {
-                    options: document.options,
+                    options: drafts.options,
                     hosts,
                     services,
                     dependencies,
@@ -146,14 +139,8 @@ impl Setup {
         requires { number < object_count self.now }
         ensures { result.now ≡ name_of self.now number }
     {
-        let index = number as usize;
-        if index < self.hosts.len() {
-            let (name, _) = self.hosts.get_index(index).unwrap();
-            name.as_str()
-        } else {
-            let (name, _) = self.services.get_index(index - self.hosts.len()).unwrap();
-            name.as_str()
-        }
+        let (name, _) = self.entry(number);
+        name
     }
 
     /// How the object with this number is checked.
@@ -162,13 +149,23 @@ impl Setup {
         ensures { option_map (λ o. o.object) (slice_get (objects_of self.now) number)
             ≡ Some result.now }
     {
+        let (_, object) = self.entry(number);
+        object
+    }
+
+    /// The full name of the object with this number, and how it is checked.
+    fn entry(&self, number: u32) -> (&str, &Object)
+        requires { number < object_count self.now }
+        ensures { slice_get (objects_of self.now) number
+            ≡ Some (named result.0.now result.1.now) }
+    {
         let index = number as usize;
         if index < self.hosts.len() {
-            let (_, host) = self.hosts.get_index(index).unwrap();
-            &host.object
+            let (name, host) = self.hosts.get_index(index).unwrap();
+            (name.as_str(), &host.object)
         } else {
-            let (_, service) = self.services.get_index(index - self.hosts.len()).unwrap();
-            &service.object
+            let (name, service) = self.services.get_index(index - self.hosts.len()).unwrap();
+            (name.as_str(), &service.object)
         }
     }
 
@@ -224,8 +221,8 @@ impl Setup {
     }
 }
 
-/// Whether no host is its own parent, through one parent or more.
-fn test_parent_cycle(alloc: Global, hosts: &IndexMap<String, Host>) -> Result<(), LoadError>
+/// Verifies that no host is its own parent, through one parent or more.
+fn verify_no_parent_cycle(alloc: Global, hosts: &IndexMap<String, Host>) -> Result<(), LoadError>
     requires few { length hosts.now.entries ≤ 4096 }
     requires linked { list_all (λ h. list_all (λ p. nat_lt p (length hosts.now.entries)) h.parents)
         (map host_entry hosts.now.entries) ≡ true }

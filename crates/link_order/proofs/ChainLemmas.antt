@@ -8,7 +8,6 @@ use Rattle.std.proofs.lemmas.Bool.{eqb-true, cases_lt}
 use Rattle.std.proofs.lemmas.List.Folds.{list_all-append}
 use Rattle.link_order.specs.Cycles.{links_of, are_within, deep, any_below, has_cycle}
 use Rattle.link_order.specs.Orders.{is_among, times, follows, IsOrder}
-
 use Rattle.link_order.proofs.TestLemmas.{or_first, or_second, or_cases, and_first, and_second, and_both, not_true, any_weaker, all_weaker}
 
 -- ---- one among others

@@ -16,7 +16,8 @@ chains_on : (links : List (List ℕ)) (object back : ℕ) → leads links (suc b
     → leads links (suc k) o object ≡ true → deep links o j ≡ true
 chains_on links object back h zero o k e = refl
 chains_on links object back h (suc j) o zero e =
-    any_weaker (λ l. l == object) (λ l. deep links l j) (λ l x. ap (λ m. deep links m j) (eqb-true l object x) ∙ chains_on links object back h j object back h) (links_of links o) e
+    any_weaker (λ l. l == object) (λ l. deep links l j) (λ l x. ap (λ m. deep links m j) (eqb-true l object x)
+    ∙ chains_on links object back h j object back h) (links_of links o) e
 chains_on links object back h (suc j) o (suc k) e =
     any_weaker (λ l. leads links (suc k) l object) (λ l. deep links l j) (λ l x. chains_on links object back h j l k x) (links_of links o) e
 
@@ -157,5 +158,9 @@ cycle_leads_back links within cyclic =
     let first = below_witness (λ o. deep links o n) n cyclic in
     let c = chain_of links n within n first.0 first.2 in
     let all : list_all (λ m. nat_lt m n) (first.0 ∷ c.objects) ≡ true = and_both _ _ (below_is first.0 n first.1) c.within in
-    let twice = pigeon n (first.0 ∷ c.objects) all (omega (arith, c.size)) in
-    (twice.0, is_below twice.0 n (all_among (λ m. nat_lt m n) (first.0 ∷ c.objects) twice.0 all (among_times (first.0 ∷ c.objects) twice.0 (omega (arith, twice.1)))), looped links twice.0 first.0 c.objects c.linked twice.1)
+    let twice = pigeon n (first.0 ∷ c.objects) all (omega (arith, c.size)) in (
+      twice.0,
+      is_below twice.0 n (all_among (λ m. nat_lt m n) (first.0 ∷ c.objects) twice.0 all
+          (among_times (first.0 ∷ c.objects) twice.0 (omega (arith, twice.1)))),
+      looped links twice.0 first.0 c.objects c.linked twice.1,
+    )

@@ -6,16 +6,15 @@ use Rattle.std.specs.List.{list_all}
 use Rattle.std.proofs.Math.ListN.{set}
 use Rattle.std.proofs.lemmas.Bool.{eq-eqb, ne_eqb, cases_eq, cases_lt}
 use Rattle.std.proofs.lemmas.Bool.Decides.{nat_tests}
-use Rattle.std.proofs.lemmas.List.{get_or-set_same, get_or-set_other, length-set, get_or-replicate, length-replicate, get_or_past, length-take}
+use Rattle.std.proofs.lemmas.List.{take_more, length-map, get_or-set_same, get_or-set_other, length-set, get_or-replicate, length-replicate, get_or_past, length-take}
 use Rattle.std.proofs.lemmas.List.{get_or_append_left, get_or-take, take_all, get_or-map, map-set}
 use Rattle.std.proofs.lemmas.List.Folds.{list_all-append}
-use Rattle.std.proofs.lemmas.Grind.{common_steps}
 use Rattle.link_order.specs.Cycles.{links_of, are_within}
 use Rattle.link_order.specs.Orders.{times}
 use Rattle.link_order.specs.Growth.{AddsDependent, HasDependents}
 use Rattle.link_order.proofs.TestLemmas.{and_first, and_second, and_both}
 use Rattle.link_order.proofs.ChainLemmas.{links_within}
-use Rattle.link_order.proofs.GrowthLemmas.{times-append, times-same, times-other, drop_get, below_at}
+use Rattle.link_order.proofs.GrowthLemmas.{times-append, times-same, times-other, below_at}
 
 -- ---- one object added to the lists of those that it links to
 
@@ -37,7 +36,8 @@ within_set n (xs ∷ lists) (suc place) ls h k = and_both _ _ (and_first _ _ h) 
 
 within_push : (n object : ℕ) (ls : List ℕ) → object < n → list_all (λ l. nat_lt l n) ls ≡ true → list_all (λ l. nat_lt l n) (ls ++ object ∷ []) ≡ true
 within_push n object ls h k =
-    rw (list_all-append (λ l. nat_lt l n) ls (object ∷ [])) (and_both _ _ k (and_both _ _ (let t : nat_lt object n ≡ true = grind (arith, nat_tests, h) in t) refl))
+    rw (list_all-append (λ l. nat_lt l n) ls (object ∷ [])) (and_both _ _ k
+    (and_both _ _ (let t : nat_lt object n ≡ true = grind (arith, nat_tests, h) in t) refl))
 
 times_pushed : (other object : ℕ) (ls : List ℕ) → times other (ls ++ object ∷ []) ≡ times other ls + cond (other == object) 1 0
 times_pushed other object ls = elim (cases_eq other object) [
@@ -69,11 +69,13 @@ adds_more object done old mid new link a h is = rw is (record {
         (cond_plus (other == object) (times other (links_of old link)) (times other (links_of mid link)) (times link done) (a.counts link other h))
     | inr n ↦ rw (get_or-set_other mid link at (links_of mid link ++ object ∷ []) [] n)
         (cond_same (other == object) (times other (links_of old at)) (times other (links_of mid at)) (times at done) (times at (done ++ link ∷ []))
-        (times-append at done (link ∷ []) ∙ ap (λ k. times at done + k) (times-other at link (λ x. n (sym x))) ∙ (let z : times at done + 0 ≡ times at done = omega arith in z))
+        (times-append at done (link ∷ []) ∙ ap (λ k. times at done + k) (times-other at link (λ x. n (sym x)))
+        ∙ (let z : times at done + 0 ≡ times at done = omega arith in z))
         (a.counts at other l))
   ];
   within =
-      λ n o w. let mids = a.within n o w in within_set n mid link (links_of mid link ++ object ∷ []) mids (within_push n object (links_of mid link) o (links_within n mid link mids));
+      λ n o w. let mids = a.within n o w in within_set n mid link (links_of mid link ++ object ∷ []) mids
+      (within_push n object (links_of mid link) o (links_within n mid link mids));
 })
 
 -- ---- the dependents of all objects
@@ -99,12 +101,9 @@ pub replicate_within : (n k : ℕ) → are_within n (replicate k []) ≡ true
 replicate_within n zero = refl
 replicate_within n (suc k) = replicate_within n k
 
-drop_get_lists : (xs : List (List ℕ)) (i : ℕ) → i < length xs → take (i + 1) xs ≡ take i xs ++ get_or xs i [] ∷ []
-drop_get_lists xs i h = grind (arith, common_steps)
-
 take_before : (links : List (List ℕ)) (k i : ℕ) → i < k → k < length links → links_of (take (k + 1) links) i ≡ links_of (take k links) i
 take_before links k i h l =
-    let e = drop_get_lists links k l in rw e (get_or_append_left (take k links) (links_of links k ∷ []) [] i (let t = length-take k links in omega arith))
+    let e = take_more links k [] l in rw e (get_or_append_left (take k links) (links_of links k ∷ []) [] i (let t = length-take k links in omega arith))
 
 take_here : (links : List (List ℕ)) (k : ℕ) → k < length links → links_of (take (k + 1) links) k ≡ links_of links k
 take_here links k h = get_or-take (k + 1) links k [] (omega arith)
@@ -161,11 +160,16 @@ pub adds_next : (object n j d : ℕ) (links : List ℕ) (old mid new : List (Lis
     → new ≡ set mid (get_or links j d) (links_of mid (get_or links j d) ++ object ∷ []) → AddsDependent object (take (j + 1) links) old new
 adds_next object n j d links old mid new a h all e is =
     let below = below_at n links j d h all in
-    rw (drop_get links j d h) (adds_more object (take j links) old mid new (get_or links j d) a (omega arith) is)
+    rw (take_more links j d h) (adds_more object (take j links) old mid new (get_or links j d) a (omega arith) is)
 
 -- the list at a place of a vector of lists
 pub list_at : {X : Type 0} (f : X → List ℕ) (xs : List X) (i : ℕ) (w d : X) → i < length xs → w ≡ get_or xs i d → f w ≡ links_of (map f xs) i
 list_at f xs i w d h e = ap f e ∙ sym (get_or-map f xs i d [] h)
+
+-- the dependents of one object, in a vector of lists
+pub dependents_at : {X : Type 0} (f : X → List ℕ) (n : ℕ) (links : List (List ℕ)) (xs : List X) (i : ℕ) (w : X)
+    → HasDependents n links (map f xs) → i < n → w ≡ get_or xs i w → f w ≡ links_of (map f xs) i
+dependents_at f n links xs i w d h e = list_at f xs i w w (omega (arith, h, d.size, length-map xs f)) e
 
 pub all_below_same : (n m : ℕ) (xs : List ℕ) → n ≡ m → list_all (λ x. nat_lt x n) xs ≡ true → list_all (λ x. nat_lt x m) xs ≡ true
 all_below_same n m xs e h = rw (← e) h

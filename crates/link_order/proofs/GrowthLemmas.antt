@@ -7,7 +7,7 @@ use Rattle.std.proofs.Math.Bool.{or-false}
 use Rattle.std.proofs.Math.ListN.{set}
 use Rattle.std.proofs.lemmas.Bool.{eqb-true, eq-eqb, ne_eqb, cases_lt, cases_eq}
 use Rattle.std.proofs.lemmas.Bool.Decides.{nat_tests}
-use Rattle.std.proofs.lemmas.List.{get_or-set_same, get_or-set_other, length-set, length-map, get_or-map, take-append-le, take_all}
+use Rattle.std.proofs.lemmas.List.{take_more, get_or-set_same, get_or-set_other, length-set, length-map, get_or-map, take-append-le, take_all}
 use Rattle.std.proofs.lemmas.List.Folds.{list_all-append, list_any-append}
 use Rattle.std.proofs.lemmas.Grind.{common_steps}
 use Rattle.link_order.specs.Cycles.{links_of, has_cycle, are_within}
@@ -66,7 +66,8 @@ open_step false b true n k t f e h = rw (e, h) (let g : 1 + (k + t) ≡ 0 + k + 
 open_step false b false n k t f e h = rw (e, h) (let g : 1 + (k + t) ≡ 1 + k + (0 + t) = omega arith in g)
 
 -- placing one more object closes the links to it
-pub open_links-push : (placed : List ℕ) (m : ℕ) (ls : List ℕ) → is_among placed m ≡ false → open_links placed ls ≡ open_links (placed ++ m ∷ []) ls + times m ls
+pub open_links-push : (placed : List ℕ) (m : ℕ) (ls : List ℕ) → is_among placed m ≡ false → open_links placed ls
+    ≡ open_links (placed ++ m ∷ []) ls + times m ls
 open_links-push placed m [] h = refl
 open_links-push placed m (l ∷ ls) h =
     open_step (is_among placed l) (is_among (placed ++ m ∷ []) l) (l == m) (open_links placed ls) (open_links (placed ++ m ∷ []) ls) (times m ls)
@@ -159,7 +160,8 @@ closed_link closing left order left' order' d w c h v p =
       ]) c.joined c.free;
       total =
           let w1 = waiting_objects-set left' d w within in let a : waits (open_at left' d)
-          ≡ 1 = rw (v, ne_eqb (w + 1) 0 (λ e. absurd (omega arith))) refl in let b : waits w ≡ 1 = rw (ne_eqb w 0 (λ e. absurd (omega arith))) refl in let t = c.total in omega arith;
+          ≡ 1 = rw (v, ne_eqb (w + 1) 0 (λ e. absurd (omega arith))) refl in let b : waits w ≡ 1 = rw (ne_eqb w 0 (λ e. absurd (omega arith))) refl in
+          let t = c.total in omega arith;
     }
 
 -- the object's last link was closed, and it joined the order
@@ -174,11 +176,13 @@ closed_last_link closing left order left' order' d c h v =
       counts = λ o l. counts_more closing left left' d 0 o within v (c.counts o l);
       once = λ o l. elim (cases_eq o d) [
         | inl s ↦ rw (s, get_or-set_same left' d 0 0 within, times-append d c.joined (d ∷ []), times-same d)
-            (let before : times d c.joined + one_at_zero (open_at left d) ≡ 0 = rw (← s) (c.once o l ∙ ap one_at_zero (ap (open_at left') s ∙ v)) in omega arith)
+            (let before : times d c.joined + one_at_zero (open_at left d)
+            ≡ 0 = rw (← s) (c.once o l ∙ ap one_at_zero (ap (open_at left') s ∙ v)) in omega arith)
         | inr n ↦ rw (at_other left' d 0 o n, times-append o c.joined (d ∷ []), times-other o d (λ x. n (sym x))) (let before = c.once o l in omega arith)
       ];
       within =
-          rw (list_all-append (λ o. nat_lt o (length left)) c.joined (d ∷ [])) (and_both _ _ c.within (and_both _ _ (let t : nat_lt d (length left) ≡ true = grind (arith, nat_tests, h) in t) refl));
+          rw (list_all-append (λ o. nat_lt o (length left)) c.joined (d ∷ []))
+          (and_both _ _ c.within (and_both _ _ (let t : nat_lt d (length left) ≡ true = grind (arith, nat_tests, h) in t) refl));
       free = rw (list_all-append (λ o. open_at (set left' d 0) o == 0) c.joined (d ∷ [])) (and_both _ _
           (all_weaker (λ o. open_at left' o == 0) (λ o. open_at (set left' d 0) o == 0) (λ o z. elim (cases_eq o d) [
             | inl s ↦ absurd (let zero_now : open_at left' o ≡ 0 = eqb-true (open_at left' o) 0 z in let now : open_at left' o ≡ 1 = ap
@@ -301,17 +305,16 @@ under_way_first links left is =
       size = size;
       counts = λ o h. counts o h ∙ sym (open_links-nothing (links_of links o));
       once = λ o h. ap (λ x. times x (free_from 0 left)) (zero_plus o) ∙ times_free o 0 left (rw size h);
-      within = free_all (λ o. nat_lt o (length links)) 0 left (λ j h e. let t : nat_lt (0 + j) (length links) ≡ true = grind (arith, nat_tests, h, size) in t);
+      within = free_all (λ o. nat_lt o (length links)) 0 left (λ j h e. let t : nat_lt (0 + j) (length links)
+          ≡ true = grind (arith, nat_tests, h, size) in t);
       behind_links =
           follows_placed links [] (free_from 0 left) (free_all
-          (λ o. list_all (is_among []) (links_of links o)) 0 left (λ j h e. open_links_none [] (links_of links (0 + j)) (open_links-nothing (links_of links (0 + j)) ∙ sym (counts (0 + j) (omega arith)) ∙ (let s : 0 + j ≡ j = omega arith in rw s e))));
+          (λ o. list_all (is_among []) (links_of links o)) 0 left (λ j h e. open_links_none [] (links_of links (0 + j))
+          (open_links-nothing (links_of links (0 + j)) ∙ sym (counts (0 + j) (omega arith)) ∙ (let s : 0 + j ≡ j = omega arith in rw s e))));
       total = free_total 0 left ∙ size;
     }
 
 -- ---- one object's dependents
-
-pub drop_get : (xs : List ℕ) (i d : ℕ) → i < length xs → take (i + 1) xs ≡ take i xs ++ get_or xs i d ∷ []
-drop_get xs i d h = grind (arith, common_steps)
 
 times_take : (o : ℕ) (xs : List ℕ) (k : ℕ) → times o (take k xs) ≤ times o xs
 times_take o xs k =
@@ -333,7 +336,7 @@ not_yet links place left order d u h =
     (all_among (λ o. nat_lt o (length links)) order (get_or order place d) u.within (at_place order place d h)) in
     let once = u.once (get_or order place d) within in
     let few = one_at_zero-le (open_at left (get_or order place d)) in
-    let next = drop_get order place d h in
+    let next = take_more order place d h in
     let a : times (get_or order place d) (take (place + 1) order) ≡ times (get_or order place d) (take place order) + 1 = ap
     (times (get_or order place d)) next ∙ times-append (get_or order place d) (take place order) (get_or order place d ∷ []) ∙ ap
     (λ n. times (get_or order place d) (take place order) + n) (times-same (get_or order place d)) in
@@ -345,7 +348,7 @@ front_kept place order order' joined is h = rw is (take-append-le (place + 1) or
 
 placed_next : (place : ℕ) (order order' joined : List ℕ) (d : ℕ) → order' ≡ order ++ joined → place < length order
     → take (place + 1) order' ≡ take place order ++ get_or order place d ∷ []
-placed_next place order order' joined d is h = front_kept place order order' joined is h ∙ drop_get order place d h
+placed_next place order order' joined d is h = front_kept place order order' joined is h ∙ take_more order place d h
 
 -- each of them has an open link to the object
 pub enough_open : (links : List (List ℕ)) (place : ℕ) (left order dependents : List ℕ) (d : ℕ) → IsUnderWay links place left order → place < length order
@@ -407,7 +410,8 @@ all_zero (v ∷ left) (suc o) h = all_zero left o (and_second _ _ h)
 some_open : (left : List ℕ) → list_all (λ v. v == 0) left ≡ false → (o : ℕ) × (o < length left) × (0 < open_at left o)
 some_open [] h = cc
 some_open (v ∷ left) h = elim (cases_eq v 0) [
-  | inl e ↦ (let rest : list_all (λ v. v == 0) left ≡ false = rw (← ap (λ b. b && list_all (λ v. v == 0) left) (eq-eqb v 0 e)) h in let found : (o : ℕ) × (o < length left) × (0 < open_at left o) = some_open left rest in (suc found.0, omega (arith, found.1), found.2))
+  | inl e ↦ (let rest : list_all (λ v. v == 0) left ≡ false = rw (← ap (λ b. b && list_all (λ v. v == 0) left) (eq-eqb v 0 e)) h in
+      let found : (o : ℕ) × (o < length left) × (0 < open_at left o) = some_open left rest in (suc found.0, omega (arith, found.1), found.2))
   | inr n ↦ (0, omega arith, omega arith)
 ]
 
@@ -459,7 +463,8 @@ cycle_left links place left order u e w z =
     (λ o p.
     let pos : 0 < open_at left o = is_below 0 (open_at left o) p in
     let l : o < length links = rw (← u.size) (open_within left o pos) in
-    let some : list_any (λ m. not (is_among order m)) (links_of links o) ≡ true = open_links_some order (links_of links o) (rw (← all) (let c = u.counts o l in omega arith)) in
+    let some : list_any (λ m. not (is_among order m)) (links_of links o)
+    ≡ true = open_links_some order (links_of links o) (rw (← all) (let c = u.counts o l in omega arith)) in
     any_and (λ m. not (is_among order m)) (λ m. nat_lt m (length links)) (λ m. nat_lt 0 (open_at left m))
     (λ m a b. still_open left order m (length links) u.once (is_below m (length links) b) a) (links_of links o) some (links_within (length links) links o w))
     found.0 (rw (← u.size) found.1) (let t : nat_lt 0 (open_at left found.0) ≡ true = grind (arith, nat_tests, found.2) in t)
@@ -477,7 +482,7 @@ still_to_close dependents left order left' order' j d c h all enough =
     let l : get_or dependents j d < length left = below_at (length left) dependents j d h all in
     let a = c.counts (get_or dependents j d) l in
     let b = enough (get_or dependents j d) l in
-    let next = drop_get dependents j d h in
+    let next = take_more dependents j d h in
     let more : times (get_or dependents j d) (take (j + 1) dependents) ≡ times (get_or dependents j d) (take j dependents) + 1 = ap
     (times (get_or dependents j d)) next ∙ times-append (get_or dependents j d) (take j dependents) (get_or dependents j d ∷ []) ∙ ap
     (λ n. times (get_or dependents j d) (take j dependents) + n) (times-same (get_or dependents j d)) in
@@ -492,7 +497,7 @@ pub closed_next : (dependents left order left' order' left'' order'' : List ℕ)
     → Closed (take (j + 1) dependents) left order left'' order''
 closed_next dependents left order left' order' left'' order'' j d c h all pos l o =
     let within : get_or dependents j d < length left = below_at (length left) dependents j d h all in
-    rw (drop_get dependents j d h) (elim (cases_eq (open_at left' (get_or dependents j d) - 1) 0) [
+    rw (take_more dependents j d h) (elim (cases_eq (open_at left' (get_or dependents j d) - 1) 0) [
       | inl e ↦ rw (l, o, e) (closed_last_link (take j dependents) left order left' order' (get_or dependents j d) c within (omega arith))
       | inr n ↦ rw (l, o, ne_eqb (open_at left' (get_or dependents j d) - 1) 0 n)
           (closed_link (take j dependents) left order left' order' (get_or dependents j d)

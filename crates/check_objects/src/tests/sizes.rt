@@ -1,4 +1,4 @@
-//! Documents that are cut, or as long as can be; the laws; want of memory.
+//! Documents that are cut, or as long as can be; the laws; out of memory.
 
 use super::{ONE_HOST, with_hosts, with_service};
 use crate::{LoadError, Setup};
@@ -106,7 +106,7 @@ fn laws_are_there() {
     crate::laws::links_are_kept();
 }
 
-/// With an allocation refused, the answer is want of memory or the ample one.
+/// With an allocation refused, the answer is that it is out of memory, or the ample one.
 #[test]
 fn reads_whole_or_not_at_all(rt: HostRuntime) -> Result<(), Fail> {
     match Setup::read(rt.alloc(), ONE_HOST.as_bytes()) {

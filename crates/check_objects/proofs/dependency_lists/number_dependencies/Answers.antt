@@ -2,7 +2,7 @@ use Rattle.check_objects.specs.Drafted.{dependency}
 use Rattle.check_objects.specs.Entries.{objects_in}
 use Rattle.check_objects.specs.Numbering.{numbered_dependency}
 use Rattle.check_objects.proofs.DependencyLemmas.{pushed_next}
-use Rattle.check_objects.proofs.FaultLemmas.{no_dependency}
+use Rattle.check_objects.proofs.VerificationLemmas.{no_dependency}
 use Rattle.check_objects.proofs.dependency_lists.number_dependencies.Goals as goal
 
 pub loop-draft-preserved : goal.loop-draft-preserved

@@ -3,7 +3,7 @@ use Rattle.std.specs.BTreeMap.{keys}
 use Rattle.std.specs.List.{list_any}
 use Rattle.std.specs.List.Sorted.{IsStrictlySortedBy}
 use Rattle.check_objects.specs.Name.{text_order}
-use Rattle.check_objects.proofs.FaultLemmas.{one_key_more}
+use Rattle.check_objects.proofs.VerificationLemmas.{one_key_more}
 use Rattle.check_objects.proofs.ListLemmas.{list_any-map}
 use Rattle.check_objects.proofs.NumberingLemmas.{built_seen, built_all, new_among, all_good, texts_apart, map_same, names_of_entries}
 use Rattle.check_objects.proofs.numbering.number_names.Goals as goal

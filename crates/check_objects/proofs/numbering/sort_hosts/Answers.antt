@@ -4,7 +4,7 @@ use Rattle.check_objects.specs.Drafted.{host}
 use Rattle.check_objects.specs.Numbering.{body_of}
 use Rattle.check_objects.specs.Name.{text_order}
 use Rattle.check_objects.specs.Text.{text}
-use Rattle.check_objects.proofs.FaultLemmas.{dropped_as}
+use Rattle.check_objects.proofs.VerificationLemmas.{dropped_as}
 use Rattle.check_objects.proofs.NumberingLemmas.{placed_next, one_more}
 use Rattle.check_objects.specs.Entries.{sorted_host}
 use Rattle.check_objects.proofs.NumberLaws.{hosts_placed}

@@ -1,10 +1,10 @@
 use Rattle.std.proofs.Common.{◌∙◌, map, is_some, get_or, refl, sym, ap, arith}
 use Rattle.std.proofs.lemmas.List.{drop_all}
 use Rattle.check_objects.specs.Drafted.{service}
-use Rattle.check_objects.specs.Fault.{key_of}
+use Rattle.check_objects.specs.Verification.{key_of}
 use Rattle.check_objects.specs.Numbering.{object_of}
 use Rattle.check_objects.specs.Name.{pair_order}
-use Rattle.check_objects.proofs.FaultLemmas.{dropped_at, no_service}
+use Rattle.check_objects.proofs.VerificationLemmas.{dropped_at, no_service}
 use Rattle.check_objects.proofs.NumberingLemmas.{placed_next, one_more}
 use Rattle.check_objects.specs.Entries.{sorted_service}
 use Rattle.check_objects.proofs.NumberLaws.{services_placed}

@@ -1,6 +1,6 @@
 use Rattle.std.proofs.Common.{◌≡◌, ◌≤◌, [], map, drop}
 use Rattle.std.specs.BTreeMap.{btree_map_len}
-use Rattle.check_objects.specs.Fault.{key_of}
+use Rattle.check_objects.specs.Verification.{key_of}
 use Rattle.check_objects.specs.Numbering.{object_of}
 use Rattle.check_objects.specs.Name.{pair_order}
 use Rattle.check_objects.specs.Drafted.{service}
