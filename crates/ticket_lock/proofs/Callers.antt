@@ -6,7 +6,8 @@ use Rattle.ticket_lock.specs.Callers.{caller, keeping, given}
 use Rattle.ticket_lock.specs.Tokens.{caller_in}
 use Rattle.ticket_lock.specs.Views.{draws_in, keeping_view, given_view}
 
-module _ {K C R : Type 0} (v : View K C R) (n count draws : ℕ) (same : n ≡ count) (draws_is : draws_in v.start ≡ draws) (within : count ≤ length v.seat.numbers) where
+module _ {K C R : Type 0} (v : View K C R) (n count draws : ℕ)
+    (same : n ≡ count) (draws_is : draws_in v.start ≡ draws) (within : count ≤ length v.seat.numbers) where
   abbrev kept : ℕ
   kept = length v.seat.numbers - count
 

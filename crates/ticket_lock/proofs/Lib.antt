@@ -1,5 +1,6 @@
 pub mod Seen
 pub mod Callers
+pub mod FreshSeats
 pub mod Acts
 pub mod Events
 pub mod Obligations

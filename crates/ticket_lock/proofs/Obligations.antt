@@ -66,16 +66,21 @@ module _ {K C R : Type 0} (k : Ghosts K C R) (start : Start K) where
         few_draws = few_draws;
         words = record { words = refl; seats = refl; leads = refl };
         slot =
-            record { one_slot = refl; home = λ _. (book, refl, record { opening = state; entries = none_kept; refused = none_refused }); away = λ h. absurd (omega (arith, h)) };
+            record {
+              one_slot = refl;
+              home = λ _. (book, refl, record { opening = state; entries = none_kept; refused = none_refused });
+              away = λ h. absurd (omega (arith, h));
+            };
         known = record {
-          each = λ j v e. ⊎_elim (λ t. absurd (some-ne-none v (sym t))) (λ t. subst (λ (w : V). IsKnown {S = k.State} start (empty_book (k.opening start.book)) w) t record {
-            start_is = λ o e'. cc;
-            seen = follows_self _ [];
-            one = follows_self [] [];
-            two = follows_self [] [];
-            within = λ n. omega arith;
-            out = λ t' e'. absurd (cc);
-          }) (at_snoc [] (first_view start) v j e);
+          each = λ j v e. ⊎_elim (λ t. absurd (some-ne-none v (sym t)))
+              (λ t. subst (λ (w : V). IsKnown {S = k.State} start (empty_book (k.opening start.book)) w) t record {
+                start_is = λ o e'. cc;
+                seen = follows_self _ [];
+                one = follows_self [] [];
+                two = follows_self [] [];
+                within = λ n. omega arith;
+                out = λ t' e'. absurd (cc);
+              }) (at_snoc [] (first_view start) v j e);
         };
       }
 
@@ -133,7 +138,8 @@ module _ {K C R : Type 0} (k : Ghosts K C R) (start : Start K) where
         λ _. (
           refl,
           λ o known. dite (dec_le o.numbers (length v.seat.numbers))
-              (λ all. absurd (later (alone_served start.numbers start.draws c l id ticket v.seat at' waits (omega (arith, all, ap (λ (z : Start K). z.numbers) (old.start_is o known))))))
+              (λ all. absurd (later (alone_served start.numbers start.draws c l id ticket v.seat at' waits
+              (omega (arith, all, ap (λ (z : Start K). z.numbers) (old.start_is o known))))))
               (λ fewer. omega arith),
         ),
       )
@@ -256,10 +262,16 @@ module _ {K C R : Type 0} (k : Ghosts K C R) (start : Start K) where
     second_load_told r.0 r.1 s id me (step n 0 0 0 none) r.2 at,
   )
 
+  -- the last book that a lock has: what it says to the seat with this view, which stands for all numbers
+  pub record IsLastBook (v : V) (book : K) : Type 0 where
+    pub opening : k.opening book ≡ k.opening start.book
+    pub history : k.history book ≡ v.seen
+    pub calls : length (k.history book) + k.refusals book ≡ v.seat.calls
+    pub numbers : (p : ℕ) → start.numbers ≤ p → of p (k.history book) ≡ []
+
   -- where one idle seat stands for all numbers, the book is home and has what the seat has seen
   pub closes : (s : Table) (id : ℕ) (v : V) → Rule s → get_elem? s.views id ≡ some v → v.seat.phase ≡ Idle → start.numbers ≤ length v.seat.numbers
-      → (book : K) × (get_elem? s.homes 0 ≡ some (some (Some book))) × (k.opening book ≡ (k.opening start.book)) × (k.history book ≡ v.seen) ×
-      (length (k.history book) + k.refusals book ≡ v.seat.calls) × ((p : ℕ) → start.numbers ≤ p → of p (k.history book) ≡ [])
+      → (book : K) × (get_elem? s.homes 0 ≡ some (some (Some book))) × IsLastBook v book
   closes s id v r at idle all =
       let hs = r.0 in
       let c = r.1 in
@@ -267,8 +279,16 @@ module _ {K C R : Type 0} (k : Ghosts K C R) (start : Start K) where
       let at' = seat_at k start hs c s r.2 id v at in
       let old = r.2.known.each id v at in
       let sole = alone start.numbers start.draws c l id v.seat at' all in
-      let free : total holds c.seats ≡ 0 = sole holds (λ j u e gone_is. omega (arith, gone_is, holder_le start.draws c.served u (l.each j u e), times_le c.served (tickets_of u.phase), busy start.draws c.served u (l.each j u e))) ∙ ap holds_one idle in
-      let calls : total (λ (p : CoreSeat). p.calls) c.seats ≡ v.seat.calls = sole (λ (p : CoreSeat). p.calls) (λ j u e gone_is. unnumbered_calls start.draws c.served u (l.each j u e) gone_is) in
+      let free : total holds c.seats ≡ 0 =
+      sole holds (λ j u e gone_is. omega (
+        arith,
+        gone_is,
+        holder_le start.draws c.served u (l.each j u e),
+        times_le c.served (tickets_of u.phase),
+        busy start.draws c.served u (l.each j u e),
+      )) ∙ ap holds_one idle in
+      let calls : total (λ (p : CoreSeat). p.calls) c.seats ≡ v.seat.calls =
+      sole (λ (p : CoreSeat). p.calls) (λ j u e gone_is. unnumbered_calls start.draws c.served u (l.each j u e) gone_is) in
       let there = r.2.slot.home free in
       let strangers : (p : ℕ) → start.numbers ≤ p → of p c.book.entries ≡ [] = λ p h. strangers_none k start hs c s r.2 p h in
       let seen : c.book.entries ≡ v.seen = all_seen v.seen c.book.entries old.seen.0 (λ p. dite (dec_le (suc 0) (times p v.seat.numbers))
@@ -282,8 +302,10 @@ module _ {K C R : Type 0} (k : Ghosts K C R) (start : Start K) where
       ))))))) in (
         there.0,
         there.1,
-        there.2.opening,
-        there.2.entries ∙ seen,
-        omega (arith, ap length there.2.entries, there.2.refused, l.counted, l.calls, calls),
-        λ p h. ap (of p) there.2.entries ∙ strangers p h,
+        record {
+          opening = there.2.opening;
+          history = there.2.entries ∙ seen;
+          calls = omega (arith, ap length there.2.entries, there.2.refused, l.counted, l.calls, calls);
+          numbers = λ p h. ap (of p) there.2.entries ∙ strangers p h;
+        },
       )

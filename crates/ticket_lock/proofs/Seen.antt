@@ -62,7 +62,8 @@ module _ {C R : Type 0} where
         pre,
         λ p has. dite (dec_le (suc 0) (times p ms))
             (λ in_as. f.1 p in_as ∙ sym (squeezed p xs (longer xs ys) log
-            (longer_is xs ys (λ (l : List (Entry C R)). IsPrefix xs l) (λ lt. shorter xs ys log f.0 g.0 (omega arith)) (λ _. ([], append-nil xs))) pre (f.1 p in_as)))
+            (longer_is xs ys (λ (l : List (Entry C R)). IsPrefix xs l) (λ lt. shorter xs ys log f.0 g.0 (omega arith)) (λ _. ([], append-nil xs)))
+            pre (f.1 p in_as)))
             (λ out. let in_bs : 0 < times p ns = omega (arith, has, times-append p ms ns, out) in
             g.1 p in_bs ∙ sym (squeezed p ys (longer xs ys) log
             (longer_is xs ys (λ (l : List (Entry C R)). IsPrefix ys l) (λ _. ([], append-nil ys)) (λ le. shorter ys xs log g.0 f.0 (omega arith)))

@@ -90,7 +90,8 @@ module _ {K C R : Type 0} (k : Ghosts K C R) where
   IsNoEvent m s = IsTableOf k m.start m.happened m.core s
 
   -- In the table after a step this is the seat that stepped, and it is told so: of the number that was found in the word, and of itself.
-  pub record IsTold (m : TableMoment K k.State C R) (word : ℕ) (tells : ℕ → Me (Option K) (View K C R) → Type 0) (after : Me (Option K) (View K C R)) (s : State (Option K) (View K C R)) : Type 0 where
+  pub record IsTold (m : TableMoment K k.State C R) (word : ℕ) (tells : ℕ → Me (Option K) (View K C R) → Type 0)
+      (after : Me (Option K) (View K C R)) (s : State (Option K) (View K C R)) : Type 0 where
     pub stands : get_elem? s.views m.id ≡ some after.0
     pub told : tells (slice_index m.table.words word) after
 

@@ -1,8 +1,8 @@
 //! The lock and its calls.
-ghost use Rattle.std.specs.Prelude.{⊤, ◌≡◌, ◌≢◌, ◌↔◌, ℕ, ◌+◌, ◌*◌, ◌<◌, ◌≤◌, true, false, [], ◌∷◌, ◌++◌, length, Some, None, IsErr, MatchResult, IfOk, IfErr};
+ghost use Rattle.std.specs.Prelude.{⊤, ◌≡◌, ◌↔◌, ℕ, ◌+◌, ◌*◌, ◌<◌, ◌≤◌, true, false, [], ◌∷◌, length, Some, None, IsErr, IfOk, IfErr};
 ghost use Rattle.ticket_steps.specs.Books.{book_state, IsLawfulBook};
 ghost use Rattle.ticket_steps.specs.History.{of};
-ghost use Rattle.ticket_lock.specs.Callers.{Caller, first_caller, keeping, given, drawn, having_seen, ended, joined, IsHanded};
+ghost use Rattle.ticket_lock.specs.Callers.{first_caller, keeping, given, drawn, having_seen, ended, joined, IsHanded};
 ghost use Rattle.ticket_lock.specs.Steps.{Returns};
 ghost use Rattle.ticket_lock.specs.Views.{Follows};
 
@@ -57,7 +57,8 @@ pub enum Look<K: Kept> {
 }
 
 impl<K: Kept> TicketLock<K> {
-    ghost use Rattle.ticket_lock.specs.Tokens.{start_of, seat_of, turn_of, hold_of, ticket_of, held_ticket_of, refused_before, IsSeatOf, IsTurnOf, IsHoldOf, MatchLook};
+    ghost use Rattle.ticket_lock.specs.Tokens.{start_of, seat_of, turn_of, hold_of, ticket_of, held_ticket_of, refused_before};
+    ghost use Rattle.ticket_lock.specs.Tokens.{IsSeatOf, IsTurnOf, IsHoldOf, MatchLook};
 
     /// A lock with the book in it, and a seat for all of `numbers`, each of which brings 2^32 - 1
     /// draws. Where there is no memory for the lock the book comes back as it was.
@@ -80,12 +81,10 @@ impl<K: Kept> TicketLock<K> {
         numbers: u32,
         draws: u32,
     ) -> Result<(TicketLock<K>, Seat<K>), K>
-        requires numbers { (0 < numbers) × (numbers ≤ 1024) }
-        requires empty { (K.history book ≡ []) × (K.refusals book ≡ 0) }
-        ensures start { IfOk result (λ made. ((start_of made.0).book ≡ book)
-            × ((start_of made.0).numbers ≡ numbers) × ((start_of made.0).draws ≡ draws)) }
-        ensures lock { IfOk result (λ made. IsSeatOf made.0 made.1) }
-        ensures seat { IfOk result (λ made. seat_of made.1 ≡ first_caller numbers draws) }
+        requires { (0 < numbers) × (numbers ≤ 1024) × (K.history book ≡ []) × (K.refusals book ≡ 0) }
+        ensures made { IfOk result (λ made. ((start_of made.0).book ≡ book)
+            × ((start_of made.0).numbers ≡ numbers) × ((start_of made.0).draws ≡ draws)
+            × IsSeatOf made.0 made.1 × (seat_of made.1 ≡ first_caller numbers draws)) }
         ensures refused { IfErr result (λ back. back ≡ book) }
     {
         let opening = Opening {
@@ -140,13 +139,12 @@ impl<K: Kept> TicketLock<K> {
 
     /// The same, for a count that proofs can name in a type.
     fn split_by<N: Count>(&self, seat: Seat<K>, count: u32) -> (Seat<K>, Seat<K>)
-        requires is { count ≡ N.count }
-        requires lock { IsSeatOf self.now seat }
-        requires count { (0 < count) × (count < length (seat_of seat).numbers) }
-        requires fresh { (seat_of seat).fresh ≡ true }
-        ensures lock { IsSeatOf self.now result.0 × IsSeatOf self.now result.1 }
-        ensures kept { seat_of result.0 ≡ keeping (start_of self.now).draws count (seat_of seat) }
-        ensures given { seat_of result.1 ≡ given (start_of self.now).draws count (seat_of seat) }
+        requires { (count ≡ N.count) × (0 < count) × (count < length (seat_of seat).numbers)
+            × ((seat_of seat).fresh ≡ true) × IsSeatOf self.now seat }
+        ensures kept { IsSeatOf self.now result.0
+            × (seat_of result.0 ≡ keeping (start_of self.now).draws count (seat_of seat)) }
+        ensures given { IsSeatOf self.now result.1
+            × (seat_of result.1 ≡ given (start_of self.now).draws count (seat_of seat)) }
     {
         let Seat {
             mut table_seat,

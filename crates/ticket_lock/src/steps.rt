@@ -1,5 +1,5 @@
 //! Each kind of step of the lock is one event of the core.
-ghost use Rattle.std.specs.Prelude.{◌≡◌, ◌≢◌, ◌⊎◌, ℕ, ◌<◌, ◌≤◌, true, [], ◌∷◌, length, Option, Some, None};
+ghost use Rattle.std.specs.Prelude.{◌≡◌, ◌≢◌, ◌⊎◌, ℕ, ◌<◌, ◌≤◌, true, [], ◌∷◌, length, Option, Some};
 ghost use mathlib.Core.Option.{some};
 ghost use lib.ListN.{get_elem?};
 ghost use Rattle.ticket_steps.specs.Happenings.{Happening, split, drew, waited, held, recorded, refused, gathered};
@@ -11,7 +11,8 @@ ghost use Rattle.ticket_lock.specs.declared.views.Start.{Start};
 ghost use Rattle.ticket_lock.specs.declared.views.View.{View as ViewOf};
 ghost use Rattle.ticket_lock.specs.Plays.{DrawTells, LookTells, LeaveTells, SecondLoadTells};
 ghost use Rattle.ticket_lock.specs.Rule.{IsTableOf};
-ghost use Rattle.ticket_lock.specs.Steps.{TableMoment, IsTableMoment, IsOneEvent, IsNoEvent, IsTold, LeavesOnly, Returns, first_table, after_split, after_draw, after_waiting, after_holding, after_leaving, after_gather, after_second_load, one_more, as_found};
+ghost use Rattle.ticket_lock.specs.Steps.{TableMoment, IsTableMoment, IsOneEvent, IsNoEvent, IsTold, LeavesOnly, Returns, one_more, as_found};
+ghost use Rattle.ticket_lock.specs.Steps.{first_table, after_split, after_draw, after_waiting, after_holding, after_leaving, after_gather, after_second_load};
 ghost use Rattle.ticket_lock.specs.Views.{drawn_view, held_view, left_view, reloaded_view, longer};
 ghost use Rattle.ticket_lock.specs.Words.{next_word, served_word};
 

@@ -1,11 +1,10 @@
-//! What no clause says: worked turns, that calls succeed, two threads, and want of memory.
+//! What no clause says: worked turns, that calls succeed, two threads, and out of memory.
 //!
 //! The test of one thread also passes where any one request for memory is refused
 //! (`rt try --test --fail-alloc N`).
-ghost use Rattle.std.specs.Prelude.{◌≡◌, ◌<◌, ◌≤◌, [], IfOk, length, true};
+ghost use Rattle.std.specs.Prelude.{◌≡◌, ◌<◌, ◌≤◌, [], IfOk};
 ghost use Rattle.ticket_steps.specs.CounterBooks.{entries_of, refused_of};
-ghost use Rattle.ticket_steps.specs.Sums.{counted};
-ghost use Rattle.ticket_lock.specs.Tokens.{seat_of, IsSeatOf, IsTurnOf};
+ghost use Rattle.ticket_lock.specs.Tokens.{IsSeatOf, IsTurnOf};
 
 use crate::{Seat, TicketLock, Turn, every_step};
 use std::alloc::{AllocError, Global};
@@ -18,7 +17,7 @@ use turns::take_turn;
 
 mod turns;
 
-/// An empty book, at the second try where the first meets want of memory.
+/// An empty book, at the second try where the first is out of memory.
 fn empty_book(alloc: Global, room: usize) -> Result<CounterBook, AllocError>
     ensures { IfOk result (λ book. (entries_of book ≡ []) × (refused_of book ≡ 0)) }
 {
@@ -28,20 +27,16 @@ fn empty_book(alloc: Global, room: usize) -> Result<CounterBook, AllocError>
     }
 }
 
+/// A lock and two of its seats.
+type LockOfTwo = (
+    TicketLock<CounterBook>,
+    Seat<CounterBook>,
+    Seat<CounterBook>,
+);
+
 /// A lock of so many numbers over an empty book, a seat for the first of them and one for the rest.
-/// Want of memory hands the book back as it was, and a second try with memory succeeds.
-fn first_and_rest(
-    alloc: Global,
-    numbers: u32,
-    room: usize,
-) -> Result<
-    (
-        TicketLock<CounterBook>,
-        Seat<CounterBook>,
-        Seat<CounterBook>,
-    ),
-    AllocError,
->
+/// Out of memory hands the book back as it was, and a second try with memory succeeds.
+fn first_and_rest(alloc: Global, numbers: u32, room: usize) -> Result<LockOfTwo, AllocError>
     requires { (1 < numbers) × (numbers ≤ 1024) }
     ensures { IfOk result (λ made. IsSeatOf made.0 made.1 × IsSeatOf made.0 made.2) }
 {
@@ -62,17 +57,7 @@ fn first_and_rest(
 }
 
 /// A lock of two numbers over an empty book, and a seat for each of them.
-fn two_seats(
-    alloc: Global,
-    room: usize,
-) -> Result<
-    (
-        TicketLock<CounterBook>,
-        Seat<CounterBook>,
-        Seat<CounterBook>,
-    ),
-    AllocError,
->
+fn two_seats(alloc: Global, room: usize) -> Result<LockOfTwo, AllocError>
     ensures { IfOk result (λ made. IsSeatOf made.0 made.1 × IsSeatOf made.0 made.2) }
 {
     first_and_rest(alloc, 2, room)

@@ -45,9 +45,9 @@ pub struct Turn<K: Kept> {
     pub(crate) table_seat: TableSeat<K>,
     pub(crate) counts: SeatCounts,
     pub(crate) ticket: u64,
+    ghost waits: { table_seat.me.0.seat.phase ≡ Waiting ticket },
     ghost bare: { table_seat.me.1 ≡ [] },
     ghost legal: { IsLegalFrom K.Kept table_seat.me.0.start table_seat.me.0.seen } by { IsLegalFrom-prop K.Kept (Coded-set K.Reply.code) table_seat.me.0.start table_seat.me.0.seen },
-    ghost waits: { table_seat.me.0.seat.phase ≡ Waiting ticket },
     ghost told: { AreCountsOf counts table_seat.me.0.seat },
     ghost stale: { table_seat.me.0.seat.fresh ≡ false },
 }

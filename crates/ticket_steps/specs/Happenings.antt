@@ -24,7 +24,7 @@ pub data Happening (C R : Type 0) : Type 0 where
   held : ℕ → Happening C R
   -- the holder left, and this call of it was recorded with this reply
   recorded : ℕ → C → R → Happening C R
-  -- the holder left, and its call was refused for want of memory
+  -- the holder left, and its call was refused, out of memory
   refused : ℕ → Happening C R
   -- a seat took over the second one
   gathered : ℕ → ℕ → Happening C R

@@ -1,12 +1,12 @@
 //! The core as a program: a step or a list of steps at a time, on one thread.
-ghost use Rattle.std.specs.Prelude.{◌≡◌, ◌↔◌, ℕ, ◌+◌, ◌<◌, ◌≤◌, [], length, take, true, IfOk, IfErr, OnErr, OnOk, Some, slice_get, vec_capacity, vec_len};
+ghost use Rattle.std.specs.Prelude.{◌≡◌, ◌↔◌, ◌+◌, ◌<◌, ◌≤◌, [], length, take, true, IfOk, IfErr, OnErr, OnOk, Some, slice_get, vec_capacity, vec_len};
 ghost use mathlib.Core.Option.{some};
 ghost use lib.ListN.{get_elem?};
 ghost use Rattle.ticket_steps.specs.Books.{book_state, IsLawfulBook};
 ghost use Rattle.ticket_steps.specs.CoreStates.{core_state, opened};
 ghost use Rattle.ticket_steps.specs.Faults.{IsFault, Shows, LeadsBy, Steps};
 ghost use Rattle.ticket_steps.specs.Lawful.{IsLawful};
-ghost use Rattle.ticket_steps.specs.Seats.{IsThere, Stands, is_there};
+ghost use Rattle.ticket_steps.specs.Seats.{IsThere, is_there};
 ghost use Rattle.ticket_steps.specs.Sums.{counted};
 
 use crate::events::{Event, Fault, Seen};
@@ -38,8 +38,8 @@ impl<K: Kept> Core<K> {
     ghost use Rattle.ticket_steps.specs.Cores.{state_of, opening_of, numbers_of, draws_of, IsOpenedAlike};
 
     /// A core with one seat, whose own number is 0, for all of `numbers`, and with the book at home.
-    /// It makes places for all seats that can come to be, so that later only a `Leave` can meet want
-    /// of memory. Where there is no memory for the places the book comes back as it was.
+    /// It makes places for all seats that can come to be, so that later only a `Leave` can run out of
+    /// memory. Where there is no memory for the places the book comes back as it was.
     pub fn open(alloc: Global, book: K, numbers: u32) -> Result<Core<K>, K>
         requires numbers { (0 < numbers) × (numbers ≤ 1024) }
         requires empty { (K.history book ≡ []) × (K.refusals book ≡ 0) }
@@ -86,7 +86,7 @@ impl<K: Kept> Core<K> {
     }
 
     /// One event. It is shown what came of it, or it has a fault and nothing changes: `NoSeat` before
-    /// `Phase`, and `Phase` before `Spent`. A `Leave` whose call was refused for want of memory is no
+    /// `Phase`, and `Phase` before `Spent`. A `Leave` whose call was refused, out of memory, is no
     /// fault: the seat has left, and is shown the refusal.
     pub fn step(&mut self, event: Event<K::Call>) -> Result<Seen<K::Reply>, Fault>
         ensures shown { IfOk result (λ seen.

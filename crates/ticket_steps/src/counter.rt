@@ -1,5 +1,5 @@
 //! The smallest book: a call is a number, and the reply is the sum of all calls so far, modulo 2^64.
-ghost use Rattle.std.specs.Prelude.{◌≡◌, ℕ, ◌+◌, ◌%◌, ◌^◌, ◌<◌, ◌≤◌, [], ◌∷◌, ◌++◌, length, IfOk, OnErr, vec_capacity};
+ghost use Rattle.std.specs.Prelude.{◌≡◌, ℕ, ◌+◌, ◌^◌, ◌<◌, ◌≤◌, [], ◌∷◌, ◌++◌, length, IfOk, OnErr, vec_capacity};
 ghost use Rattle.std.specs.Coded.{Coded-set, coded_ℕ};
 ghost use Rattle.ticket_steps.specs.Counting.{counts};
 ghost use Rattle.ticket_steps.specs.History.{entry, replay, IsLegal, IsLegal-prop};

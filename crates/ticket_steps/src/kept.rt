@@ -11,7 +11,7 @@ pub struct Entry<C, R> {
     pub reply: R,
 }
 
-/// A call that was refused for want of memory: it is counted, and nothing else came of it.
+/// A call that was refused, out of memory: it is counted, and nothing else came of it.
 #[derive(Clone, Copy, PartialEq, Eq, Debug)]
 pub struct NoMemory;
 
@@ -59,7 +59,7 @@ pub trait Kept {
     fn entries(&self) -> &[Entry<Self::Call, Self::Reply>]
         ensures { result.now ≡ history self.now };
 
-    /// How many calls were refused for want of memory.
+    /// How many calls were refused, out of memory.
     fn refused(&self) -> u64
         ensures { result ≡ refusals self.now };
 

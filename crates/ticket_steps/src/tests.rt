@@ -1,16 +1,16 @@
-//! What no clause says: worked schedules, that calls succeed, and want of memory.
+//! What no clause says: worked schedules, that calls succeed, and out of memory.
 //!
 //! Each test also passes where any one request for memory is refused
 //! (`rt try --test --fail-alloc N`).
 ghost use Rattle.std.specs.Prelude.{◌≡◌, ◌<◌, ◌≤◌, [], IfOk};
-ghost use Rattle.ticket_steps.specs.CounterBooks.{entries_of, refused_of, room_of};
+ghost use Rattle.ticket_steps.specs.CounterBooks.{entries_of, refused_of};
 
 use crate::counter::CounterBook;
 use crate::{Core, Event, Fault, Kept, NoMemory, Seen, every_schedule};
 use std::alloc::{AllocError, Global};
 use std::test::Fail;
 
-/// An empty book, at the second try where the first meets want of memory.
+/// An empty book, at the second try where the first is out of memory.
 fn empty_book(alloc: Global, room: usize) -> Result<CounterBook, AllocError>
     ensures { IfOk result (λ book. (entries_of book ≡ []) × (refused_of book ≡ 0)) }
 {
@@ -20,7 +20,7 @@ fn empty_book(alloc: Global, room: usize) -> Result<CounterBook, AllocError>
     }
 }
 
-/// A core of so many numbers over an empty book. Want of memory hands the book back as it was, and a
+/// A core of so many numbers over an empty book. Out of memory hands the book back as it was, and a
 /// second try with memory succeeds.
 fn core_of(alloc: Global, numbers: u32, room: usize) -> Result<Core<CounterBook>, AllocError>
     requires { (0 < numbers) × (numbers ≤ 1024) }

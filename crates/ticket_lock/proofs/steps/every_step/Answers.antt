@@ -16,7 +16,8 @@ returns g c = record {
   opening =
       λ start none_kept none_refused some_number few few_draws. opens_with g.K.Kept start start.book refl none_kept none_refused some_number few few_draws;
   split =
-      λ m count is start idle fresh some_count less. split_event g.K.Kept m.start m.happened m.core m.table m.id count m.me.0 is.ruled is.there start idle fresh some_count less;
+      λ m count is start idle fresh some_count less.
+      split_event g.K.Kept m.start m.happened m.core m.table m.id count m.me.0 is.ruled is.there start idle fresh some_count less;
   draw = λ m is idle some_left. draw_event g.K.Kept m.start m.happened m.core m.table m.id m.me is.ruled is.there idle some_left;
   draw_tells = λ m step is.
       let next : get_or m.table.words 0 0 ≡ m.core.next = ap (λ (ws : List ℕ). get_or ws 0 0) is.ruled.words.words in
@@ -50,7 +51,8 @@ returns g c = record {
   look_held = λ m is waits. let e = look_event g.K.Kept m.start m.happened m.core m.table m.id m.me is.ruled is.there waits in (e.0, e.1, e.3);
   look_waits = λ m ticket is waits later. wait_event g.K.Kept m.start m.happened m.core m.table m.id ticket m.me is.ruled is.there waits later;
   leave =
-      λ m ticket book is holds hand returns. leave_event g.K.Kept m.start g.met.K.Kept.legal m.happened m.core m.table m.id ticket m.me book is.ruled is.there holds hand returns;
+      λ m ticket book is holds hand returns.
+      leave_event g.K.Kept m.start g.met.K.Kept.legal m.happened m.core m.table m.id ticket m.me book is.ruled is.there holds hand returns;
   gather =
       λ m other w is idle apart at idle'. gather_event g.K.Kept m.start m.happened m.core m.table m.id other m.me.0 w is.ruled is.there apart at idle idle';
   second_load = λ m is idle. second_load_same g.K.Kept m.start m.happened m.core m.table m.id m.me is.ruled is.there idle;

@@ -31,6 +31,7 @@ invariant_of-result g c =
     let j = c.join_seat.ensures.2 in
     let t = c.load.ensures.2 (ap (λ m. m.0.seen) j ∙ sym (ap (λ m. longer m.0.one.seen m.0.two.seen) j)) in
     let e = t.0 in
+    let both = length-append s.table_seat.me.0.seat.numbers o.table_seat.me.0.seat.numbers in
     let legal = longer_is s.table_seat.me.0.seen o.table_seat.me.0.seen (IsLegalFrom k s.table_seat.me.0.start)
     (λ _. subst (λ a. IsLegalFrom k a o.table_seat.me.0.seen) (c.requires.lock.1.1 ∙ sym c.requires.lock.0.1) o.legal) (λ _. s.legal) in
     record {
@@ -41,12 +42,12 @@ invariant_of-result g c =
         own = ap (λ m. m.0.seat.own) e ∙ (ap (λ m. m.0.seat.own) j ∙ s.told.own);
         count =
             ap (λ m. length m.0.seat.numbers) e
-            ∙ (ap (λ m. length m.0.seat.numbers) j ∙ omega (arith, length-append s.table_seat.me.0.seat.numbers o.table_seat.me.0.seat.numbers, s.told.count, o.told.count));
+            ∙ (ap (λ m. length m.0.seat.numbers) j ∙ omega (arith, both, s.told.count, o.told.count));
         left = ap (λ m. m.0.seat.left) e ∙ (ap (λ m. m.0.seat.left) j ∙ s.told.left);
         calls = ap (λ m. m.0.seat.calls) e ∙ (ap (λ m. m.0.seat.calls) j ∙ omega (arith, s.told.calls, o.told.calls));
         some_number = omega (arith, s.told.some_number);
         few_numbers =
-            omega (arith, t.3, ap (λ m. length m.0.seat.numbers) j, length-append s.table_seat.me.0.seat.numbers o.table_seat.me.0.seat.numbers, s.told.count, o.told.count);
+            omega (arith, t.3, ap (λ m. length m.0.seat.numbers) j, both, s.told.count, o.told.count);
         few_calls = omega (arith, t.4, ap (λ m. m.0.seat.calls) j, s.told.calls, o.told.calls);
         among = subst (λ m. 0 < times m.0.seat.own m.0.seat.numbers) (sym e) (subst (λ m. 0 < times m.0.seat.own m.0.seat.numbers) (sym j)
             (omega (arith, s.told.among, times-append s.table_seat.me.0.seat.own s.table_seat.me.0.seat.numbers o.table_seat.me.0.seat.numbers)));

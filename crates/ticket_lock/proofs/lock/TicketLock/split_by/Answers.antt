@@ -1,19 +1,22 @@
-use Rattle.std.proofs.Common.{rules, ◌≡◌, ℕ, ◌+◌, ◌-◌, ◌*◌, ◌<◌, ◌≤◌, List, arith, sym, ap, ◌∙◌, subst, length, take, drop}
-use Rattle.ticket_steps.specs.Sums.{counted, times}
-use Rattle.ticket_steps.proofs.Totals.{counted_first, drop-counted, take-counted}
-use Rattle.ticket_lock.specs.Legal.{IsLegalFrom}
+use Rattle.std.proofs.Common.{rules, refl, ◌≡◌, ℕ, ◌+◌, ◌-◌, ◌*◌, ◌≤◌, List, arith, sym, ap, ◌∙◌, length, take, drop}
+use Rattle.ticket_steps.specs.Sums.{counted}
+use Rattle.ticket_steps.proofs.Totals.{drop-counted, take-counted}
+use Rattle.ticket_lock.specs.declared.counts.SeatCounts.{SeatCounts}
 use Rattle.ticket_lock.specs.Tokens.{caller_in}
-use Rattle.ticket_lock.specs.Views.{draws_in}
+use Rattle.ticket_lock.specs.Views.{draws_in, keeping_view}
 use Rattle.ticket_lock.proofs.Callers.{kept_len, given_len, keeping_is, given_is}
 use Rattle.ticket_lock.proofs.Obligations.{splits}
+use Rattle.ticket_lock.proofs.FreshSeats.{fresh_token}
+use Rattle.ticket_lock.proofs.lock.TicketLock.split_by.Given.{Over}
+use Rattle.ticket_lock.proofs.lock.TicketLock.split_by.Goals.{After-split_seat-other}
 use Rattle.ticket_lock.proofs.lock.TicketLock.split_by.Goals as goal
 
 pub split_seat-other-requires : goal.split_seat-other-requires
 split_seat-other-requires g c = let s = c.args.seat in (
-  c.requires.lock.0,
+  c.requires.4.0,
   search rules,
-  splits g.K.Kept _ _ g.N.Count.count s.table_seat.me.0 _ c.requires.lock.1 s.idle c.requires.fresh (omega (arith, c.requires.is, c.requires.count))
-      (omega (arith, c.requires.is, c.requires.count)),
+  splits g.K.Kept _ _ g.N.Count.count s.table_seat.me.0 _ c.requires.4.1 s.idle c.requires.3 (omega (arith, c.requires.0, c.requires.1))
+      (omega (arith, c.requires.0, c.requires.2)),
 )
 
 -- the last numbers of a row, and the first
@@ -30,79 +33,56 @@ first_of_row ns own size given n row len is =
     let kept : length ns - n ≡ size - given = omega (arith, len, is) in
     (λ i. take (kept i) (row i)) ∙ take-counted own (size - given) size (omega arith)
 
+-- the seat has a row of numbers, within those of its lock
+in_row : (g : Over) (c : After-split_seat-other g) → let s = c.args.seat in
+    (s.table_seat.me.0.seat.numbers ≡ counted s.counts.number s.counts.count) × (s.counts.number + s.counts.count ≤ 1024)
+in_row g c = let s = c.args.seat in let fresh = sym s.fresh_is ∙ c.requires.3 in (s.row fresh, s.range fresh)
+
 pub invariant_of-given : goal.invariant_of-given
 invariant_of-given g c =
     let s = c.args.seat in
     let v = s.table_seat.me.0 in
-    let e = c.split_seat-other.ensures.4 in
-    let n : g.N.Count.count ≡ c.args.count = sym c.requires.is in
-    let draws : draws_in v.start ≡ c.args.self.now.draws = ap draws_in c.requires.lock.1 in
-    let row = last_of_row v.seat.numbers s.counts.number s.counts.count c.args.count g.N.Count.count
-    (s.row (sym s.fresh_is ∙ c.requires.fresh)) s.told.count n (omega (arith, c.requires.count, s.told.count)) in
-    let own : v.seat.own + (length v.seat.numbers - g.N.Count.count) ≡ s.counts.number + (s.counts.count - c.args.count) = omega
-    (arith, s.told.own, s.told.count, n) in
-    let len = given_len v g.N.Count.count c.args.count c.args.self.now.draws n draws (omega (arith, c.requires.count)) in
-    record {
-      bare = ap (λ m. m.1) e;
-      legal = subst (λ m. IsLegalFrom g.K.Kept m.0.start m.0.seen) (sym e) s.legal;
-      idle = ap (λ m. m.0.seat.phase) e;
-      told = record {
-        own = ap (λ m. m.0.seat.own) e ∙ omega (arith, s.told.own, s.told.count, n);
-        count = ap (λ m. length m.0.seat.numbers) e ∙ len;
-        left = ap (λ m. m.0.seat.left) e ∙ (λ i. len i * draws i);
-        calls = ap (λ m. m.0.seat.calls) e;
-        some_number = c.requires.count.0;
-        few_numbers = omega (arith, c.requires.count, s.told.few_numbers, s.told.count);
-        few_calls = omega arith;
-        among = subst (λ m. 0 < times m.0.seat.own m.0.seat.numbers) (sym e)
-            (rw (own, row) (counted_first (s.counts.number + (s.counts.count - c.args.count)) c.args.count c.requires.count.0));
-      };
-      fresh_is = ap (λ m. m.0.seat.fresh) e ∙ (sym c.requires.fresh ∙ s.fresh_is);
-      range = λ _. omega (arith, s.range (sym s.fresh_is ∙ c.requires.fresh), c.requires.count, s.told.count);
-      row = λ _. ap (λ m. m.0.seat.numbers) e ∙ row;
-    }
+    let before = in_row g (goal.at.invariant_of-given g c).After-split_seat-other in
+    let kept : ℕ = s.counts.count - c.args.count in
+    let counts : SeatCounts = record { number = s.counts.number + kept; count = c.args.count; left = c.args.count * c.args.self.now.draws; calls = 0 } in
+    let len = given_len v g.N.Count.count c.args.count c.args.self.now.draws (sym c.requires.0) (ap draws_in c.requires.4.1) (omega (arith, c.requires.2)) in
+    let row = last_of_row v.seat.numbers s.counts.number s.counts.count c.args.count g.N.Count.count before.0 s.told.count (sym c.requires.0)
+    (omega (arith, c.requires.2, s.told.count)) in
+    let t = fresh_token g.K.Kept counts s.fresh _ _ c.split_seat-other.ensures.4 refl (sym c.requires.3 ∙ s.fresh_is) s.legal
+    (omega (arith, s.told.own, s.told.count, c.requires.0)) row (λ i. len i * ap draws_in c.requires.4.1 i) refl c.requires.1
+    (omega (arith, before.1, c.requires.2, s.told.count)) (omega arith) in
+    record { bare = t.bare; legal = t.legal; idle = t.idle; told = t.told; fresh_is = t.fresh_is; range = t.range; row = t.row }
+
+-- what is kept is as many numbers as the counts say
+kept_count : (g : Over) (c : After-split_seat-other g) → let n = length c.args.seat.table_seat.me.0.seat.numbers in
+    length (take (n - g.N.Count.count) c.args.seat.table_seat.me.0.seat.numbers) ≡ c.args.seat.counts.count - c.args.count
+kept_count g c =
+    kept_len c.args.seat.table_seat.me.0 g.N.Count.count c.args.count c.args.self.now.draws (sym c.requires.0) (ap draws_in c.requires.4.1)
+    (omega (arith, c.requires.2)) ∙ ap (λ (m : ℕ). m - c.args.count) c.args.seat.told.count
 
 pub invariant_of-seat : goal.invariant_of-seat
 invariant_of-seat g c =
+    let at = (goal.at.invariant_of-seat g c).After-split_seat-other in
     let s = c.args.seat in
-    let v = s.table_seat.me.0 in
-    let e = c.split_seat-other.ensures.2 in
-    let n : g.N.Count.count ≡ c.args.count = sym c.requires.is in
-    let draws : draws_in v.start ≡ c.args.self.now.draws = ap draws_in c.requires.lock.1 in
-    let row = first_of_row v.seat.numbers s.counts.number s.counts.count c.args.count g.N.Count.count
-    (s.row (sym s.fresh_is ∙ c.requires.fresh)) s.told.count n in
-    let len = kept_len v g.N.Count.count c.args.count c.args.self.now.draws n draws (omega (arith, c.requires.count)) in
-    let kept : length v.seat.numbers - c.args.count ≡ s.counts.count - c.args.count = ap (λ (m : ℕ). m - c.args.count) s.told.count in
-    record {
-      bare = ap (λ m. m.1) e ∙ s.bare;
-      legal = subst (λ m. IsLegalFrom g.K.Kept m.0.start m.0.seen) (sym e) s.legal;
-      idle = ap (λ m. m.0.seat.phase) e;
-      told = record {
-        own = ap (λ m. m.0.seat.own) e ∙ s.told.own;
-        count = ap (λ m. length m.0.seat.numbers) e ∙ (len ∙ kept);
-        left = ap (λ m. m.0.seat.left) e ∙ ((λ i. len i * draws i) ∙ ap (λ (m : ℕ). m * c.args.self.now.draws) kept);
-        calls = ap (λ m. m.0.seat.calls) e ∙ s.told.calls;
-        some_number = omega (arith, c.requires.count, s.told.count);
-        few_numbers = omega (arith, s.told.few_numbers);
-        few_calls = s.told.few_calls;
-        among = subst (λ m. 0 < times m.0.seat.own m.0.seat.numbers) (sym e)
-            (rw (s.told.own, row) (counted_first s.counts.number (s.counts.count - c.args.count) (omega (arith, c.requires.count, s.told.count))));
-      };
-      fresh_is = ap (λ m. m.0.seat.fresh) e ∙ (sym c.requires.fresh ∙ s.fresh_is);
-      range = λ _. omega (arith, s.range (sym s.fresh_is ∙ c.requires.fresh));
-      row = λ _. ap (λ m. m.0.seat.numbers) e ∙ row;
-    }
+    let before = in_row g at in
+    let kept : ℕ = s.counts.count - c.args.count in
+    let counts : SeatCounts = record { number = s.counts.number; count = kept; left = kept * c.args.self.now.draws; calls = s.counts.calls } in
+    let row = first_of_row s.table_seat.me.0.seat.numbers s.counts.number s.counts.count c.args.count g.N.Count.count before.0 s.told.count
+    (sym c.requires.0) in
+    let e = c.split_seat-other.ensures.2 ∙ ap (λ q. (keeping_view g.N.Count.count s.table_seat.me.0, q)) s.bare in
+    let t = fresh_token g.K.Kept counts s.fresh _ _ e refl (sym c.requires.3 ∙ s.fresh_is) s.legal s.told.own row
+    (λ i. kept_count g at i * ap draws_in c.requires.4.1 i) s.told.calls (omega (arith, c.requires.2, s.told.count)) (omega (arith, before.1))
+    s.told.few_calls in
+    record { bare = t.bare; legal = t.legal; idle = t.idle; told = t.told; fresh_is = t.fresh_is; range = t.range; row = t.row }
 
 pub returns-clause-kept : goal.returns-clause-kept
 returns-clause-kept g c =
-    let s = c.args.seat in
-    ap (λ m. caller_in m.0) c.split_seat-other.ensures.2
-    ∙ keeping_is s.table_seat.me.0 g.N.Count.count c.args.count c.args.self.now.draws (sym c.requires.is) (ap draws_in c.requires.lock.1)
-    (omega (arith, c.requires.count))
+    let is = keeping_is c.args.seat.table_seat.me.0 g.N.Count.count c.args.count c.args.self.now.draws (sym c.requires.0)
+    (ap draws_in c.requires.4.1) (omega (arith, c.requires.2)) in
+    (search rules, ap (λ m. caller_in m.0) c.split_seat-other.ensures.2 ∙ is)
 
 pub returns-clause-given : goal.returns-clause-given
 returns-clause-given g c =
-    let s = c.args.seat in
-    ap (λ m. caller_in m.0) c.split_seat-other.ensures.4
-    ∙ given_is s.table_seat.me.0 g.N.Count.count c.args.count c.args.self.now.draws (sym c.requires.is) (ap draws_in c.requires.lock.1)
-    (omega (arith, c.requires.count))
+    let is = given_is c.args.seat.table_seat.me.0 g.N.Count.count c.args.count c.args.self.now.draws (sym c.requires.0)
+    (ap draws_in c.requires.4.1) (omega (arith, c.requires.2)) in
+    (search rules, ap (λ m. caller_in m.0) c.split_seat-other.ensures.4 ∙ is)

@@ -28,10 +28,10 @@ pub returns-then-place-eq0-clause-step : goal.returns-then-place-eq0-clause-step
 returns-then-place-eq0-clause-step g c =
     let self = c.args.self.now in let e = c.in_ok-at.ensures.found in
     let is = read_is c.args.self.now.seats.items c.in_ok-at.at c.in_ok-at.ensures.found.1 c.index-place.ensures in
+    let idle : e.0.phase ≡ Idle = ap (λ (s : CoreSeat). s.phase) (sym is) ∙ c.is_idle.ensures.0 c.if-not-is_idle.false in
+    let none_left : e.0.left ≡ 0 = ap (λ (s : CoreSeat). s.left) (sym is) ∙ c.if-place-eq0.true in
     steps_fault g.K.Kept.step self.draws (state_of self) (Draw c.args.seat) Spent
-    (spent_draw self.numbers self.draws (state_of self) self.lawful c.in_ok-at.at c.args.seat e.0 e.1 e.2 e.3
-    (ap (λ (s : CoreSeat). s.phase) (sym is) ∙ c.is_idle.ensures.0 c.if-not-is_idle.false)
-    (ap (λ (s : CoreSeat). s.left) (sym is) ∙ c.if-place-eq0.true))
+    (spent_draw self.numbers self.draws (state_of self) self.lawful c.in_ok-at.at c.args.seat e.0 e.1 e.2 e.3 idle none_left)
 
 pub wait-requires : goal.wait-requires
 wait-requires g c =

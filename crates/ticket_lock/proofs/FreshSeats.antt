@@ -1,0 +1,52 @@
+-- What the token of a seat that has never drawn says of it.
+use Rattle.std.proofs.Common.{◌≡◌, ◌+◌, ◌<◌, ◌≤◌, [], Bool, true, length, sym, ap, ◌∙◌, subst, Option, refl, arith}
+use Rattle.atomic_table.specs.Table.{Me}
+use Rattle.ticket_steps.specs.declared.kept.Kept.{Ghosts}
+use Rattle.ticket_steps.specs.declared.seats.Phase.TheVariants.{Idle}
+use Rattle.ticket_steps.specs.declared.seats.CoreSeat.{CoreSeat}
+use Rattle.ticket_steps.specs.Sums.{counted}
+use Rattle.ticket_steps.proofs.Totals.{counted_first, length-counted}
+use Rattle.ticket_lock.specs.declared.counts.SeatCounts.{SeatCounts}
+use Rattle.ticket_lock.specs.declared.views.View.{View}
+use Rattle.ticket_lock.specs.Counts.{AreCountsOf}
+use Rattle.ticket_lock.specs.Legal.{IsLegalFrom}
+
+-- the counts of a seat with a row of numbers
+row_counts : (f : SeatCounts) (s : CoreSeat) → s.own ≡ f.number → s.numbers ≡ counted f.number f.count → s.left ≡ f.left → s.calls ≡ f.calls
+    → 0 < f.count → f.count ≤ 1024 → f.calls ≤ 4398046510080 → AreCountsOf f s
+row_counts f s own row left calls some_number few few_calls = record {
+  own = own;
+  count = ap length row ∙ length-counted f.number f.count;
+  left = left;
+  calls = calls;
+  some_number = some_number;
+  few_numbers = few;
+  few_calls = few_calls;
+  among = rw (own, row) (counted_first f.number f.count some_number);
+}
+
+module _ {K C R : Type 0} (k : Ghosts K C R) where
+  -- all that a seat's token says
+  pub record IsFresh (f : SeatCounts) (fresh : Bool) (me : Me (Option K) (View K C R)) : Type 0 where
+    pub bare : me.1 ≡ []
+    pub legal : IsLegalFrom k me.0.start me.0.seen
+    pub idle : me.0.seat.phase ≡ Idle
+    pub told : AreCountsOf f me.0.seat
+    pub fresh_is : me.0.seat.fresh ≡ fresh
+    pub range : fresh ≡ true → f.number + f.count ≤ 1024
+    pub row : fresh ≡ true → me.0.seat.numbers ≡ counted f.number f.count
+
+  pub fresh_token : (f : SeatCounts) (fresh : Bool) (me : Me (Option K) (View K C R)) (w : View K C R) → me ≡ (w, [])
+      → w.seat.phase ≡ Idle → w.seat.fresh ≡ fresh → IsLegalFrom k w.start w.seen → w.seat.own ≡ f.number
+      → w.seat.numbers ≡ counted f.number f.count → w.seat.left ≡ f.left → w.seat.calls ≡ f.calls → 0 < f.count → f.number + f.count ≤ 1024
+      → f.calls ≤ 4398046510080 → IsFresh f fresh me
+  fresh_token f fresh me w e idle fresh_is legal own row left calls some_number few few_calls =
+      subst (IsFresh f fresh) (sym e) record {
+        bare = refl;
+        legal = legal;
+        idle = idle;
+        told = row_counts f w.seat own row left calls some_number (omega (arith, few)) few_calls;
+        fresh_is = fresh_is;
+        range = λ _. few;
+        row = λ _. row;
+      }
