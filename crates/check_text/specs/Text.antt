@@ -196,7 +196,7 @@ text start input = script_text start (script_of input)
 abbrev pub entry_line : Configuration → Entry Call Reply → List ℕ
 entry_line c e = decimal e.pass ++ (codes " " ++ reply_line c e.call e.reply)
 
--- how many entries there are, and how many calls were refused for want of memory
+-- how many entries there are, and how many calls were refused when out of memory
 abbrev pub total_text : ℕ → ℕ → List ℕ
 total_text entries refused = codes "total " ++ (decimal entries ++ (codes " " ++ decimal refused))
 

@@ -2,7 +2,9 @@
 //! subcommand writes it.
 ghost use Rattle.std.specs.Prelude.{◌≡◌, ◌++◌, OnOk, string_bytes};
 ghost use Rattle.check_objects.specs.Configuration.{name_of};
-ghost use Rattle.check_text.specs.Text.{line_of, reply_line, taken_text, putoff_text, idle_text, standing_text, freed_text, done_text, asked_name, state_text, kind_text, changed_text, refused_text, refusal_line, call_refusal_text, part_text, fault_text, entry_line, total_line};
+ghost use Rattle.check_text.specs.Text.{reply_line, refusal_line, entry_line, total_line};
+ghost use Rattle.check_text.specs.Text.{asked_name, state_text, kind_text, changed_text};
+ghost use Rattle.check_text.specs.Text.{call_refusal_text, part_text, fault_text};
 
 use check_objects::{LoadError, Part, Place, Setup};
 use check_rules::{Kind, Standing, State};
@@ -23,83 +25,70 @@ pub fn push_reply(
     ensures { OnOk result
         (string_bytes line.new ≡ string_bytes line.old ++ reply_line setup.now call reply) }
 {
-    match reply {
-        Reply::Taken { object, run } => push_taken(line, run, name_or_nothing(setup, object)),
-        Reply::PutOff { object, until } => {
-            push_putoff(line, TimeText(until), name_or_nothing(setup, object))
+    let text = ReplyText { setup, call, reply };
+    writeln!(line, "{text}")
+}
+
+/// The text of the reply to a call.
+#[derive(Clone, Copy)]
+struct ReplyText<'a> {
+    setup: &'a Setup,
+    call: Call,
+    reply: Reply,
+}
+
+impl<'a> fmt::Display for ReplyText<'a> {
+    ghost use Rattle.std.specs.Prelude.{Some};
+    ghost use Rattle.check_text.specs.Text.{reply_text};
+
+    ghost output = { λ text. Some (reply_text text.setup.now text.call text.reply) };
+
+    fn fmt<W: fmt::Write>(&self, f: &mut fmt::Formatter<W>) -> fmt::Result {
+        match self.reply {
+            Reply::Taken { object, run } => {
+                let name = name_or_nothing(self.setup, object);
+                write!(f, "taken {run} {name}")
+            }
+            Reply::PutOff { object, until } => {
+                let until = TimeText(until);
+                let name = name_or_nothing(self.setup, object);
+                write!(f, "putoff {until} {name}")
+            }
+            Reply::Idle { next } => {
+                let next = TimeText(next);
+                write!(f, "idle {next}")
+            }
+            Reply::AtLimit => f.write_str("atlimit"),
+            Reply::Standing {
+                standing,
+                changed,
+                next,
+            } => {
+                let state = state_text(standing);
+                let kind = kind_text(standing.kind);
+                let attempt = standing.attempt;
+                let changed = changed_text(changed);
+                let next = TimeText(next);
+                let name = asked_name(self.setup, self.call);
+                write!(
+                    f,
+                    "standing {state} {kind} {attempt} {changed} {next} {name}"
+                )
+            }
+            Reply::Freed { next } => {
+                let name = asked_name(self.setup, self.call);
+                write!(f, "freed {next} {name}")
+            }
+            Reply::Done => {
+                let name = asked_name(self.setup, self.call);
+                write!(f, "done {name}")
+            }
+            Reply::Refused(refusal) => {
+                let reason = call_refusal_text(refusal);
+                write!(f, "refused {reason}")
+            }
         }
-        Reply::Idle { next } => push_idle(line, TimeText(next)),
-        Reply::AtLimit => line.push_str("atlimit\n"),
-        Reply::Standing {
-            standing,
-            changed,
-            next,
-        } => push_standing(
-            line,
-            standing,
-            changed,
-            TimeText(next),
-            asked_name(setup, call),
-        ),
-        Reply::Freed { next } => push_freed(line, next, asked_name(setup, call)),
-        Reply::Done => push_done(line, asked_name(setup, call)),
-        Reply::Refused(refusal) => push_refused(line, call_refusal_text(refusal)),
     }
-}
-
-fn push_taken(line: &mut String, run: u64, name: &str) -> Result<(), AllocError>
-    ensures { OnOk result
-        (string_bytes line.new ≡ string_bytes line.old ++ line_of (taken_text run name.now)) }
-{
-    writeln!(line, "taken {run} {name}")
-}
-
-fn push_putoff(line: &mut String, until: TimeText, name: &str) -> Result<(), AllocError>
-    ensures { OnOk result
-        (string_bytes line.new ≡ string_bytes line.old ++ line_of (putoff_text until.0 name.now)) }
-{
-    writeln!(line, "putoff {until} {name}")
-}
-
-fn push_idle(line: &mut String, next: TimeText) -> Result<(), AllocError>
-    ensures { OnOk result
-        (string_bytes line.new ≡ string_bytes line.old ++ line_of (idle_text next.0)) }
-{
-    writeln!(line, "idle {next}")
-}
-
-fn push_standing(
-    line: &mut String,
-    standing: Standing,
-    changed: bool,
-    next: TimeText,
-    name: &str,
-) -> Result<(), AllocError>
-    ensures { OnOk result (string_bytes line.new ≡
-        string_bytes line.old ++ line_of (standing_text standing changed next.0 name.now)) }
-{
-    let state = state_text(standing);
-    let kind = kind_text(standing.kind);
-    let attempt = standing.attempt;
-    let changed = changed_text(changed);
-    writeln!(
-        line,
-        "standing {state} {kind} {attempt} {changed} {next} {name}"
-    )
-}
-
-fn push_freed(line: &mut String, next: u64, name: &str) -> Result<(), AllocError>
-    ensures { OnOk result
-        (string_bytes line.new ≡ string_bytes line.old ++ line_of (freed_text next name.now)) }
-{
-    writeln!(line, "freed {next} {name}")
-}
-
-fn push_done(line: &mut String, name: &str) -> Result<(), AllocError>
-    ensures { OnOk result
-        (string_bytes line.new ≡ string_bytes line.old ++ line_of (done_text name.now)) }
-{
-    writeln!(line, "done {name}")
 }
 
 /// The full name of the object that a call asks for, or nothing where it asks for none.
@@ -162,13 +151,6 @@ fn changed_text(changed: bool) -> &'static str
     if changed { "yes" } else { "no" }
 }
 
-fn push_refused(line: &mut String, reason: &str) -> Result<(), AllocError>
-    ensures { OnOk result
-        (string_bytes line.new ≡ string_bytes line.old ++ line_of (refused_text reason.now)) }
-{
-    writeln!(line, "refused {reason}")
-}
-
 /// Appends the line of an entry of a history, with its line feed: the number of the pass that made
 /// the call, a space, and the line of the reply.
 pub fn push_entry(
@@ -185,7 +167,7 @@ pub fn push_entry(
 }
 
 /// Appends the last line of a drill, with its line feed: how many entries its history has, and how
-/// many calls were refused for want of memory.
+/// many calls were refused when out of memory.
 pub fn push_total(line: &mut String, entries: usize, refused: u64) -> Result<(), AllocError>
     ensures { OnOk result
         (string_bytes line.new ≡ string_bytes line.old ++ total_line entries refused) }
