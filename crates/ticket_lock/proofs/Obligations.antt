@@ -10,7 +10,6 @@ use Rattle.atomic_table.specs.Table.{State, Me, Step, step, keeps, takes, gives,
 use Rattle.ticket_steps.specs.declared.kept.Entry.{Entry}
 use Rattle.ticket_steps.specs.declared.kept.Kept.{Ghosts}
 use Rattle.ticket_steps.specs.declared.seats.CoreSeat.{CoreSeat}
-use Rattle.ticket_steps.specs.declared.seats.Phase.{Phase}
 use Rattle.ticket_steps.specs.declared.seats.Phase.TheVariants.{Idle, Waiting, Holding}
 use Rattle.ticket_steps.specs.Books.{empty_book}
 use Rattle.ticket_steps.specs.CoreStates.{CoreState, opened}
@@ -37,10 +36,6 @@ use Rattle.ticket_lock.proofs.Seen.{follows_self, follows_longer, longer_is, all
 abbrev pub in_hand : {K : Type 0} → K → List (ℕ × Option K) → K
 in_hand d [] = d
 in_hand d (x ∷ xs) = unwrap_or x.1 d
-
-ticket_in : ℕ → Phase → ℕ
-ticket_in d (Waiting t) = t
-ticket_in d _ = d
 
 module _ {K C R : Type 0} (k : Ghosts K C R) (start : Start K) where
   abbrev V : Type 0

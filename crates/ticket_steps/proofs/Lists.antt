@@ -1,6 +1,5 @@
 -- Lists read by `get_elem?`.
 use Rattle.std.proofs.Common.{◌≡◌, ℕ, zero, suc, ◌<◌, ◌≢◌, ◌⊎◌, List, [], ◌∷◌, ◌++◌, length, get_or, set, sym, refl, ap, ◌∙◌, inl, inr, ⊎_elim, arith}
-use Rattle.std.specs.Prelude.{slice_get, Some}
 use mathlib.Core.Option.{some, some-injective, some-ne-none}
 use lib.ListN.{get_elem?}
 
@@ -62,9 +61,3 @@ module _ {A : Type 0} where
   set_swap (x ∷ xs) zero (suc j) a b n = refl
   set_swap (x ∷ xs) (suc i) zero a b n = refl
   set_swap (x ∷ xs) (suc i) (suc j) a b n = ap (λ (l : List A). x ∷ l) (set_swap xs i j a b (λ e. n (ap suc e)))
-
-  -- what is read by `slice_get` is what is read at that index
-  pub got_is : (l : List A) (k : ℕ) (a d : A) → slice_get l k ≡ Some a → get_or l k d ≡ a
-  got_is [] k a d e = absurd (cc)
-  got_is (x ∷ xs) zero a d e = cc
-  got_is (x ∷ xs) (suc k) a d e = got_is xs k a d e

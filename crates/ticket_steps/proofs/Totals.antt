@@ -21,9 +21,6 @@ module _ {A : Type 0} where
     total-set (x ∷ xs) zero v w e = omega (arith, ap g (some-injective x v e))
     total-set (x ∷ xs) (suc j) v w e = omega (arith, total-set xs j v w e)
 
-    pub total-same : (l : List A) (j : ℕ) (v w : A) → get_elem? l j ≡ some v → g v ≡ g w → total g (set l j w) ≡ total g l
-    total-same l j v w e same = omega (arith, total-set l j v w e)
-
     pub term_le : (l : List A) (j : ℕ) (v : A) → get_elem? l j ≡ some v → g v ≤ total g l
     term_le [] j v e = absurd (some-ne-none v (sym e))
     term_le (x ∷ xs) zero v e = omega (arith, ap g (some-injective x v e))
@@ -97,12 +94,6 @@ below_le x n = dite (dec_le (suc x) n) (λ lt. omega (arith, below_yes x n (omeg
 -- t is not below a and is below b, so a is below b
 pub between : (t a b : ℕ) → once_below t a < once_below t b → a < b
 between t a b h = dite (dec_le (suc a) b) (λ lt. lt) (λ ge. absurd (omega (arith, below_gap t b a (omega arith))))
-
-pub counted_in : (p n a b : ℕ) → times p (counted n (a + b)) ≡ times p (counted n a) + times p (counted (n + a) b)
-counted_in p n zero b = let e : zero + b ≡ b = omega arith in let d : n + zero ≡ n = omega arith in
-    omega (arith, ap (λ (k : ℕ). times p (counted n k)) e, ap (λ (k : ℕ). times p (counted k b)) d)
-counted_in p n (suc a) b = let e : suc a + b ≡ suc (a + b) = omega arith in let d : n + suc a ≡ n + 1 + a = omega arith in
-    omega (arith, ap (λ (k : ℕ). times p (counted n k)) e, ap (λ (k : ℕ). times p (counted k b)) d, counted_in p (n + 1) a b)
 
 pub length-counted : (n k : ℕ) → length (counted n k) ≡ k
 length-counted n zero = refl
