@@ -10,7 +10,7 @@ mod operators;
 mod results;
 mod takes;
 
-use crate::{Call, Reply, Sched};
+use crate::{Call, LAST_MOMENT, Reply, Sched};
 use check_objects::{LoadError, Setup};
 use check_rules::{Code, Kind, Standing, State, pending};
 use std::alloc::Global;
