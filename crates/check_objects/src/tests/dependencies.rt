@@ -13,42 +13,22 @@ fn with_members(alloc: Global, members: &str) -> Result<String, AllocError> {
     )
 }
 
-/// A document with this member beside its hosts and services is refused for this reason, for each
-/// of these texts.
+const SERVICE_DEPENDENCIES: &str = "service_dependencies";
+
+const HOST_DEPENDENCIES: &str = "host_dependencies";
+
+/// A document with this member beside its hosts and services is refused for this reason.
 fn refuses_member(
     rt: &impl Abort,
     alloc: Global,
     member: &str,
+    text: &str,
     want: LoadError,
-    texts: &[&str],
 ) -> Result<(), AllocError> {
-    for text in texts {
-        let text = *text;
-        let members = format!(in alloc; "\"{member}\":{text}")?;
-        let document = with_members(alloc, members.as_str())?;
-        refuses(rt, alloc, document.as_str(), want);
-    }
+    let members = format!(in alloc; "\"{member}\":{text}")?;
+    let document = with_members(alloc, members.as_str())?;
+    refuses(rt, alloc, document.as_str(), want);
     Ok(())
-}
-
-/// A document with these dependencies of services is refused for this reason.
-fn refuses_of_services(
-    rt: &impl Abort,
-    alloc: Global,
-    want: LoadError,
-    texts: &[&str],
-) -> Result<(), AllocError> {
-    refuses_member(rt, alloc, "service_dependencies", want, texts)
-}
-
-/// A document with these dependencies of hosts is refused for this reason.
-fn refuses_of_hosts(
-    rt: &impl Abort,
-    alloc: Global,
-    want: LoadError,
-    texts: &[&str],
-) -> Result<(), AllocError> {
-    refuses_member(rt, alloc, "host_dependencies", want, texts)
 }
 
 const NO_CRITERIA: Criteria = Criteria {
@@ -117,100 +97,164 @@ fn reads_dependencies_of_both_sorts(rt: HostRuntime) -> Result<(), Fail> {
 
 #[test]
 fn refuses_dependencies_of_services(rt: HostRuntime) -> Result<(), Fail> {
-    let alloc = rt.alloc();
-    let list = place(Part::ServiceDependencies, None);
-    let first = place(Part::ServiceDependencies, Some(0));
-    let second = place(Part::ServiceDependencies, Some(1));
-    refuses_of_services(&rt, alloc, LoadError::Shape(list), &["5"])?;
-    refuses_of_services(
+    let at = |index: usize| place(Part::ServiceDependencies, Some(index));
+    refuses_member(
         &rt,
-        alloc,
-        LoadError::Shape(first),
-        &[
-            "[5]",
-            r#"[{"dependent":"a;x","master":"b;y"}]"#,
-            r#"[{"dependent":"a;x","master":"b;y","criteria":"o","inherits_parent":1}]"#,
-        ],
+        rt.alloc(),
+        SERVICE_DEPENDENCIES,
+        "5",
+        LoadError::Shape(place(Part::ServiceDependencies, None)),
     )?;
-    let of_hosts =
-        r#"[{"dependent":"a;x","master":"b;y","criteria":"o"},{"dependent":"a;x","master":"b;y","criteria":"d"}]"#;
-    refuses_of_services(&rt, alloc, LoadError::Shape(second), &[of_hosts])?;
-    refuses_of_services(
+    refuses_member(
         &rt,
-        alloc,
-        LoadError::UnknownMaster(first),
-        &[
-            r#"[{"dependent":"a;x","master":"b;z","criteria":"o"}]"#,
-            r#"[{"dependent":"a;x","master":"b","criteria":"o"}]"#,
-            r#"[{"dependent":"a","master":"b;y","criteria":"o"}]"#,
-            r#"[{"dependent":"a;x","master":"b;z","criteria":"o"}],"options":{"interval_length":0}"#,
-        ],
+        rt.alloc(),
+        SERVICE_DEPENDENCIES,
+        "[5]",
+        LoadError::Shape(at(0)),
     )?;
-    refuses_of_services(
+    refuses_member(
         &rt,
-        alloc,
+        rt.alloc(),
+        SERVICE_DEPENDENCIES,
+        r#"[{"dependent":"a;x","master":"b;y"}]"#,
+        LoadError::Shape(at(0)),
+    )?;
+    refuses_member(
+        &rt,
+        rt.alloc(),
+        SERVICE_DEPENDENCIES,
+        r#"[{"dependent":"a;x","master":"b;y","criteria":"o"},{"dependent":"a;x","master":"b;y","criteria":"d"}]"#,
+        LoadError::Shape(at(1)),
+    )?;
+    refuses_member(
+        &rt,
+        rt.alloc(),
+        SERVICE_DEPENDENCIES,
+        r#"[{"dependent":"a;x","master":"b;y","criteria":"o","inherits_parent":1}]"#,
+        LoadError::Shape(at(0)),
+    )?;
+    refuses_member(
+        &rt,
+        rt.alloc(),
+        SERVICE_DEPENDENCIES,
+        r#"[{"dependent":"a;x","master":"b;z","criteria":"o"}]"#,
+        LoadError::UnknownMaster(at(0)),
+    )?;
+    refuses_member(
+        &rt,
+        rt.alloc(),
+        SERVICE_DEPENDENCIES,
+        r#"[{"dependent":"a;x","master":"b","criteria":"o"}]"#,
+        LoadError::UnknownMaster(at(0)),
+    )?;
+    refuses_member(
+        &rt,
+        rt.alloc(),
+        SERVICE_DEPENDENCIES,
+        r#"[{"dependent":"a","master":"b;y","criteria":"o"}]"#,
+        LoadError::UnknownMaster(at(0)),
+    )?;
+    refuses_member(
+        &rt,
+        rt.alloc(),
+        SERVICE_DEPENDENCIES,
+        r#"[{"dependent":"a;x","master":"a;x","criteria":"n"}]"#,
         LoadError::DependencyCycle,
-        &[
-            r#"[{"dependent":"a;x","master":"a;x","criteria":"n"}]"#,
-            r#"[{"dependent":"a;x","master":"b;y","criteria":"c"},{"dependent":"b;y","master":"a;x","criteria":"c"}]"#,
-        ],
     )?;
-    let out_of_range =
-        r#"[{"dependent":"a;x","master":"a;x","criteria":"o"}],"options":{"interval_length":0}"#;
-    let options = LoadError::Range(place(Part::Options, None));
-    refuses_of_services(&rt, alloc, options, &[out_of_range])?;
+    refuses_member(
+        &rt,
+        rt.alloc(),
+        SERVICE_DEPENDENCIES,
+        r#"[{"dependent":"a;x","master":"b;y","criteria":"c"},{"dependent":"b;y","master":"a;x","criteria":"c"}]"#,
+        LoadError::DependencyCycle,
+    )?;
+    refuses_member(
+        &rt,
+        rt.alloc(),
+        SERVICE_DEPENDENCIES,
+        r#"[{"dependent":"a;x","master":"b;z","criteria":"o"}],"options":{"interval_length":0}"#,
+        LoadError::UnknownMaster(at(0)),
+    )?;
+    refuses_member(
+        &rt,
+        rt.alloc(),
+        SERVICE_DEPENDENCIES,
+        r#"[{"dependent":"a;x","master":"a;x","criteria":"o"}],"options":{"interval_length":0}"#,
+        LoadError::Range(place(Part::Options, None)),
+    )?;
     Ok(())
 }
 
 /// A dependency of a service with these criteria is refused for its shape.
-fn refuses_criteria_of(rt: &impl Abort, alloc: Global, texts: &[&str]) -> Result<(), AllocError> {
+fn refuses_criteria_of(rt: &impl Abort, alloc: Global, criteria: &str) -> Result<(), AllocError> {
+    let list = format!(in alloc;
+        "[{{\"dependent\":\"a;x\",\"master\":\"b;y\",\"criteria\":\"{criteria}\"}}]"
+    )?;
     let want = LoadError::Shape(place(Part::ServiceDependencies, Some(0)));
-    for criteria in texts {
-        let criteria = *criteria;
-        let list = format!(in alloc;
-            "[{{\"dependent\":\"a;x\",\"master\":\"b;y\",\"criteria\":\"{criteria}\"}}]"
-        )?;
-        refuses_of_services(rt, alloc, want, &[list.as_str()])?;
-    }
-    Ok(())
+    refuses_member(rt, alloc, SERVICE_DEPENDENCIES, list.as_str(), want)
 }
 
 #[test]
 fn refuses_criteria(rt: HostRuntime) -> Result<(), Fail> {
-    refuses_criteria_of(
-        &rt,
-        rt.alloc(),
-        &[
-            "", ",", "o,", ",o", "o,,c", "oc", "o, c", " o", "O", "d", "x",
-        ],
-    )?;
+    refuses_criteria_of(&rt, rt.alloc(), "")?;
+    refuses_criteria_of(&rt, rt.alloc(), ",")?;
+    refuses_criteria_of(&rt, rt.alloc(), "o,")?;
+    refuses_criteria_of(&rt, rt.alloc(), ",o")?;
+    refuses_criteria_of(&rt, rt.alloc(), "o,,c")?;
+    refuses_criteria_of(&rt, rt.alloc(), "oc")?;
+    refuses_criteria_of(&rt, rt.alloc(), "o, c")?;
+    refuses_criteria_of(&rt, rt.alloc(), " o")?;
+    refuses_criteria_of(&rt, rt.alloc(), "O")?;
+    refuses_criteria_of(&rt, rt.alloc(), "d")?;
+    refuses_criteria_of(&rt, rt.alloc(), "x")?;
     Ok(())
 }
 
 #[test]
 fn refuses_dependencies_of_hosts(rt: HostRuntime) -> Result<(), Fail> {
-    let alloc = rt.alloc();
-    let list = place(Part::HostDependencies, None);
-    let first = place(Part::HostDependencies, Some(0));
-    let second = place(Part::HostDependencies, Some(1));
-    refuses_of_hosts(&rt, alloc, LoadError::Shape(list), &["{}"])?;
-    refuses_of_hosts(
+    let at = |index: usize| place(Part::HostDependencies, Some(index));
+    refuses_member(
         &rt,
-        alloc,
-        LoadError::Shape(first),
-        &[
-            r#"[{"dependent":"a","master":"b","criteria":"w"}]"#,
-            r#"[{"dependent":"a","master":"b","criteria":"d,c"}]"#,
-        ],
+        rt.alloc(),
+        HOST_DEPENDENCIES,
+        "{}",
+        LoadError::Shape(place(Part::HostDependencies, None)),
     )?;
-    let of_a_service = r#"[{"dependent":"a","master":"b;y","criteria":"d"}]"#;
-    refuses_of_hosts(&rt, alloc, LoadError::UnknownMaster(first), &[of_a_service])?;
-    let of_no_host =
-        r#"[{"dependent":"a","master":"b","criteria":"d"},{"dependent":"c","master":"b","criteria":"d"}]"#;
-    refuses_of_hosts(&rt, alloc, LoadError::UnknownMaster(second), &[of_no_host])?;
-    let both_ways =
-        r#"[{"dependent":"a","master":"b","criteria":"d"},{"dependent":"b","master":"a","criteria":"d"}]"#;
-    refuses_of_hosts(&rt, alloc, LoadError::DependencyCycle, &[both_ways])?;
+    refuses_member(
+        &rt,
+        rt.alloc(),
+        HOST_DEPENDENCIES,
+        r#"[{"dependent":"a","master":"b","criteria":"w"}]"#,
+        LoadError::Shape(at(0)),
+    )?;
+    refuses_member(
+        &rt,
+        rt.alloc(),
+        HOST_DEPENDENCIES,
+        r#"[{"dependent":"a","master":"b","criteria":"d,c"}]"#,
+        LoadError::Shape(at(0)),
+    )?;
+    refuses_member(
+        &rt,
+        rt.alloc(),
+        HOST_DEPENDENCIES,
+        r#"[{"dependent":"a","master":"b;y","criteria":"d"}]"#,
+        LoadError::UnknownMaster(at(0)),
+    )?;
+    refuses_member(
+        &rt,
+        rt.alloc(),
+        HOST_DEPENDENCIES,
+        r#"[{"dependent":"a","master":"b","criteria":"d"},{"dependent":"c","master":"b","criteria":"d"}]"#,
+        LoadError::UnknownMaster(at(1)),
+    )?;
+    refuses_member(
+        &rt,
+        rt.alloc(),
+        HOST_DEPENDENCIES,
+        r#"[{"dependent":"a","master":"b","criteria":"d"},{"dependent":"b","master":"a","criteria":"d"}]"#,
+        LoadError::DependencyCycle,
+    )?;
     Ok(())
 }
 

@@ -55,75 +55,118 @@ fn reads_a_document_without_hosts(rt: HostRuntime) -> Result<(), Fail> {
     Ok(())
 }
 
-/// Each of these documents is refused for this reason.
-fn refuses_each(rt: &impl Abort, alloc: Global, want: LoadError, documents: &[&str]) {
-    for document in documents {
-        refuses(rt, alloc, *document, want);
-    }
-}
-
 #[test]
 fn refuses_whole_documents(rt: HostRuntime) -> Result<(), Fail> {
-    let alloc = rt.alloc();
-    let shape = |part: Part, index: Option<usize>| LoadError::Shape(place(part, index));
-    refuses_each(&rt, alloc, LoadError::NotJson, &["", "{"]);
-    let document = shape(Part::Document, None);
-    refuses_each(&rt, alloc, document, &["[]", r#"{"hots":[]}"#]);
-    refuses(&rt, alloc, r#"{"hosts":5}"#, shape(Part::Hosts, None));
-    refuses(&rt, alloc, r#"{"options":5}"#, shape(Part::Options, None));
-    refuses(&rt, alloc, r#"{"hosts":[5]}"#, shape(Part::Hosts, Some(0)));
-    let range = LoadError::Range(place(Part::Options, None));
-    refuses(&rt, alloc, r#"{"options":{"interval_length":0}}"#, range);
+    refuses(&rt, rt.alloc(), "", LoadError::NotJson);
+    refuses(&rt, rt.alloc(), "{", LoadError::NotJson);
+    refuses(
+        &rt,
+        rt.alloc(),
+        "[]",
+        LoadError::Shape(place(Part::Document, None)),
+    );
+    refuses(
+        &rt,
+        rt.alloc(),
+        r#"{"hots":[]}"#,
+        LoadError::Shape(place(Part::Document, None)),
+    );
+    refuses(
+        &rt,
+        rt.alloc(),
+        r#"{"hosts":5}"#,
+        LoadError::Shape(place(Part::Hosts, None)),
+    );
+    refuses(
+        &rt,
+        rt.alloc(),
+        r#"{"options":5}"#,
+        LoadError::Shape(place(Part::Options, None)),
+    );
+    refuses(
+        &rt,
+        rt.alloc(),
+        r#"{"hosts":[5]}"#,
+        LoadError::Shape(place(Part::Hosts, Some(0))),
+    );
+    refuses(
+        &rt,
+        rt.alloc(),
+        r#"{"options":{"interval_length":0}}"#,
+        LoadError::Range(place(Part::Options, None)),
+    );
     Ok(())
 }
 
-/// A document with this text as its list of hosts is refused for this reason, for each of these
-/// texts.
+/// A document with this text as its list of hosts is refused for this reason.
 fn refuses_hosts(
     rt: &impl Abort,
     alloc: Global,
+    hosts: &str,
     want: LoadError,
-    texts: &[&str],
 ) -> Result<(), AllocError> {
-    for hosts in texts {
-        let document = with_hosts(alloc, *hosts)?;
-        refuses(rt, alloc, document.as_str(), want);
-    }
+    let document = with_hosts(alloc, hosts)?;
+    refuses(rt, alloc, document.as_str(), want);
     Ok(())
 }
 
 #[test]
 fn refuses_lists_of_hosts(rt: HostRuntime) -> Result<(), Fail> {
-    let alloc = rt.alloc();
-    let first = place(Part::Hosts, Some(0));
-    let second = place(Part::Hosts, Some(1));
+    let at = |index: usize| place(Part::Hosts, Some(index));
+    refuses_hosts(&rt, rt.alloc(), "[5]", LoadError::Shape(at(0)))?;
     refuses_hosts(
         &rt,
-        alloc,
-        LoadError::Shape(first),
-        &[
-            "[5]",
-            r#"[{"name":"a"}]"#,
-            r#"[{"name":"a","max_check_attempts":3.0}]"#,
-            r#"[{"name":"a","max_check_attempts":3,"parents":[1]}]"#,
-        ],
+        rt.alloc(),
+        r#"[{"name":"a"}]"#,
+        LoadError::Shape(at(0)),
     )?;
     refuses_hosts(
         &rt,
-        alloc,
-        LoadError::BadName(first),
-        &[
-            r#"[{"name":"a;b","max_check_attempts":3}]"#,
-            r#"[{"name":"","max_check_attempts":3}]"#,
-        ],
+        rt.alloc(),
+        r#"[{"name":"a","max_check_attempts":3.0}]"#,
+        LoadError::Shape(at(0)),
     )?;
-    let twice = r#"[{"name":"a","max_check_attempts":3},{"name":"a","max_check_attempts":3}]"#;
-    refuses_hosts(&rt, alloc, LoadError::Duplicate(second), &[twice])?;
-    let no_name = r#"[{"name":"a","max_check_attempts":0},{"name":"b;","max_check_attempts":3}]"#;
-    refuses_hosts(&rt, alloc, LoadError::BadName(second), &[no_name])?;
-    let attempts = r#"[{"name":"b","max_check_attempts":3},{"name":"a","max_check_attempts":256}]"#;
-    refuses_hosts(&rt, alloc, LoadError::Range(second), &[attempts])?;
-    let interval = r#"[{"name":"a","max_check_attempts":3,"retry_interval":525601}]"#;
-    refuses_hosts(&rt, alloc, LoadError::Range(first), &[interval])?;
+    refuses_hosts(
+        &rt,
+        rt.alloc(),
+        r#"[{"name":"a","max_check_attempts":3,"parents":[1]}]"#,
+        LoadError::Shape(at(0)),
+    )?;
+    refuses_hosts(
+        &rt,
+        rt.alloc(),
+        r#"[{"name":"a;b","max_check_attempts":3}]"#,
+        LoadError::BadName(at(0)),
+    )?;
+    refuses_hosts(
+        &rt,
+        rt.alloc(),
+        r#"[{"name":"","max_check_attempts":3}]"#,
+        LoadError::BadName(at(0)),
+    )?;
+    refuses_hosts(
+        &rt,
+        rt.alloc(),
+        r#"[{"name":"a","max_check_attempts":3},{"name":"a","max_check_attempts":3}]"#,
+        LoadError::Duplicate(at(1)),
+    )?;
+    refuses_hosts(
+        &rt,
+        rt.alloc(),
+        r#"[{"name":"a","max_check_attempts":0},{"name":"b;","max_check_attempts":3}]"#,
+        LoadError::BadName(at(1)),
+    )?;
+    refuses_hosts(
+        &rt,
+        rt.alloc(),
+        r#"[{"name":"b","max_check_attempts":3},{"name":"a","max_check_attempts":256}]"#,
+        LoadError::Range(at(1)),
+    )?;
+    refuses_hosts(
+        &rt,
+        rt.alloc(),
+        r#"[{"name":"a","max_check_attempts":3,"retry_interval":525601}]"#,
+        LoadError::Range(at(0)),
+    )?;
     Ok(())
 }
