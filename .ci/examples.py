@@ -1,18 +1,19 @@
 #!/usr/bin/env python3
 """Holds the files of examples/ to the texts that the tests of the program run.
 
-A test can't read a file of examples/, so each example stands in a test of its own as well, as the
-constants INPUT and OUTPUT; here they are compared, byte for byte.
+A test can't read a file of examples/, so each example stands in a test of its own as well: its input
+as the setup OFFICE of tests.rt and behind it the constant LINES, its output as the constant OUTPUT.
+Here they are compared, byte for byte.
 """
 import pathlib
 import re
 import sys
 
 TOP = pathlib.Path(__file__).resolve().parent.parent
-TESTS = TOP / "crates" / "nagsched" / "src" / "tests"
+SOURCES = TOP / "crates" / "nagsched" / "src"
 EXAMPLES = {
-    "office.rt": {"INPUT": "office.txt", "OUTPUT": "office.out"},
-    "drill_example.rt": {"INPUT": "drill.txt", "OUTPUT": "drill.out"},
+    "office.rt": {"input": "office.txt", "output": "office.out"},
+    "drill_example.rt": {"input": "drill.txt", "output": "drill.out"},
 }
 ESCAPES = {"n": "\n", "t": "\t", "\\": "\\", '"': '"'}
 
@@ -28,10 +29,12 @@ def constant(source: str, name: str) -> str:
 
 def main() -> int:
     wrong = 0
+    setup = constant((SOURCES / "tests.rt").read_text(encoding="utf-8"), "OFFICE")
     for test, files in EXAMPLES.items():
-        source = (TESTS / test).read_text(encoding="utf-8")
+        source = (SOURCES / "tests" / test).read_text(encoding="utf-8")
+        texts = {"input": f"{setup}\n{constant(source, 'LINES')}", "output": constant(source, "OUTPUT")}
         for name, file in files.items():
-            if constant(source, name) != (TOP / "examples" / file).read_text(encoding="utf-8"):
+            if texts[name] != (TOP / "examples" / file).read_text(encoding="utf-8"):
                 print(f"examples: {file} is not the {name} of {test}")
                 wrong += 1
     return 1 if wrong else 0

@@ -1,10 +1,11 @@
 -- A whole drill, and what its faults leave.
 use Rattle.std.proofs.Common.{◌≡◌, ◌≢◌, ℕ, List, [], take, Option, Some, None, Result, Ok, Err, refl, ap, ◌∙◌, inl, inr, ◌⊎◌}
-use Rattle.std.specs.Prelude.{IfSome, IfOk, IfErr, OnOk, OnErr, IsOkUnless}
+use Rattle.std.specs.Prelude.{IfSome, OnErr}
 use Rattle.std.specs.Io.KnownBytes.{Keeps, Consumes}
 use Rattle.ticket_steps.specs.declared.kept.Entry.{Entry}
 use Rattle.check_sched.specs.declared.call.Call.{Call}
 use Rattle.check_sched.specs.declared.call.Reply.{Reply}
+use Rattle.check_script.specs.declared.input.TheConstants.{MAX_READ_BYTES}
 use Rattle.check_script.specs.declared.drive_error.DriveError.{DriveError}
 use Rattle.check_script.specs.declared.drive_error.DriveError.TheVariants as errors
 use Rattle.nagsched.specs.declared.drive.Outcome.{Outcome}
@@ -32,17 +33,17 @@ front_of_drill (Err x) start workers room input s history refused held holds e d
 
 -- ---- what was read is the input, or its front that is too long
 
-text_at : (start workers room : ℕ) (input bytes text : List ℕ) → input ≡ take 67108865 bytes → IsTextOf start workers room input text
+text_at : (start workers room : ℕ) (input bytes text : List ℕ) → input ≡ take MAX_READ_BYTES bytes → IsTextOf start workers room input text
     → IsTextOf start workers room bytes text
 text_at start workers room input bytes text e t = rw (ap drill_script_of e ∙ drill_script_take bytes) at t
 
-wrote_at : (start workers room : ℕ) (held mid holds : Option (List ℕ)) (input bytes : List ℕ) → input ≡ take 67108865 bytes
+wrote_at : (start workers room : ℕ) (held mid holds : Option (List ℕ)) (input bytes : List ℕ) → input ≡ take MAX_READ_BYTES bytes
     → WroteDrill start workers room input held mid → Keeps mid holds
     → WroteDrill start workers room bytes held holds
 wrote_at start workers room held mid holds input bytes e w k =
     record { text = w.text; is_text = text_at start workers room input bytes w.text e w.is_text; written = Appends-Keeps held mid holds w.text w.written k }
 
-front_at : (start workers room : ℕ) (held holds : Option (List ℕ)) (input bytes : List ℕ) → input ≡ take 67108865 bytes
+front_at : (start workers room : ℕ) (held holds : Option (List ℕ)) (input bytes : List ℕ) → input ≡ take MAX_READ_BYTES bytes
     → WroteDrillFront start workers room input held holds
     → WroteDrillFront start workers room bytes held holds
 front_at start workers room held holds input bytes e w =
@@ -57,7 +58,8 @@ drill_read_fault errors.Write start workers room had left held n = absurd (n ref
 drill_read_fault errors.Memory start workers room None left held n = tt
 drill_read_fault errors.Memory start workers room (Some bytes) left held n = inl (Keeps-same held)
 
-left_by : (start workers room : ℕ) (left held holds : Option (List ℕ)) (input bytes : List ℕ) → input ≡ take 67108865 bytes → Consumes (Some bytes) left input
+left_by : (start workers room : ℕ) (left held holds : Option (List ℕ)) (input bytes : List ℕ) → input ≡ take MAX_READ_BYTES bytes
+    → Consumes (Some bytes) left input
     → Keeps held holds ⊎ WroteDrillFront start workers room input held holds
     → Keeps held holds ⊎ (HasRead (Some bytes) left bytes × WroteDrillFront start workers room bytes held holds)
 left_by start workers room left held holds input bytes all c (inl k) = inl k
@@ -65,7 +67,7 @@ left_by start workers room left held holds input bytes all c (inr f) =
     inr (has_read left input bytes all c, front_at start workers room held holds input bytes all f)
 
 pub drill_write_fault : (e : DriveError) (start workers room : ℕ) (had left held holds : Option (List ℕ)) (input : List ℕ) → e ≢ errors.Read
-    → IfSome had (λ bytes. input ≡ take 67108865 bytes)
+    → IfSome had (λ bytes. input ≡ take MAX_READ_BYTES bytes)
     → Consumes had left input → Keeps held holds ⊎ WroteDrillFront start workers room input held holds
     → AfterDrillFault e start workers room had left held holds
 drill_write_fault errors.Read start workers room had left held holds input n all c f = absurd (n refl)
@@ -76,12 +78,12 @@ drill_write_fault errors.Memory start workers room (Some bytes) left held holds 
 
 -- ---- whole drills
 
-pub drill_written : (start workers room : ℕ) (had held mid holds : Option (List ℕ)) (input : List ℕ) → IfSome had (λ bytes. input ≡ take 67108865 bytes)
+pub drill_written : (start workers room : ℕ) (had held mid holds : Option (List ℕ)) (input : List ℕ) → IfSome had (λ bytes. input ≡ take MAX_READ_BYTES bytes)
     → WroteDrill start workers room input held mid → Keeps mid holds → IfSome had (λ bytes. WroteDrill start workers room bytes held holds)
 drill_written start workers room None held mid holds input all w k = tt
 drill_written start workers room (Some bytes) held mid holds input all w k = wrote_at start workers room held mid holds input bytes all w k
 
-pub drill_outcome_is : (had : Option (List ℕ)) (given : Outcome) (input : List ℕ) → IfSome had (λ bytes. input ≡ take 67108865 bytes)
+pub drill_outcome_is : (had : Option (List ℕ)) (given : Outcome) (input : List ℕ) → IfSome had (λ bytes. input ≡ take MAX_READ_BYTES bytes)
     → given ≡ drill_outcome input
     → IfSome had (λ bytes. given ≡ drill_outcome bytes)
 drill_outcome_is None given input all g = tt
@@ -94,7 +96,7 @@ written_front start workers room input held mid holds w k =
 
 -- the flush failed
 pub drill_flush_fault : (e : DriveError) (start workers room : ℕ) (had left held mid holds : Option (List ℕ)) (input : List ℕ)
-    → IfSome had (λ bytes. input ≡ take 67108865 bytes)
+    → IfSome had (λ bytes. input ≡ take MAX_READ_BYTES bytes)
     → Consumes had left input → WroteDrill start workers room input held mid → Keeps mid holds → e ≡ errors.Write
     → AfterDrillFault e start workers room had left held holds
 drill_flush_fault e start workers room had left held mid holds input all c w k u =
@@ -103,17 +105,17 @@ drill_flush_fault e start workers room had left held mid holds input all c w k u
 
 -- ---- the input of a drill, whatever is known of its reader
 
-input_of-script : (had : Option (List ℕ)) (read : List ℕ) → IfSome had (λ bytes. read ≡ take 67108865 bytes)
+input_of-script : (had : Option (List ℕ)) (read : List ℕ) → IfSome had (λ bytes. read ≡ take MAX_READ_BYTES bytes)
     → drill_script_of read ≡ drill_script_of (input_of had read)
 input_of-script None read all = refl
 input_of-script (Some bytes) read all = ap drill_script_of all ∙ drill_script_take bytes
 
-text_of_read : (start workers room : ℕ) (had : Option (List ℕ)) (read text : List ℕ) → IfSome had (λ bytes. read ≡ take 67108865 bytes)
+text_of_read : (start workers room : ℕ) (had : Option (List ℕ)) (read text : List ℕ) → IfSome had (λ bytes. read ≡ take MAX_READ_BYTES bytes)
     → IsTextOf start workers room read text
     → IsTextOf start workers room (input_of had read) text
 text_of_read start workers room had read text all t = rw (input_of-script had read all) at t
 
-front_of_read : (start workers room : ℕ) (had held holds : Option (List ℕ)) (read : List ℕ) → IfSome had (λ bytes. read ≡ take 67108865 bytes)
+front_of_read : (start workers room : ℕ) (had held holds : Option (List ℕ)) (read : List ℕ) → IfSome had (λ bytes. read ≡ take MAX_READ_BYTES bytes)
     → Keeps held holds ⊎ WroteDrillFront start workers room read held holds
     → Keeps held holds ⊎ WroteDrillFront start workers room (input_of had read) held holds
 front_of_read start workers room had held holds read all (inl k) = inl k
@@ -126,7 +128,8 @@ unwritten_drill e start workers room had held =
     record { input = input_of had []; is_input = input_of-is had []; outcome_is = tt; written = tt; front = inl (Keeps-same held) }
 
 -- a drill that an error ended when its input had been read
-pub cut_drill : (e : DriveError) (start workers room : ℕ) (had held holds : Option (List ℕ)) (read : List ℕ) → IfSome had (λ bytes. read ≡ take 67108865 bytes)
+pub cut_drill : (e : DriveError) (start workers room : ℕ) (had held holds : Option (List ℕ)) (read : List ℕ)
+    → IfSome had (λ bytes. read ≡ take MAX_READ_BYTES bytes)
     → Keeps held holds ⊎ WroteDrillFront start workers room read held holds → IsDrillOnInput start workers room (Err e) had held holds
 cut_drill e start workers room had held holds read all f =
     record {
@@ -140,14 +143,14 @@ cut_drill e start workers room had held holds read all f =
 
 -- a drill that came to its flush, which failed
 pub unflushed_drill : (e : DriveError) (start workers room : ℕ) (had held mid holds : Option (List ℕ)) (read : List ℕ)
-    → IfSome had (λ bytes. read ≡ take 67108865 bytes)
+    → IfSome had (λ bytes. read ≡ take MAX_READ_BYTES bytes)
     → WroteDrill start workers room read held mid → Keeps mid holds → IsDrillOnInput start workers room (Err e) had held holds
 unflushed_drill e start workers room had held mid holds read all w k =
     cut_drill e start workers room had held holds read all (inr (written_front start workers room read held mid holds w k))
 
 -- a drill that came to its end
 pub flushed_drill : (start workers room : ℕ) (had held mid holds : Option (List ℕ)) (given : Outcome) (read : List ℕ)
-    → IfSome had (λ bytes. read ≡ take 67108865 bytes)
+    → IfSome had (λ bytes. read ≡ take MAX_READ_BYTES bytes)
     → WroteDrill start workers room read held mid → Keeps mid holds → given ≡ drill_outcome read → IsDrillOnInput start workers room (Ok given) had held holds
 flushed_drill start workers room had held mid holds given read all w k g = record {
   input = input_of had read;

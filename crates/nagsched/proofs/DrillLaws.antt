@@ -56,7 +56,8 @@ of_both n es fs p q = of-append n es fs ∙ ap (λ l. l ++ of n fs) p ∙ ap (λ
 of_rounds : (n : ℕ) (rounds : List Round) → of n (rounds_entries n rounds) ≡ rounds_entries n rounds
 of_rounds n [] = refl
 of_rounds n (r ∷ rounds) =
-    subst (λ l. of n l ≡ l) (sym (flat_map-cons (round_entries n) r rounds)) (of_both n (round_entries n r) (rounds_entries n rounds) (of_round n r.now r.reply r.result) (of_rounds n rounds))
+    subst (λ l. of n l ≡ l) (sym (flat_map-cons (round_entries n) r rounds))
+    (of_both n (round_entries n r) (rounds_entries n rounds) (of_round n r.now r.reply r.result) (of_rounds n rounds))
 
 of_open : (n : ℕ) (o : Option Open) → of n (open_entries n o) ≡ open_entries n o
 of_open n None = refl
@@ -77,7 +78,8 @@ new_history allows moments room n history pass s e h =
     let once = times-same n [] in
     let among : 0 < times n (n ∷ []) = omega arith in
     let seen : of n (pass_of pass).seen ≡ [] = ap (λ c. of n c.seen) e in
-    h.new n (subst (λ l. 0 < times n l) (sym numbers) among) ∙ ap (λ l. l ++ of n (shift_entries s)) seen ∙ subst (λ m. of m (shift_entries s) ≡ shift_entries s) number (of_shift s)
+    h.new n (subst (λ l. 0 < times n l) (sym numbers) among) ∙ ap (λ l. l ++ of n (shift_entries s)) seen
+    ∙ subst (λ m. of m (shift_entries s) ≡ shift_entries s) number (of_shift s)
 
 one_worker : (s : DrillScript) (room n : ℕ) (history : List (Entry Call Reply)) (pass : Pass) (shift : Shift) → pass_of pass ≡ new_pass n
     → IsShiftOf (gives_scripted s.returns) s.moments room history (pass_of pass) shift → IsWorkerOf s n (of n history) shift
@@ -119,7 +121,7 @@ length_cons : {A : Type 0} (o : Option A) (xs : List A) → length (cons_option 
 length_cons None xs = sym (zero-add (length xs))
 length_cons (Some x) xs = omega arith
 
--- a worker stops for want of memory alone, since its pass has calls enough
+-- a worker stops only when out of memory, since its pass has calls enough
 one_stop : (room recorded left before calls moments : ℕ) (o : Option Stop) → IsReason room recorded left o → before ≡ left + calls + unanswered o
     → calls ≤ 2 * moments → 2 * moments < before
     → unanswered o ≡ length (cons_option o [])
@@ -130,7 +132,7 @@ one_stop room recorded left before calls moments (Some stop.Spent) r e short man
 -- the calls without an answer are the shifts that stopped
 stops_counted : (allows : ℕ → ℕ → ℕ → Code → Type 0) (moments : List ℕ) (room : ℕ) (history : List (Entry Call Reply)) (desk : Desk) (n : ℕ)
     (ps : List Pass) (ss : List Shift)
-    → length moments ≤ 67108864 → AreNewPasses desk n ps → AreShiftsOf allows moments room history ps ss → unanswered_in ss ≡ stopped_in ss
+    → length moments ≤ MAX_INPUT_BYTES → AreNewPasses desk n ps → AreShiftsOf allows moments room history ps ss → unanswered_in ss ≡ stopped_in ss
 unfolding unanswered_in
 stops_counted allows moments room history desk n [] [] few new are = refl
 stops_counted allows moments room history desk n [] (s ∷ ss) few new are = absurd are
@@ -229,7 +231,7 @@ refused_is allows moments room history refused desk ps ss t new are sum numbers 
 -- what a crew of new passes leaves
 pub drill_is : (s : DrillScript) (start workers room : ℕ) (history : List (Entry Call Reply)) (refused : ℕ) (desk : Desk) (ps : List Pass)
     (ss : List Shift) (t : Tally)
-    → length s.moments ≤ 67108864
+    → length s.moments ≤ MAX_INPUT_BYTES
     → length ps ≡ workers → AreNewPasses desk 0 ps → AreShiftsOf (gives_scripted s.returns) s.moments room history ps ss → t ≡ tally_of_all ss
     → ((number : ℕ) → workers ≤ number → of number history ≡ [])
     → length history + refused ≡ calls_in ps + t.takes + t.reports + t.unanswered → IsLegal step (opening s.setup start) history

@@ -40,7 +40,7 @@ abbrev pub stopped_in : List Shift → ℕ
 stopped_in shifts = length (filter_map (λ shift. shift.stopped) shifts)
 
 -- A history that so many workers can leave over a script, from this start and with this room, and how many calls were
--- refused for want of memory.
+-- refused when out of memory.
 pub record IsDrill (s : DrillScript) (start workers room : ℕ) (history : List (Entry Call Reply)) (refused : ℕ) : Type 0 where
   -- it is one thread's
   pub legal : IsLegal step (opening s.setup start) history

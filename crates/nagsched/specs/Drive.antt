@@ -5,6 +5,7 @@ use Rattle.check_script.specs.declared.drive_error.DriveError.{DriveError}
 use Rattle.check_script.specs.declared.drive_error.DriveError.TheVariants as errors
 use Rattle.nagsched.specs.declared.drive.Outcome.{Outcome}
 use Rattle.nagsched.specs.declared.drive.Outcome.TheVariants as outcome
+use Rattle.check_script.specs.declared.input.TheConstants.{MAX_READ_BYTES}
 use Rattle.check_script.specs.declared.refusal.InputRefusal.{InputRefusal}
 use Rattle.check_text.specs.Output.{WroteFront}
 use Rattle.check_script.specs.Script.{script_of}
@@ -21,7 +22,7 @@ outcome_of input = outcome_by (script_of input)
 
 -- The whole input was read, or one byte more than an input may have.
 abbrev pub HasRead : Option (List ℕ) → Option (List ℕ) → List ℕ → Type 0
-HasRead had left input = Consumes had left (take 67108865 input)
+HasRead had left input = Consumes had left (take MAX_READ_BYTES input)
 
 -- What an error leaves, by what the reader had and has left and what the writer held and holds.
 -- After a fault of the reader nothing was written. After any other error a front of the text was,

@@ -1,9 +1,10 @@
 //! A drill: reads a setup, return codes and moments, lets many workers work on one scheduler, and
 //! writes the history that they made.
-ghost use Rattle.std.specs.Prelude.{◌≡◌, ◌≢◌, ◌<◌, ◌≤◌, ◌^◌, ◌⊎◌, OnOk, OnErr, IfOk, IfErr, IfSome, length};
+ghost use Rattle.std.specs.Prelude.{◌≡◌, ◌≢◌, ◌<◌, ◌≤◌, ◌⊎◌, OnOk, OnErr, IfOk, IfErr, IfSome, length};
 ghost use Rattle.std.specs.Io.KnownBytes.{Appends, Keeps};
 ghost use Rattle.check_sched.specs.Books.{entries_of, refused_of, sched_of};
-ghost use Rattle.nagsched.specs.Drill.{AfterDrillFault, IsDrill, IsDrillOnInput, WroteDrill, WroteDrillFront, drill_outcome};
+ghost use Rattle.nagsched.specs.Drill.{AfterDrillFault, IsDrill, IsDrillOnInput};
+ghost use Rattle.nagsched.specs.Drill.{WroteDrill, WroteDrillFront, drill_outcome};
 ghost use Rattle.check_script.specs.DrillScript.{drill_script_of};
 ghost use Rattle.check_script.specs.DrillScripted.{drill_script};
 ghost use Rattle.nagsched.specs.Drive.{HasRead};
@@ -14,8 +15,8 @@ use crate::drive::Outcome;
 use crate::scripted::Scripted;
 use check_desk::Desk;
 use check_objects::Setup;
-use check_sched::{Book, Call, Reply};
-use check_script::{DrillScript, DriveError, ScriptError, read_input};
+use check_sched::{Book, Call, LAST_MOMENT, Reply};
+use check_script::{DrillScript, DriveError, MAX_INPUT_BYTES, ScriptError, read_input};
 use check_text::{flush, push_entry, push_total, write_refusal, write_text};
 use check_workers::crew;
 use std::alloc::Global;
@@ -32,8 +33,8 @@ use ticket_steps::{Entry, Kept};
 /// is flushed once, at the end.
 ///
 /// The book has room for so many entries: memory for more is asked for as they come. A worker stops
-/// at its first call without memory, which the total tells. The error `Memory` comes where memory is
-/// wanted elsewhere, as for a thread.
+/// at its first call without memory, which the total tells. The error `Memory` comes where there is
+/// no memory elsewhere, as for a thread.
 pub fn drill<H: Threads + Wait + Sync, R: Read, W: Write>(
     rt: &H,
     alloc: Global,
@@ -43,7 +44,7 @@ pub fn drill<H: Threads + Wait + Sync, R: Read, W: Write>(
     reader: &mut R,
     writer: &mut W,
 ) -> Result<Outcome, DriveError>
-    requires start { start ≤ 2 ^ 60 }
+    requires start { start ≤ LAST_MOMENT }
     requires workers { (0 < workers) × (workers ≤ 64) }
     ensures written { OnOk result (IfSome (R.remaining reader.old) (λ input.
         WroteDrill start workers room input (W.contents writer.old) (W.contents writer.new))) }
@@ -74,7 +75,7 @@ fn answer<H: Threads + Wait + Sync, W: Write>(
     input: &[u8],
     writer: &mut W,
 ) -> Result<Outcome, DriveError>
-    requires start { start ≤ 2 ^ 60 }
+    requires start { start ≤ LAST_MOMENT }
     requires workers { (0 < workers) × (workers ≤ 64) }
     ensures written { OnOk result (WroteDrill start workers room input.now
         (W.contents writer.old) (W.contents writer.new)) }
@@ -106,9 +107,9 @@ fn work_all<H: Threads + Wait + Sync>(
     room: usize,
     script: DrillScript,
 ) -> Result<Book, DriveError>
-    requires start { start ≤ 2 ^ 60 }
+    requires start { start ≤ LAST_MOMENT }
     requires workers { (0 < workers) × (workers ≤ 64) }
-    requires few { length script.moments.items ≤ 67108864 }
+    requires few { length script.moments.items ≤ MAX_INPUT_BYTES }
     ensures drill { IfOk result (λ book. IsDrill (drill_script script) start workers room
         (entries_of book) (refused_of book)) }
     ensures setup { IfOk result (λ book. (sched_of book).setup ≡ script.setup) }
@@ -151,7 +152,7 @@ fn write_book<W: Write>(alloc: Global, book: &Book, writer: &mut W) -> Result<Ou
 }
 
 /// Writes the line of each entry of a history, in order, and then the total: how many entries there
-/// are, and how many calls were refused for want of memory. One buffer serves all lines. Nothing is
+/// are, and how many calls were refused when out of memory. One buffer serves all lines. Nothing is
 /// flushed.
 ///
 /// An Err is `Write` or `Memory`. A front of the text was written then.

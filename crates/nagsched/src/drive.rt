@@ -1,5 +1,5 @@
 //! A run: reads an input, makes its calls on one scheduler, and writes the lines of the replies.
-ghost use Rattle.std.specs.Prelude.{◌≡◌, ◌≤◌, ◌^◌, IfOk, IfErr, IfSome, OnOk, OnErr, ◌≢◌};
+ghost use Rattle.std.specs.Prelude.{◌≡◌, ◌≤◌, IfOk, IfErr, IfSome, OnOk, OnErr, ◌≢◌};
 ghost use Rattle.std.specs.Io.KnownBytes.{Appends};
 ghost use Rattle.check_sched.specs.State.{opening};
 ghost use Rattle.check_sched.specs.Step.{step};
@@ -7,13 +7,13 @@ ghost use Rattle.check_text.specs.Output.{WroteFront};
 ghost use Rattle.check_text.specs.Text.{text, text_from, line_from};
 ghost use Rattle.nagsched.specs.Drive.{outcome_of, HasRead, AfterFault, IsRunOnInput};
 
-use check_sched::{Call, Sched};
+use check_sched::{Call, LAST_MOMENT, Sched};
 use check_script::{DriveError, Script, ScriptError, read_input};
 use check_text::{flush, push_reply, write_refusal, write_text};
 use std::alloc::Global;
 use std::io::{Read, Write};
 
-/// How a run ended that met no fault and no want of memory.
+/// How a run ended that met no fault and wasn't out of memory.
 #[derive(Clone, Copy, Debug, PartialEq, Eq)]
 pub enum Outcome {
     /// Each call of the script was made, and the line of each reply written.
@@ -35,7 +35,7 @@ pub fn drive<R: Read, W: Write>(
     reader: &mut R,
     writer: &mut W,
 ) -> Result<Outcome, DriveError>
-    requires { start ≤ 2 ^ 60 }
+    requires { start ≤ LAST_MOMENT }
     ensures written { OnOk result (IfSome (R.remaining reader.old) (λ input.
         Appends (W.contents writer.old) (W.contents writer.new) (text start input))) }
     ensures outcome { IfOk result (λ outcome.
@@ -62,7 +62,7 @@ fn answer<W: Write>(
     input: &[u8],
     writer: &mut W,
 ) -> Result<Outcome, DriveError>
-    requires { start ≤ 2 ^ 60 }
+    requires { start ≤ LAST_MOMENT }
     ensures written { OnOk result
         (Appends (W.contents writer.old) (W.contents writer.new) (text start input.now)) }
     ensures outcome { IfOk result (λ outcome. outcome ≡ outcome_of input.now) }
@@ -87,7 +87,7 @@ fn run<W: Write>(
     script: Script<Call>,
     writer: &mut W,
 ) -> Result<Outcome, DriveError>
-    requires { start ≤ 2 ^ 60 }
+    requires { start ≤ LAST_MOMENT }
     ensures written { OnOk result (Appends (W.contents writer.old) (W.contents writer.new)
         (text_from (opening script.setup start) script.commands.items)) }
     ensures outcome { IfOk result (λ outcome. outcome ≡ Outcome.Ran) }

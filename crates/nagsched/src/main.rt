@@ -1,3 +1,4 @@
+#![tactic(auto)]
 //! The program `nagsched`: reads a setup and a script of calls from standard input, makes the calls
 //! on one scheduler, and writes the line of each reply to standard output.
 //!
@@ -5,7 +6,6 @@
 //! `drive` is a run: an input is read by `check_script`, its calls are made on one scheduler, and the
 //! lines are made and written by `check_text`. `drill` lets workers work on an input, with the plugin
 //! of `scripted`, and writes what came of it.
-#![tactic(auto)]
 
 ghost use Rattle.std.specs.Prelude.{◌≡◌, IfOk, map, string_bytes};
 ghost use Rattle.clap.specs.Walk.{texts};

@@ -18,7 +18,7 @@ use std::io::{Read, Write};
 use std::sync::Wait;
 use std::thread::Threads;
 
-/// How a session ended that met no fault and no want of memory.
+/// How a session ended that met no fault and wasn't out of memory.
 #[derive(Clone, Copy, Debug, PartialEq, Eq)]
 pub enum Ending {
     /// The words were accepted, and the input was run or refused.
@@ -78,8 +78,8 @@ fn serve<H: Threads + Wait + Sync, R: Read, W: Write>(
     }
 }
 
-/// Tells words that ask for no job their help, or that they are refused. Where memory was wanted it
-/// writes nothing.
+/// Tells words that ask for no job their help, or that they are refused. Out of memory it writes
+/// nothing.
 fn tell_words<W: Write>(error: WordsError, writer: &mut W) -> Result<Ending, DriveError>
     ensures { Tells error result (W.contents writer.old) (W.contents writer.new) }
 {
@@ -120,7 +120,7 @@ fn tell<W: Write>(writer: &mut W, text: &[u8]) -> Result<(), DriveError>
 }
 
 /// The exit status of a session: 0 ran or told its help, 1 input refused, 2 words refused, 3 a fault
-/// of the reader or the writer, 4 want of memory, or a thread that couldn't be had.
+/// of the reader or the writer, 4 out of memory, or a thread that couldn't be had.
 pub fn exit_status(ended: Result<Ending, DriveError>) -> u8
     ensures { result ≡ exit_status ended }
 {

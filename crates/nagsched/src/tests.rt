@@ -26,6 +26,18 @@ use std::test::Fail;
 const HOST: &str =
     "{\"options\":{\"host_inter_check_delay_method\":\"n\"},\"hosts\":[{\"name\":\"h\",\"max_check_attempts\":3}]}";
 
+/// The setup of a small office network, which both examples have.
+const OFFICE: &str =
+    "{\"options\":{\"host_inter_check_delay_method\":\"n\",\"service_inter_check_delay_method\":\"n\"},\"hosts\":[\
+{\"name\":\"gateway\",\"max_check_attempts\":3},\
+{\"name\":\"file-server\",\"parents\":[\"gateway\"],\"max_check_attempts\":3},\
+{\"name\":\"mail-server\",\"parents\":[\"gateway\"],\"max_check_attempts\":3},\
+{\"name\":\"printer-2nd-floor\",\"parents\":[\"gateway\"],\"check_interval\":10,\"max_check_attempts\":2},\
+{\"name\":\"old-scanner\",\"parents\":[\"gateway\"],\"max_check_attempts\":1,\"enabled\":false}],\
+\"services\":[{\"host\":\"mail-server\",\"description\":\"smtp\",\"max_check_attempts\":3},\
+{\"host\":\"file-server\",\"description\":\"disk\",\"max_check_attempts\":3},\
+{\"host\":\"printer-2nd-floor\",\"description\":\"toner\",\"check_interval\":60,\"max_check_attempts\":1}]}";
+
 /// What a run on the input writes, from the start 0, and how it ends.
 fn run_on(alloc: Global, input: &[u8]) -> Result<(Vec<u8>, Outcome), Fail> {
     let mut reader = input;

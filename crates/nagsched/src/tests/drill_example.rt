@@ -1,21 +1,12 @@
 //! The drill of `examples/drill.txt`, with the output of `examples/drill.out`: one worker checks the
 //! office network at every moment of the script.
 
+use super::OFFICE;
 use crate::drill::drill;
 use crate::drive::Outcome;
 use std::test::Fail;
 
-const INPUT: &str =
-    "{\"options\":{\"host_inter_check_delay_method\":\"n\",\"service_inter_check_delay_method\":\"n\"},\"hosts\":[\
-{\"name\":\"gateway\",\"max_check_attempts\":3},\
-{\"name\":\"file-server\",\"parents\":[\"gateway\"],\"max_check_attempts\":3},\
-{\"name\":\"mail-server\",\"parents\":[\"gateway\"],\"max_check_attempts\":3},\
-{\"name\":\"printer-2nd-floor\",\"parents\":[\"gateway\"],\"check_interval\":10,\"max_check_attempts\":2},\
-{\"name\":\"old-scanner\",\"parents\":[\"gateway\"],\"max_check_attempts\":1,\"enabled\":false}],\
-\"services\":[{\"host\":\"mail-server\",\"description\":\"smtp\",\"max_check_attempts\":3},\
-{\"host\":\"file-server\",\"description\":\"disk\",\"max_check_attempts\":3},\
-{\"host\":\"printer-2nd-floor\",\"description\":\"toner\",\"check_interval\":60,\"max_check_attempts\":1}]}
-[\"plugin\",\"gateway\",0,2]
+const LINES: &str = "[\"plugin\",\"gateway\",0,2]
 [\"plugin\",\"file-server\",2,2,0,2]
 [\"plugin\",\"file-server;disk\",1]
 [\"plugin\",\"mail-server;smtp\",0,2]
@@ -90,7 +81,8 @@ total 37 0
 #[test]
 fn drills_the_office(rt: HostRuntime) -> Result<(), Fail> {
     let alloc = rt.alloc();
-    let mut reader = INPUT.as_bytes();
+    let input = format!(in alloc; "{OFFICE}\n{LINES}")?;
+    let mut reader = input.as_bytes();
     let mut written = Vec::new(alloc);
     let outcome = drill(&rt, alloc, 0, 1, 1_000, &mut reader, &mut written);
     assert_eq!(rt; outcome, Ok(Outcome::Ran));

@@ -1,21 +1,11 @@
 //! The small office network of `examples/office.txt`, with the output of `examples/office.out`: its
 //! gateway goes down and comes back, and its mail service goes down and stays so.
 
-use super::run_on;
+use super::{OFFICE, run_script};
 use crate::drive::Outcome;
 use std::test::Fail;
 
-const INPUT: &str =
-    "{\"options\":{\"host_inter_check_delay_method\":\"n\",\"service_inter_check_delay_method\":\"n\"},\"hosts\":[\
-{\"name\":\"gateway\",\"max_check_attempts\":3},\
-{\"name\":\"file-server\",\"parents\":[\"gateway\"],\"max_check_attempts\":3},\
-{\"name\":\"mail-server\",\"parents\":[\"gateway\"],\"max_check_attempts\":3},\
-{\"name\":\"printer-2nd-floor\",\"parents\":[\"gateway\"],\"check_interval\":10,\"max_check_attempts\":2},\
-{\"name\":\"old-scanner\",\"parents\":[\"gateway\"],\"max_check_attempts\":1,\"enabled\":false}],\
-\"services\":[{\"host\":\"mail-server\",\"description\":\"smtp\",\"max_check_attempts\":3},\
-{\"host\":\"file-server\",\"description\":\"disk\",\"max_check_attempts\":3},\
-{\"host\":\"printer-2nd-floor\",\"description\":\"toner\",\"check_interval\":60,\"max_check_attempts\":1}]}
-[\"take\",0]
+const LINES: &str = "[\"take\",0]
 [\"take\",0]
 [\"report\",\"gateway\",2,2]
 [\"report\",\"file-server\",1,2]
@@ -73,7 +63,7 @@ idle 300000
 
 #[test]
 fn runs_the_office(rt: HostRuntime) -> Result<(), Fail> {
-    let (written, outcome) = run_on(rt.alloc(), INPUT.as_bytes())?;
+    let (written, outcome) = run_script(rt.alloc(), OFFICE, LINES)?;
     assert!(rt; written.as_slice() == OUTPUT.as_bytes());
     assert_eq!(rt; outcome, Outcome::Ran);
     Ok(())

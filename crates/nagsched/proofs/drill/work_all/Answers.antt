@@ -20,10 +20,12 @@ returns-in-Ok-crew-clause-drill g c =
     let history = entries_of c.in-Ok-crew.book in
     let x = c.in-Ok-crew.ensures.shifts in
     let opened : opened_with desk ≡ book_opening c.args.script.setup c.args.start c.args.room =
-    c.in-Ok-open.ensures.opening ∙ ap (λ s. book_opening s.setup s.start (room_of c.in-Ok.book)) c.in-Ok.ensures.sched ∙ ap (λ r. book_opening c.args.script.setup c.args.start r) c.in-Ok.ensures.room in
+    c.in-Ok-open.ensures.opening ∙ ap (λ s. book_opening s.setup s.start (room_of c.in-Ok.book)) c.in-Ok.ensures.sched
+    ∙ ap (λ r. book_opening c.args.script.setup c.args.start r) c.in-Ok.ensures.room in
     let room : (opened_with desk).room ≡ c.args.room = ap (λ s. s.room) opened in
     let are : AreShiftsOf allows script.moments c.args.room history passes x.0 =
-    subst (λ m. AreShiftsOf allows m c.args.room history passes x.0) c.deref.ensures.value (subst (λ r. AreShiftsOf allows c.deref.result.now r history passes x.0) room x.1) in
+    subst (λ m. AreShiftsOf allows m c.args.room history passes x.0) c.deref.ensures.value
+    (subst (λ r. AreShiftsOf allows c.deref.result.now r history passes x.0) room x.1) in
     let whole : opening_of c.in-Ok-crew.book ≡ book_opening c.args.script.setup c.args.start c.args.room = c.in-Ok-crew.ensures.opening ∙ opened in
     let legal = book_is_legal (opening c.args.script.setup c.args.start) c.args.room history
     (subst (λ s. IsLegal book_step s history) whole c.in-Ok-crew.ensures.lawful.legal) in

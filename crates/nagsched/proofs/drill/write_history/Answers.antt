@@ -16,4 +16,5 @@ returns-in_err-write_entry-clause-fault g c =
 
 pub returns-clause-fault : goal.returns-clause-fault
 returns-clause-fault g c =
-    on_err_weaker _ (λ f. WroteUpTo-cut _ _ _ _ _ _ _ c.loop-entry.invariant (entries_end c.args.setup.now c.args.entries.now c.loop-entry.entry-index _ (omega arith)) f) c.write_total.ensures.fault
+    on_err_weaker _ (λ f. WroteUpTo-cut _ _ _ _ _ _ _ c.loop-entry.invariant
+    (entries_end c.args.setup.now c.args.entries.now c.loop-entry.entry-index _ (omega arith)) f) c.write_total.ensures.fault
