@@ -84,7 +84,7 @@ returns_own : (done : List Command) (named object : ℕ) (r : List Code) → (na
 returns_own done named object r e =
     let given = filter_map (returns_by object) done in
     ap (λ l. unwrap_or (last_or None l) [])
-        (filter_map-append (returns_by object) done (PluginOf named r ∷ []) ∙ ap (λ b. given ++ cons_option (cond b (Some r) None) []) e)
+    (filter_map-append (returns_by object) done (PluginOf named r ∷ []) ∙ ap (λ b. given ++ cons_option (cond b (Some r) None) []) e)
     ∙ ap (λ o. unwrap_or o []) (last_or-more None given r)
 
 returns_other : (done : List Command) (named object : ℕ) (r : List Code) → (named == object) ≡ false
@@ -92,8 +92,8 @@ returns_other : (done : List Command) (named object : ℕ) (r : List Code) → (
 returns_other done named object r e =
     let given = filter_map (returns_by object) done in
     ap (λ l. unwrap_or (last_or None l) [])
-        (filter_map-append (returns_by object) done (PluginOf named r ∷ [])
-        ∙ ap (λ b. given ++ cons_option (cond b (Some r) None) []) e ∙ append-nil given)
+    (filter_map-append (returns_by object) done (PluginOf named r ∷ [])
+    ∙ ap (λ b. given ++ cons_option (cond b (Some r) None) []) e ∙ append-nil given)
 
 returns_moment : (done : List Command) (now object : ℕ) → returns_of (done ++ MomentAt now ∷ []) object ≡ returns_of done object
 returns_moment done now object =

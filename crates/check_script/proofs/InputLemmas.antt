@@ -40,8 +40,8 @@ lines_first b [] =
 lines_first b (c ∷ cs) =
     let again = lines_first c cs in
     elim (b == 10) as (λ v. (cond v ([] ∷ lines_of (c ∷ cs)) (onto_first b (lines_of (c ∷ cs))))
-        ≡ (cond v [] (b ∷ first_line_of (c ∷ cs)))
-            ∷ lines_of (drop (length (cond v [] (b ∷ first_line_of (c ∷ cs))) + 1) (b ∷ c ∷ cs))) [
+    ≡ (cond v [] (b ∷ first_line_of (c ∷ cs)))
+    ∷ lines_of (drop (length (cond v [] (b ∷ first_line_of (c ∷ cs))) + 1) (b ∷ c ∷ cs))) [
       | true ↦ refl
       | false ↦ ap (onto_first b) again
           ∙ ap (λ k. (b ∷ first_line_of (c ∷ cs)) ∷ lines_of (drop k (b ∷ c ∷ cs))) (suc_first (length (first_line_of (c ∷ cs))))

@@ -45,7 +45,7 @@ commands_numbered meaning n (line ∷ ls) =
     let again = commands_numbered meaning (n + 1) ls in
     elim (is_blank line) as (λ v. commands_at meaning (cond (not v) ((n, line) ∷ numbered_from (n + 1) ls) (numbered_from (n + 1) ls))
     ≡ cond v (commands_from meaning (n + 1) ls)
-        (command_of meaning n line >>= λ first. (commands_from meaning (n + 1) ls >>= λ more. Ok (first ∷ more)))) [
+    (command_of meaning n line >>= λ first. (commands_from meaning (n + 1) ls >>= λ more. Ok (first ∷ more)))) [
       | true ↦ again
       | false ↦ ap (λ r. command_of meaning n line >>= λ first. (r >>= λ more. Ok (first ∷ more))) again
     ]

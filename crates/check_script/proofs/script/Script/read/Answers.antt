@@ -7,5 +7,5 @@ use Rattle.check_script.proofs.script.Script.read.Goals as goal
 pub read_over-requires : goal.read_over-requires
 read_over-requires g c =
     let few : length (lines_of c.new-lines.result.rest.now) ≤ MAX_INPUT_BYTES =
-        rw c.new-lines.ensures.bytes (few_lines _ c.if-input-gt-MAX_INPUT_BYTES.false) in
+    rw c.new-lines.ensures.bytes (few_lines _ c.if-input-gt-MAX_INPUT_BYTES.false) in
     few_left c.new-lines.result c.next.new.self _ _ c.next.ensures.steps few
