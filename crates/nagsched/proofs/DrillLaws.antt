@@ -30,6 +30,7 @@ use Rattle.check_workers.proofs.CrewLemmas.{shift_short}
 use Rattle.check_workers.proofs.ShiftLemmas.{rounds_entries, shift_calls}
 use Rattle.check_workers.proofs.TallyLemmas.{tally_append}
 use Rattle.nagsched.specs.Drill.{AreWorkersOf, IsDrill, IsWorkerOf, gives_scripted, stopped_in}
+use Rattle.check_script.specs.declared.script.TheConstants.{MAX_INPUT_BYTES}
 use Rattle.check_script.specs.DrillScript.{DrillScript}
 
 -- ---- the entries of a shift are all of its own number
