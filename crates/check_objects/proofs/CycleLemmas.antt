@@ -1,10 +1,10 @@
 -- The refusals of cycles: one of dependencies before one of parents.
 use Rattle.std.proofs.Common.{◌≡◌, Bool, true, false, cond, List, Result, Ok, Err, sym, ap, ◌∙◌, refl}
-use Rattle.check_objects.specs.declared.error.LoadError.{LoadError}
-use Rattle.check_objects.specs.declared.error.LoadError.TheVariants as errors
-use Rattle.check_objects.specs.Configuration.{Configuration, Host, masters_of, parents_by_host}
+use Rattle.check_drafts.specs.declared.error.LoadError.{LoadError}
+use Rattle.check_drafts.specs.declared.error.LoadError.TheVariants as errors
+use Rattle.check_numbers.specs.Configuration.{Configuration, Host, masters_of, parents_by_host}
 use Rattle.link_order.specs.Cycles.{has_cycle}
-use Rattle.check_objects.specs.LoadError.{◌>>=◌, Fails}
+use Rattle.check_drafts.specs.LoadError.{◌>>=◌, Fails}
 use Rattle.check_objects.specs.Setup.{no_parent_cycle, without_parent_cycle, without_cycles}
 
 -- an error that one answer has is the other's too, running out of memory aside

@@ -8,22 +8,24 @@ use Rattle.std.proofs.lemmas.Bool.{eqb-true, eq-eqb}
 use Rattle.std.proofs.lemmas.List.Folds.{list_any-append, list_all-append}
 use Rattle.std.proofs.lemmas.List.Sorted.{IsPermutation-map}
 use Rattle.std.proofs.lemmas.Slice.Eq.{bytes_eq-Decides}
-use Rattle.check_objects.specs.Configuration.{Configuration, named_host, named_service, objects_of, object_count, number_of, name_of}
-use Rattle.check_objects.specs.Draft.{Drafts, HostDraft, DependencyDraft}
-use Rattle.check_objects.specs.Verification.{is_faultless, is_known, names_of, full_names}
+use Rattle.check_numbers.specs.Configuration.{Configuration, named_host, named_service, objects_of, object_count, number_of, name_of}
+use Rattle.check_drafts.specs.Draft.{Drafts, HostDraft, DependencyDraft}
+use Rattle.check_documents.specs.Verification.{is_faultless, is_known, full_names}
+use Rattle.check_drafts.specs.Keys.{names_of}
 use Rattle.check_objects.specs.Links.{named_parents, named_dependency, named_dependencies, all_named_dependencies}
-use Rattle.check_objects.specs.Numbering.{number_in, numbered_host, numbered_dependency, all_dependencies, dependencies_among, body_of, object_of}
-use Rattle.check_objects.specs.Numbering.{hosts_in_order, services_in_order, names_in_order, configuration}
+use Rattle.check_numbers.specs.Numbering.{number_in, numbered_host, numbered_dependency, all_dependencies, dependencies_among, body_of, object_of}
+use Rattle.check_numbers.specs.Numbering.{hosts_in_order, services_in_order, names_in_order, configuration}
 use Rattle.std.proofs.lemmas.List.Folds.{list_all-map}
-use Rattle.check_objects.proofs.ListLemmas.{list_any-map}
-use Rattle.check_objects.proofs.BucketLemmas.{bucket, in_buckets, joined_same}
+use Rattle.check_drafts.proofs.ListLemmas.{list_any-map}
+use Rattle.check_numbers.proofs.BucketLemmas.{bucket, in_buckets, joined_same}
 use Rattle.link_order.proofs.TestLemmas.{and_first, and_second, and_both, or_second}
-use Rattle.check_objects.proofs.DependencyLemmas.{list_of_object}
-use Rattle.check_objects.proofs.NameLemmas.{HasNames, found, name_leads_back, all_moved}
-use Rattle.check_objects.proofs.NumberLaws.{hosts_all, services_all}
+use Rattle.check_numbers.proofs.DependencyLemmas.{list_of_object}
+use Rattle.check_numbers.proofs.NameLemmas.{HasNames, found, name_leads_back, all_moved}
+use Rattle.check_objects.proofs.OrderLemmas.{hosts_all, services_all}
 use Rattle.check_objects.proofs.NumberedLemmas.{HostEntry, host_names_are, host_named, known_in_order, full_name_in_order}
-use Rattle.check_objects.proofs.NumberingLemmas.{map_twice}
-use Rattle.check_objects.proofs.SetupLemmas.{faultless, names_of_document, dependents_within}
+use Rattle.check_numbers.proofs.NumberingLemmas.{map_twice}
+use Rattle.check_documents.proofs.FaultlessLemmas.{faultless}
+use Rattle.check_objects.proofs.SetupLemmas.{names_of_document, dependents_within}
 
 -- ---- names of objects
 
@@ -39,7 +41,8 @@ number_or_none c name = unwrap_or (number_of c name) 0
 pub back_to_name : (c : Configuration) (name : List ℕ) → is_object c name ≡ true → name_of c (number_or_none c name) ≡ name
 back_to_name c name known =
     let f = found (λ o. bytes_eq name o.name) (objects_of c) known in
-    ap (λ o. name_of c (unwrap_or o 0)) f.place ∙ ap (λ o. unwrap_or (option_map (λ x. x.name) o) []) f.at ∙ sym ((bytes_eq-Decides name f.item.name).0 f.passes)
+    ap (λ o. name_of c (unwrap_or o 0)) f.place ∙ ap (λ o. unwrap_or (option_map (λ x. x.name) o) []) f.at
+    ∙ sym ((bytes_eq-Decides name f.item.name).0 f.passes)
 
 same_by : (a b : Bool) → (a ≡ true → b ≡ true) → (b ≡ true → a ≡ true) → a ≡ b
 same_by true b f g = sym (f refl)
@@ -51,7 +54,8 @@ pub number_is_name : (c : Configuration) → HasNames c → (name : List ℕ) (n
     → (number_or_none c name == n) ≡ bytes_eq name (name_of c n)
 number_is_name c names name n below known = same_by (number_or_none c name == n) (bytes_eq name (name_of c n))
     (λ e. (bytes_eq-Decides name (name_of c n)).1 (sym (back_to_name c name known) ∙ ap (name_of c) (eqb-true (number_or_none c name) n e)))
-    (λ e. eq-eqb (number_or_none c name) n (ap (number_or_none c) ((bytes_eq-Decides name (name_of c n)).0 e) ∙ ap (λ o. unwrap_or o 0) (name_leads_back c names n below)))
+    (λ e. eq-eqb (number_or_none c name) n (ap (number_or_none c) ((bytes_eq-Decides name (name_of c n)).0 e)
+    ∙ ap (λ o. unwrap_or o 0) (name_leads_back c names n below)))
 
 or_front : (a b : Bool) → a ≡ true → (a || b) ≡ true
 or_front true b h = refl
@@ -72,7 +76,8 @@ service_is_object : (ds : Drafts) → is_faultless ds ≡ Ok tt → (name : List
 service_is_object ds e name known =
     let c = configuration ds in
     let there : list_any (λ o. bytes_eq name o.name) (map named_service c.services) ≡ true =
-    list_any-map (λ o. bytes_eq name o.name) named_service c.services ∙ full_name_in_order ds.services (λ s. object_of s.check) (services_in_order ds.services) (services_all ds e) (names_in_order ds.hosts) name known in
+    list_any-map (λ o. bytes_eq name o.name) named_service c.services
+    ∙ full_name_in_order ds.services (λ s. object_of s.check) (services_in_order ds.services) (services_all ds e) (names_in_order ds.hosts) name known in
     list_any-append (λ o. bytes_eq name o.name) (map named_host c.hosts) (map named_service c.services) ∙ or_second _ _ there
 
 -- both ends of the dependency are objects
@@ -108,7 +113,9 @@ module _ (c : Configuration) where
 
   listed_by : (d : DependencyDraft) (ds : List DependencyDraft) (n : ℕ) (b : Bool) → (number_or_none c d.dependent == n) ≡ b → has_ends c d ≡ true
       → map (named_dependency c n) (dependencies_among (map (numbered_dependency (objects_of c)) ds) n) ≡ filter (λ x. number_or_none c x.dependent == n) ds
-      → map (named_dependency c n) (map (λ x. x.1) (cond b (numbered_dependency (objects_of c) d ∷ filter (λ x. x.0 == n) (map (numbered_dependency (objects_of c)) ds)) (filter (λ x. x.0 == n) (map (numbered_dependency (objects_of c)) ds))))
+      → map (named_dependency c n) (map (λ x. x.1)
+      (cond b (numbered_dependency (objects_of c) d ∷ filter (λ x. x.0 == n) (map (numbered_dependency (objects_of c)) ds))
+      (filter (λ x. x.0 == n) (map (numbered_dependency (objects_of c)) ds))))
       ≡ cond b (d ∷ filter (λ x. number_or_none c x.dependent == n) ds) (filter (λ x. number_or_none c x.dependent == n) ds)
   listed_by d ds n true e h more = let here = there_and_back d n h (eqb-true (number_or_none c d.dependent) n e) in λ i. here i ∷ more i
   listed_by d ds n false e h more = more
@@ -182,4 +189,5 @@ parents_together ds e =
     ∙ ap (λ k. list_all (λ h. list_all k h.parents) ds.hosts) (sym agree) ∙ (faultless ds e).parented) in
     let moved = IsPermutation-map (λ (x : HostEntry). (x.0, x.1.1)) (map (λ h. (h.name, body_of h)) ds.hosts) hs (hosts_all ds e) in
     subst (IsPermutation (map (λ h. (h.name, h.parents)) ds.hosts)) (sym (hosts_named c hs refl hs known))
-    (subst (λ l. IsPermutation l (map (λ x. (x.0, x.1.1)) hs)) (sym (map_twice (λ (x : HostEntry). (x.0, x.1.1)) (λ (h : HostDraft). (h.name, body_of h)) ds.hosts)) moved)
+    (subst (λ l. IsPermutation l (map (λ x. (x.0, x.1.1)) hs)) (sym
+    (map_twice (λ (x : HostEntry). (x.0, x.1.1)) (λ (h : HostDraft). (h.name, body_of h)) ds.hosts)) moved)

@@ -11,18 +11,18 @@ use Rattle.std.proofs.lemmas.List.Sorted.{IsPermutation-map, list_any-IsPermutat
 use Rattle.std.proofs.lemmas.List.Sums.{sum_by-cons}
 use Rattle.std.proofs.lemmas.Option.{slice_get-map}
 use Rattle.std.proofs.lemmas.Slice.Eq.{bytes_eq-Decides}
-use Rattle.check_objects.specs.declared.dependency.Dependency.{Dependency}
-use Rattle.check_objects.specs.declared.object.Object.{Object}
-use Rattle.check_objects.specs.Configuration.{Configuration, Host, Service, Named, named_host, named_service, host_count, number_of, name_of, full_name}
-use Rattle.check_objects.specs.Configuration.{pair_of}
-use Rattle.check_objects.specs.Draft.{HostDraft, ServiceDraft, DependencyDraft}
-use Rattle.check_objects.specs.Verification.{is_known, names_of, key_of, full_names}
-use Rattle.check_objects.specs.Numbering.{number_in, numbered_host, numbered_service, numbered_dependency, dependencies_among, dependency_lists, is_host_name}
-use Rattle.check_objects.proofs.ListLemmas.{list_any-map, position-map, sum_by-map}
-use Rattle.check_objects.proofs.GetterLemmas.{position-front, position-back}
-use Rattle.check_objects.proofs.NumberingLemmas.{map_twice}
+use Rattle.check_drafts.specs.declared.dependency.Dependency.{Dependency}
+use Rattle.check_drafts.specs.declared.object.Object.{Object}
+use Rattle.check_numbers.specs.Configuration.{Configuration, Host, Service, Named, named_host, named_service, host_count, number_of, name_of, pair_of}
+use Rattle.check_drafts.specs.Name.{full_name, is_host_name}
+use Rattle.check_drafts.specs.Draft.{HostDraft, ServiceDraft, DependencyDraft}
+use Rattle.check_documents.specs.Verification.{is_known, full_names}
+use Rattle.check_drafts.specs.Keys.{names_of, key_of}
+use Rattle.check_numbers.specs.Numbering.{number_in, numbered_host, numbered_service, numbered_dependency, dependencies_among, dependency_lists}
+use Rattle.check_drafts.proofs.ListLemmas.{list_any-map, position-map, sum_by-map, position-front, position-back}
+use Rattle.check_numbers.proofs.NumberingLemmas.{map_twice}
 use Rattle.link_order.proofs.TestLemmas.{and_first, and_second}
-use Rattle.check_objects.proofs.NameLemmas.{found, nowhere, no_host_has, name_of_host}
+use Rattle.check_numbers.proofs.NameLemmas.{found, nowhere, no_host_has, name_of_host}
 
 -- what is kept of a host, and of a service
 abbrev pub HostEntry : Type 0
@@ -64,14 +64,17 @@ module _ (c : Configuration) (ns : List (List ℕ)) (hs : List HostEntry) (are :
 
 -- ---- the names of a document among those in order
 
-module _ (hosts : List HostDraft) (body : HostDraft → Object × List (List ℕ)) (hs : List HostEntry) (moved : IsPermutation (map (λ h. (h.name, body h)) hosts) hs) where
+module _ (hosts : List HostDraft) (body : HostDraft → Object × List (List ℕ)) (hs : List HostEntry)
+    (moved : IsPermutation (map (λ h. (h.name, body h)) hosts) hs) where
   -- a name is a host's of the document where it is one's of those in order
   pub known_in_order : (name : List ℕ) → is_known (names_of hosts) name ≡ is_known (map (λ h. h.0) hs) name
   known_in_order name =
       ap (list_any (bytes_eq name)) (map_twice (λ (e : HostEntry). e.0) (λ (h : HostDraft). (h.name, body h)) hosts)
-      ∙ list_any-IsPermutation (bytes_eq name) (map (λ e. e.0) (map (λ h. (h.name, body h)) hosts)) (map (λ e. e.0) hs) (IsPermutation-map (λ (e : HostEntry). e.0) (map (λ h. (h.name, body h)) hosts) hs moved)
+      ∙ list_any-IsPermutation (bytes_eq name) (map (λ e. e.0) (map (λ h. (h.name, body h)) hosts)) (map (λ e. e.0) hs)
+      (IsPermutation-map (λ (e : HostEntry). e.0) (map (λ h. (h.name, body h)) hosts) hs moved)
 
-module _ (services : List ServiceDraft) (body : ServiceDraft → Object) (ss : List ServiceEntry) (moved : IsPermutation (map (λ s. (key_of s, body s)) services) ss) where
+module _ (services : List ServiceDraft) (body : ServiceDraft → Object) (ss : List ServiceEntry)
+    (moved : IsPermutation (map (λ s. (key_of s, body s)) services) ss) where
   -- a full name of the document is one of those in order
   pub full_name_in_order : (ns : List (List ℕ)) (name : List ℕ) → is_known (full_names services) name ≡ true
       → list_any (λ s. bytes_eq name s.name) (map (numbered_service ns) ss) ≡ true
@@ -147,7 +150,8 @@ module _ (c : Configuration) where
   pub host_end : (name : List ℕ) → is_known (map (λ h. h.name) c.hosts) name ≡ true → nat_lt (unwrap_or (number_of c name) 0) (host_count c) ≡ true
   host_end name known =
       let f = found (λ (h : Host). bytes_eq name h.name) c.hosts (sym (list_any-map (bytes_eq name) (λ h. h.name) c.hosts) ∙ known) in
-      let place = position-front (λ o. bytes_eq name o.name) (map named_host c.hosts) (map named_service c.services) f.index (position-map (λ o. bytes_eq name o.name) named_host c.hosts ∙ f.place) in
+      let place = position-front (λ o. bytes_eq name o.name) (map named_host c.hosts) (map named_service c.services) f.index
+      (position-map (λ o. bytes_eq name o.name) named_host c.hosts ∙ f.place) in
       let below = f.below in
       ap (λ o. nat_lt (unwrap_or o 0) (host_count c)) place ∙ grind (arith, nat_tests, below)
 
@@ -158,7 +162,8 @@ module _ (c : Configuration) where
   service_end name key is good known =
       let f = found (λ (s : Service). bytes_eq name s.name) c.services known in
       let no_host : position (λ o. bytes_eq name o.name) (map named_host c.hosts) ≡ None =
-      position-map (λ o. bytes_eq name o.name) named_host c.hosts ∙ nowhere (λ (h : Host). bytes_eq name h.name) c.hosts (no_host_has (λ h. h.name) name key c.hosts is good) in
+      position-map (λ o. bytes_eq name o.name) named_host c.hosts ∙ nowhere (λ (h : Host). bytes_eq name h.name) c.hosts
+      (no_host_has (λ h. h.name) name key c.hosts is good) in
       let place : number_of c name ≡ Some (host_count c + f.index) =
       position-back (λ o. bytes_eq name o.name) (map named_host c.hosts) (map named_service c.services) no_host
       ∙ ap (option_map (λ k. length (map named_host c.hosts) + k)) (position-map (λ o. bytes_eq name o.name) named_service c.services ∙ f.place)

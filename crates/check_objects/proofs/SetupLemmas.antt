@@ -1,8 +1,8 @@
 -- What a document without a fault gives: few objects, links to hosts, and full names in two parts.
-use Rattle.std.proofs.Common.{◌≡◌, ℕ, suc, ◌+◌, ◌<◌, ◌≤◌, ◌==◌, ◌&&◌, ◌||◌, not, Bool, true, false, cond, List, [], ◌∷◌, map, length, Bor, Option, Some}
+use Rattle.std.proofs.Common.{◌≡◌, ℕ, ◌+◌, ◌<◌, ◌≤◌, ◌||◌, Bool, true, false, cond, List, [], ◌∷◌, map, length, Some}
 use Rattle.std.proofs.Common.{None, bytes_eq, refl, sym, ap, subst, ◌∙◌, Result, Ok, Err, inl, inr, arith}
 use Rattle.std.specs.Prelude.{nat_lt, nat_le, unwrap_or, All}
-use Rattle.std.specs.List.{AllByRecursion, list_any, list_all, position, position_or_len, prefix_len}
+use Rattle.std.specs.List.{AllByRecursion, list_any, list_all, position_or_len}
 use Rattle.std.specs.List.Sorted.{IsStrictlySortedBy}
 use Rattle.std.proofs.lemmas.Bool.{cases_lt}
 use Rattle.std.proofs.lemmas.Bool.Decides.{nat_tests}
@@ -10,94 +10,43 @@ use Rattle.std.proofs.lemmas.List.{length-map, length-append, map-append}
 use Rattle.std.proofs.lemmas.List.Elements.{All-from_recursion}
 use Rattle.std.proofs.lemmas.List.Folds.{list_all-append}
 use Rattle.std.proofs.lemmas.Slice.Eq.{bytes_eq-Decides}
-use Rattle.check_objects.specs.declared.place.Part.{Part}
-use Rattle.check_objects.specs.declared.place.Part.TheVariants as part
-use Rattle.check_objects.specs.declared.error.LoadError.{LoadError}
-use Rattle.check_objects.specs.declared.error.LoadError.TheVariants as errors
-use Rattle.check_objects.specs.declared.dependency.Dependency.{Dependency}
-use Rattle.check_objects.specs.declared.options.DelayMethod.{DelayMethod}
-use Rattle.check_objects.specs.declared.options.DelayMethod.TheVariants as method
-use Rattle.check_objects.specs.declared.options.InterleaveFactor.{InterleaveFactor}
-use Rattle.check_objects.specs.declared.options.InterleaveFactor.TheVariants as factor
-use Rattle.check_objects.specs.declared.options.Options.{Options}
-use Rattle.check_objects.specs.declared.object.Object.{Object}
-use Rattle.check_objects.specs.Configuration.{Configuration, Host, IsSetup, IsWithin, IsDelayInRange, IsFactorInRange, is_object_in_range, named_host}
-use Rattle.check_objects.specs.Configuration.{named_service, objects_of, object_count, masters_in, masters_of, parents_by_host, host_count, full_name}
-use Rattle.check_objects.specs.Configuration.{pair_of, IsSameSort}
+use Rattle.check_drafts.specs.declared.place.Part.TheVariants as part
+use Rattle.check_drafts.specs.declared.error.LoadError.{LoadError}
+use Rattle.check_drafts.specs.declared.error.LoadError.TheVariants as errors
+use Rattle.check_drafts.specs.declared.dependency.Dependency.{Dependency}
+use Rattle.check_drafts.specs.declared.options.DelayMethod.{DelayMethod}
+use Rattle.check_drafts.specs.declared.options.DelayMethod.TheVariants as method
+use Rattle.check_drafts.specs.declared.options.InterleaveFactor.{InterleaveFactor}
+use Rattle.check_drafts.specs.declared.options.InterleaveFactor.TheVariants as factor
+use Rattle.check_drafts.specs.declared.options.Options.{Options}
+use Rattle.check_drafts.specs.declared.object.Object.{Object}
+use Rattle.check_numbers.specs.Configuration.{Configuration, Host, IsSetup, IsWithin, IsDelayInRange, IsFactorInRange, is_object_in_range, named_host}
+use Rattle.check_numbers.specs.Configuration.{named_service, objects_of, object_count, masters_in, masters_of, parents_by_host, host_count}
+use Rattle.check_drafts.specs.Name.{full_name, is_host_name, is_name, text_order, pair_order}
+use Rattle.check_numbers.specs.Configuration.{pair_of, IsSameSort}
 use Rattle.link_order.specs.Cycles.{has_cycle, are_within}
-use Rattle.check_objects.specs.Drafted.{texts}
-use Rattle.check_objects.specs.Draft.{Drafts, HostDraft, ServiceDraft, DependencyDraft}
-use Rattle.check_objects.specs.Verification.{is_faultless, few_items, few_dependencies, full_names, known_ends, known_links, is_known, names_of, few_objects}
-use Rattle.check_objects.specs.Verification.{has_few_parents, key_of, good_names, good_host_names, good_descriptions, host_names, first_repeat}
-use Rattle.check_objects.specs.Verification.{no_repeated_services, known_parents, known_hosts, good_ranges, good_host_ranges, good_options, good_service_ranges}
-use Rattle.check_objects.specs.Verification.{is_in_range, is_within, is_delay_in_range, is_factor_in_range, are_options_in_range}
-use Rattle.check_objects.specs.LoadError.{◌>>=◌, refused_at}
-use Rattle.check_objects.specs.Place.{host_at, service_at, item_of_part}
-use Rattle.check_objects.specs.Numbering.{number_in, dependencies_among, numbered_host, numbered_service, hosts_in_order, services_in_order, names_in_order}
-use Rattle.check_objects.specs.Numbering.{numbered, configuration, numbered_dependency, all_dependencies, is_host_name, object_of, body_of}
-use Rattle.check_objects.specs.Name.{is_name, is_name_byte, text_order, pair_order}
+use Rattle.check_drafts.specs.Draft.{Drafts, HostDraft, ServiceDraft, DependencyDraft}
+use Rattle.check_documents.specs.Verification.{is_faultless, few_dependencies, full_names, is_known}
+use Rattle.check_drafts.specs.Keys.{names_of, key_of}
+use Rattle.check_documents.specs.Verification.{host_names}
+use Rattle.check_documents.specs.Verification.{good_ranges, good_host_ranges, good_options, good_service_ranges}
+use Rattle.check_documents.specs.Verification.{is_in_range, is_within, is_delay_in_range, is_factor_in_range, are_options_in_range}
+use Rattle.check_drafts.specs.LoadError.{◌>>=◌}
+use Rattle.check_drafts.specs.Place.{host_at, service_at}
+use Rattle.check_numbers.specs.Numbering.{number_in, dependencies_among, numbered_host, numbered_service, hosts_in_order, services_in_order, names_in_order}
+use Rattle.check_numbers.specs.Numbering.{numbered, configuration, numbered_dependency, all_dependencies, object_of, body_of}
 use Rattle.link_order.proofs.TestLemmas.{both_true, all_weaker}
 use Rattle.std.proofs.lemmas.List.Folds.{list_all-map}
-use Rattle.check_objects.proofs.ListLemmas.{list_any-map}
-use Rattle.check_objects.proofs.NumberLaws.{hosts_all, services_all, hosts_ascend, services_ascend}
-use Rattle.check_objects.proofs.NameLemmas.{HasNames, found, all_moved}
+use Rattle.check_drafts.proofs.ListLemmas.{list_any-map}
+use Rattle.check_objects.proofs.OrderLemmas.{hosts_all, services_all, hosts_ascend, services_ascend}
+use Rattle.check_numbers.proofs.NameLemmas.{HasNames, found, all_moved, parted_name}
 use Rattle.check_objects.proofs.NumberedLemmas.{AreAlike, host_names_are, pairs_are, full_names_are, known_in_order, full_name_in_order, parents_counted}
 use Rattle.check_objects.proofs.NumberedLemmas.{listed_few, host_end, service_end, ends_alike, both_hold, alike_among}
-use Rattle.check_objects.proofs.DependencyLemmas.{dependents_below, masters_below, masters_within_lists, length-dependency_lists, list_of_object}
-use Rattle.std.proofs.lemmas.List.Sorted.{length_permutation}
+use Rattle.check_numbers.proofs.DependencyLemmas.{dependents_below, masters_below, masters_within_lists, length-dependency_lists, list_of_object}
+use Rattle.check_numbers.proofs.NumberLaws.{hosts_counted, services_counted}
+use Rattle.check_documents.proofs.FaultlessLemmas.{IsFaultless, faultless, have_known_ends, first_ok, rest_ok, nowhere, all_by_position}
 
--- ---- nothing was refused
-
-first_ok : {B : Type 0} (a : Result (Unit {0}) LoadError) (f : Unit {0} → Result B LoadError) (y : B) → (a >>= f) ≡ Ok y → a ≡ Ok tt
-first_ok (Ok u) f y e = refl
-first_ok (Err x) f y e = cc
-
-rest_ok : {B : Type 0} (a : Result (Unit {0}) LoadError) (f : Unit {0} → Result B LoadError) (y : B) → (a >>= f) ≡ Ok y → f tt ≡ Ok y
-rest_ok (Ok u) f y e = e
-rest_ok (Err x) f y e = cc
-
-nowhere : (fault : ℕ → LoadError) (o : Option ℕ) → refused_at fault o ≡ Ok tt → o ≡ None
-nowhere fault None e = refl
-nowhere fault (Some i) e = cc
-
-prefix_all_by : {A : Type 0} (p : A → Bool) (x : A) (xs : List A) (b : Bool) → p x ≡ b → (nat_lt (prefix_len p xs) (length xs) ≡ false → list_all p xs ≡ true)
-    → nat_lt (cond b (1 + prefix_len p xs) 0) (suc (length xs)) ≡ false → (b && list_all p xs) ≡ true
-prefix_all_by p x xs true t more e = more (let h : nat_lt (1 + prefix_len p xs) (suc (length xs)) ≡ false = e in grind (arith, nat_tests, h))
-prefix_all_by p x xs false t more e = absurd (let h : nat_lt 0 (suc (length xs)) ≡ false = e in grind (arith, nat_tests, h))
-
-prefix_all : {A : Type 0} (p : A → Bool) (xs : List A) → nat_lt (prefix_len p xs) (length xs) ≡ false → list_all p xs ≡ true
-prefix_all p [] e = refl
-prefix_all p (x ∷ xs) e = prefix_all_by p x xs (p x) refl (prefix_all p xs) e
-
-none_by : (b : Bool) (i : ℕ) → cond b (Some i) None ≡ None → b ≡ false
-none_by true i e = cc
-none_by false i e = refl
-
-twice_not : (b : Bool) → not (not b) ≡ b
-twice_not true = refl
-twice_not false = refl
-
--- where no element fails a test, all pass it
-all_by_position : {A : Type 0} (p : A → Bool) (xs : List A) → position (λ x. not (p x)) xs ≡ None → list_all p xs ≡ true
-all_by_position p xs e =
-    let agree : (λ x. not (not (p x))) ≡ p = λ i x. twice_not (p x) i in
-    ap (λ q. list_all q xs) (sym agree) ∙ prefix_all (λ x. not (not (p x))) xs (none_by _ _ e)
-
--- ---- names and what they don't have
-
-name_byte_parts : (a b c : Bool) → (a && b && c) ≡ true → c ≡ true
-name_byte_parts true true c e = e
-name_byte_parts true false c e = cc
-name_byte_parts false b c e = cc
-
-name_parts : (a b c : Bool) → (a && b && c) ≡ true → c ≡ true
-name_parts a b c e = name_byte_parts a b c e
-
--- a name has no semicolon
-pub name_is_host_name : (name : List ℕ) → is_name name ≡ true → is_host_name name ≡ true
-name_is_host_name name e =
-    all_weaker is_name_byte (λ b. not (b == 59)) (λ b h. name_byte_parts (nat_le 32 b) (not (b == 127)) (not (b == 59)) h) name
-    (name_parts (nat_le 1 (length name)) (nat_le (length name) 255) (list_all is_name_byte name) e)
+-- ---- hosts' names have no semicolon
 
 known_by : (q : List ℕ → Bool) (name other : List ℕ) (names : List (List ℕ)) (b : Bool) → bytes_eq name other ≡ b → q other ≡ true
     → (b || list_any (bytes_eq name) names) ≡ true → (list_any (bytes_eq name) names ≡ true → q name ≡ true) → q name ≡ true
@@ -110,6 +59,15 @@ known_good q name [] g e = cc
 known_good q name (other ∷ names) g e =
     let b = both_true (q other) (list_all q names) g in
     known_by q name other names (bytes_eq name other) refl b.0 e (known_good q name names b.1)
+
+-- the host of every service has a name without a semicolon
+pub parted_from : (ds : Drafts) → IsFaultless ds → list_all (λ s. is_host_name s.host) ds.services ≡ true
+parted_from ds f =
+    let names : list_all is_host_name (names_of ds.hosts) ≡ true =
+    list_all-map is_host_name (λ h. h.name) ds.hosts ∙ all_weaker (λ h. is_name h.name) (λ h. is_host_name h.name)
+    (λ h e. parted_name h.name e) ds.hosts f.named in
+    all_weaker (λ s. is_known (names_of ds.hosts) s.host) (λ s. is_host_name s.host)
+    (λ s e. known_good is_host_name s.host (names_of ds.hosts) names e) ds.services f.known
 
 -- ---- numbers
 
@@ -144,7 +102,8 @@ names_length : (hs : List (List ℕ × (Object × List (List ℕ)))) → length 
 names_length hs = length-map hs (numbered_host (map (λ h. h.0) hs)) ∙ sym (length-map hs (λ h. h.0))
 
 linked_by : (hs : List (List ℕ × (Object × List (List ℕ))))
-    → list_all (λ h. list_all (λ p. nat_lt p (length (map (numbered_host (map (λ x. x.0) hs)) hs))) h.parents) (map (numbered_host (map (λ x. x.0) hs)) hs) ≡ true
+    → list_all (λ h. list_all (λ p. nat_lt p (length (map (numbered_host (map (λ x. x.0) hs)) hs))) h.parents) (map (numbered_host (map (λ x. x.0) hs)) hs)
+    ≡ true
 linked_by [] = refl
 linked_by (x ∷ hs) = hosts_linked (map (λ y. y.0) (x ∷ hs)) _ (names_length (x ∷ hs)) (omega arith) (x ∷ hs)
 
@@ -152,125 +111,10 @@ linked_by (x ∷ hs) = hosts_linked (map (λ y. y.0) (x ∷ hs)) _ (names_length
 pub hosts_are_linked : (ds : Drafts) → list_all (λ h. list_all (λ p. nat_lt p (length (numbered ds).hosts)) h.parents) (numbered ds).hosts ≡ true
 hosts_are_linked ds = linked_by (hosts_in_order ds.hosts)
 
--- ---- a document without a fault
-
--- the dependents and masters of these dependencies have one of these names
-abbrev pub have_known_ends : List (List ℕ) → List DependencyDraft → Bool
-have_known_ends names ds = list_all (λ d. is_known names d.dependent && is_known names d.master) ds
-
--- what the tests say of a document that passed them
-pub record IsFaultless (ds : Drafts) : Type 0 where
-  pub few : length ds.hosts + length ds.services ≤ 4096
-  pub few_parents : has_few_parents ds.hosts ≡ true
-  pub few_dependencies : length ds.service_dependencies + length ds.host_dependencies ≤ 16384
-  pub described : list_all (λ s. is_name s.description) ds.services ≡ true
-  pub named : list_all (λ h. is_name h.name) ds.hosts ≡ true
-  pub parented : list_all (λ h. list_all (is_known (names_of ds.hosts)) h.parents) ds.hosts ≡ true
-  pub known : list_all (λ s. is_known (names_of ds.hosts) s.host) ds.services ≡ true
-  pub service_ends : have_known_ends (full_names ds.services) ds.service_dependencies ≡ true
-  pub host_ends : have_known_ends (names_of ds.hosts) ds.host_dependencies ≡ true
-  pub ranged : good_ranges ds.options ds.hosts ds.services ≡ Ok tt
-
-few_by : (a b : Bool) (n : ℕ) (y : Result (Unit {0}) LoadError) → y ≡ Ok tt → nat_lt 4096 n ≡ a → cond (a || b) (Err errors.TooMany) (Ok tt) ≡ y → n ≤ 4096
-few_by true b n y o e h = cc
-few_by false b n y o e h = grind (arith, nat_tests, e)
-
-few_parents_by : (a b : Bool) (y : Result (Unit {0}) LoadError) → y ≡ Ok tt → cond (a || not b) (Err errors.TooMany) (Ok tt) ≡ y → b ≡ true
-few_parents_by true b y o h = cc
-few_parents_by false true y o h = refl
-few_parents_by false false y o h = cc
-
-few_dependencies_by : (a : Bool) (n : ℕ) (y : Result (Unit {0}) LoadError) → y ≡ Ok tt → nat_lt 16384 n ≡ a
-    → cond a (Err errors.TooMany) (Ok tt) ≡ y → n ≤ 16384
-few_dependencies_by true n y o e h = cc
-few_dependencies_by false n y o e h = grind (arith, nat_tests, e)
-
-names_ok : {A B : Type 0} (r : Result (Unit {0}) LoadError) (x : A) (f : A → Result B LoadError) (y : B) → ((r >>= λ _. Ok x) >>= f) ≡ Ok y → f x ≡ Ok y
-names_ok (Ok u) x f y e = e
-names_ok (Err z) x f y e = cc
-
--- the tests after the names, and those after the repeats
-abbrev pub links_and_limits : Drafts → List (List ℕ) → Result (Unit {0}) LoadError
-links_and_limits ds names = known_links names ds >>= λ _. good_ranges ds.options ds.hosts ds.services
-
-abbrev pub repeats_and_more : Drafts → List (List ℕ) → Result (Unit {0}) LoadError
-repeats_and_more ds names = no_repeated_services ds.services >>= λ _. links_and_limits ds names
-
-abbrev pub both_ends : Drafts → List (List ℕ) → Result (Unit {0}) LoadError
-both_ends ds names =
-    known_ends part.ServiceDependencies (full_names ds.services) ds.service_dependencies >>= λ _. known_ends part.HostDependencies names ds.host_dependencies
-
-ends_ok : (p : Part) (names : List (List ℕ)) (ds : List DependencyDraft) → known_ends p names ds ≡ Ok tt → have_known_ends names ds ≡ true
-ends_ok p names ds e =
-    all_by_position (λ d. is_known names d.dependent && is_known names d.master) ds (nowhere (λ i. errors.UnknownMaster (item_of_part p i)) _ e)
-
-pub faultless : (ds : Drafts) → is_faultless ds ≡ Ok tt → IsFaultless ds
-unfolding is_faultless
-faultless ds e =
-    let names = names_of ds.hosts in
-    let names_and_more = λ (u : Unit {0}). good_names ds.hosts ds.services >>= λ _. (host_names ds.hosts >>= repeats_and_more ds) in
-    let counted : few_items ds ≡ Ok tt = first_ok (few_items ds) names_and_more tt e in
-    let after_counts = rest_ok (few_items ds) names_and_more tt e in
-    let named : good_names ds.hosts ds.services ≡ Ok tt = first_ok (good_names ds.hosts ds.services)
-    (λ _. host_names ds.hosts >>= repeats_and_more ds) tt after_counts in
-    let after_names = rest_ok (good_names ds.hosts ds.services) (λ _. host_names ds.hosts >>= repeats_and_more ds) tt after_counts in
-    let after_repeats = names_ok (refused_at (λ i. errors.Duplicate (host_at i)) (first_repeat bytes_eq names)) names (repeats_and_more ds) tt after_names in
-    let linked = rest_ok (no_repeated_services ds.services) (λ _. links_and_limits ds names) tt after_repeats in
-    let links = first_ok (known_links names ds) (λ _. good_ranges ds.options ds.hosts ds.services) tt linked in
-    let hosted = rest_ok (known_parents names ds.hosts) (λ _. known_hosts names ds.services >>= λ _. both_ends ds names) tt links in
-    let known : known_hosts names ds.services ≡ Ok tt = first_ok (known_hosts names ds.services) (λ _. both_ends ds names) tt hosted in
-    let ended = rest_ok (known_hosts names ds.services) (λ _. both_ends ds names) tt hosted in
-    let services = known_ends part.ServiceDependencies (full_names ds.services) ds.service_dependencies in
-    let hosts = known_ends part.HostDependencies names ds.host_dependencies in
-    let dependencies = λ (u : Unit {0}). few_dependencies ds.service_dependencies ds.host_dependencies in
-    record {
-      few =
-          few_by (nat_lt 4096 (length ds.hosts + length ds.services)) (not (has_few_parents ds.hosts)) (length ds.hosts + length ds.services) (Ok tt) refl refl
-          (first_ok (few_objects ds.hosts ds.services) dependencies tt counted);
-      few_parents =
-          few_parents_by (nat_lt 4096 (length ds.hosts + length ds.services)) (has_few_parents ds.hosts) (Ok tt) refl
-          (first_ok (few_objects ds.hosts ds.services) dependencies tt counted);
-      few_dependencies =
-          few_dependencies_by _ (length ds.service_dependencies + length ds.host_dependencies) (Ok tt) refl refl
-          (rest_ok (few_objects ds.hosts ds.services) dependencies tt counted);
-      described =
-          all_by_position (λ s. is_name s.description) ds.services (nowhere (λ i. errors.BadName (service_at i)) _ (rest_ok (good_host_names ds.hosts) (λ _. good_descriptions ds.services) tt named));
-      named =
-          all_by_position (λ h. is_name h.name) ds.hosts (nowhere (λ i. errors.BadName (host_at i)) _ (first_ok (good_host_names ds.hosts) (λ _. good_descriptions ds.services) tt named));
-      parented =
-          all_by_position (λ h. list_all (is_known names) h.parents) ds.hosts (nowhere (λ i. errors.UnknownHost (host_at i)) _ (first_ok (known_parents names ds.hosts) (λ _. known_hosts names ds.services >>= λ _. both_ends ds names) tt links));
-      known = all_by_position (λ s. is_known names s.host) ds.services (nowhere (λ i. errors.UnknownHost (service_at i)) _ known);
-      service_ends = ends_ok part.ServiceDependencies (full_names ds.services) ds.service_dependencies (first_ok services (λ _. hosts) tt ended);
-      host_ends = ends_ok part.HostDependencies names ds.host_dependencies (rest_ok services (λ _. hosts) tt ended);
-      ranged = rest_ok (known_links names ds) (λ _. good_ranges ds.options ds.hosts ds.services) tt linked;
-    }
-
--- the host of every service has a name without a semicolon
-parted_from : (ds : Drafts) → IsFaultless ds → list_all (λ s. is_host_name s.host) ds.services ≡ true
-parted_from ds f =
-    let names : list_all is_host_name (names_of ds.hosts) ≡ true =
-    list_all-map is_host_name (λ h. h.name) ds.hosts ∙ all_weaker (λ h. is_name h.name) (λ h. is_host_name h.name) (λ h e. name_is_host_name h.name e) ds.hosts f.named in
-    all_weaker (λ s. is_known (names_of ds.hosts) s.host) (λ s. is_host_name s.host) (λ s e. known_good is_host_name s.host (names_of ds.hosts) names e) ds.services f.known
-
-pub parted : (ds : Drafts) → is_faultless ds ≡ Ok tt → list_all (λ e. is_host_name e.0.0) (services_in_order ds.services) ≡ true
-parted ds e =
-    all_moved (λ x. is_host_name x.0.0) (map (λ s. (key_of s, object_of s.check)) ds.services) (services_in_order ds.services) (services_all ds e)
-    (list_all-map (λ x. is_host_name x.0.0) (λ (s : ServiceDraft). (key_of s, object_of s.check)) ds.services ∙ parted_from ds (faultless ds e))
-
--- as many hosts and services in order as in the document
-hosts_counted : (ds : Drafts) → is_faultless ds ≡ Ok tt → length (hosts_in_order ds.hosts) ≡ length ds.hosts
-hosts_counted ds e =
-    length_permutation (map (λ h. (h.name, body_of h)) ds.hosts) (hosts_in_order ds.hosts) (hosts_all ds e)
-    ∙ length-map ds.hosts (λ (h : HostDraft). (h.name, body_of h))
-
-services_counted : (ds : Drafts) → is_faultless ds ≡ Ok tt → length (services_in_order ds.services) ≡ length ds.services
-services_counted ds e =
-    length_permutation (map (λ s. (key_of s, object_of s.check)) ds.services) (services_in_order ds.services) (services_all ds e) ∙ length-map ds.services (λ (s : ServiceDraft). (key_of s, object_of s.check))
-
 pub few_hosts : (ds : Drafts) → is_faultless ds ≡ Ok tt → length (hosts_in_order ds.hosts) ≤ 4096
 few_hosts ds e =
     let f = faultless ds e in
-    omega (arith, f.few, hosts_counted ds e)
+    omega (arith, f.few, hosts_counted ds.hosts)
 
 pub few_host_entries : (ds : Drafts) → is_faultless ds ≡ Ok tt → length (numbered ds).hosts ≤ 4096
 few_host_entries ds e = omega (arith, few_hosts ds e, length-map (hosts_in_order ds.hosts) (numbered_host (names_in_order ds.hosts)))
@@ -341,18 +185,26 @@ pub objects_in_range : (ds : Drafts) → is_faultless ds ≡ Ok tt → good_rang
     → list_all (λ o. is_object_in_range o.object) (objects_of (configuration ds)) ≡ true
 objects_in_range ds faults e =
     let after_options = rest_ok (good_options ds.options) (λ _. good_host_ranges ds.hosts >>= λ _. good_service_ranges ds.services) tt e in
-    let hosts : list_all (λ h. is_in_range h.check) ds.hosts ≡ true = all_by_position (λ h. is_in_range h.check) ds.hosts (nowhere (λ i. errors.Range (host_at i)) _ (first_ok (good_host_ranges ds.hosts) (λ _. good_service_ranges ds.services) tt after_options)) in
-    let services : list_all (λ s. is_in_range s.check) ds.services ≡ true = all_by_position (λ s. is_in_range s.check) ds.services (nowhere (λ i. errors.Range (service_at i)) _ (rest_ok (good_host_ranges ds.hosts) (λ _. good_service_ranges ds.services) tt after_options)) in
+    let hosts : list_all (λ h. is_in_range h.check) ds.hosts ≡ true =
+    all_by_position (λ h. is_in_range h.check) ds.hosts (nowhere (λ i. errors.Range (host_at i)) _
+    (first_ok (good_host_ranges ds.hosts) (λ _. good_service_ranges ds.services) tt after_options)) in
+    let services : list_all (λ s. is_in_range s.check) ds.services ≡ true =
+    all_by_position (λ s. is_in_range s.check) ds.services (nowhere (λ i. errors.Range (service_at i)) _
+    (rest_ok (good_host_ranges ds.hosts) (λ _. good_service_ranges ds.services) tt after_options)) in
     let ns = names_in_order ds.hosts in
     let hosts_placed = all_moved (λ x. is_object_in_range x.1.0) (map (λ h. (h.name, body_of h)) ds.hosts) (hosts_in_order ds.hosts) (hosts_all ds faults)
     (list_all-map (λ x. is_object_in_range x.1.0) (λ (h : HostDraft). (h.name, body_of h)) ds.hosts ∙ hosts) in
-    let services_placed = all_moved (λ x. is_object_in_range x.1) (map (λ s. (key_of s, object_of s.check)) ds.services) (services_in_order ds.services) (services_all ds faults)
+    let services_placed = all_moved (λ x. is_object_in_range x.1) (map (λ s. (key_of s, object_of s.check)) ds.services) (services_in_order ds.services)
+    (services_all ds faults)
     (list_all-map (λ x. is_object_in_range x.1) (λ (s : ServiceDraft). (key_of s, object_of s.check)) ds.services ∙ services) in
     let hosts_numbered : list_all (λ o. is_object_in_range o.object) (map named_host (map (numbered_host ns) (hosts_in_order ds.hosts))) ≡ true =
-    list_all-map (λ o. is_object_in_range o.object) named_host (map (numbered_host ns) (hosts_in_order ds.hosts)) ∙ list_all-map (λ h. is_object_in_range h.object) (numbered_host ns) (hosts_in_order ds.hosts) ∙ hosts_placed in
+    list_all-map (λ o. is_object_in_range o.object) named_host (map (numbered_host ns) (hosts_in_order ds.hosts))
+    ∙ list_all-map (λ h. is_object_in_range h.object) (numbered_host ns) (hosts_in_order ds.hosts) ∙ hosts_placed in
     let services_numbered : list_all (λ o. is_object_in_range o.object) (map named_service (map (numbered_service ns) (services_in_order ds.services))) ≡ true =
-    list_all-map (λ o. is_object_in_range o.object) named_service (map (numbered_service ns) (services_in_order ds.services)) ∙ list_all-map (λ s. is_object_in_range s.object) (numbered_service ns) (services_in_order ds.services) ∙ services_placed in
-    list_all-append (λ o. is_object_in_range o.object) (map named_host (map (numbered_host ns) (hosts_in_order ds.hosts))) (map named_service (map (numbered_service ns) (services_in_order ds.services))) ∙ rw (hosts_numbered, services_numbered) refl
+    list_all-map (λ o. is_object_in_range o.object) named_service (map (numbered_service ns) (services_in_order ds.services))
+    ∙ list_all-map (λ s. is_object_in_range s.object) (numbered_service ns) (services_in_order ds.services) ∙ services_placed in
+    list_all-append (λ o. is_object_in_range o.object) (map named_host (map (numbered_host ns) (hosts_in_order ds.hosts)))
+    (map named_service (map (numbered_service ns) (services_in_order ds.services))) ∙ rw (hosts_numbered, services_numbered) refl
 
 -- ---- dependencies
 
@@ -377,8 +229,8 @@ numbered_few ds e =
     let hs = hosts_in_order ds.hosts in
     let ns = names_in_order ds.hosts in
     let f = faultless ds e in
-    let h = hosts_counted ds e in
-    let s = services_counted ds e in
+    let h = hosts_counted ds.hosts in
+    let s = services_counted ds.services in
     omega (arith, f.few, h, s, length-map hs (numbered_host ns), length-map (services_in_order ds.services) (numbered_service ns))
 
 pub few_numbered : (ds : Drafts) → is_faultless ds ≡ Ok tt → object_count (numbered ds) ≤ 4096
@@ -400,9 +252,9 @@ some_object ds e h =
     let parts = length-append ds.service_dependencies ds.host_dependencies in
     elim (cases_lt 0 (length ds.service_dependencies)) [
       | inl l ↦ let n = some_name (full_names ds.services) ds.service_dependencies f.service_ends l in
-          omega (arith, count, services, n, length-map ds.services (λ s. full_name (key_of s)), services_counted ds e)
+          omega (arith, count, services, n, length-map ds.services (λ s. full_name (key_of s)), services_counted ds.services)
       | inr l ↦ let n = some_name (names_of ds.hosts) ds.host_dependencies f.host_ends (omega (arith, l, h, parts)) in
-          omega (arith, count, hosts, n, length-map ds.hosts (λ h. h.name), hosts_counted ds e)
+          omega (arith, count, hosts, n, length-map ds.hosts (λ h. h.name), hosts_counted ds.hosts)
     ]
 
 -- the dependents are objects
@@ -442,13 +294,17 @@ module _ {L : Type 0} (items : L → List Dependency) (lists : List L) (c : Conf
 
 services_known : (ds : Drafts) → is_faultless ds ≡ Ok tt → list_all (λ e. is_known (names_in_order ds.hosts) e.0.0) (services_in_order ds.services) ≡ true
 services_known ds e =
-    let agree : (λ (s : ServiceDraft). is_known (names_of ds.hosts) s.host) ≡ (λ s. is_known (names_in_order ds.hosts) s.host) = λ i s. known_in_order ds.hosts body_of (hosts_in_order ds.hosts) (hosts_all ds e) s.host i in
-    all_moved (λ x. is_known (names_in_order ds.hosts) x.0.0) (map (λ s. (key_of s, object_of s.check)) ds.services) (services_in_order ds.services) (services_all ds e)
-    (list_all-map (λ x. is_known (names_in_order ds.hosts) x.0.0) (λ (s : ServiceDraft). (key_of s, object_of s.check)) ds.services ∙ ap (λ f. list_all f ds.services) (sym agree) ∙ (faultless ds e).known)
+    let agree : (λ (s : ServiceDraft). is_known (names_of ds.hosts) s.host) ≡ (λ s. is_known (names_in_order ds.hosts) s.host) =
+    λ i s. known_in_order ds.hosts body_of (hosts_in_order ds.hosts) (hosts_all ds e) s.host i in
+    all_moved (λ x. is_known (names_in_order ds.hosts) x.0.0) (map (λ s. (key_of s, object_of s.check)) ds.services) (services_in_order ds.services)
+    (services_all ds e)
+    (list_all-map (λ x. is_known (names_in_order ds.hosts) x.0.0) (λ (s : ServiceDraft). (key_of s, object_of s.check)) ds.services
+    ∙ ap (λ f. list_all f ds.services) (sym agree) ∙ (faultless ds e).known)
 
 named_in_order : (ds : Drafts) → is_faultless ds ≡ Ok tt → list_all (λ x. is_name x.0) (hosts_in_order ds.hosts) ≡ true
 named_in_order ds e =
-    all_moved (λ x. is_name x.0) (map (λ h. (h.name, body_of h)) ds.hosts) (hosts_in_order ds.hosts) (hosts_all ds e) (list_all-map (λ x. is_name x.0) (λ (h : HostDraft). (h.name, body_of h)) ds.hosts ∙ (faultless ds e).named)
+    all_moved (λ x. is_name x.0) (map (λ h. (h.name, body_of h)) ds.hosts) (hosts_in_order ds.hosts) (hosts_all ds e)
+    (list_all-map (λ x. is_name x.0) (λ (h : HostDraft). (h.name, body_of h)) ds.hosts ∙ (faultless ds e).named)
 
 described_in_order : (ds : Drafts) → is_faultless ds ≡ Ok tt → list_all (λ x. is_name x.0.1) (services_in_order ds.services) ≡ true
 described_in_order ds e =
@@ -458,7 +314,7 @@ described_in_order ds e =
 parted_hosts : (ds : Drafts) → is_faultless ds ≡ Ok tt → list_all (λ h. is_host_name h.name) (configuration ds).hosts ≡ true
 parted_hosts ds e =
     list_all-map (λ h. is_host_name h.name) (numbered_host (names_in_order ds.hosts)) (hosts_in_order ds.hosts)
-    ∙ all_weaker (λ x. is_name x.0) (λ x. is_host_name x.0) (λ x h. name_is_host_name x.0 h) (hosts_in_order ds.hosts) (named_in_order ds e)
+    ∙ all_weaker (λ x. is_name x.0) (λ x. is_host_name x.0) (λ x h. parted_name x.0 h) (hosts_in_order ds.hosts) (named_in_order ds e)
 
 -- both ends of every dependency are of one sort
 same_sorts_of : (ds : Drafts) → is_faultless ds ≡ Ok tt
@@ -471,7 +327,8 @@ same_sorts_of ds e =
     let hs = hosts_in_order ds.hosts in
     let ns = names_in_order ds.hosts in
     let services = ends_alike objects (full_names ds.services) n false (λ name known.
-    let at = found (λ (s : ServiceDraft). bytes_eq name (full_name (key_of s))) ds.services (sym (list_any-map (bytes_eq name) (λ s. full_name (key_of s)) ds.services) ∙ known) in
+    let at = found (λ (s : ServiceDraft). bytes_eq name (full_name (key_of s))) ds.services
+    (sym (list_any-map (bytes_eq name) (λ s. full_name (key_of s)) ds.services) ∙ known) in
     service_end c name (key_of at.item) ((bytes_eq-Decides name (full_name (key_of at.item))).0 at.passes) (parted_hosts ds e)
     (full_name_in_order ds.services (λ s. object_of s.check) (services_in_order ds.services) (services_all ds e) ns name known))
     ds.service_dependencies f.service_ends in
@@ -487,11 +344,12 @@ names_of_document ds e =
     let c = configuration ds in
     let hs = hosts_in_order ds.hosts in
     let ns = names_in_order ds.hosts in
-    let some : 0 < length ds.hosts → 0 < length ns = λ x. omega (arith, x, hosts_counted ds e, length-map hs (λ h. h.0)) in
+    let some : 0 < length ds.hosts → 0 < length ns = λ x. omega (arith, x, hosts_counted ds.hosts, length-map hs (λ h. h.0)) in
     record {
       host_names = list_all-map (λ x. is_name x.name) (numbered_host ns) hs ∙ named_in_order ds e;
       full_names =
-          All-from_recursion (λ x. x.name ≡ full_name (pair_of c x)) c.services (full_names_are c ns hs refl (services_in_order ds.services) (services_known ds e));
+          All-from_recursion (λ x. x.name ≡ full_name (pair_of c x)) c.services
+          (full_names_are c ns hs refl (services_in_order ds.services) (services_known ds e));
       hosts_ascend = subst (IsStrictlySortedBy text_order) (sym (host_names_are ns hs)) (hosts_ascend ds e);
       services_ascend =
           subst (IsStrictlySortedBy pair_order) (sym (pairs_are c ns hs refl (services_in_order ds.services) (services_known ds e))) (services_ascend ds e);
@@ -507,8 +365,8 @@ configuration_is_setup ds e acyclic no_parent_cycle =
     let o = good_options_in_range ds.options ds.hosts ds.services f.ranged in
     let hs = hosts_in_order ds.hosts in
     let ns = names_in_order ds.hosts in
-    let h = hosts_counted ds e in
-    let s = services_counted ds e in
+    let h = hosts_counted ds.hosts in
+    let s = services_counted ds.services in
     let names = names_of_document ds e in
     record {
       few = omega (arith, f.few, h, s, length-map hs (numbered_host ns), length-map (services_in_order ds.services) (numbered_service ns));
@@ -550,15 +408,11 @@ configuration_is_setup ds e acyclic no_parent_cycle =
       ranges = objects_in_range ds e f.ranged;
     }
 
--- the names of few hosts are few
-pub few_names : (keys : List (Bor (List ℕ))) (sorted ordered : List (List ℕ × (Object × List (List ℕ)))) → texts keys ≡ map (λ e. e.0) sorted
-    → sorted ≡ ordered → length ordered ≤ 4096 → length keys ≤ 4096
-few_names keys sorted ordered e o h = omega (arith, length-map keys (λ k. k.now), ap length e, length-map sorted (λ x. x.0), ap length o)
-
 -- the links that are kept of hosts are to hosts
 pub parents_within : {L : Type 0} (items : L → List ℕ) (hosts : List Host) (links : List L) → map items links ≡ map (λ h. h.parents) hosts
     → list_all (λ h. list_all (λ p. nat_lt p (length hosts)) h.parents) hosts ≡ true
     → are_within (length links) (map items links) ≡ true
 parents_within items hosts links e linked =
     let n : length links ≡ length hosts = omega (arith, length-map links items, ap length e, length-map hosts (λ h. h.parents)) in
-    ap (λ l. are_within (length links) l) e ∙ list_all-map (λ ls. list_all (λ p. nat_lt p (length links)) ls) (λ h. h.parents) hosts ∙ ap (λ k. list_all (λ h. list_all (λ p. nat_lt p k) h.parents) hosts) n ∙ linked
+    ap (λ l. are_within (length links) l) e ∙ list_all-map (λ ls. list_all (λ p. nat_lt p (length links)) ls) (λ h. h.parents) hosts
+    ∙ ap (λ k. list_all (λ h. list_all (λ p. nat_lt p k) h.parents) hosts) n ∙ linked

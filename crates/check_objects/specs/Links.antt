@@ -1,9 +1,9 @@
 -- The links of a setup with their ends' names in place of numbers.
 use Rattle.std.specs.Prelude.{ℕ, List, map}
 use Rattle.std.specs.List.{flat_map, range_with_len}
-use Rattle.check_objects.specs.declared.dependency.Dependency.{Dependency}
-use Rattle.check_objects.specs.Configuration.{Configuration, Host, name_of, object_count, dependencies_of}
-use Rattle.check_objects.specs.Draft.{DependencyDraft}
+use Rattle.check_drafts.specs.declared.dependency.Dependency.{Dependency}
+use Rattle.check_numbers.specs.Configuration.{Configuration, Host, name_of, object_count, dependencies_of}
+use Rattle.check_drafts.specs.Draft.{DependencyDraft}
 
 -- a host's name, and the names of its parents
 abbrev pub named_parents : Configuration → Host → List ℕ × List (List ℕ)

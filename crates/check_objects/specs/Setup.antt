@@ -1,15 +1,16 @@
--- The setup that a document is, or its first refusal: the tree, its drafts, the tests, the numbers, and that no object depends on itself and no host is its own parent.
+-- The setup that a document is, or its first refusal: the tree, its drafts, the tests, the numbers, and that no
+-- object depends on itself and no host is its own parent.
 use Rattle.std.specs.Prelude.{ℕ, List, length, map, Result, Ok, Err, ok_or, nat_lt, if◌then◌else◌}
 use Rattle.serde_json.specs.Data.{Data}
-use Rattle.check_objects.specs.declared.error.LoadError.{LoadError}
-use Rattle.check_objects.specs.declared.error.LoadError.TheVariants as errors
-use Rattle.check_objects.specs.Configuration.{Configuration, Host, masters_of, parents_by_host}
+use Rattle.check_drafts.specs.declared.error.LoadError.{LoadError}
+use Rattle.check_drafts.specs.declared.error.LoadError.TheVariants as errors
+use Rattle.check_numbers.specs.Configuration.{Configuration, Host, masters_of, parents_by_host}
 use Rattle.link_order.specs.Cycles.{has_cycle}
-use Rattle.check_objects.specs.LoadError.{◌>>=◌}
-use Rattle.check_objects.specs.Tree.{tree_of}
-use Rattle.check_objects.specs.Draft.{drafts_of}
-use Rattle.check_objects.specs.Verification.{is_faultless}
-use Rattle.check_objects.specs.Numbering.{configuration}
+use Rattle.check_drafts.specs.LoadError.{◌>>=◌}
+use Rattle.check_documents.specs.Tree.{tree_of}
+use Rattle.check_documents.specs.Reading.{drafts_of}
+use Rattle.check_documents.specs.Verification.{is_faultless}
+use Rattle.check_numbers.specs.Numbering.{configuration}
 
 -- the setup, unless some object depends on itself through one dependency or more
 abbrev pub without_dependency_cycle : Configuration → Result Configuration LoadError

@@ -2,12 +2,13 @@
 ghost use Rattle.std.specs.Prelude.{◌≡◌, ◌<◌, ℕ, Ok, Some, None, map, bytes_eq, slice_get};
 ghost use Rattle.std.specs.List.{filter};
 ghost use Rattle.std.specs.List.Sorted.{IsPermutation, IsStrictlySortedBy};
-ghost use Rattle.check_objects.specs.Configuration.{Configuration, IsSetup, Service, number_of, name_of, pair_of, object_count, host_count};
-ghost use Rattle.check_objects.specs.Draft.{Drafts};
-ghost use Rattle.check_objects.specs.Verification.{is_faultless, key_of, same_key, names_of, first_repeat};
+ghost use Rattle.check_numbers.specs.Configuration.{Configuration, IsSetup, Service, number_of, name_of, pair_of, object_count, host_count};
+ghost use Rattle.check_drafts.specs.Draft.{Drafts};
+ghost use Rattle.check_documents.specs.Verification.{is_faultless};
+ghost use Rattle.check_drafts.specs.Keys.{key_of, same_key, names_of, first_repeat};
 ghost use Rattle.check_objects.specs.Links.{named_parents, named_dependencies, all_named_dependencies};
-ghost use Rattle.check_objects.specs.Numbering.{all_dependencies, configuration, body_of, object_of, hosts_in_order, services_in_order, smaller_among};
-ghost use Rattle.check_objects.specs.Name.{text_order, pair_order};
+ghost use Rattle.check_numbers.specs.Numbering.{all_dependencies, configuration, body_of, object_of, hosts_in_order, services_in_order, smaller_among};
+ghost use Rattle.check_drafts.specs.Name.{text_order, pair_order};
 
 /// What the order is worth. The hosts in order are all hosts of the document (`hosts`), and where no
 /// name comes twice their names ascend by their bytes (`names_ascend`); the services in order are all

@@ -7,24 +7,15 @@
 //! by its hash.
 #![tactic(auto)]
 
-mod dependency;
-mod dependency_lists;
-mod draft;
-mod error;
 pub mod laws;
-mod numbering;
-mod object;
-mod options;
-mod place;
 mod setup;
 #[cfg(test)]
 mod tests;
-mod tree;
-mod verification;
 
-pub use dependency::{Criteria, Dependency};
-pub use error::LoadError;
-pub use object::Object;
-pub use options::{DelayMethod, InterleaveFactor, Options};
-pub use place::{Part, Place};
+pub use check_drafts::{
+    Criteria, DelayMethod, Dependency, InterleaveFactor, LoadError, MAX_ATTEMPTS,
+    MAX_CONCURRENT_CHECKS, MAX_DELAY, MAX_DEPENDENCIES, MAX_DOCUMENT_BYTES, MAX_FACTOR,
+    MAX_INTERVAL, MAX_INTERVAL_LENGTH, MAX_NAME_BYTES, MAX_OBJECTS, MAX_PARENTS, MAX_SPREAD,
+    Object, Options, Part, Place,
+};
 pub use setup::Setup;

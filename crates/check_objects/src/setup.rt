@@ -1,30 +1,26 @@
 //! The setup: the objects that are checked, with their names and numbers, and their links.
 ghost use Rattle.std.specs.Prelude.{◌≡◌, ◌<◌, ◌≤◌, length, map, Ok, option_map, slice_get, Some, IfSome, IfOk, IsOkUnless, Err, ◌==◌, All, nat_lt, true};
 ghost use Rattle.std.specs.List.{list_all};
-ghost use Rattle.check_objects.specs.Configuration.{object_count, host_count, objects_of, number_of, name_of, host_of, parents_of, dependencies_of, masters_of, IsSetup};
+ghost use Rattle.check_numbers.specs.Configuration.{object_count, host_count, objects_of, number_of, name_of, host_of, parents_of, dependencies_of, masters_of, IsSetup};
 ghost use Rattle.link_order.specs.Orders.{IsOrder};
-ghost use Rattle.check_objects.specs.Numbering.{configuration};
+ghost use Rattle.check_numbers.specs.Numbering.{configuration};
 ghost use Rattle.check_objects.specs.Setup.{setup_of, without_cycles, no_parent_cycle};
-ghost use Rattle.check_objects.specs.Verification.{is_faultless};
-ghost use Rattle.check_objects.specs.Drafted.{HasFewAttempts};
-ghost use Rattle.check_objects.specs.Entries.{host_entry, named};
-ghost use Rattle.check_objects.specs.LoadError.{Gives};
+ghost use Rattle.check_documents.specs.Verification.{is_faultless};
+ghost use Rattle.check_drafts.specs.Drafted.{HasFewAttempts};
+ghost use Rattle.check_numbers.specs.Entries.{host_entry, named};
+ghost use Rattle.check_drafts.specs.LoadError.{Gives};
 
-use crate::dependency::Dependency;
-use crate::dependency_lists::{Dependencies, list_dependencies, order_by_masters};
-use crate::draft::Drafts;
-use crate::error::LoadError;
-use crate::numbering::{Host, Parents, Service, number_objects, object_number};
-use crate::object::Object;
-use crate::options::Options;
-use crate::tree::read_tree;
+use check_documents::{read_drafts, read_tree, verify};
+use check_drafts::{Dependency, Drafts, LoadError, MAX_DOCUMENT_BYTES, Object, Options};
+use check_numbers::{
+    Dependencies, Host, Parents, Service, list_dependencies, number_objects, object_number,
+    order_by_masters,
+};
 use indexmap::IndexMap;
 use link_order::order_by_links;
 use smallvec::SmallVec;
 use std::alloc::Global;
 use std::marker::Model;
-
-const MAX_DOCUMENT_BYTES: usize = 16_777_216;
 
 /// The objects that are checked, with their names and numbers.
 ///
@@ -41,7 +37,7 @@ pub struct Setup {
 }
 
 impl Model for Setup {
-    ghost use Rattle.check_objects.specs.Configuration.{Configuration};
+    ghost use Rattle.check_numbers.specs.Configuration.{Configuration};
 
     ghost Value = { Configuration };
 
@@ -53,7 +49,7 @@ impl Model for Setup {
 }
 
 impl Setup {
-    ghost use Rattle.check_objects.specs.Drafted.{drafts_view};
+    ghost use Rattle.check_drafts.specs.Drafted.{drafts_view};
 
     /// Reads one setup document, in JSON, of at most 16,777,216 bytes.
     ///
@@ -68,8 +64,8 @@ impl Setup {
             return Err(LoadError::TooLong);
         }
         let tree = read_tree(alloc, bytes)?;
-        let drafts = Drafts::read(alloc, &tree)?;
-        drafts.verify(alloc)?;
+        let drafts = read_drafts(alloc, &tree)?;
+        verify(alloc, &drafts)?;
         Setup::of_drafts(alloc, &drafts)
     }
 

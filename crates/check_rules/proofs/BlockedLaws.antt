@@ -4,7 +4,7 @@ use Rattle.std.specs.List.{list_any}
 use Rattle.std.proofs.lemmas.Bool.{cases_lt, or_parts}
 use Rattle.std.proofs.lemmas.List.{length-map}
 use Rattle.std.proofs.Math.ListN.{get_or-map}
-use Rattle.check_objects.specs.declared.dependency.Dependency.{Dependency}
+use Rattle.check_drafts.specs.declared.dependency.Dependency.{Dependency}
 use Rattle.check_objects.specs.Configuration.{Configuration, dependencies_of, masters_in, masters_of, object_count, IsSetup}
 use Rattle.link_order.specs.Cycles.{links_of, deep, any_below, has_cycle}
 use Rattle.check_rules.specs.declared.standing.Standing.{Standing}

@@ -9,7 +9,7 @@ use Rattle.std.proofs.Math.ListN.{set}
 use Rattle.std.proofs.lemmas.Bool.{eqb-true, eq-eqb, ne_eqb, cases_eq}
 use Rattle.std.proofs.lemmas.List.{length-map, get_or-set_same, get_or-set_other, length-set, length-replicate, take_all}
 use Rattle.std.proofs.lemmas.List.Folds.{list_any_more}
-use Rattle.check_objects.specs.declared.dependency.Dependency.{Dependency}
+use Rattle.check_drafts.specs.declared.dependency.Dependency.{Dependency}
 use Rattle.check_objects.specs.Configuration.{Configuration, dependencies_of, masters_in, masters_of, object_count, IsSetup}
 use Rattle.link_order.specs.Cycles.{links_of}
 use Rattle.link_order.specs.Orders.{is_among, follows, IsOrder}

@@ -2,8 +2,8 @@
 use Rattle.std.specs.Prelude.{ℕ, zero, suc, Bool, false, ◌&&◌, ◌||◌, List, slice_get, if◌then◌else◌}
 use Rattle.std.specs.List.{list_any}
 use Rattle.std.specs.Option.{option_map_or}
-use Rattle.check_objects.specs.declared.dependency.Criteria.{Criteria}
-use Rattle.check_objects.specs.declared.dependency.Dependency.{Dependency}
+use Rattle.check_drafts.specs.declared.dependency.Criteria.{Criteria}
+use Rattle.check_drafts.specs.declared.dependency.Dependency.{Dependency}
 use Rattle.check_objects.specs.Configuration.{Configuration, dependencies_of, object_count}
 use Rattle.check_rules.specs.declared.state.State.{State}
 use Rattle.check_rules.specs.declared.state.State.TheVariants as state

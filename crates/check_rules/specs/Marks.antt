@@ -1,7 +1,7 @@
 -- The objects whose dependencies are still to be read.
 use Rattle.std.specs.Prelude.{ℕ, ◌==◌, ◌&&◌, Bool, false, List}
 use Rattle.std.specs.List.{list_any, slice_index_or}
-use Rattle.check_objects.specs.declared.dependency.Dependency.{Dependency}
+use Rattle.check_drafts.specs.declared.dependency.Dependency.{Dependency}
 
 -- whether the object with this number is marked
 abbrev pub is_marked : List Bool → ℕ → Bool

@@ -6,7 +6,7 @@ ghost use Rattle.check_sched.specs.Candidate.{candidates_among, due_among};
 ghost use Rattle.check_sched.specs.Order.{least};
 
 use crate::object_state::ObjectState;
-use check_spread::MAX_OBJECTS;
+use check_objects::MAX_OBJECTS;
 
 /// An object that waits for its check: the time for which it waits, and its number.
 pub(crate) type Candidate = (u64, u32);

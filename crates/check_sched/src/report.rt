@@ -8,9 +8,9 @@ ghost use Rattle.check_sched.specs.State.{IsStandingOf, max_attempts_of, standin
 ghost use Rattle.check_sched.specs.Report.{interval_after, judged, next_after};
 ghost use Rattle.check_sched.specs.Report.{milliseconds, put_off_until, time_after};
 
-use check_objects::{Object, Setup};
+use check_objects::{MAX_INTERVAL, MAX_INTERVAL_LENGTH, Object, Setup};
 use check_rules::{Code, Standing, host_state, service_state, verdict};
-use check_spread::{LAST_MOMENT, LAST_TIME, MAX_INTERVAL, MAX_INTERVAL_LENGTH};
+use check_spread::{LAST_MOMENT, LAST_TIME};
 
 /// The standing of the object with this number after its check returned this code, beside the
 /// standings of all objects, by number.

@@ -7,11 +7,11 @@ use Rattle.std.proofs.lemmas.Bool.Decides.{nat_tests}
 use Rattle.std.proofs.lemmas.List.{take_more, length-map, map-append, get_or-map, get_or-take, get_or-drop, length-take, length-drop}
 use Rattle.std.proofs.Math.Seq.{take-append_seam, drop-append_seam}
 use Rattle.std.proofs.lemmas.List.FromFn.{length-enumerate_from, get_or-enumerate_from}
-use Rattle.check_objects.specs.declared.object.Object.{Object}
+use Rattle.check_drafts.specs.declared.object.Object.{Object}
 use Rattle.check_objects.specs.Configuration.{Configuration, Named, Host, Service, named_host, named_service, objects_of, object_count, is_object_in_range}
 use Rattle.check_objects.specs.Configuration.{IsSetup}
 use Rattle.link_order.proofs.TestLemmas.{and_first, and_second}
-use Rattle.check_spread.specs.declared.limits.TheConstants.{MAX_INTERVAL}
+use Rattle.check_drafts.specs.declared.limits.TheConstants.{MAX_INTERVAL}
 use Rattle.check_spread.specs.declared.spread.Scheduled.{Scheduled}
 use Rattle.check_spread.specs.declared.spread.Spread.{Spread}
 use Rattle.check_spread.specs.Spread.{all_objects, host_objects, service_objects, first_time, first_times}

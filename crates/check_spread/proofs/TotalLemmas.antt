@@ -1,6 +1,6 @@
 -- The sum of the intervals of those that are scheduled, object by object.
 use Rattle.std.proofs.Common.{◌≡◌, ℕ, ◌*◌, ◌≤◌, List, take, filter, sum_by}
-use Rattle.check_objects.specs.declared.object.Object.{Object}
+use Rattle.check_drafts.specs.declared.object.Object.{Object}
 use Rattle.check_spread.specs.Spread.{is_scheduled, interval_of}
 
 -- the sum over the first n objects; an interval is at most 525,600 units of a day

@@ -9,7 +9,7 @@ use Rattle.std.proofs.lemmas.Bool.Decides.{nat_tests}
 use Rattle.std.proofs.lemmas.List.{get_or-set_same, get_or-set_other, length-set, get_or-replicate, length-replicate, take_more, take_all}
 use Rattle.std.proofs.Math.ListN.{set}
 use Rattle.std.proofs.lemmas.List.Sums.{sum_by-cons, sum_by_push}
-use Rattle.check_objects.specs.declared.object.Object.{Object}
+use Rattle.check_drafts.specs.declared.object.Object.{Object}
 use Rattle.check_spread.specs.Spread.{is_scheduled}
 use Rattle.check_spread.specs.Visits.{visits, count_at, HasCounts, has_remainder, has_remainder_before, has_less_remainder, is_visited_earlier, sums_before}
 

@@ -1,8 +1,9 @@
 -- The limits within which the times of first checks are computed.
 use Rattle.std.specs.Prelude.{◌<◌, ◌≤◌, ◌*◌}
-use Rattle.check_objects.specs.declared.options.DelayMethod.{DelayMethod}
-use Rattle.check_objects.specs.declared.options.DelayMethod.TheVariants as method
-use Rattle.check_spread.specs.declared.limits.TheConstants.{LAST_MOMENT, MAX_DELAY, MAX_INTERVAL_LENGTH, MAX_SPREAD, MINUTE}
+use Rattle.check_drafts.specs.declared.options.DelayMethod.{DelayMethod}
+use Rattle.check_drafts.specs.declared.options.DelayMethod.TheVariants as method
+use Rattle.check_drafts.specs.declared.limits.TheConstants.{MAX_DELAY, MAX_INTERVAL_LENGTH, MAX_SPREAD}
+use Rattle.check_spread.specs.declared.limits.TheConstants.{LAST_MOMENT, MINUTE}
 use Rattle.check_spread.specs.declared.spread.Spread.{Spread}
 
 -- a fixed delay is at most a day

@@ -3,11 +3,11 @@ use Rattle.std.specs.Prelude.{ℕ, ◌+◌, ◌*◌, ◌/◌, ◌%◌, ◌==◌,
 use Rattle.std.specs.Prelude.{Some, None, if◌then◌else◌}
 use Rattle.std.specs.Int.{div_ceil}
 use Rattle.std.specs.List.{enumerate_from}
-use Rattle.check_objects.specs.declared.object.Object.{Object}
-use Rattle.check_objects.specs.declared.options.DelayMethod.{DelayMethod}
-use Rattle.check_objects.specs.declared.options.DelayMethod.TheVariants as method
-use Rattle.check_objects.specs.declared.options.InterleaveFactor.{InterleaveFactor}
-use Rattle.check_objects.specs.declared.options.InterleaveFactor.TheVariants as interleave
+use Rattle.check_drafts.specs.declared.object.Object.{Object}
+use Rattle.check_drafts.specs.declared.options.DelayMethod.{DelayMethod}
+use Rattle.check_drafts.specs.declared.options.DelayMethod.TheVariants as method
+use Rattle.check_drafts.specs.declared.options.InterleaveFactor.{InterleaveFactor}
+use Rattle.check_drafts.specs.declared.options.InterleaveFactor.TheVariants as interleave
 use Rattle.check_objects.specs.Configuration.{Configuration}
 use Rattle.check_spread.specs.declared.limits.TheConstants.{MINUTE}
 use Rattle.check_spread.specs.declared.spread.Spread.{Spread}

@@ -1,7 +1,7 @@
 -- Counts of the objects that are visited, as the code keeps them.
 use Rattle.std.specs.Prelude.{◌≡◌, ℕ, ◌+◌, ◌%◌, ◌<◌, ◌==◌, ◌&&◌, Bool, List, [], ◌∷◌, length, count_by, nat_lt}
 use Rattle.std.specs.List.{enumerate_from, slice_index_or}
-use Rattle.check_objects.specs.declared.object.Object.{Object}
+use Rattle.check_drafts.specs.declared.object.Object.{Object}
 use Rattle.check_spread.specs.Spread.{is_scheduled, is_visited_before}
 
 -- how many scheduled objects stand at positions that pass the test, where the first of the list is at this one

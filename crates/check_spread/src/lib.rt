@@ -16,5 +16,5 @@ mod tests;
 mod times;
 mod visits;
 
-pub use limits::{LAST_MOMENT, LAST_TIME, MAX_INTERVAL, MAX_INTERVAL_LENGTH, MAX_OBJECTS};
+pub use limits::{LAST_MOMENT, LAST_TIME};
 pub use times::initial_times;

@@ -6,10 +6,10 @@ ghost use Rattle.check_spread.specs.Spread.{all_objects, factor_by, first_times,
 ghost use Rattle.check_spread.specs.Spread.{host_spread, service_spread};
 ghost use Rattle.check_spread.specs.Limits.{IsInLimits};
 
-use crate::limits::{LAST_MOMENT, LAST_TIME, MAX_INTERVAL, MAX_OBJECTS, MINUTE};
+use crate::limits::{LAST_MOMENT, LAST_TIME, MINUTE};
 use crate::spread::{Scheduled, Spread, is_scheduled};
 use crate::visits::first_ranks;
-use check_objects::{InterleaveFactor, Object, Setup};
+use check_objects::{InterleaveFactor, MAX_INTERVAL, MAX_OBJECTS, Object, Setup};
 use std::alloc::{AllocError, Global};
 
 /// The time of the first check of each object of the setup, by number, in milliseconds, where

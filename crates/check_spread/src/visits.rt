@@ -7,9 +7,8 @@
 ghost use Rattle.std.specs.Prelude.{◌≡◌, ◌<◌, ◌≤◌, IfOk, length, sum};
 ghost use Rattle.check_spread.specs.Visits.{has_less_remainder, has_remainder, sums_before, HasCounts};
 
-use crate::limits::MAX_OBJECTS;
 use crate::spread::is_scheduled;
-use check_objects::Object;
+use check_objects::{MAX_OBJECTS, Object};
 use std::alloc::{AllocError, Global};
 
 /// For each remainder by the factor the rank of the first scheduled object that has it.

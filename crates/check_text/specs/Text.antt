@@ -4,11 +4,11 @@ use Rattle.std.specs.Prelude.{ℕ, Bool, true, false, if◌then◌else◌, List,
 use Rattle.std.specs.List.{zip}
 use Rattle.ticket_steps.specs.declared.kept.Entry.{Entry}
 use Rattle.check_objects.specs.Configuration.{Configuration, name_of}
-use Rattle.check_objects.specs.declared.error.LoadError.{LoadError}
-use Rattle.check_objects.specs.declared.error.LoadError.TheVariants as load
-use Rattle.check_objects.specs.declared.place.Place.{Place}
-use Rattle.check_objects.specs.declared.place.Part.{Part}
-use Rattle.check_objects.specs.declared.place.Part.TheVariants as part
+use Rattle.check_drafts.specs.declared.error.LoadError.{LoadError}
+use Rattle.check_drafts.specs.declared.error.LoadError.TheVariants as load
+use Rattle.check_drafts.specs.declared.place.Place.{Place}
+use Rattle.check_drafts.specs.declared.place.Part.{Part}
+use Rattle.check_drafts.specs.declared.place.Part.TheVariants as part
 use Rattle.check_rules.specs.declared.standing.Kind.{Kind}
 use Rattle.check_rules.specs.declared.standing.Kind.TheVariants as kind
 use Rattle.check_rules.specs.declared.standing.Standing.{Standing}

@@ -2,9 +2,9 @@ use Rattle.std.proofs.Common.{◌≡◌, sym, ap, ◌∙◌, map, cond, false, O
 use Rattle.std.specs.List.{list_all}
 use Rattle.std.specs.Prelude.{nat_lt}
 use Rattle.std.proofs.lemmas.List.{length-map}
-use Rattle.check_objects.specs.declared.error.LoadError.TheVariants as errors
+use Rattle.check_drafts.specs.declared.error.LoadError.TheVariants as errors
 use Rattle.link_order.specs.Cycles.{has_cycle}
-use Rattle.check_objects.specs.Entries.{host_entry}
+use Rattle.check_numbers.specs.Entries.{host_entry}
 use Rattle.link_order.proofs.ChainLemmas.{order_has_no_cycle}
 use Rattle.check_objects.proofs.SetupLemmas.{parents_within}
 use Rattle.check_objects.proofs.setup.verify_no_parent_cycle.Goals as goal

@@ -4,7 +4,7 @@ use Rattle.std.proofs.Math.Nat.{mod-lt}
 use Rattle.std.proofs.lemmas.Grind.{get_or_default_zero}
 use Rattle.std.proofs.lemmas.List.{take_all}
 use Rattle.std.proofs.lemmas.List.Elements.{All-push}
-use Rattle.check_objects.specs.declared.object.Object.{Object}
+use Rattle.check_drafts.specs.declared.object.Object.{Object}
 use Rattle.check_spread.specs.Spread.{first_times}
 use Rattle.check_spread.specs.declared.limits.TheConstants.{LAST_TIME}
 use Rattle.check_spread.specs.Visits.{is_visited_earlier}

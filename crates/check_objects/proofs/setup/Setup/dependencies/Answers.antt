@@ -1,6 +1,6 @@
 use Rattle.std.proofs.Common.{◌<◌, sym, subst, ◌∙◌, refl}
 use Rattle.std.specs.Prelude.{All}
-use Rattle.check_objects.specs.Configuration.{object_count}
+use Rattle.check_numbers.specs.Configuration.{object_count}
 use Rattle.check_objects.specs.Kept.{configuration_of}
 use Rattle.check_objects.proofs.GetterLemmas.{masters_below, dependencies_at}
 use Rattle.check_objects.proofs.setup.Setup.dependencies.Goals as goal
@@ -9,5 +9,6 @@ pub returns-clause-within : goal.returns-clause-within
 returns-clause-within c =
     let seen = configuration_of c.self.inside in
     let setup = c.self.invariant.setup in
-    let at = c.as_slice.ensures ∙ dependencies_at (λ list. list.items) c.self.inside.dependencies.items seen c.args.number c.index.result.now setup refl (rw (← c.self.view_is) at c.requires) c.index.ensures in
+    let at = c.as_slice.ensures ∙ dependencies_at (λ list. list.items) c.self.inside.dependencies.items seen c.args.number c.index.result.now setup refl
+    (rw (← c.self.view_is) at c.requires) c.index.ensures in
     rw (← c.self.view_is) (subst (All (λ d. d.master < object_count seen)) (sym at) (masters_below seen c.args.number setup))

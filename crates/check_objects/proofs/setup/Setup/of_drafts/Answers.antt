@@ -1,22 +1,24 @@
-use Rattle.std.proofs.Common.{◌≡◌, ◌≤◌, ◌++◌, List, sym, ap, subst, ◌∙◌, length, map, true, false, Ok, arith, rules}
+use Rattle.std.proofs.Common.{◌≡◌, ◌≤◌, ◌++◌, List, sym, ap, subst, ◌∙◌, length, map, true, false, Ok, refl, arith, rules}
 use Rattle.std.proofs.lemmas.List.{length-map}
 use Rattle.std.specs.Prelude.{nat_lt, ℕ}
 use Rattle.std.specs.List.{list_all}
 use Rattle.link_order.specs.Cycles.{has_cycle}
 use Rattle.link_order.specs.Orders.{IsOrder}
 use Rattle.link_order.proofs.ChainLemmas.{order_has_no_cycle}
-use Rattle.check_objects.specs.declared.dependency.Dependency.{Dependency}
-use Rattle.check_objects.specs.Configuration.{Configuration, Host, Service, IsSetup, objects_of, masters_of, masters_in, parents_by_host}
-use Rattle.check_objects.specs.Configuration.{named_host, named_service}
-use Rattle.check_objects.specs.Draft.{Drafts}
-use Rattle.check_objects.specs.Drafted.{drafts_view}
-use Rattle.check_objects.specs.Entries.{host_entry}
-use Rattle.check_objects.specs.Numbering.{configuration, numbered, numbered_dependency, all_dependencies, dependencies_by_number}
+use Rattle.check_drafts.specs.declared.dependency.Dependency.{Dependency}
+use Rattle.check_numbers.specs.Configuration.{Host, Service, IsSetup, objects_of, masters_of, masters_in}
+use Rattle.check_numbers.specs.Configuration.{named_host, named_service}
+use Rattle.check_drafts.specs.Draft.{Drafts}
+use Rattle.check_drafts.specs.declared.draft.HostDraft.{HostDraft}
+use Rattle.check_drafts.specs.Drafted.{drafts_view, host}
+use Rattle.check_documents.proofs.FaultlessLemmas.{faultless, once}
+use Rattle.check_numbers.specs.Entries.{host_entry}
+use Rattle.check_numbers.specs.Numbering.{configuration, numbered, numbered_dependency, all_dependencies, dependencies_by_number}
 use Rattle.check_objects.specs.Setup.{without_cycles}
-use Rattle.check_objects.specs.Verification.{is_faultless}
+use Rattle.check_documents.specs.Verification.{is_faultless}
 use Rattle.check_objects.proofs.CycleLemmas.{fails_later, cyclic_parents, no_cycle_of, acyclic_setup, cyclic_dependencies}
 use Rattle.check_objects.proofs.SetupLemmas.{configuration_is_setup, few_numbered, dependents_within, has_lists, few_lists}
-use Rattle.check_objects.proofs.SetupLemmas.{masters_within, few_host_entries, hosts_are_linked}
+use Rattle.check_objects.proofs.SetupLemmas.{masters_within, few_host_entries, hosts_are_linked, parted_from}
 use Rattle.check_objects.proofs.setup.Setup.of_drafts.Goals as goal
 
 -- ---- what was numbered is what the definitions number
@@ -51,7 +53,23 @@ linked_entries entry entries ds hosts =
     ∙ ap (λ l. list_all (λ h. list_all (λ p. nat_lt p (length l)) h.parents) l) hosts
     ∙ hosts_are_linked ds
 
+few_drafts : (ds : Drafts) (hosts : List HostDraft) → ds.hosts ≡ map host hosts → is_faultless ds ≡ Ok tt → length hosts ≤ 4096
+few_drafts ds hosts same e = omega (arith, (faultless ds e).few, ap length same, length-map hosts host)
+
 -- ---- the answers
+
+pub number_objects-requires-clause-few : goal.number_objects-requires-clause-few
+number_objects-requires-clause-few c = few_drafts (drafts_view c.args.drafts.now) c.args.drafts.now.hosts.items refl c.requires.faultless
+
+pub number_objects-requires-clause-names : goal.number_objects-requires-clause-names
+number_objects-requires-clause-names c = (once (drafts_view c.args.drafts.now) c.requires.faultless).0
+
+pub number_objects-requires-clause-keys : goal.number_objects-requires-clause-keys
+number_objects-requires-clause-keys c = (once (drafts_view c.args.drafts.now) c.requires.faultless).1
+
+pub number_objects-requires-clause-parted : goal.number_objects-requires-clause-parted
+number_objects-requires-clause-parted c =
+    parted_from (drafts_view c.args.drafts.now) (faultless (drafts_view c.args.drafts.now) c.requires.faultless)
 
 pub list_dependencies-requires-clause-few : goal.list_dependencies-requires-clause-few
 list_dependencies-requires-clause-few c =

@@ -1,0 +1,173 @@
+-- What the tests say of drafts that passed them: few objects, names, links to what is there, no key twice.
+use Rattle.std.proofs.Common.{◌≡◌, ℕ, suc, ◌+◌, ◌≤◌, ◌&&◌, ◌||◌, not, Bool, true, false, cond, List, [], ◌∷◌, map, length, Option, Some}
+use Rattle.std.proofs.Common.{None, bytes_eq, refl, sym, ap, ◌∙◌, Result, Ok, Err, arith}
+use Rattle.std.specs.Prelude.{nat_lt}
+use Rattle.std.specs.List.{list_all, position, prefix_len}
+use Rattle.std.proofs.lemmas.Bool.Decides.{nat_tests}
+use Rattle.check_drafts.specs.declared.place.Part.{Part}
+use Rattle.check_drafts.specs.declared.place.Part.TheVariants as part
+use Rattle.check_drafts.specs.declared.error.LoadError.{LoadError}
+use Rattle.check_drafts.specs.declared.error.LoadError.TheVariants as errors
+use Rattle.check_drafts.specs.Draft.{Drafts, DependencyDraft}
+use Rattle.check_drafts.specs.LoadError.{◌>>=◌, refused_at}
+use Rattle.check_drafts.specs.Name.{is_name}
+use Rattle.check_drafts.specs.Place.{host_at, service_at, item_of_part}
+use Rattle.check_documents.specs.Verification.{is_faultless, few_items, few_dependencies, full_names, known_ends, known_links, is_known, few_objects}
+use Rattle.check_drafts.specs.Keys.{names_of, key_of, same_key, first_repeat}
+use Rattle.check_documents.specs.Verification.{has_few_parents, good_names, good_host_names, good_descriptions, host_names}
+use Rattle.check_documents.specs.Verification.{no_repeated_services, known_parents, known_hosts, good_ranges}
+
+-- ---- nothing was refused
+
+pub first_ok : {B : Type 0} (a : Result (Unit {0}) LoadError) (f : Unit {0} → Result B LoadError) (y : B) → (a >>= f) ≡ Ok y → a ≡ Ok tt
+first_ok (Ok u) f y e = refl
+first_ok (Err x) f y e = cc
+
+pub rest_ok : {B : Type 0} (a : Result (Unit {0}) LoadError) (f : Unit {0} → Result B LoadError) (y : B) → (a >>= f) ≡ Ok y → f tt ≡ Ok y
+rest_ok (Ok u) f y e = e
+rest_ok (Err x) f y e = cc
+
+pub nowhere : (fault : ℕ → LoadError) (o : Option ℕ) → refused_at fault o ≡ Ok tt → o ≡ None
+nowhere fault None e = refl
+nowhere fault (Some i) e = cc
+
+prefix_all_by : {A : Type 0} (p : A → Bool) (x : A) (xs : List A) (b : Bool) → p x ≡ b → (nat_lt (prefix_len p xs) (length xs) ≡ false → list_all p xs ≡ true)
+    → nat_lt (cond b (1 + prefix_len p xs) 0) (suc (length xs)) ≡ false → (b && list_all p xs) ≡ true
+prefix_all_by p x xs true t more e = more (let h : nat_lt (1 + prefix_len p xs) (suc (length xs)) ≡ false = e in grind (arith, nat_tests, h))
+prefix_all_by p x xs false t more e = absurd (let h : nat_lt 0 (suc (length xs)) ≡ false = e in grind (arith, nat_tests, h))
+
+prefix_all : {A : Type 0} (p : A → Bool) (xs : List A) → nat_lt (prefix_len p xs) (length xs) ≡ false → list_all p xs ≡ true
+prefix_all p [] e = refl
+prefix_all p (x ∷ xs) e = prefix_all_by p x xs (p x) refl (prefix_all p xs) e
+
+none_by : (b : Bool) (i : ℕ) → cond b (Some i) None ≡ None → b ≡ false
+none_by true i e = cc
+none_by false i e = refl
+
+twice_not : (b : Bool) → not (not b) ≡ b
+twice_not true = refl
+twice_not false = refl
+
+-- where no element fails a test, all pass it
+pub all_by_position : {A : Type 0} (p : A → Bool) (xs : List A) → position (λ x. not (p x)) xs ≡ None → list_all p xs ≡ true
+all_by_position p xs e =
+    let agree : (λ x. not (not (p x))) ≡ p = λ i x. twice_not (p x) i in
+    ap (λ q. list_all q xs) (sym agree) ∙ prefix_all (λ x. not (not (p x))) xs (none_by _ _ e)
+
+-- ---- a document without a fault
+
+-- the dependents and masters of these dependencies have one of these names
+abbrev pub have_known_ends : List (List ℕ) → List DependencyDraft → Bool
+have_known_ends names ds = list_all (λ d. is_known names d.dependent && is_known names d.master) ds
+
+-- what the tests say of a document that passed them
+pub record IsFaultless (ds : Drafts) : Type 0 where
+  pub few : length ds.hosts + length ds.services ≤ 4096
+  pub few_parents : has_few_parents ds.hosts ≡ true
+  pub few_dependencies : length ds.service_dependencies + length ds.host_dependencies ≤ 16384
+  pub described : list_all (λ s. is_name s.description) ds.services ≡ true
+  pub named : list_all (λ h. is_name h.name) ds.hosts ≡ true
+  pub parented : list_all (λ h. list_all (is_known (names_of ds.hosts)) h.parents) ds.hosts ≡ true
+  pub known : list_all (λ s. is_known (names_of ds.hosts) s.host) ds.services ≡ true
+  pub service_ends : have_known_ends (full_names ds.services) ds.service_dependencies ≡ true
+  pub host_ends : have_known_ends (names_of ds.hosts) ds.host_dependencies ≡ true
+  pub ranged : good_ranges ds.options ds.hosts ds.services ≡ Ok tt
+
+few_by : (a b : Bool) (n : ℕ) (y : Result (Unit {0}) LoadError) → y ≡ Ok tt → nat_lt 4096 n ≡ a → cond (a || b) (Err errors.TooMany) (Ok tt) ≡ y → n ≤ 4096
+few_by true b n y o e h = cc
+few_by false b n y o e h = grind (arith, nat_tests, e)
+
+few_parents_by : (a b : Bool) (y : Result (Unit {0}) LoadError) → y ≡ Ok tt → cond (a || not b) (Err errors.TooMany) (Ok tt) ≡ y → b ≡ true
+few_parents_by true b y o h = cc
+few_parents_by false true y o h = refl
+few_parents_by false false y o h = cc
+
+few_dependencies_by : (a : Bool) (n : ℕ) (y : Result (Unit {0}) LoadError) → y ≡ Ok tt → nat_lt 16384 n ≡ a
+    → cond a (Err errors.TooMany) (Ok tt) ≡ y → n ≤ 16384
+few_dependencies_by true n y o e h = cc
+few_dependencies_by false n y o e h = grind (arith, nat_tests, e)
+
+names_ok : {A B : Type 0} (r : Result (Unit {0}) LoadError) (x : A) (f : A → Result B LoadError) (y : B) → ((r >>= λ _. Ok x) >>= f) ≡ Ok y → f x ≡ Ok y
+names_ok (Ok u) x f y e = e
+names_ok (Err z) x f y e = cc
+
+-- the tests after the names, and those after the repeats
+abbrev pub links_and_limits : Drafts → List (List ℕ) → Result (Unit {0}) LoadError
+links_and_limits ds names = known_links names ds >>= λ _. good_ranges ds.options ds.hosts ds.services
+
+abbrev pub repeats_and_more : Drafts → List (List ℕ) → Result (Unit {0}) LoadError
+repeats_and_more ds names = no_repeated_services ds.services >>= λ _. links_and_limits ds names
+
+abbrev pub both_ends : Drafts → List (List ℕ) → Result (Unit {0}) LoadError
+both_ends ds names =
+    known_ends part.ServiceDependencies (full_names ds.services) ds.service_dependencies >>= λ _. known_ends part.HostDependencies names ds.host_dependencies
+
+ends_ok : (p : Part) (names : List (List ℕ)) (ds : List DependencyDraft) → known_ends p names ds ≡ Ok tt → have_known_ends names ds ≡ true
+ends_ok p names ds e =
+    all_by_position (λ d. is_known names d.dependent && is_known names d.master) ds (nowhere (λ i. errors.UnknownMaster (item_of_part p i)) _ e)
+
+pub faultless : (ds : Drafts) → is_faultless ds ≡ Ok tt → IsFaultless ds
+unfolding is_faultless
+faultless ds e =
+    let names = names_of ds.hosts in
+    let names_and_more = λ (u : Unit {0}). good_names ds.hosts ds.services >>= λ _. (host_names ds.hosts >>= repeats_and_more ds) in
+    let counted : few_items ds ≡ Ok tt = first_ok (few_items ds) names_and_more tt e in
+    let after_counts = rest_ok (few_items ds) names_and_more tt e in
+    let named : good_names ds.hosts ds.services ≡ Ok tt = first_ok (good_names ds.hosts ds.services)
+    (λ _. host_names ds.hosts >>= repeats_and_more ds) tt after_counts in
+    let after_names = rest_ok (good_names ds.hosts ds.services) (λ _. host_names ds.hosts >>= repeats_and_more ds) tt after_counts in
+    let after_repeats = names_ok (refused_at (λ i. errors.Duplicate (host_at i)) (first_repeat bytes_eq names)) names (repeats_and_more ds) tt after_names in
+    let linked = rest_ok (no_repeated_services ds.services) (λ _. links_and_limits ds names) tt after_repeats in
+    let links = first_ok (known_links names ds) (λ _. good_ranges ds.options ds.hosts ds.services) tt linked in
+    let hosted = rest_ok (known_parents names ds.hosts) (λ _. known_hosts names ds.services >>= λ _. both_ends ds names) tt links in
+    let known : known_hosts names ds.services ≡ Ok tt = first_ok (known_hosts names ds.services) (λ _. both_ends ds names) tt hosted in
+    let ended = rest_ok (known_hosts names ds.services) (λ _. both_ends ds names) tt hosted in
+    let services = known_ends part.ServiceDependencies (full_names ds.services) ds.service_dependencies in
+    let hosts = known_ends part.HostDependencies names ds.host_dependencies in
+    let dependencies = λ (u : Unit {0}). few_dependencies ds.service_dependencies ds.host_dependencies in
+    record {
+      few =
+          few_by (nat_lt 4096 (length ds.hosts + length ds.services)) (not (has_few_parents ds.hosts)) (length ds.hosts + length ds.services) (Ok tt) refl refl
+          (first_ok (few_objects ds.hosts ds.services) dependencies tt counted);
+      few_parents =
+          few_parents_by (nat_lt 4096 (length ds.hosts + length ds.services)) (has_few_parents ds.hosts) (Ok tt) refl
+          (first_ok (few_objects ds.hosts ds.services) dependencies tt counted);
+      few_dependencies =
+          few_dependencies_by _ (length ds.service_dependencies + length ds.host_dependencies) (Ok tt) refl refl
+          (rest_ok (few_objects ds.hosts ds.services) dependencies tt counted);
+      described =
+          all_by_position (λ s. is_name s.description) ds.services (nowhere (λ i. errors.BadName (service_at i)) _
+          (rest_ok (good_host_names ds.hosts) (λ _. good_descriptions ds.services) tt named));
+      named =
+          all_by_position (λ h. is_name h.name) ds.hosts (nowhere (λ i. errors.BadName (host_at i)) _
+          (first_ok (good_host_names ds.hosts) (λ _. good_descriptions ds.services) tt named));
+      parented =
+          all_by_position (λ h. list_all (is_known names) h.parents) ds.hosts
+          (nowhere (λ i. errors.UnknownHost (host_at i)) _ (first_ok (known_parents names ds.hosts)
+          (λ _. known_hosts names ds.services >>= λ _. both_ends ds names) tt links));
+      known = all_by_position (λ s. is_known names s.host) ds.services (nowhere (λ i. errors.UnknownHost (service_at i)) _ known);
+      service_ends = ends_ok part.ServiceDependencies (full_names ds.services) ds.service_dependencies (first_ok services (λ _. hosts) tt ended);
+      host_ends = ends_ok part.HostDependencies names ds.host_dependencies (rest_ok services (λ _. hosts) tt ended);
+      ranged = rest_ok (known_links names ds) (λ _. good_ranges ds.options ds.hosts ds.services) tt linked;
+    }
+
+-- ---- no key twice
+
+named_once_by : {A B : Type 0} (fault : ℕ → LoadError) (o : Option ℕ) (x : A) (f : A → Result B LoadError) (y : B)
+    → ((refused_at fault o >>= λ _. Ok x) >>= f) ≡ Ok y → (o ≡ None) × (f x ≡ Ok y)
+named_once_by fault None x f y e = (refl, e)
+named_once_by fault (Some i) x f y e = cc
+
+abbrev pub after_names : Drafts → List (List ℕ) → Result (Unit {0}) LoadError
+after_names d names = no_repeated_services d.services >>= λ _. (known_links names d >>= λ _. good_ranges d.options d.hosts d.services)
+
+pub once : (d : Drafts) → is_faultless d ≡ Ok tt → (first_repeat bytes_eq (names_of d.hosts) ≡ None) × (first_repeat same_key (map key_of d.services) ≡ None)
+unfolding is_faultless
+once d e =
+    let after_counts = rest_ok (few_items d) (λ _. good_names d.hosts d.services >>= λ _. (host_names d.hosts >>= after_names d)) tt e in
+    let named = rest_ok (good_names d.hosts d.services) (λ _. host_names d.hosts >>= after_names d) tt after_counts in
+    let hosts = named_once_by (λ i. errors.Duplicate (host_at i)) (first_repeat bytes_eq (names_of d.hosts)) (names_of d.hosts) (after_names d) tt named in (
+      hosts.0,
+      nowhere (λ i. errors.Duplicate (service_at i)) (first_repeat same_key (map key_of d.services))
+          (first_ok (no_repeated_services d.services) (λ _. known_links (names_of d.hosts) d >>= λ _. good_ranges d.options d.hosts d.services) tt hosts.1),
+    )

@@ -1,0 +1,4 @@
+pub mod TreeLemmas
+pub mod ReadingLemmas
+pub mod VerificationLemmas
+pub mod FaultlessLemmas

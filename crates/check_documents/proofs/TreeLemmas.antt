@@ -1,0 +1,71 @@
+-- From bytes to the tree that `serde_json` reads, and what stands in it.
+use Rattle.std.proofs.Common.{◌≡◌, ℕ, Bool, true, false, cond, ◌&&◌, ◌||◌, List, [], ◌∷◌, map, Option, Some, None, Bor, String, Global, string_bytes}
+use Rattle.std.proofs.Common.{bytes_eq, refl, sym, ap, ◌∙◌, Ok, Err}
+use Rattle.std.specs.Prelude.{ok_or, is_some, unwrap_or, IsUtf8}
+use Rattle.std.specs.Str.{is_utf8}
+use Rattle.std.specs.List.{list_any, list_all}
+use Rattle.std.specs.Map.{keys_of}
+use Rattle.std.proofs.lemmas.Str.{IsUtf8-from_is_utf8, is_utf8-from_IsUtf8}
+use Rattle.serde_json.specs.Data.{Data, null, boolean, number, string, array, object, Items, Members}
+use Rattle.serde_json.specs.Find.{as_object, as_str}
+use Rattle.serde_json.specs.Read.{read}
+use Rattle.serde_json.specs.View.{view, members_view, items_view}
+use Rattle.serde_json.specs.declared.value.Value.{Value}
+use Rattle.check_documents.specs.Tree.{tree_of, is_among, only_members, texts_of, ◌>=>◌}
+use Rattle.check_drafts.specs.Text.{text}
+
+-- ---- the tree of the bytes
+
+pub tree_some : {E : Type 0} (bytes : List ℕ) (d : Data) (refusal : E) → IsUtf8 bytes → read bytes ≡ Some d → ok_or (tree_of bytes) refusal ≡ Ok d
+unfolding tree_of
+tree_some bytes d refusal u e = rw (is_utf8-from_IsUtf8 bytes u, e) refl
+
+none_by : (bytes : List ℕ) (b : Bool) → (b ≡ true → read bytes ≡ None) → cond b (read bytes) None ≡ None
+none_by bytes true h = h refl
+none_by bytes false h = refl
+
+pub tree_none : {E : Type 0} (bytes : List ℕ) (refusal : E) → (IsUtf8 bytes → read bytes ≡ None) → ok_or (tree_of bytes) refusal ≡ Err refusal
+unfolding tree_of
+tree_none bytes refusal h = rw (none_by bytes (is_utf8 bytes) (λ e. h (IsUtf8-from_is_utf8 bytes e))) refl
+
+-- ---- members and items
+
+pub object_by_members : (d : Data) (ms : Members) → as_object d ≡ Some ms → d ≡ object ms
+object_by_members null ms e = cc
+object_by_members (boolean b) ms e = cc
+object_by_members (number n) ms e = cc
+object_by_members (string s) ms e = cc
+object_by_members (array ds) ms e = cc
+object_by_members (object ms') ms e = cc
+
+pub among_known : (names : List (Bor (List ℕ))) (key : List ℕ) → list_any (λ name. bytes_eq name.now key) names ≡ is_among (map (λ name. name.now) names) key
+among_known [] key = refl
+among_known (n ∷ ns) key = ap (λ b. bytes_eq n.now key || b) (among_known ns key)
+
+-- the keys of the code's map are the members' names
+pub only_known : (names : List (Bor (List ℕ))) (es : List (String Global × Value))
+    → list_all (λ key. list_any (λ name. bytes_eq name.now (string_bytes key)) names) (keys_of es)
+    ≡ only_members (map (λ name. name.now) names) (members_view es)
+only_known names [] = refl
+only_known names (e ∷ es) = rw (among_known names (string_bytes e.0), only_known names es) refl
+
+-- ---- texts
+
+abbrev pub is_text : Value → Bool
+is_text v = is_some (as_str (view v))
+
+one_text_more : (t : Option (List ℕ)) (rest : Option (List (List ℕ))) (ts : List (List ℕ)) (b : Bool) → rest ≡ cond b (Some ts) None
+    → (t >=> λ x. (rest >=> λ xs. Some (x ∷ xs))) ≡ cond (is_some t && b) (Some (unwrap_or t [] ∷ ts)) None
+one_text_more None rest ts b e = refl
+one_text_more (Some x) rest ts true e = rw e refl
+one_text_more (Some x) rest ts false e = rw e refl
+
+texts_by_test : (vs : List Value) → texts_of (items_view vs) ≡ cond (list_all is_text vs) (Some (map text vs)) None
+texts_by_test [] = refl
+texts_by_test (v ∷ vs) = one_text_more (as_str (view v)) (texts_of (items_view vs)) (map text vs) (list_all is_text vs) (texts_by_test vs)
+
+-- the items of an array are its texts, if all of them are texts
+pub texts_of_items : (o : Option Items) (vs ws : List Value) (b : Bool) → Some (items_view vs) ≡ o → ws ≡ vs → list_all is_text ws ≡ b
+    → (o >=> texts_of) ≡ cond b (Some (map text ws)) None
+texts_of_items o vs ws b e same t =
+    ap (λ x. x >=> texts_of) (sym e) ∙ ap (λ l. texts_of (items_view l)) (sym same) ∙ texts_by_test ws ∙ ap (λ x. cond x (Some (map text ws)) None) t

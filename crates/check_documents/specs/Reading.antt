@@ -1,0 +1,176 @@
+-- The drafts of a document, by its tree. A document that is not of this shape is refused.
+use Rattle.std.specs.Prelude.{ℕ, ◌+◌, Bool, true, false, List, [], ◌∷◌, Option, Some, None, option_and_then, Result, Ok, Err, ok_or, codes, bytes_eq}
+use Rattle.std.specs.Prelude.{if◌then◌else◌}
+use Rattle.serde_json.specs.Data.{Data, Items, no_items, item}
+use Rattle.serde_json.specs.Find.{get, as_bool, as_str, as_array}
+use Rattle.check_drafts.specs.declared.draft.CheckDraft.{CheckDraft}
+use Rattle.check_drafts.specs.declared.error.LoadError.{LoadError}
+use Rattle.check_drafts.specs.declared.error.LoadError.TheVariants as errors
+use Rattle.check_drafts.specs.declared.options.Options.{Options}
+use Rattle.check_drafts.specs.declared.options.DelayMethod.{DelayMethod}
+use Rattle.check_drafts.specs.declared.options.DelayMethod.TheVariants as method
+use Rattle.check_drafts.specs.declared.options.InterleaveFactor.{InterleaveFactor}
+use Rattle.check_drafts.specs.declared.options.InterleaveFactor.TheVariants as factor
+use Rattle.check_drafts.specs.declared.place.Place.{Place}
+use Rattle.check_drafts.specs.declared.place.Part.{Part}
+use Rattle.check_drafts.specs.declared.place.Part.TheVariants as part
+use Rattle.check_documents.specs.Criteria.{criteria_of}
+use Rattle.check_drafts.specs.Draft.{HostDraft, ServiceDraft, DependencyDraft, Drafts}
+use Rattle.check_drafts.specs.LoadError.{◌>>=◌}
+use Rattle.check_drafts.specs.Place.{the_document, the_options, the_hosts, host_at, the_services, service_at, list_of_part, item_of_part}
+use Rattle.check_documents.specs.Tree.{has_only, whole_number, member_of, member_or, texts_in, ◌>=>◌}
+
+-- ---- lists
+
+-- the items of a list from the one at index i on, each in its shape
+abbrev pub items_from : {A : Type 0} → (Data → Option A) → (ℕ → Place) → ℕ → Items → Result (List A) LoadError
+items_from shape place i no_items = Ok []
+items_from shape place i (item d ds) = do
+  first ← ok_or (shape d) (errors.Shape (place i))
+  more ← items_from shape place (i + 1) ds
+  Ok (first ∷ more)
+
+-- a member that is a list of such items; without it there are none
+abbrev pub list_of : {A : Type 0} → (Data → Option A) → Place → (ℕ → Place) → Option Data → Result (List A) LoadError
+list_of shape whole place None = Ok []
+list_of shape whole place (Some d) = do
+  items ← ok_or (as_array d) (errors.Shape whole)
+  items_from shape place 0 items
+
+-- ---- hosts and services
+
+-- How an object is checked: its maximum of attempts has to be named. Its check interval is 5 and its retry interval 1 unless it says so, and it is enabled.
+unfoldable pub check_draft : Data → Option CheckDraft
+check_draft d =
+    (member_or whole_number 5 (get (codes "check_interval") d) >=> λ check_interval.
+    (member_or whole_number 1 (get (codes "retry_interval") d) >=> λ retry_interval.
+    (option_and_then whole_number (get (codes "max_check_attempts") d) >=> λ attempts.
+    (member_or as_bool true (get (codes "enabled") d) >=> λ enabled.
+    Some (record { check_interval = check_interval; retry_interval = retry_interval; max_check_attempts = attempts; enabled = enabled })))))
+
+abbrev pub host_members : List (List ℕ)
+host_members = codes "name" ∷ codes "parents" ∷ codes "check_interval" ∷ codes "retry_interval" ∷ codes "max_check_attempts" ∷ codes "enabled" ∷ []
+
+-- A host has a name, and may name its parents.
+unfoldable pub host_draft : Data → Option HostDraft
+host_draft d = if has_only host_members d then
+    (option_and_then as_str (get (codes "name") d) >=> λ name.
+    (texts_in (get (codes "parents") d) >=> λ parents.
+    (check_draft d >=> λ check.
+    Some (record { name = name; parents = parents; check = check }))))
+    else None
+
+abbrev pub service_members : List (List ℕ)
+service_members = codes "host" ∷ codes "description" ∷ codes "check_interval" ∷ codes "retry_interval" ∷ codes "max_check_attempts" ∷ codes "enabled" ∷ []
+
+-- A service names its host and has a description.
+unfoldable pub service_draft : Data → Option ServiceDraft
+service_draft d = if has_only service_members d then
+    (option_and_then as_str (get (codes "host") d) >=> λ host.
+    (option_and_then as_str (get (codes "description") d) >=> λ description.
+    (check_draft d >=> λ check.
+    Some (record { host = host; description = description; check = check }))))
+    else None
+
+-- ---- dependencies
+
+abbrev pub dependency_members : List (List ℕ)
+dependency_members = codes "dependent" ∷ codes "master" ∷ codes "criteria" ∷ codes "inherits_parent" ∷ []
+
+-- A dependency names who depends on whom, and has criteria with these letters. It doesn't inherit unless it says so.
+unfoldable pub dependency_draft : List (List ℕ) → Data → Option DependencyDraft
+dependency_draft letters d = if has_only dependency_members d then
+    (option_and_then as_str (get (codes "dependent") d) >=> λ dependent.
+    (option_and_then as_str (get (codes "master") d) >=> λ master.
+    (option_and_then as_str (get (codes "criteria") d) >=> λ text.
+    (criteria_of letters text >=> λ criteria.
+    (member_or as_bool false (get (codes "inherits_parent") d) >=> λ inherits.
+    Some (record { dependent = dependent; master = master; criteria = criteria; inherits = inherits }))))))
+    else None
+
+-- the letters of criteria between services
+abbrev pub service_letters : List (List ℕ)
+service_letters = codes "o" ∷ codes "w" ∷ codes "u" ∷ codes "c" ∷ codes "p" ∷ codes "n" ∷ []
+
+-- the letters of criteria between hosts
+abbrev pub host_letters : List (List ℕ)
+host_letters = codes "o" ∷ codes "u" ∷ codes "d" ∷ codes "p" ∷ codes "n" ∷ []
+
+-- the dependencies of one sort
+abbrev pub dependencies_in : Part → List (List ℕ) → Option Data → Result (List DependencyDraft) LoadError
+dependencies_in p letters value = list_of (dependency_draft letters) (list_of_part p) (item_of_part p) value
+
+-- ---- options
+
+abbrev pub option_members : List (List ℕ)
+option_members =
+    codes "interval_length" ∷ codes "service_inter_check_delay_method" ∷ codes "max_service_check_spread" ∷ codes "service_interleave_factor"
+    ∷ codes "host_inter_check_delay_method" ∷ codes "max_host_check_spread"
+    ∷ codes "max_concurrent_checks" ∷ codes "soft_state_dependencies" ∷ codes "use_aggressive_host_checking" ∷ []
+
+-- options that are absent have no unknown member
+abbrev pub has_option_members : Option Data → Bool
+has_option_members None = true
+has_option_members (Some d) = has_only option_members d
+
+-- a value by the text that a member is, or the other where it is no text
+abbrev pub by_text : {A : Type 0} → (List ℕ → Option A) → Option A → Option (List ℕ) → Option A
+by_text lettered other None = other
+by_text lettered other (Some text) = lettered text
+
+-- the methods that have a letter
+abbrev pub lettered_method : List ℕ → Option DelayMethod
+lettered_method text =
+    if bytes_eq text (codes "n") then Some method.NoDelay
+    else if bytes_eq text (codes "d") then Some method.Dumb
+    else if bytes_eq text (codes "s") then Some method.Smart
+    else None
+
+-- a number is a delay in milliseconds
+abbrev pub delay_method : Data → Option DelayMethod
+delay_method d = by_text lettered_method (whole_number d >=> λ n. Some (method.Fixed n)) (as_str d)
+
+abbrev pub interleave_factor : Data → Option InterleaveFactor
+interleave_factor d = by_text (λ text. if bytes_eq text (codes "s") then Some factor.Smart else None) (whole_number d >=> λ n. Some (factor.Fixed n)) (as_str d)
+
+-- the member `options`; what it doesn't name has its default
+unfoldable pub options_of : Option Data → Option Options
+options_of value = if has_option_members value then
+    (member_or whole_number 60 (member_of (codes "interval_length") value) >=> λ interval_length.
+    (member_or delay_method method.Smart (member_of (codes "service_inter_check_delay_method") value) >=> λ service_method.
+    (member_or whole_number 30 (member_of (codes "max_service_check_spread") value) >=> λ service_spread.
+    (member_or interleave_factor factor.Smart (member_of (codes "service_interleave_factor") value) >=> λ interleave.
+    (member_or delay_method method.Smart (member_of (codes "host_inter_check_delay_method") value) >=> λ host_method.
+    (member_or whole_number 30 (member_of (codes "max_host_check_spread") value) >=> λ host_spread.
+    (member_or whole_number 0 (member_of (codes "max_concurrent_checks") value) >=> λ concurrent.
+    (member_or as_bool false (member_of (codes "soft_state_dependencies") value) >=> λ soft.
+    (member_or as_bool false (member_of (codes "use_aggressive_host_checking") value) >=> λ aggressive.
+    Some (record {
+      interval_length = interval_length;
+      service_inter_check_delay_method = service_method;
+      max_service_check_spread = service_spread;
+      service_interleave_factor = interleave;
+      host_inter_check_delay_method = host_method;
+      max_host_check_spread = host_spread;
+      max_concurrent_checks = concurrent;
+      soft_state_dependencies = soft;
+      use_aggressive_host_checking = aggressive;
+    }))))))))))
+    else None
+
+-- ---- the document
+
+abbrev pub document_members : List (List ℕ)
+document_members = codes "options" ∷ codes "hosts" ∷ codes "services" ∷ codes "service_dependencies" ∷ codes "host_dependencies" ∷ []
+
+-- The document itself is tested first, then its options, hosts, services, and the dependencies between services and
+-- between hosts.
+unfoldable pub drafts_of : Data → Result Drafts LoadError
+drafts_of d = if has_only document_members d then (do
+  options ← ok_or (options_of (get (codes "options") d)) (errors.Shape the_options)
+  hosts ← list_of host_draft the_hosts host_at (get (codes "hosts") d)
+  services ← list_of service_draft the_services service_at (get (codes "services") d)
+  service_dependencies ← dependencies_in part.ServiceDependencies service_letters (get (codes "service_dependencies") d)
+  host_dependencies ← dependencies_in part.HostDependencies host_letters (get (codes "host_dependencies") d)
+  Ok (record { options = options; hosts = hosts; services = services; service_dependencies = service_dependencies; host_dependencies = host_dependencies }))
+    else Err (errors.Shape the_document)

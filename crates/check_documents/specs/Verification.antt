@@ -1,0 +1,147 @@
+-- Verifying drafts, which are in the right shape: one test after another, each over all drafts.
+use Rattle.std.specs.Prelude.{ℕ, ◌+◌, ◌&&◌, ◌||◌, Bool, true, not, List, length, map, sum_by, position, Result, Ok, Err, bytes_eq, nat_lt, nat_le}
+use Rattle.std.specs.Prelude.{if◌then◌else◌}
+use Rattle.std.specs.List.{list_any, list_all}
+use Rattle.check_drafts.specs.declared.draft.CheckDraft.{CheckDraft}
+use Rattle.check_drafts.specs.declared.error.LoadError.{LoadError}
+use Rattle.check_drafts.specs.declared.error.LoadError.TheVariants as errors
+use Rattle.check_drafts.specs.declared.options.DelayMethod.{DelayMethod}
+use Rattle.check_drafts.specs.declared.options.DelayMethod.TheVariants as method
+use Rattle.check_drafts.specs.declared.options.InterleaveFactor.{InterleaveFactor}
+use Rattle.check_drafts.specs.declared.options.InterleaveFactor.TheVariants as factor
+use Rattle.check_drafts.specs.declared.options.Options.{Options}
+use Rattle.check_drafts.specs.LoadError.{◌>>=◌, refused_at}
+use Rattle.check_drafts.specs.declared.place.Part.{Part}
+use Rattle.check_drafts.specs.declared.place.Part.TheVariants as part
+use Rattle.check_drafts.specs.Keys.{first_repeat, names_of, key_of, same_key}
+use Rattle.check_drafts.specs.Name.{full_name, is_name}
+use Rattle.check_drafts.specs.Place.{the_options, host_at, service_at, item_of_part}
+use Rattle.check_drafts.specs.Draft.{HostDraft, ServiceDraft, DependencyDraft, Drafts}
+
+-- ---- counts
+
+-- at most 16,384 parents of all hosts together
+abbrev pub has_few_parents : List HostDraft → Bool
+has_few_parents hosts = nat_le (sum_by (λ h. length h.parents) hosts) 16384
+
+-- at most 4,096 hosts and services together, and few parents
+abbrev pub few_objects : List HostDraft → List ServiceDraft → Result (Unit {0}) LoadError
+few_objects hosts services = if nat_lt 4096 (length hosts + length services) || not (has_few_parents hosts) then Err errors.TooMany else Ok tt
+
+-- at most 16,384 dependencies of both sorts together
+abbrev pub few_dependencies : List DependencyDraft → List DependencyDraft → Result (Unit {0}) LoadError
+few_dependencies of_services of_hosts = if nat_lt 16384 (length of_services + length of_hosts) then Err errors.TooMany else Ok tt
+
+abbrev pub few_items : Drafts → Result (Unit {0}) LoadError
+few_items drafts = few_objects drafts.hosts drafts.services >>= λ _. few_dependencies drafts.service_dependencies drafts.host_dependencies
+
+-- ---- names
+
+-- every host has a name that is one; else the first that hasn't
+abbrev pub good_host_names : List HostDraft → Result (Unit {0}) LoadError
+good_host_names hosts = refused_at (λ i. errors.BadName (host_at i)) (position (λ h. not (is_name h.name)) hosts)
+
+-- every service has a description that is one; else the first that hasn't
+abbrev pub good_descriptions : List ServiceDraft → Result (Unit {0}) LoadError
+good_descriptions services = refused_at (λ i. errors.BadName (service_at i)) (position (λ s. not (is_name s.description)) services)
+
+abbrev pub good_names : List HostDraft → List ServiceDraft → Result (Unit {0}) LoadError
+good_names hosts services = good_host_names hosts >>= λ _. good_descriptions services
+
+-- ---- repeats
+
+-- the names of the hosts, if every one stands once; else the first that stood before is told
+abbrev pub host_names : List HostDraft → Result (List (List ℕ)) LoadError
+host_names hosts = refused_at (λ i. errors.Duplicate (host_at i)) (first_repeat bytes_eq (names_of hosts)) >>= λ _. Ok (names_of hosts)
+
+-- every service stands once; else the first that stood before is told
+abbrev pub no_repeated_services : List ServiceDraft → Result (Unit {0}) LoadError
+no_repeated_services services = refused_at (λ i. errors.Duplicate (service_at i)) (first_repeat same_key (map key_of services))
+
+-- ---- links
+
+-- whether the name is one of these
+abbrev pub is_known : List (List ℕ) → List ℕ → Bool
+is_known names name = list_any (bytes_eq name) names
+
+-- every parent of every host is there; else the first host with one that isn't
+abbrev pub known_parents : List (List ℕ) → List HostDraft → Result (Unit {0}) LoadError
+known_parents names hosts = refused_at (λ i. errors.UnknownHost (host_at i)) (position (λ h. not (list_all (is_known names) h.parents)) hosts)
+
+-- the host of every service is there; else the first service whose isn't
+abbrev pub known_hosts : List (List ℕ) → List ServiceDraft → Result (Unit {0}) LoadError
+known_hosts names services = refused_at (λ i. errors.UnknownHost (service_at i)) (position (λ s. not (is_known names s.host)) services)
+
+-- the full names of services
+abbrev pub full_names : List ServiceDraft → List (List ℕ)
+full_names services = map (λ s. full_name (key_of s)) services
+
+-- the dependent and the master of every dependency have one of these names; else the first dependency with one that hasn't
+abbrev pub known_ends : Part → List (List ℕ) → List DependencyDraft → Result (Unit {0}) LoadError
+known_ends p names ds =
+    refused_at (λ i. errors.UnknownMaster (item_of_part p i)) (position (λ d. not (is_known names d.dependent && is_known names d.master)) ds)
+
+-- what is named is there: parents, the hosts of services, and what depends and is depended on
+abbrev pub known_links : List (List ℕ) → Drafts → Result (Unit {0}) LoadError
+known_links names drafts =
+    known_parents names drafts.hosts >>= λ _.
+    (known_hosts names drafts.services >>= λ _.
+    (known_ends part.ServiceDependencies (full_names drafts.services) drafts.service_dependencies >>= λ _.
+    known_ends part.HostDependencies names drafts.host_dependencies))
+
+-- ---- limits
+
+-- both intervals are at most 525,600 units, a year of minutes, and the attempts 1 to 255
+abbrev pub is_in_range : CheckDraft → Bool
+is_in_range c = nat_le c.check_interval 525600 && nat_le c.retry_interval 525600 && nat_le 1 c.max_check_attempts && nat_le c.max_check_attempts 255
+
+abbrev pub is_within : ℕ → ℕ → ℕ → Bool
+is_within low high n = nat_le low n && nat_le n high
+
+-- a fixed delay is at most a day of milliseconds
+abbrev pub is_delay_in_range : DelayMethod → Bool
+is_delay_in_range (method.Fixed delay) = nat_le delay 86400000
+is_delay_in_range other = true
+
+-- a fixed factor is 1 to 4,096
+abbrev pub is_factor_in_range : InterleaveFactor → Bool
+is_factor_in_range factor.Smart = true
+is_factor_in_range (factor.Fixed n) = is_within 1 4096 n
+
+-- A unit of the intervals lasts a second to a day, the first checks are spread over a minute to a year, and at most
+-- 1,000,000 service checks run at a time.
+abbrev pub are_options_in_range : Options → Bool
+are_options_in_range o =
+    is_within 1 86400 o.interval_length
+    && is_delay_in_range o.service_inter_check_delay_method
+    && is_within 1 525600 o.max_service_check_spread
+    && is_factor_in_range o.service_interleave_factor
+    && is_delay_in_range o.host_inter_check_delay_method
+    && is_within 1 525600 o.max_host_check_spread
+    && nat_le o.max_concurrent_checks 1000000
+
+abbrev pub good_options : Options → Result (Unit {0}) LoadError
+good_options options = if are_options_in_range options then Ok tt else Err (errors.Range the_options)
+
+-- the first host with a number beyond its limits
+abbrev pub good_host_ranges : List HostDraft → Result (Unit {0}) LoadError
+good_host_ranges hosts = refused_at (λ i. errors.Range (host_at i)) (position (λ h. not (is_in_range h.check)) hosts)
+
+-- the first service with a number beyond its limits
+abbrev pub good_service_ranges : List ServiceDraft → Result (Unit {0}) LoadError
+good_service_ranges services = refused_at (λ i. errors.Range (service_at i)) (position (λ s. not (is_in_range s.check)) services)
+
+abbrev pub good_ranges : Options → List HostDraft → List ServiceDraft → Result (Unit {0}) LoadError
+good_ranges options hosts services = good_options options >>= λ _. (good_host_ranges hosts >>= λ _. good_service_ranges services)
+
+-- ---- all of them
+
+-- the first refusal after the shape, if there is one
+unfoldable pub is_faultless : Drafts → Result (Unit {0}) LoadError
+is_faultless drafts =
+    few_items drafts >>= λ _.
+    (good_names drafts.hosts drafts.services >>= λ _.
+    (host_names drafts.hosts >>= λ names.
+    (no_repeated_services drafts.services >>= λ _.
+    (known_links names drafts >>= λ _.
+    good_ranges drafts.options drafts.hosts drafts.services))))

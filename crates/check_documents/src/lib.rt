@@ -1,0 +1,15 @@
+//! A setup document: from its bytes to a tree, from the tree to drafts, and whether these are without
+//! a fault.
+//!
+//! [`read_tree`] refuses what is no JSON, [`read_drafts`] what hasn't the right shape, and [`verify`]
+//! what else is wrong with a document but for cycles.
+#![tactic(auto)]
+
+mod criteria;
+mod reading;
+mod tree;
+mod verification;
+
+pub use reading::read_drafts;
+pub use tree::read_tree;
+pub use verification::verify;

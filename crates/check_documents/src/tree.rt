@@ -1,0 +1,108 @@
+//! Looking into the tree that `serde_json` reads from a document.
+ghost use Rattle.std.specs.Prelude.{◌≡◌, map, option_map, ok_or, is_some, string_bytes, bytes_eq};
+ghost use Rattle.std.specs.List.{list_all, list_any};
+ghost use Rattle.std.specs.BTreeMap.{keys};
+ghost use Rattle.serde_json.specs.View.{view};
+ghost use Rattle.serde_json.specs.Find.{as_bool, as_str};
+ghost use Rattle.check_documents.specs.Tree.{tree_of, has_only, member_of, member_or, texts_in, whole_number};
+ghost use Rattle.check_drafts.specs.Text.{text};
+ghost use Rattle.check_drafts.specs.LoadError.{Gives};
+
+use check_drafts::LoadError;
+use serde_json::{Map, Value};
+use std::alloc::Global;
+
+/// The tree that `serde_json` reads from the bytes. `NotJson` where it gives no reading, and `Memory`
+/// where that is for want of memory.
+pub fn read_tree(alloc: Global, bytes: &[u8]) -> Result<Value, LoadError>
+    ensures { Gives view result (ok_or (tree_of bytes.now) LoadError.NotJson) }
+{
+    match Value::from_slice(alloc, bytes) {
+        Ok(tree) => Ok(tree),
+        Err(e) => Err(if e.is_memory() {
+            LoadError::Memory
+        } else {
+            LoadError::NotJson
+        }),
+    }
+}
+
+/// Whether the value is an object with no other members than these.
+pub(crate) fn has_only(value: &Value, names: &[&str]) -> bool
+    ensures { result ≡ has_only (map (λ name. name.now) names.now) (view value.now) }
+{
+    match value.as_object() {
+        Some(members) => are_known(members, names),
+        None => false,
+    }
+}
+
+fn are_known(members: &Map<String, Value>, names: &[&str]) -> bool
+    ensures { result ≡
+        list_all (λ key. list_any (λ name. bytes_eq name.now (string_bytes key)) names.now)
+        (keys members.now) }
+{
+    members.keys().all(|key| is_known(key.as_str(), names))
+}
+
+/// Whether the text is one of these.
+pub(crate) fn is_known(key: &str, names: &[&str]) -> bool
+    ensures { result ≡ list_any (λ name. bytes_eq name.now key.now) names.now }
+{
+    names.iter().any(|name| *name == key)
+}
+
+/// A member of an object that may be absent itself.
+pub(crate) fn member<'v>(value: Option<&'v Value>, name: &str) -> Option<&'v Value>
+    ensures { option_map (λ v. view v.now) result
+        ≡ member_of name.now (option_map (λ v. view v.now) value.entry) }
+{
+    match value {
+        Some(value) => value.get(name),
+        None => None,
+    }
+}
+
+/// A member's whole number, or the default where the member is absent.
+pub(crate) fn number_or(value: Option<&Value>, default: u64) -> Option<u64>
+    ensures { result ≡ member_or whole_number default (option_map (λ v. view v.now) value.entry) }
+{
+    match value {
+        Some(value) => value.as_u64(),
+        None => Some(default),
+    }
+}
+
+/// A member that is true or false, or the default where it is absent.
+pub(crate) fn bool_or(value: Option<&Value>, default: bool) -> Option<bool>
+    ensures { result ≡ member_or as_bool default (option_map (λ v. view v.now) value.entry) }
+{
+    match value {
+        Some(value) => value.as_bool(),
+        None => Some(default),
+    }
+}
+
+/// A member that is an array of texts; without it there are none.
+pub(crate) fn texts_in<'v>(value: Option<&'v Value>) -> Option<&'v [Value]>
+    ensures { option_map (λ items. map text items.now) result
+        ≡ texts_in (option_map (λ v. view v.now) value.entry) }
+{
+    match value {
+        Some(value) => texts(value),
+        None => Some(&[]),
+    }
+}
+
+fn texts<'v>(value: &'v Value) -> Option<&'v [Value]>
+    ensures { option_map (λ items. map text items.now) result ≡ texts_in (Some (view value.now)) }
+{
+    let items = value.as_array()?;
+    if are_texts(items) { Some(items) } else { None }
+}
+
+fn are_texts(items: &[Value]) -> bool
+    ensures { result ≡ list_all (λ v. is_some (as_str (view v))) items.now }
+{
+    items.iter().all(|item| item.as_str().is_some())
+}

@@ -1,0 +1,23 @@
+-- What hosts and services are known by, and whether a key comes twice.
+use Rattle.std.specs.Prelude.{ℕ, ◌&&◌, Bool, false, List, Option, map, length, take, position, slice_get, option_map, unwrap_or, bytes_eq}
+use Rattle.std.specs.List.{list_any, range_with_len}
+use Rattle.check_drafts.specs.Draft.{HostDraft, ServiceDraft}
+
+-- whether the key at this place stands before it too
+abbrev pub stands_before : {K : Type 0} → (K → K → Bool) → List K → ℕ → Bool
+stands_before same keys i = unwrap_or (option_map (λ key. list_any (same key) (take i keys)) (slice_get keys i)) false
+
+-- the least place whose key stands before it
+abbrev pub first_repeat : {K : Type 0} → (K → K → Bool) → List K → Option ℕ
+first_repeat same keys = position (stands_before same keys) (range_with_len 0 (length keys))
+
+-- what hosts are known by
+abbrev pub names_of : List HostDraft → List (List ℕ)
+names_of hosts = map (λ h. h.name) hosts
+
+-- what a service is known by: its host and its description
+abbrev pub key_of : ServiceDraft → List ℕ × List ℕ
+key_of s = (s.host, s.description)
+
+abbrev pub same_key : List ℕ × List ℕ → List ℕ × List ℕ → Bool
+same_key p q = bytes_eq p.0 q.0 && bytes_eq p.1 q.1

@@ -1,0 +1,7 @@
+pub mod Place
+pub mod LoadError
+pub mod Name
+pub mod Text
+pub mod Draft
+pub mod Drafted
+pub mod Keys

@@ -1,0 +1,32 @@
+//! Execution dependencies: which objects' checks wait for the states of which others.
+
+/// The states of the master in which a dependency fails, one for each letter of the document's
+/// text (manual: Host and Service Dependencies).
+#[derive(Clone, Copy, Debug, Default, PartialEq, Eq)]
+pub struct Criteria {
+    /// `o`: OK, or UP for a host.
+    pub ok: bool,
+    /// `w`: WARNING, of a service alone.
+    pub warning: bool,
+    /// `u`: UNKNOWN, or UNREACHABLE for a host.
+    pub unknown: bool,
+    /// `c`: CRITICAL, of a service alone.
+    pub critical: bool,
+    /// `d`: DOWN, of a host alone.
+    pub down: bool,
+    /// `p`: never checked.
+    pub pending: bool,
+    /// `n`: no state at all. It adds nothing to the others.
+    pub none: bool,
+}
+
+/// One dependency of an object on another of its sort (manual: Host and Service Dependencies).
+#[derive(Clone, Copy, Debug, Default, PartialEq, Eq)]
+pub struct Dependency {
+    /// The number of the object that is depended on.
+    pub master: u32,
+    /// The states of the master in which the dependency fails.
+    pub criteria: Criteria,
+    /// Whether the dependency fails too where one of the master's own does.
+    pub inherits: bool,
+}

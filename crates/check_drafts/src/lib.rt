@@ -1,0 +1,29 @@
+//! What a setup document says: its options, its hosts, services and dependencies as drafts, where a
+//! fault of it lies and which fault that is.
+//!
+//! Drafts are the document's, in its order and by its names; nothing in them is verified. The values
+//! that a setup keeps, [`Options`], [`Object`], [`Criteria`] and [`Dependency`], stand here too, with
+//! the limits of a setup.
+#![tactic(auto)]
+
+mod dependency;
+mod draft;
+mod error;
+mod limits;
+mod name;
+mod object;
+mod options;
+mod place;
+
+pub use dependency::{Criteria, Dependency};
+pub use draft::{CheckDraft, DependencyDraft, Drafts, HostDraft, ServiceDraft, text};
+pub use error::LoadError;
+pub use limits::{
+    MAX_ATTEMPTS, MAX_CONCURRENT_CHECKS, MAX_DELAY, MAX_DEPENDENCIES, MAX_DOCUMENT_BYTES,
+    MAX_FACTOR, MAX_INTERVAL, MAX_INTERVAL_LENGTH, MAX_NAME_BYTES, MAX_OBJECTS, MAX_PARENTS,
+    MAX_SPREAD,
+};
+pub use name::full_name;
+pub use object::Object;
+pub use options::{DelayMethod, InterleaveFactor, Options};
+pub use place::{Part, Place};

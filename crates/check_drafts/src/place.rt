@@ -1,0 +1,93 @@
+//! Where in a setup document a fault lies.
+
+/// A part of the setup document.
+#[derive(Clone, Copy, Debug, PartialEq, Eq)]
+pub enum Part {
+    /// The document itself.
+    Document,
+    /// Its member `options`.
+    Options,
+    /// Its member `hosts`.
+    Hosts,
+    /// Its member `services`.
+    Services,
+    /// Its member `service_dependencies`.
+    ServiceDependencies,
+    /// Its member `host_dependencies`.
+    HostDependencies,
+}
+
+/// Where a fault of the document lies.
+#[derive(Clone, Copy, Debug, PartialEq, Eq)]
+pub struct Place {
+    /// The part at fault.
+    pub part: Part,
+    /// The index in that part's list, from 0. None where the part itself is at fault.
+    pub index: Option<usize>,
+}
+
+impl Place {
+    ghost use Rattle.std.specs.Prelude.{◌≡◌};
+    ghost use Rattle.check_drafts.specs.Place.{host_at, service_at, list_of_part, item_of_part};
+
+    /// The document as a whole.
+    pub const DOCUMENT: Place = Place {
+        part: Part::Document,
+        index: None,
+    };
+
+    /// Its options as a whole.
+    pub const OPTIONS: Place = Place {
+        part: Part::Options,
+        index: None,
+    };
+
+    /// Its list of hosts as a whole.
+    pub const HOSTS: Place = Place {
+        part: Part::Hosts,
+        index: None,
+    };
+
+    /// Its list of services as a whole.
+    pub const SERVICES: Place = Place {
+        part: Part::Services,
+        index: None,
+    };
+
+    /// The host with this index in the document's list.
+    pub fn host(index: usize) -> Place
+        ensures { result ≡ host_at index }
+    {
+        Place {
+            part: Part::Hosts,
+            index: Some(index),
+        }
+    }
+
+    /// The service with this index in the document's list.
+    pub fn service(index: usize) -> Place
+        ensures { result ≡ service_at index }
+    {
+        Place {
+            part: Part::Services,
+            index: Some(index),
+        }
+    }
+
+    /// The part as a whole.
+    pub fn list(part: Part) -> Place
+        ensures { result ≡ list_of_part part }
+    {
+        Place { part, index: None }
+    }
+
+    /// The item with this index in the part's list.
+    pub fn item(part: Part, index: usize) -> Place
+        ensures { result ≡ item_of_part part index }
+    {
+        Place {
+            part,
+            index: Some(index),
+        }
+    }
+}

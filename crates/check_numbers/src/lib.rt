@@ -1,0 +1,9 @@
+//! The numbers of objects: hosts in the order of their names' bytes, then services in the order of
+//! their hosts' names and then of their descriptions; and all links between them by number.
+#![tactic(auto)]
+
+mod dependency_lists;
+mod numbering;
+
+pub use dependency_lists::{Dependencies, list_dependencies, order_by_masters};
+pub use numbering::{Host, Parents, Service, number_objects, object_number};

@@ -1,0 +1,241 @@
+//! The numbers of objects: hosts in the order of their names' bytes, then services in the order of
+//! their hosts' names and then of their descriptions; and the links between them by number.
+ghost use Rattle.std.specs.Prelude.{◌≡◌, ◌≤◌, ◌<◌, length, map, bytes_eq, IfOk, OnOk, IsOkUnless, All, None, true, false, [], ◌∷◌, ◌++◌, string_bytes};
+ghost use Rattle.std.specs.BTreeMap.{btree_map_len};
+ghost use Rattle.std.specs.List.{list_all, list_any};
+ghost use Rattle.check_numbers.specs.Numbering.{numbered, hosts_in_order, services_in_order, number_in, numbered_host, numbered_service, object_of};
+ghost use Rattle.check_drafts.specs.Name.{is_host_name, full_name};
+ghost use Rattle.check_numbers.specs.Configuration.{number_among};
+ghost use Rattle.check_drafts.specs.Keys.{first_repeat, names_of, key_of, same_key};
+ghost use Rattle.check_drafts.specs.Drafted.{host, service, drafts_view, texts, HasFewAttempts};
+ghost use Rattle.check_numbers.specs.Entries.{objects_in, host_entry, service_entry, sorted_host, sorted_service};
+ghost use Rattle.check_drafts.specs.Text.{text};
+
+use check_drafts::{
+    CheckDraft, Drafts, HostDraft, LoadError, Object, ServiceDraft, full_name, text,
+};
+use indexmap::{IndexMap, IndexSet};
+use serde_json::Value;
+use smallvec::SmallVec;
+use std::alloc::Global;
+use std::collections::BTreeMap;
+
+/// The parents of a host, by number. Most hosts have few.
+pub type Parents = SmallVec<u32, 4>;
+
+/// A host as the setup keeps it, behind its name.
+#[derive(Drop)]
+pub struct Host {
+    /// How the host is checked.
+    pub object: Object,
+    /// The numbers of its parents, in the document's order.
+    pub parents: Parents,
+}
+
+/// A service as the setup keeps it, behind its full name.
+#[derive(Drop)]
+pub struct Service {
+    /// How the service is checked.
+    pub object: Object,
+    /// The number of its host.
+    pub host: u32,
+}
+
+/// The hosts and the services of drafts, each at the index that is its number among those of its sort.
+/// Each has a name of its own, and no service's host has a semicolon in its name. `Memory` where they
+/// can't be made.
+pub fn number_objects(
+    alloc: Global,
+    drafts: &Drafts<'_>,
+) -> Result<(IndexMap<String, Host>, IndexMap<String, Service>), LoadError>
+    requires few { length drafts.now.hosts.items ≤ 4096 }
+    requires names { first_repeat bytes_eq (names_of (drafts_view drafts.now).hosts) ≡ None }
+    requires keys { first_repeat same_key (map key_of (drafts_view drafts.now).services) ≡ None }
+    requires parted { list_all (λ s. is_host_name s.host) (drafts_view drafts.now).services ≡ true }
+    requires hosts { All (λ h. HasFewAttempts h.check) drafts.now.hosts.items }
+    requires services { All (λ s. HasFewAttempts s.check) drafts.now.services.items }
+    ensures hosts { IfOk result (λ objects.
+        map host_entry objects.0.entries ≡ (numbered (drafts_view drafts.now)).hosts) }
+    ensures services { IfOk result (λ objects.
+        map service_entry objects.1.entries ≡ (numbered (drafts_view drafts.now)).services) }
+    ensures memory { IsOkUnless result LoadError.Memory }
+{
+    let hosts = sort_hosts(alloc, &drafts.hosts)?;
+    let services = sort_services(alloc, &drafts.services)?;
+    let names = number_names(alloc, &hosts)?;
+    let hosts = index_hosts(alloc, hosts, &names)?;
+    let services = index_services(alloc, services, &names)?;
+    Ok((hosts, services))
+}
+
+// ---- the order
+
+/// The hosts, whose names are distinct, in the order of their names' bytes: of each the object, and
+/// its parents' names.
+fn sort_hosts<'v>(
+    alloc: Global,
+    drafts: &[HostDraft<'v>],
+) -> Result<BTreeMap<&'v str, (Object, &'v [Value])>, LoadError>
+    requires attempts { All (λ h. HasFewAttempts h.check) drafts.now }
+    requires distinct { first_repeat bytes_eq (names_of (map host drafts.now)) ≡ None }
+    ensures order { IfOk result (λ m.
+        map sorted_host m.entries ≡ hosts_in_order (map host drafts.now)) }
+    ensures few { IfOk result (λ m. btree_map_len m ≤ length drafts.now) }
+    ensures memory { IsOkUnless result LoadError.Memory }
+{
+    let mut sorted = BTreeMap::new(alloc);
+    for draft in drafts {
+        sorted.insert(draft.name, (object(draft.check), draft.parents))?;
+    }
+    Ok(sorted)
+}
+
+/// The services, no two of which have both the same host and the same description, in the order of
+/// their hosts' names and then of their descriptions.
+fn sort_services<'v>(
+    alloc: Global,
+    drafts: &[ServiceDraft<'v>],
+) -> Result<BTreeMap<(&'v str, &'v str), Object>, LoadError>
+    requires attempts { All (λ s. HasFewAttempts s.check) drafts.now }
+    requires distinct { first_repeat same_key (map key_of (map service drafts.now)) ≡ None }
+    ensures order { IfOk result (λ m.
+        map sorted_service m.entries ≡ services_in_order (map service drafts.now)) }
+    ensures few { IfOk result (λ m. btree_map_len m ≤ length drafts.now) }
+    ensures memory { IsOkUnless result LoadError.Memory }
+{
+    let mut sorted = BTreeMap::new(alloc);
+    for draft in drafts {
+        sorted.insert((draft.host, draft.description), object(draft.check))?;
+    }
+    Ok(sorted)
+}
+
+fn object(check: CheckDraft) -> Object
+    requires { HasFewAttempts check }
+    ensures { result ≡ object_of check }
+{
+    Object {
+        check_interval: check.check_interval,
+        retry_interval: check.retry_interval,
+        max_check_attempts: check.max_check_attempts as u8,
+        enabled: check.enabled,
+    }
+}
+
+// ---- links
+
+/// The names of the hosts in order, each at the index that is its number.
+fn number_names<'v>(
+    alloc: Global,
+    sorted: &BTreeMap<&'v str, (Object, &'v [Value])>,
+) -> Result<IndexSet<&'v str>, LoadError>
+    ensures names { IfOk result (λ s. texts s.keys ≡ map (λ e. e.0) (map sorted_host sorted.now.entries)) }
+    ensures memory { IsOkUnless result LoadError.Memory }
+{
+    let mut names = IndexSet::with_capacity(alloc, sorted.len())?;
+    for name in sorted.keys() {
+        names.insert(*name)?;
+    }
+    Ok(names)
+}
+
+/// The number of a host among the names.
+fn number_of(names: &IndexSet<&str>, name: &str) -> u32
+    requires { length names.now.keys ≤ 4096 }
+    ensures { result ≡ number_in (texts names.now.keys) name.now }
+{
+    match names.get_index_of(name) {
+        Some(index) => index as u32,
+        None => 0,
+    }
+}
+
+/// The numbers of a host's parents.
+fn number_parents(
+    alloc: Global,
+    parents: &[Value],
+    names: &IndexSet<&str>,
+) -> Result<Parents, LoadError>
+    requires { length names.now.keys ≤ 4096 }
+    ensures numbers { IfOk result (λ v.
+        v.items ≡ map (number_in (texts names.now.keys)) (map text parents.now)) }
+    ensures memory { IsOkUnless result LoadError.Memory }
+{
+    let mut numbers = SmallVec::new(alloc);
+    for parent in parents {
+        numbers.push(number_of(names, text(parent)))?;
+    }
+    Ok(numbers)
+}
+
+// ---- names to objects
+
+/// The hosts by name, each at the index that is its number.
+fn index_hosts(
+    alloc: Global,
+    sorted: BTreeMap<&str, (Object, &[Value])>,
+    names: &IndexSet<&str>,
+) -> Result<IndexMap<String, Host>, LoadError>
+    requires { length names.now.keys ≤ 4096 }
+    ensures hosts { IfOk result (λ m. map host_entry m.entries
+        ≡ map (numbered_host (texts names.now.keys)) (map sorted_host sorted.entry.entries)) }
+    ensures memory { IsOkUnless result LoadError.Memory }
+{
+    let mut hosts = IndexMap::with_capacity(alloc, sorted.len())?;
+    for (name, (object, parents)) in sorted {
+        let parents = number_parents(alloc, parents, names)?;
+        let name = String::from_str(alloc, name)?;
+        append(&mut hosts, name, Host { object, parents })?;
+    }
+    Ok(hosts)
+}
+
+/// The services by full name, each at the index that is its number behind those of the hosts.
+fn index_services(
+    alloc: Global,
+    sorted: BTreeMap<(&str, &str), Object>,
+    names: &IndexSet<&str>,
+) -> Result<IndexMap<String, Service>, LoadError>
+    requires few { length names.now.keys ≤ 4096 }
+    requires parted { list_all (λ e. is_host_name e.0.0.now) sorted.entries ≡ true }
+    ensures services { IfOk result (λ m. map service_entry m.entries
+        ≡ map (numbered_service (texts names.now.keys)) (map sorted_service sorted.entry.entries)) }
+    ensures memory { IsOkUnless result LoadError.Memory }
+{
+    let mut services = IndexMap::with_capacity(alloc, sorted.len())?;
+    for ((host, description), object) in sorted {
+        let name = full_name(alloc, host, description)?;
+        let host = number_of(names, host);
+        append(&mut services, name, Service { object, host })?;
+    }
+    Ok(services)
+}
+
+/// The number of the object with this full name, or None where there is no such object.
+pub fn object_number(
+    hosts: &IndexMap<String, Host>,
+    services: &IndexMap<String, Service>,
+    name: &str,
+) -> Option<u32>
+    requires { length (objects_in hosts.now.entries services.now.entries) ≤ 4096 }
+    ensures { result ≡ number_among (objects_in hosts.now.entries services.now.entries) name.now }
+{
+    match hosts.get_index_of(name) {
+        Some(index) => Some(index as u32),
+        None => {
+            let index = services.get_index_of(name)?;
+            Some((hosts.len() + index) as u32)
+        }
+    }
+}
+
+/// Puts a new name behind those of the map.
+fn append<T: Drop>(map: &mut IndexMap<String, T>, name: String, value: T) -> Result<(), LoadError>
+    requires { list_any (λ e. bytes_eq (string_bytes name) (string_bytes e.0)) map.old.entries
+        ≡ false }
+    ensures last { OnOk result (map.new.entries ≡ map.old.entries ++ (name, value) ∷ []) }
+    ensures memory { IsOkUnless result LoadError.Memory }
+{
+    map.insert(name, value)?;
+    Ok(())
+}
