@@ -35,7 +35,11 @@ none_granted (suc (suc (suc (suc place)))) = refl
 -- at the opening ticket 0 is served
 pub grants_opened : AreGrantsOf 0 (0 ∷ 0 ∷ 0 ∷ 0 ∷ [])
 grants_opened = grants_are 0 (0 ∷ 0 ∷ 0 ∷ 0 ∷ []) refl
-    (λ place lt. subst (IsLastGrant 0 place) (sym (none_granted place)) record { within = omega arith; own = λ more. absurd (omega arith); last = λ ticket le _. le })
+    (λ place lt. subst (IsLastGrant 0 place) (sym (none_granted place)) record {
+      within = omega arith;
+      own = λ more. absurd (omega arith);
+      last = λ ticket le _. le;
+    })
 
 -- a leave writes the next ticket into the word that this one watches
 pub grants_left : (served place : ℕ) (words : List ℕ) → AreGrantsOf served words → place ≡ watched (served + 1)

@@ -1,7 +1,7 @@
 //! The grant words: the number served, kept in four words.
 //!
-//! Ticket t watches the word t mod 4, and is served where that word is t. So a leave writes one word
-//! and leaves the other three alone, which are those that three of four waiting seats look at.
+//! Ticket t watches the word t mod 4, and is served where that word is t. So a leave writes one
+//! word, and three of four waiting seats look at another.
 ghost use Rattle.std.specs.Prelude.{◌≡◌, ◌↔◌, ℕ, ◌+◌, ◌^◌, ◌<◌, ◌≤◌, IsTrue};
 ghost use Rattle.ticket_steps.specs.Grants.{watched, greatest, AreGrantsOf, IsLastGrant};
 

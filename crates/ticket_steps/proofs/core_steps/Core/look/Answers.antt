@@ -48,7 +48,8 @@ holds g c =
     let is = read_is c.args.self.now.seats.items c.in_ok-at.at c.in_ok-at.ensures.found.1 c.index.ensures in
     let is' = read_is c.args.self.now.seats.items c.in_ok-at.at c.in_ok-at.ensures.found.1 c.index_mut.ensures.value in
     let move = look_moves g.K.Kept.step self.draws (state_of self) c.in_ok-at.at c.args.seat e.0 e.1 e.2 c.in-Waiting.ticket c.hold.new.self
-    (ap (λ (s : CoreSeat). s.phase) (sym is) ∙ c.in-Waiting.is) (c.serves.ensures.0 c.if-not-serves.false) (c.hold.ensures ∙ ap (holding c.in-Waiting.ticket) is') in
+    (ap (λ (s : CoreSeat). s.phase) (sym is) ∙ c.in-Waiting.is) (c.serves.ensures.0 c.if-not-serves.false)
+    (c.hold.ensures ∙ ap (holding c.in-Waiting.ticket) is') in
     (held c.args.seat, refl, refl, move)
 
 pub invariant_of-self-clause-lawful : goal.invariant_of-self-clause-lawful
