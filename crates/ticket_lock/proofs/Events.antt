@@ -26,17 +26,19 @@ use Rattle.ticket_steps.proofs.LawfulSteps.{lawful_opened}
 use Rattle.ticket_steps.proofs.Lists.{at_set, at_snoc, set_else, set_here, set_again}
 use Rattle.ticket_steps.proofs.Ofs.{of-other}
 use Rattle.ticket_steps.proofs.ScheduleLemmas.{leads_more, leads_lawful, leads_lawful_book, leads_strangers}
-use Rattle.ticket_steps.proofs.SeatLemmas.{holds, one_holder, no_holder, sole, in_line, named_once, tickets_holding}
+use Rattle.ticket_steps.proofs.SeatLemmas.{holds, one_holder, no_holder, sole, named_once, tickets_holding}
 use Rattle.ticket_steps.proofs.Totals.{times-append, times-same, times-take-drop, total-set, total-append, terms_le, below_le}
 use Rattle.ticket_lock.specs.declared.views.Start.{Start}
 use Rattle.ticket_lock.specs.declared.views.View.{View}
 use Rattle.ticket_lock.specs.Histories.{IsKnown, IsKnownToAll}
+use Rattle.ticket_lock.specs.Layout.{grant_word, next_word}
 use Rattle.ticket_lock.specs.Rule.{IsTableOf}
 use Rattle.ticket_lock.specs.Slots.{IsBook, IsSlotOf}
 use Rattle.ticket_lock.specs.Steps.{after_split, after_draw, after_waiting, after_holding, after_leaving, after_gather, after_second_load, Returns, IsEvent}
 use Rattle.ticket_lock.specs.Views.{draws_in, view, seat_in, spent_view, Follows, keeping_view, given_view, drawn_view, joined_view, reloaded_view}
 use Rattle.ticket_lock.specs.Views.{held_view, left_view}
-use Rattle.ticket_lock.specs.Words.{IsCoreOf}
+use Rattle.ticket_lock.specs.Words.{AreWordsOf, IsCoreOf}
+use Rattle.ticket_lock.proofs.WordLemmas.{next_found, next_raised, next_granted}
 use Rattle.ticket_lock.proofs.Seen.{follows_whole, follows_none, follows_later, follows_fewer, longer_of}
 
 module _ {K C R : Type 0} (k : Ghosts K C R) (start : Start K) where
@@ -122,7 +124,7 @@ module _ {K C R : Type 0} (k : Ghosts K C R) (start : Start K) where
 
   -- the core state that words and views are read off, after one happening more
   next_core : (hs : List (Happening C R)) (c d : Core) (s s' : Table) (h : Happening C R) → Ruled hs c s → Moves k.step start.draws c h d
-      → s'.words ≡ d.next ∷ d.served ∷ [] → d.seats ≡ map seat_in s'.views → IsCoreOf k start (hs ++ h ∷ []) d s'
+      → AreWordsOf d.next d.served s'.words → d.seats ≡ map seat_in s'.views → IsCoreOf k start (hs ++ h ∷ []) d s'
   next_core hs c d s s' h r move words seats = record {
     words = words;
     seats = seats;
@@ -148,8 +150,8 @@ module _ {K C R : Type 0} (k : Ghosts K C R) (start : Start K) where
       → IsEvent k start hs c (drew me.0.seat.own c.next) (after_draw s id me)
   draw_event hs c s id me r at idle some_left =
       let v : V = me.0 in
-      let x : ℕ = get_or s.words 0 0 in
-      let is : x ≡ c.next = ap (λ (ws : List ℕ). get_or ws 0 0) r.words.words in
+      let x : ℕ = get_or s.words next_word 0 in
+      let is : x ≡ c.next = next_found c.next c.served s.words r.words.words in
       let up : (c.next + 1) % 18446744073709551616 ≡ c.next + 1 = omega (arith, next_small hs c s r) in
       let at' = seat_at hs c s r id v at in
       let p : CoreSeat = waiting c.next v.seat in
@@ -157,8 +159,9 @@ module _ {K C R : Type 0} (k : Ghosts K C R) (start : Start K) where
       let d : Core = core_state (c.next + 1) c.served (set c.seats id p) c.book in
       let move : Moves k.step start.draws c (drew v.seat.own c.next) d = (id, v.seat, (at', refl, idle), some_left, refl, refl) in
       let old = r.known.each id v at in
-      let words : set s.words 0 ((x + 1) % 18446744073709551616) ≡ (c.next + 1) ∷ c.served ∷ [] =
-      (λ i. set (r.words.words i) 0 ((is i + 1) % 18446744073709551616)) ∙ ap (λ (n : ℕ). n ∷ c.served ∷ []) up in (
+      let words : AreWordsOf (c.next + 1) c.served (set s.words next_word ((x + 1) % 18446744073709551616)) =
+      subst (λ (n : ℕ). AreWordsOf (c.next + 1) c.served (set s.words next_word n)) (sym (ap (λ (n : ℕ). (n + 1) % 18446744073709551616) is ∙ up))
+      (next_raised c.next c.served s.words r.words.words (c.next + 1)) in (
         d,
         move,
         next_ruled hs _ c d s _ r
@@ -172,13 +175,13 @@ module _ {K C R : Type 0} (k : Ghosts K C R) (start : Start K) where
       )
 
   -- a look that waits changes nothing
-  pub waiting_same : (s : Table) (id : ℕ) (me : Me (Option K) V) → get_elem? s.views id ≡ some me.0 → after_waiting s id me ≡ s
-  waiting_same s id me at = λ i. record { words = set-get_or s.words 1 0 i; homes = s.homes; views = set_again s.views id me.0 at i }
+  pub waiting_same : (s : Table) (id ticket : ℕ) (me : Me (Option K) V) → get_elem? s.views id ≡ some me.0 → after_waiting s id ticket me ≡ s
+  waiting_same s id ticket me at = λ i. record { words = set-get_or s.words (grant_word ticket) 0 i; homes = s.homes; views = set_again s.views id me.0 at i }
 
   -- a look that waits is the core's waiting look
   pub wait_event : (hs : List (Happening C R)) (c : Core) (s : Table) (id ticket : ℕ) (me : Me (Option K) V) → Ruled hs c s
       → get_elem? s.views id ≡ some me.0 → me.0.seat.phase ≡ Waiting ticket → ticket ≢ c.served
-      → IsEvent k start hs c (waited me.0.seat.own) (after_waiting s id me)
+      → IsEvent k start hs c (waited me.0.seat.own) (after_waiting s id ticket me)
   wait_event hs c s id ticket me r at waits later =
       let v : V = me.0 in
       let at' = seat_at hs c s r id v at in
@@ -186,7 +189,7 @@ module _ {K C R : Type 0} (k : Ghosts K C R) (start : Start K) where
       let move : Moves k.step start.draws c h c = (id, v.seat, ticket, (at', refl, waits), later, refl) in (
         c,
         move,
-        subst (λ (z : Table). IsTableOf k start (hs ++ h ∷ []) c z) (sym (waiting_same s id me at))
+        subst (λ (z : Table). IsTableOf k start (hs ++ h ∷ []) c z) (sym (waiting_same s id ticket me at))
             (next_ruled hs _ c c s s r (next_core hs c c s s h r move r.words.words r.words.seats) r.slot r.known),
       )
 
@@ -212,7 +215,8 @@ module _ {K C R : Type 0} (k : Ghosts K C R) (start : Start K) where
           d,
           move,
           next_ruled hs _ c d s _ r
-              (next_core hs c d s _ (held v.seat.own) r move (set-get_or s.words 1 0 ∙ r.words.words)
+              (next_core hs c d s _ (held v.seat.own) r move
+              (subst (AreWordsOf c.next c.served) (sym (set-get_or s.words (grant_word c.served) 0)) r.words.words)
               (ap (λ (q : List CoreSeat). set q id p) r.words.seats ∙ sym (map-set seat_in s.views id w)))
               record {
                 one_slot = length-set s.homes 0 none ∙ r.slot.one_slot;
@@ -235,19 +239,18 @@ module _ {K C R : Type 0} (k : Ghosts K C R) (start : Start K) where
       → me.1 ≡ (0, Some book) ∷ [] → Moves k.step start.draws c h (after_leave c id me.0.seat b) → IsBook k start b book → (zs : List (Entry C R))
       → b.entries ≡ c.book.entries ++ zs
       → ((n : ℕ) → me.0.seat.own ≢ n → of n b.entries ≡ of n c.book.entries)
-      → IsTableOf k start (hs ++ h ∷ []) (after_leave c id me.0.seat b) (after_leaving k s id me book)
+      → IsTableOf k start (hs ++ h ∷ []) (after_leave c id me.0.seat b) (after_leaving k s id ticket me book)
   leave_to hs c s id ticket me book h b r at holder hand move is_book zs more others =
       let v : V = me.0 in
       let l = lawful hs c s r in
       let at' = seat_at hs c s r id v at in
       let mine = l.each id v.seat at' in
-      let x : ℕ = get_or s.words 1 0 in
-      let is : x ≡ c.served = ap (λ (ws : List ℕ). get_or ws 1 0) r.words.words in
       let served : ticket ≡ c.served = mine.holder ticket holder in
       let ticket_here : times c.served (tickets_of v.seat.phase) ≡ 1 = tickets_holding c.served ticket v.seat holder ∙
       (ap (λ (n : ℕ). times c.served (n ∷ [])) served ∙ times-same c.served []) in
-      let before : c.served < c.next = in_line start.numbers start.draws c l id c.served v.seat at' (omega (arith, ticket_here)) in
-      let up : (c.served + 1) % 18446744073709551616 ≡ c.served + 1 = omega (arith, before, next_small hs c s r) in
+      let words : AreWordsOf c.next (c.served + 1) (set s.words (grant_word (ticket + 1)) (ticket + 1)) =
+      subst (λ (n : ℕ). AreWordsOf c.next (c.served + 1) (set s.words (grant_word (n + 1)) (n + 1))) (sym served)
+      (next_granted c.next c.served s.words r.words.words) in
       let w : V = left_view k v book in
       let p : CoreSeat = ended v.seat in
       let d : Core = after_leave c id v.seat b in
@@ -255,8 +258,7 @@ module _ {K C R : Type 0} (k : Ghosts K C R) (start : Start K) where
       let old = r.known.each id v at in
       let own_in : 0 < times v.seat.own v.seat.numbers = mine.own (ap is_there holder) in
       next_ruled hs _ c d s _ r
-      (next_core hs c d s _ h r move ((λ i. set (r.words.words i) 1 ((is i + 1) % 18446744073709551616)) ∙ ap (λ (n : ℕ). c.next ∷ n ∷ []) up)
-      (ap (λ (q : List CoreSeat). set q id p) r.words.seats ∙ sym (map-set seat_in s.views id w)))
+      (next_core hs c d s _ h r move words (ap (λ (q : List CoreSeat). set q id p) r.words.seats ∙ sym (map-set seat_in s.views id w)))
       record {
         one_slot = ap length here ∙ (length-set s.homes 0 (some (Some book)) ∙ r.slot.one_slot);
         home =
@@ -298,7 +300,7 @@ module _ {K C R : Type 0} (k : Ghosts K C R) (start : Start K) where
       → get_elem? s.views id ≡ some me.0
       → me.0.seat.phase ≡ Holding ticket → me.1 ≡ (0, Some book) ∷ [] → Returns k start me.0.seat.own me.0.seen me.0.refused book
       → (h : Happening C R) × (((call : C) × (reply : R) × (h ≡ recorded me.0.seat.own call reply)) ⊎ (h ≡ refused me.0.seat.own))
-      × IsEvent k start hs c h (after_leaving k s id me book)
+      × IsEvent k start hs c h (after_leaving k s id ticket me book)
   leave_event legal hs c s id ticket me book r at holder hand ret =
       let v : V = me.0 in
       let at' = seat_at hs c s r id v at in
@@ -439,7 +441,11 @@ module _ {K C R : Type 0} (k : Ghosts K C R) (start : Start K) where
       let old = r.known.each id v at in
       let views : map seat_in (set s.views id w) ≡ map seat_in s.views = map-set seat_in s.views id w ∙ set_again (map seat_in s.views) id v.seat at' in
       next_ruled hs hs c c s _ r
-      record { words = set-get_or s.words 0 0 ∙ r.words.words; seats = r.words.seats ∙ sym views; leads = r.words.leads }
+      record {
+        words = subst (AreWordsOf c.next c.served) (sym (set-get_or s.words next_word 0)) r.words.words;
+        seats = r.words.seats ∙ sym views;
+        leads = r.words.leads;
+      }
       (slot_stays c c s _ r.slot refl refl refl)
       record {
         each = known_set c.book s.views id w (known_view c.book v.start v.seat v.seen 0 old.start_is old.seen

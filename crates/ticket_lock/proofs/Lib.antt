@@ -1,6 +1,7 @@
 pub mod Seen
 pub mod Callers
 pub mod FreshSeats
+pub mod WordLemmas
 pub mod Acts
 pub mod Events
 pub mod Obligations

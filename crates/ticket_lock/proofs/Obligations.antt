@@ -6,7 +6,8 @@ use native.Mathlib.Decide.{ℕ_discrete, dec_le}
 use mathlib.Core.Option.{some, none, some-ne-none}
 use lib.ListN.{get_elem?}
 use Rattle.std.specs.Option.{unwrap_or}
-use Rattle.atomic_table.specs.Table.{State, Me, Step, step, keeps, takes, gives, Allows, Splits, Joins, opening as opens, rest}
+use Rattle.atomic_table.specs.Table.{State, Me, Step, Act, step, keeps, takes, gives, Allows, Splits, Joins, opening as opens, rest}
+use Rattle.atomic_table.specs.Table.{stepped, carried_after, Valid}
 use Rattle.ticket_steps.specs.declared.kept.Entry.{Entry}
 use Rattle.ticket_steps.specs.declared.kept.Kept.{Ghosts}
 use Rattle.ticket_steps.specs.declared.seats.CoreSeat.{CoreSeat}
@@ -19,11 +20,12 @@ use Rattle.ticket_steps.specs.Seats.{holds_one, tickets_of}
 use Rattle.ticket_steps.specs.Sums.{total, times}
 use Rattle.ticket_steps.proofs.Lists.{at_snoc, set_else}
 use Rattle.ticket_steps.proofs.SeatLemmas.{holds, alone_served, alone, in_line, served_le, one_calls, busy, holder_le, unnumbered_calls, tickets_waiting}
-use Rattle.ticket_steps.proofs.SeatLemmas.{tickets_holding}
+use Rattle.ticket_steps.proofs.SeatLemmas.{tickets_holding, waits_in_line}
 use Rattle.ticket_steps.proofs.Totals.{times_le, times-same, below_yes, term_le}
 use Rattle.ticket_lock.specs.declared.views.Start.{Start}
 use Rattle.ticket_lock.specs.declared.views.View.{View}
 use Rattle.ticket_lock.specs.Histories.{IsKnown}
+use Rattle.ticket_lock.specs.Layout.{first_words, grant_word, next_word}
 use Rattle.ticket_lock.specs.Plays.{DrawTells, LookTells, LeaveTells, SecondLoadTells}
 use Rattle.ticket_lock.specs.Rule.{IsTableOf, IsRuled}
 use Rattle.ticket_lock.specs.Slots.{IsBook}
@@ -31,6 +33,7 @@ use Rattle.ticket_lock.specs.Steps.{Returns}
 use Rattle.ticket_lock.specs.Views.{spent_view, first_view, Follows, keeping_view, given_view, drawn_view, joined_view, reloaded_view, held_view, left_view}
 use Rattle.ticket_lock.proofs.Events.{lawful, next_small, seat_at, draw_event, wait_event, look_event, leave_event, split_event, gather_event}
 use Rattle.ticket_lock.proofs.Events.{second_load_same, strangers_none}
+use Rattle.ticket_lock.proofs.WordLemmas.{watched_found, words_opened}
 use Rattle.ticket_lock.proofs.Seen.{follows_self, follows_longer, longer_is, all_seen, empty_before}
 
 abbrev pub in_hand : {K : Type 0} → K → List (ℕ × Option K) → K
@@ -53,13 +56,13 @@ module _ {K C R : Type 0} (k : Ghosts K C R) (start : Start K) where
   -- the table as it is made is that of the core's opening
   pub opens_with : (book : K) → k.opening book ≡ (k.opening start.book) → k.history book ≡ [] → k.refusals book ≡ 0 → 0 < start.numbers
       → start.numbers ≤ 1024 → start.draws ≤ 4294967295
-      → IsTableOf k start [] (opened start.numbers start.draws (k.opening start.book)) (opens (0 ∷ 0 ∷ []) (Some book ∷ []) (first_view start))
+      → IsTableOf k start [] (opened start.numbers start.draws (k.opening start.book)) (opens first_words (Some book ∷ []) (first_view start))
   opens_with book state none_kept none_refused some_number few few_draws =
       record {
         some_number = some_number;
         few_numbers = few;
         few_draws = few_draws;
-        words = record { words = refl; seats = refl; leads = refl };
+        words = record { words = words_opened; seats = refl; leads = refl };
         slot =
             record {
               one_slot = refl;
@@ -81,23 +84,24 @@ module _ {K C R : Type 0} (k : Ghosts K C R) (start : Start K) where
 
   pub starts : (book : K) → k.opening book ≡ (k.opening start.book) → k.history book ≡ [] → k.refusals book ≡ 0 → 0 < start.numbers
       → start.numbers ≤ 1024 → start.draws ≤ 4294967295
-      → Rule (opens (0 ∷ 0 ∷ []) (Some book ∷ []) (first_view start))
+      → Rule (opens first_words (Some book ∷ []) (first_view start))
   starts book state none_kept none_refused some_number few few_draws =
       ([], opened start.numbers start.draws (k.opening start.book), opens_with book state none_kept none_refused some_number few few_draws)
 
   pub draws : (n id : ℕ) (me : Me (Option K) V) → me.0.seat.phase ≡ Idle → 0 < me.0.seat.left
-      → Allows Rule n id me 0 (λ x. (x + 1) % 18446744073709551616) (DrawTells (step n 0 1 0 none) me)
+      → Allows Rule n id me next_word (λ x. (x + 1) % 18446744073709551616) (DrawTells (step n next_word 1 0 none) me)
   draws n id me idle some_left s r wide at small =
       let e = draw_event k start r.0 r.1 s id me r.2 at idle some_left in
-      (drawn_view (get_or s.words 0 0) me.0, keeps, tt, (r.0 ++ drew me.0.seat.own r.1.next ∷ [], e.0, e.2), refl)
+      (drawn_view (get_or s.words next_word 0) me.0, keeps, tt, (r.0 ++ drew me.0.seat.own r.1.next ∷ [], e.0, e.2), refl)
 
   -- what the play of a look tells of a look that holds
   pub look_held_told : (hs : List (Happening C R)) (c : Core) (s : Table) (id : ℕ) (me : Me (Option K) V) (book : K) (st : Step (Option K))
       → IsTableOf k start hs c s → get_elem? s.views id ≡ some me.0 → me.0.seat.phase ≡ Waiting c.served → me.1 ≡ []
-      → IsBook k start c.book book → LookTells k st me (get_or s.words 1 0) (held_view k c.served me.0 book, (0, Some book) ∷ me.1)
+      → IsBook k start c.book book → LookTells k st me (get_or s.words (grant_word c.served) 0) (held_view k c.served me.0 book, (0, Some book) ∷ me.1)
   look_held_told hs c s id me book st r at waits bare is_book =
       let v : V = me.0 in
-      let is : get_or s.words 1 0 ≡ c.served = ap (λ (ws : List ℕ). get_or ws 1 0) r.words.words in
+      let is : get_or s.words (grant_word c.served) 0 ≡ c.served =
+      (watched_found c.next c.served s.words r.words.words c.served (omega arith)).1 refl in
       let l = lawful k start hs c s r in
       let at' = seat_at k start hs c s r id v at in
       let old = r.known.each id v at in
@@ -120,16 +124,17 @@ module _ {K C R : Type 0} (k : Ghosts K C R) (start : Start K) where
   -- and of one that waits
   pub look_waits_told : (hs : List (Happening C R)) (c : Core) (s : Table) (id ticket : ℕ) (me : Me (Option K) V) (st : Step (Option K))
       → IsTableOf k start hs c s → get_elem? s.views id ≡ some me.0 → me.0.seat.phase ≡ Waiting ticket → ticket ≢ c.served
-      → LookTells k st me (get_or s.words 1 0) me
+      → LookTells k st me (get_or s.words (grant_word ticket) 0) me
   look_waits_told hs c s id ticket me st r at waits later =
       let v : V = me.0 in
-      let is : get_or s.words 1 0 ≡ c.served = ap (λ (ws : List ℕ). get_or ws 1 0) r.words.words in
       let l = lawful k start hs c s r in
       let at' = seat_at k start hs c s r id v at in
+      let to_come : c.served ≤ ticket = waits_in_line start.numbers start.draws c l id ticket v.seat at' waits in
+      let found = watched_found c.next c.served s.words r.words.words ticket to_come in
       let old = r.known.each id v at in
       let same : (t' : ℕ) → v.seat.phase ≡ Waiting t' → ticket ≡ t' = λ t' e. let both : Waiting ticket ≡ Waiting t' = sym waits ∙ e in cc in
       λ t' phase. (
-        λ hit. absurd (later (same t' phase ∙ (sym hit ∙ is))),
+        λ hit. absurd (later (found.0 (hit ∙ sym (same t' phase)))),
         λ _. (
           refl,
           λ o known. dite (dec_le o.numbers (length v.seat.numbers))
@@ -139,39 +144,52 @@ module _ {K C R : Type 0} (k : Ghosts K C R) (start : Start K) where
         ),
       )
 
-  pub looks : (n id t : ℕ) (me : Me (Option K) V) → me.0.seat.phase ≡ Waiting t → me.1 ≡ []
-      → Allows Rule n id me 1 (λ x. x) (LookTells k (step n 1 0 0 none) me)
-  looks n id t me waits bare s r wide at small =
-      let v : V = me.0 in
-      let hs = r.0 in
-      let c = r.1 in
-      let x : ℕ = get_or s.words 1 0 in
-      let is : x ≡ c.served = ap (λ (ws : List ℕ). get_or ws 1 0) r.2.words.words in
-      dite (ℕ_discrete x t)
-      (λ hit.
-      let mine : v.seat.phase ≡ Waiting c.served = waits ∙ ap Waiting (sym hit ∙ is) in
-      let e = look_event k start hs c s id me r.2 at mine in (
-        held_view k c.served v e.0,
+  -- where a look at the word that this ticket watches leads
+  abbrev Leads : Table → ℕ → Me (Option K) V → Step (Option K) → ℕ → Type 0
+  Leads s id me st t = (w : V) × (a : Act (Option K)) × Valid s.homes me.1 a
+      × Rule (stepped s (grant_word t) (get_or s.words (grant_word t) 0) id me.1 w a)
+      × LookTells k st me (get_or s.words (grant_word t) 0) (w, carried_after me.1 a)
+
+  held_leads : (hs : List (Happening C R)) (c : Core) (s : Table) (id : ℕ) (me : Me (Option K) V) (st : Step (Option K)) → IsTableOf k start hs c s
+      → get_elem? s.views id ≡ some me.0 → me.0.seat.phase ≡ Waiting c.served → me.1 ≡ [] → Leads s id me st c.served
+  held_leads hs c s id me st r at waits bare =
+      let e = look_event k start hs c s id me r at waits in (
+        held_view k c.served me.0 e.0,
         takes 0 (Some e.0),
         e.1,
-        (hs ++ held v.seat.own ∷ [], e.3.0, e.3.2),
-        look_held_told hs c s id me e.0 (step n 1 0 0 none) r.2 at mine bare e.2,
-      ))
-      (λ miss.
-      let later : t ≢ c.served = λ e. miss (is ∙ sym e) in
-      let e = wait_event k start hs c s id t me r.2 at waits later in (
-        v,
+        (hs ++ held me.0.seat.own ∷ [], e.3.0, e.3.2),
+        look_held_told hs c s id me e.0 st r at waits bare e.2,
+      )
+
+  waiting_leads : (hs : List (Happening C R)) (c : Core) (s : Table) (id t : ℕ) (me : Me (Option K) V) (st : Step (Option K)) → IsTableOf k start hs c s
+      → get_elem? s.views id ≡ some me.0 → me.0.seat.phase ≡ Waiting t → t ≢ c.served → Leads s id me st t
+  waiting_leads hs c s id t me st r at waits later =
+      let e = wait_event k start hs c s id t me r at waits later in (
+        me.0,
         keeps,
         tt,
-        (hs ++ waited v.seat.own ∷ [], e.0, e.2),
-        look_waits_told hs c s id t me (step n 1 0 0 none) r.2 at waits later,
-      ))
+        (hs ++ waited me.0.seat.own ∷ [], e.0, e.2),
+        look_waits_told hs c s id t me st r at waits later,
+      )
+
+  looks_at : (n id t : ℕ) (me : Me (Option K) V) → me.0.seat.phase ≡ Waiting t → me.1 ≡ []
+      → Allows Rule n id me (grant_word t) (λ x. x) (LookTells k (step n (grant_word t) 0 0 none) me)
+  looks_at n id t me waits bare s r wide at small =
+      let st : Step (Option K) = step n (grant_word t) 0 0 none in
+      dite (ℕ_discrete t r.1.served)
+      (λ first. subst (Leads s id me st) (sym first) (held_leads r.0 r.1 s id me st r.2 at (waits ∙ ap Waiting first) bare))
+      (λ later. waiting_leads r.0 r.1 s id t me st r.2 at waits later)
+
+  pub looks : (n id t word : ℕ) (me : Me (Option K) V) → word ≡ grant_word t → me.0.seat.phase ≡ Waiting t → me.1 ≡ []
+      → Allows Rule n id me word (λ x. x) (LookTells k (step n word 0 0 none) me)
+  looks n id t word me is waits bare =
+      subst (λ (w : ℕ). Allows Rule n id me w (λ x. x) (LookTells k (step n w 0 0 none) me)) (sym is) (looks_at n id t me waits bare)
 
   -- what the play of a leave tells
   pub leave_told : (hs : List (Happening C R)) (c : Core) (s : Table) (id t : ℕ) (me : Me (Option K) V) (book : K) (st : Step (Option K))
       → IsTableOf k start hs c s → get_elem? s.views id ≡ some me.0 → me.0.seat.phase ≡ Holding t → me.1 ≡ (0, Some book) ∷ []
-      → LeaveTells k st me (get_or s.words 1 0) (left_view k me.0 book, [])
-  leave_told hs c s id t me book st r at holder hand =
+      → (found : ℕ) → LeaveTells k st me found (left_view k me.0 book, [])
+  leave_told hs c s id t me book st r at holder hand found =
       let v : V = me.0 in
       let l = lawful k start hs c s r in
       let at' = seat_at k start hs c s r id v at in
@@ -187,34 +205,32 @@ module _ {K C R : Type 0} (k : Ghosts K C R) (start : Start K) where
         ),
       )
 
-  pub leaves : ((b : K) → IsLegal k.step (k.opening b) (k.history b)) → (n id t : ℕ) (me : Me (Option K) V) (book : K) (o : Start K)
+  leaves_in : ((b : K) → IsLegal k.step (k.opening b) (k.history b)) → (n id t : ℕ) (me : Me (Option K) V) (book : K) (o : Start K)
       → me.1 ≡ (0, Some book) ∷ [] → me.0.seat.phase ≡ Holding t → me.0.start ≡ Some o → Returns k o me.0.seat.own me.0.seen me.0.refused book
-      → Allows Rule n id me 1 (λ x. (x + 1) % 18446744073709551616) (LeaveTells k (step n 1 1 0 none) me)
-  leaves legal n id t me book o hand holder known ret s r wide at small =
+      → Allows Rule n id me (grant_word (t + 1)) (λ _. t + 1) (λ _. LeaveTells k (step n (grant_word (t + 1)) (t + 1) 0 none) me (t + 1))
+  leaves_in legal n id t me book o hand holder known ret s r wide at small =
       let v : V = me.0 in
       let hs = r.0 in
       let c = r.1 in
       let mine : o ≡ start = (r.2.known.each id v at).start_is o known in
+      let st : Step (Option K) = step n (grant_word (t + 1)) (t + 1) 0 none in
       let e = leave_event k start legal hs c s id t me book r.2 at holder hand
-      (subst (λ (z : Start K). Returns k z v.seat.own v.seen v.refused book) mine ret) in
-      let l = lawful k start hs c s r.2 in
-      let at' = seat_at k start hs c s r.2 id v at in
-      let has : 0 < times t (tickets_of v.seat.phase) = omega (arith, tickets_holding t t v.seat holder, times-same t []) in (
+      (subst (λ (z : Start K). Returns k z v.seat.own v.seen v.refused book) mine ret) in (
         left_view k v book,
         gives,
         tt,
         (hs ++ e.0 ∷ [], e.2.0, e.2.2),
-        λ b h. (
-          (let same : book ≡ b = ap (in_hand book) (sym hand ∙ h) in λ i. (left_view k v (same i), ap rest hand i)),
-          omega (
-            arith,
-            one_calls start.numbers start.draws c l id v.seat at',
-            in_line start.numbers start.draws c l id t v.seat at' has,
-            next_small k
-                start hs c s r.2,
-          ),
-        ),
+        subst (λ (q : List (ℕ × Option K)). LeaveTells k st me (t + 1) (left_view k v book, q)) (ap rest (sym hand))
+            (leave_told hs c s id t me book st r.2 at holder hand (t + 1)),
       )
+
+  pub leaves : ((b : K) → IsLegal k.step (k.opening b) (k.history b)) → (n id t word : ℕ) (me : Me (Option K) V) (book : K) (o : Start K)
+      → word ≡ grant_word (t + 1)
+      → me.1 ≡ (0, Some book) ∷ [] → me.0.seat.phase ≡ Holding t → me.0.start ≡ Some o → Returns k o me.0.seat.own me.0.seen me.0.refused book
+      → Allows Rule n id me word (λ _. t + 1) (λ _. LeaveTells k (step n word (t + 1) 0 none) me (t + 1))
+  leaves legal n id t word me book o is hand holder known ret =
+      subst (λ (w : ℕ). Allows Rule n id me w (λ _. t + 1) (λ _. LeaveTells k (step n w (t + 1) 0 none) me (t + 1))) (sym is)
+      (leaves_in legal n id t me book o hand holder known ret)
 
   pub splits : (id count : ℕ) (v : V) (o : Start K) → v.start ≡ Some o → v.seat.phase ≡ Idle → v.seat.fresh ≡ true → 0 < count
       → count < length v.seat.numbers → Splits Rule id v (keeping_view count v) (given_view count v)
@@ -232,7 +248,7 @@ module _ {K C R : Type 0} (k : Ghosts K C R) (start : Start K) where
   -- what the second load of a gather tells
   pub second_load_told : (hs : List (Happening C R)) (c : Core) (s : Table) (id : ℕ) (me : Me (Option K) V) (st : Step (Option K))
       → IsTableOf k start hs c s → get_elem? s.views id ≡ some me.0
-      → SecondLoadTells st me (get_or s.words 0 0) (reloaded_view me.0, me.1)
+      → SecondLoadTells st me (get_or s.words next_word 0) (reloaded_view me.0, me.1)
   second_load_told hs c s id me st r at =
       let v : V = me.0 in
       let old = r.known.each id v at in
@@ -248,13 +264,14 @@ module _ {K C R : Type 0} (k : Ghosts K C R) (start : Start K) where
         omega (arith, one_calls start.numbers start.draws c l id v.seat at', served_le start.numbers start.draws c l, next_small k start hs c s r),
       )
 
-  pub second_loads : (n id : ℕ) (me : Me (Option K) V) → me.0.seat.phase ≡ Idle → Allows Rule n id me 0 (λ x. x) (SecondLoadTells (step n 0 0 0 none) me)
+  pub second_loads : (n id : ℕ) (me : Me (Option K) V) → me.0.seat.phase ≡ Idle
+      → Allows Rule n id me next_word (λ x. x) (SecondLoadTells (step n next_word 0 0 none) me)
   second_loads n id me idle s r wide at small = (
     reloaded_view me.0,
     keeps,
     tt,
     (r.0, r.1, second_load_same k start r.0 r.1 s id me r.2 at idle),
-    second_load_told r.0 r.1 s id me (step n 0 0 0 none) r.2 at,
+    second_load_told r.0 r.1 s id me (step n next_word 0 0 none) r.2 at,
   )
 
   -- the last book that a lock has: what it says to the seat with this view, which stands for all numbers

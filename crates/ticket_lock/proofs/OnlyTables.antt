@@ -1,5 +1,5 @@
 -- An operation that meets its kind's play leaves one table.
-use Rattle.std.proofs.Common.{◌≡◌, ℕ, ◌<◌, ◌≢◌, List, [], ◌∷◌, get_or, set, sym, refl, ap, ◌∙◌, inl, inr, subst, arith}
+use Rattle.std.proofs.Common.{◌≡◌, ℕ, ◌+◌, ◌<◌, ◌≤◌, ◌≢◌, List, [], ◌∷◌, get_or, set, sym, refl, ap, ◌∙◌, inl, inr, subst, arith}
 use Rattle.std.proofs.Common.{Option, Some}
 use Rattle.std.specs.Option.{unwrap_or}
 use mathlib.Core.Option.{some, none, some-injective}
@@ -9,18 +9,19 @@ use Rattle.atomic_table.specs.Table.{Me, Step, Act, keeps, takes, gives, put_bac
 use Rattle.ticket_steps.specs.declared.kept.Kept.{Ghosts}
 use Rattle.ticket_steps.specs.declared.seats.Phase.TheVariants.{Waiting, Holding}
 use Rattle.ticket_steps.specs.Seats.{holds_one, holders}
-use Rattle.ticket_steps.proofs.SeatLemmas.{holds}
+use Rattle.ticket_steps.proofs.SeatLemmas.{holds, waits_in_line}
 use Rattle.ticket_steps.proofs.Totals.{term_le}
 use Rattle.ticket_lock.specs.declared.views.View.{View}
+use Rattle.ticket_lock.specs.Layout.{grant_word, next_word}
 use Rattle.ticket_lock.specs.Plays.{DrawTells, LookTells, LeaveTells, SecondLoadTells}
 use Rattle.ticket_lock.specs.Slots.{IsBook}
-use Rattle.ticket_lock.specs.Steps.{TableMoment, IsTableMoment, LeavesOnly, one_more, as_found, after_draw, after_waiting, after_holding, after_leaving}
+use Rattle.ticket_lock.specs.Steps.{TableMoment, IsTableMoment, LeavesOnly, one_more, as_found, stored, after_draw, after_waiting, after_holding, after_leaving}
 use Rattle.ticket_lock.specs.Steps.{after_second_load}
 use Rattle.ticket_lock.specs.Views.{drawn_view, held_view, left_view, reloaded_view, longer}
-use Rattle.ticket_lock.specs.Words.{next_word, served_word}
 use Rattle.ticket_lock.proofs.Acts.{HasSlot, has_after, left_home, took_home, one_slot_is}
-use Rattle.ticket_lock.proofs.Events.{seat_at, look_event}
+use Rattle.ticket_lock.proofs.Events.{lawful, seat_at, look_event}
 use Rattle.ticket_lock.proofs.Obligations.{look_held_told, look_waits_told, leave_told, second_load_told}
+use Rattle.ticket_lock.proofs.WordLemmas.{watched_found}
 
 module _ {K C R : Type 0} (k : Ghosts K C R) where
   abbrev V : Type 0
@@ -55,8 +56,8 @@ module _ {K C R : Type 0} (k : Ghosts K C R) where
   pub draw_only : (m : Moment) (st : Step (Option K)) → IsTableMoment k m → m.me.1 ≡ []
       → LeavesOnly k m next_word one_more (DrawTells st m.me) (after_draw m.table m.id m.me)
   draw_only m st is bare = record {
-    may = record { view = drawn_view (get_or m.table.words 0 0) m.me.0; act = keeps; valid = tt; told = refl; is = refl };
-    only = λ t may. may.is ∙ same_table m 0 _ may.view _ may.act keeps (ap (λ (p : Me (Option K) V). p.0) may.told)
+    may = record { view = drawn_view (get_or m.table.words next_word 0) m.me.0; act = keeps; valid = tt; told = refl; is = refl };
+    only = λ t may. may.is ∙ same_table m next_word _ may.view _ may.act keeps (ap (λ (p : Me (Option K) V). p.0) may.told)
         (same_homes m is bare may.act may.valid (ap (λ (p : Me (Option K) V). p.1) may.told ∙ bare));
   }
 
@@ -70,7 +71,7 @@ module _ {K C R : Type 0} (k : Ghosts K C R) where
 
   pub look_held_only : (m : Moment) (book : K) (st : Step (Option K)) → IsTableMoment k m → m.me.0.seat.phase ≡ Waiting m.core.served
       → m.me.1 ≡ [] → get_elem? m.table.homes 0 ≡ some (some (Some book)) → IsBook k m.start m.core.book book
-      → LeavesOnly k m served_word as_found (LookTells k st m.me) (after_holding k m.table m.id m.core.served m.me book)
+      → LeavesOnly k m (grant_word m.core.served) as_found (LookTells k st m.me) (after_holding k m.table m.id m.core.served m.me book)
   look_held_only m book st is waits bare at is_book = record {
     may = record {
       view = held_view k m.core.served m.me.0 book;
@@ -81,7 +82,8 @@ module _ {K C R : Type 0} (k : Ghosts K C R) where
     };
     only = λ t may.
         let homes : m.table.homes ≡ get_or m.table.homes 0 none ∷ [] = one_slot_is m.table.homes is.ruled.slot.one_slot in
-        let found : get_or m.table.words 1 0 ≡ m.core.served = ap (λ (ws : List ℕ). get_or ws 1 0) is.ruled.words.words in
+        let found : get_or m.table.words (grant_word m.core.served) 0 ≡ m.core.served =
+        (watched_found m.core.next m.core.served m.table.words is.ruled.words.words m.core.served (omega arith)).1 refl in
         let told = ((may.told m.core.served waits).0 found).1 in
         let other : K = ((may.told m.core.served waits).0 found).0 in
         let took = took_home (get_or m.table.homes 0 none) _ _ (Some other) (in_all m is bare may.act may.valid)
@@ -89,14 +91,14 @@ module _ {K C R : Type 0} (k : Ghosts K C R) where
         let here : some (Some other) ≡ some (Some book) =
         some-injective _ _ (ap some (sym took.0) ∙ (ap (λ (q : Homes). get_elem? q 0) (sym homes) ∙ at)) in
         let same : other ≡ book = ap (λ (o : Option K). unwrap_or o book) (some-injective _ _ here) in
-        may.is ∙ same_table m 1 _ may.view _ may.act (takes 0 (Some book))
+        may.is ∙ same_table m (grant_word m.core.served) _ may.view _ may.act (takes 0 (Some book))
         (ap (λ (p : Me (Option K) V). p.0) told ∙ ap (held_view k m.core.served m.me.0) same)
         (took.1 ∙ ap (λ (q : Homes). set q 0 none) (sym homes));
   }
 
   pub look_waits_only : (m : Moment) (ticket : ℕ) (st : Step (Option K)) → IsTableMoment k m → m.me.0.seat.phase ≡ Waiting ticket
       → ticket ≢ m.core.served → m.me.1 ≡ []
-      → LeavesOnly k m served_word as_found (LookTells k st m.me) (after_waiting m.table m.id m.me)
+      → LeavesOnly k m (grant_word ticket) as_found (LookTells k st m.me) (after_waiting m.table m.id ticket m.me)
   look_waits_only m ticket st is waits later bare = record {
     may = record {
       view = m.me.0;
@@ -106,9 +108,12 @@ module _ {K C R : Type 0} (k : Ghosts K C R) where
       is = refl;
     };
     only = λ t may.
-        let found : get_or m.table.words 1 0 ≡ m.core.served = ap (λ (ws : List ℕ). get_or ws 1 0) is.ruled.words.words in
-        let told = ((may.told ticket waits).1 (λ e. later (sym e ∙ found))).0 in
-        may.is ∙ same_table m 1 _ may.view _ may.act keeps (ap (λ (p : Me (Option K) V). p.0) told)
+        let l = lawful k m.start m.happened m.core m.table is.ruled in
+        let here = seat_at k m.start m.happened m.core m.table is.ruled m.id m.me.0 is.there in
+        let to_come : m.core.served ≤ ticket = waits_in_line m.start.numbers m.start.draws m.core l m.id ticket m.me.0.seat here waits in
+        let found = watched_found m.core.next m.core.served m.table.words is.ruled.words.words ticket to_come in
+        let told = ((may.told ticket waits).1 (λ e. later (found.0 e))).0 in
+        may.is ∙ same_table m (grant_word ticket) _ may.view _ may.act keeps (ap (λ (p : Me (Option K) V). p.0) told)
         (same_homes m is bare may.act may.valid (ap (λ (p : Me (Option K) V). p.1) told ∙ bare));
   }
 
@@ -123,14 +128,14 @@ module _ {K C R : Type 0} (k : Ghosts K C R) where
 
   pub leave_only : (m : Moment) (ticket : ℕ) (book : K) (st : Step (Option K)) → IsTableMoment k m → m.me.0.seat.phase ≡ Holding ticket
       → m.me.1 ≡ (0, Some book) ∷ []
-      → LeavesOnly k m served_word one_more (LeaveTells k st m.me) (after_leaving k m.table m.id m.me book)
+      → LeavesOnly k m (grant_word (ticket + 1)) (stored (ticket + 1)) (λ _. LeaveTells k st m.me (ticket + 1)) (after_leaving k m.table m.id ticket m.me book)
   leave_only m ticket book st is holder hand = record {
     may = record {
       view = left_view k m.me.0 book;
       act = gives;
       valid = tt;
-      told = subst (λ (q : List (ℕ × Option K)). LeaveTells k st m.me (get_or m.table.words 1 0) (left_view k m.me.0 book, q))
-          (ap rest (sym hand)) (leave_told k m.start m.happened m.core m.table m.id ticket m.me book st is.ruled is.there holder hand);
+      told = subst (λ (q : List (ℕ × Option K)). LeaveTells k st m.me (ticket + 1) (left_view k m.me.0 book, q))
+          (ap rest (sym hand)) (leave_told k m.start m.happened m.core m.table m.id ticket m.me book st is.ruled is.there holder hand (ticket + 1));
       is = refl;
     };
     only = λ t may.
@@ -141,7 +146,7 @@ module _ {K C R : Type 0} (k : Ghosts K C R) where
         (ap (λ (p : Me (Option K) V). p.1) told) in
         let back : put_back m.table.homes m.me.1 ≡ some (Some book) ∷ [] =
         ap (put_back m.table.homes) hand ∙ ap (λ (q : Homes). set q 0 (some (Some book))) out in
-        may.is ∙ same_table m 1 _ may.view _ may.act gives (ap (λ (p : Me (Option K) V). p.0) told) (homes ∙ sym back);
+        may.is ∙ same_table m (grant_word (ticket + 1)) _ may.view _ may.act gives (ap (λ (p : Me (Option K) V). p.0) told) (homes ∙ sym back);
   }
 
   pub second_load_only : (m : Moment) (st : Step (Option K)) → IsTableMoment k m → m.me.1 ≡ []
@@ -157,6 +162,6 @@ module _ {K C R : Type 0} (k : Ghosts K C R) where
     };
     only = λ t may.
         let told = (may.told joined).0 in
-        may.is ∙ same_table m 0 _ may.view _ may.act keeps (ap (λ (p : Me (Option K) V). p.0) told)
+        may.is ∙ same_table m next_word _ may.view _ may.act keeps (ap (λ (p : Me (Option K) V). p.0) told)
         (same_homes m is bare may.act may.valid (ap (λ (p : Me (Option K) V). p.1) told ∙ bare));
   }

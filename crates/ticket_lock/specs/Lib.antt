@@ -1,4 +1,5 @@
 pub mod Views
+pub mod Layout
 pub mod Words
 pub mod Slots
 pub mod Histories

@@ -9,21 +9,24 @@ use Rattle.ticket_steps.specs.CoreStates.{CoreState}
 use Rattle.ticket_steps.specs.Happenings.{Happening, Moves}
 use Rattle.ticket_lock.specs.declared.views.Start.{Start}
 use Rattle.ticket_lock.specs.declared.views.View.{View}
+use Rattle.ticket_lock.specs.Layout.{first_words, grant_word, next_word}
 use Rattle.ticket_lock.specs.Rule.{IsTableOf}
 use Rattle.ticket_lock.specs.Views.{first_view, spent_view, keeping_view, given_view, drawn_view, joined_view, reloaded_view, held_view, left_view}
-use Rattle.ticket_lock.specs.Words.{next_word, served_word}
 
--- what an operation makes of the number that it finds: an add of one, and a load
+-- what an operation makes of the number that it finds: an add of one, a load, and a store of a number
 abbrev pub one_more : ℕ → ℕ
 one_more n = (n + 1) % 18446744073709551616
 
 abbrev pub as_found : ℕ → ℕ
 as_found n = n
 
+abbrev pub stored : ℕ → ℕ → ℕ
+stored number n = number
+
 module _ {K C R : Type 0} where
   -- the table as it is made: no ticket is drawn, none is served, the book is in its slot, and one seat stands for all numbers
   abbrev pub first_table : Start K → State (Option K) (View K C R)
-  first_table start = opening (0 ∷ 0 ∷ []) (Some start.book ∷ []) (first_view start)
+  first_table start = opening first_words (Some start.book ∷ []) (first_view start)
 
   -- split, a load of the next ticket: the seat id keeps its first numbers, a new seat has the last
   abbrev pub after_split : State (Option K) (View K C R) → ℕ → ℕ → View K C R → State (Option K) (View K C R)
@@ -34,9 +37,9 @@ module _ {K C R : Type 0} where
   after_draw s id me =
       stepped s next_word ((slice_index s.words next_word + 1) % 18446744073709551616) id me.1 (drawn_view (slice_index s.words next_word) me.0) keeps
 
-  -- look, a load of the number served, by a seat whose ticket it isn't
-  abbrev pub after_waiting : State (Option K) (View K C R) → ℕ → Me (Option K) (View K C R) → State (Option K) (View K C R)
-  after_waiting s id me = stepped s served_word (slice_index s.words served_word) id me.1 me.0 keeps
+  -- look, a load of the word that the ticket watches, by a seat that isn't served
+  abbrev pub after_waiting : State (Option K) (View K C R) → ℕ → ℕ → Me (Option K) (View K C R) → State (Option K) (View K C R)
+  after_waiting s id ticket me = stepped s (grant_word ticket) (slice_index s.words (grant_word ticket)) id me.1 me.0 keeps
 
   -- gather, a load of the next ticket: the seat id takes over another
   abbrev pub after_gather : State (Option K) (View K C R) → ℕ → View K C R → ℕ → View K C R → State (Option K) (View K C R)
@@ -47,13 +50,14 @@ module _ {K C R : Type 0} where
   after_second_load s id me = stepped s next_word (slice_index s.words next_word) id me.1 (reloaded_view me.0) keeps
 
 module _ {K C R : Type 0} (k : Ghosts K C R) where
-  -- look, a load of the number served, by the seat whose ticket it is, which takes the book
+  -- look, a load of the word that the ticket watches, by the seat that is served, which takes the book
   abbrev pub after_holding : State (Option K) (View K C R) → ℕ → ℕ → Me (Option K) (View K C R) → K → State (Option K) (View K C R)
-  after_holding s id ticket me book = stepped s served_word (slice_index s.words served_word) id me.1 (held_view k ticket me.0 book) (takes 0 (Some book))
+  after_holding s id ticket me book =
+      stepped s (grant_word ticket) (slice_index s.words (grant_word ticket)) id me.1 (held_view k ticket me.0 book) (takes 0 (Some book))
 
-  -- leave, an add to the number served, by the holder, whose book is back in its slot
-  abbrev pub after_leaving : State (Option K) (View K C R) → ℕ → Me (Option K) (View K C R) → K → State (Option K) (View K C R)
-  after_leaving s id me book = stepped s served_word ((slice_index s.words served_word + 1) % 18446744073709551616) id me.1 (left_view k me.0 book) gives
+  -- leave, a store of the next number in the word that it watches, by the holder of this ticket, whose book is back in its slot
+  abbrev pub after_leaving : State (Option K) (View K C R) → ℕ → ℕ → Me (Option K) (View K C R) → K → State (Option K) (View K C R)
+  after_leaving s id ticket me book = stepped s (grant_word (ticket + 1)) (ticket + 1) id me.1 (left_view k me.0 book) gives
 
   -- the book is the one that was taken out with these entries and refusals, with one more entry of this number or one more refusal
   pub record Returns (start : Start K) (own : ℕ) (seen : List (Entry C R)) (refused : ℕ) (book : K) : Type 0 where
@@ -90,6 +94,7 @@ module _ {K C R : Type 0} (k : Ghosts K C R) where
   IsNoEvent m s = IsTableOf k m.start m.happened m.core s
 
   -- In the table after a step this is the seat that stepped, and it is told so: of the number that was found in the word, and of itself.
+  -- A store finds no number: what it tells says nothing of one.
   pub record IsTold (m : TableMoment K k.State C R) (word : ℕ) (tells : ℕ → Me (Option K) (View K C R) → Type 0)
       (after : Me (Option K) (View K C R)) (s : State (Option K) (View K C R)) : Type 0 where
     pub stands : get_elem? s.views m.id ≡ some after.0

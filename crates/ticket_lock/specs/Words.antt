@@ -1,24 +1,26 @@
 -- The rule, first pass: the words and the phases of the seats are a core state that a schedule leads to.
-use Rattle.std.specs.Prelude.{◌≡◌, ℕ, List, [], ◌∷◌, map, Option}
+use Rattle.std.specs.Prelude.{◌≡◌, ℕ, List, map, Option}
 use Rattle.atomic_table.specs.Table.{State}
 use Rattle.ticket_steps.specs.declared.kept.Kept.{Ghosts}
 use Rattle.ticket_steps.specs.CoreStates.{CoreState, opened}
+use Rattle.ticket_steps.specs.Grants.{AreGrantsOf}
 use Rattle.ticket_steps.specs.Happenings.{Happening, Leads}
 use Rattle.ticket_lock.specs.declared.views.Start.{Start}
 use Rattle.ticket_lock.specs.declared.views.View.{View}
+use Rattle.ticket_lock.specs.Layout.{table_words}
 use Rattle.ticket_lock.specs.Views.{seat_in}
 
--- the word that holds the next ticket
-abbrev pub next_word : ℕ
-next_word = 0
-
--- the word that holds the number served: a waiting seat looks at it, and the holder that leaves raises it
-abbrev pub served_word : ℕ
-served_word = 1
+-- the words where this is the next ticket, and this number is served
+pub record AreWordsOf (next served : ℕ) (ws : List ℕ) : Type 0 where
+  pub grants : List ℕ
+  pub words : ws ≡ table_words next grants
+  -- the greatest of the grant words is the number served, and the word that a ticket watches which isn't left yet equals it
+  -- exactly where it is served
+  pub keep : AreGrantsOf served grants
 
 module _ {K C R : Type 0} (k : Ghosts K C R) (start : Start K) where
   -- what happened since the opening led to the core state that is read off words and views
   pub record IsCoreOf (happened : List (Happening C R)) (c : CoreState k.State C R) (s : State (Option K) (View K C R)) : Type 0 where
-    pub words : s.words ≡ c.next ∷ c.served ∷ []
+    pub words : AreWordsOf c.next c.served s.words
     pub seats : c.seats ≡ map seat_in s.views
     pub leads : Leads k.step start.draws (opened start.numbers start.draws (k.opening start.book)) happened c

@@ -1,18 +1,20 @@
 #![tactic(auto)]
 //! The running ticket lock: the core of `ticket_steps` over atomic words, for threads.
 //!
-//! Two words and one slot of an `atomic_table`: the next ticket, the number served, and the book.
+//! Five words and one slot of an `atomic_table`: the next ticket, the four grant words that keep
+//! the number served, and the book.
 //! Callers take part by tokens: a `Seat` draws, a `Turn` looks, a `Hold` leaves. Between any two
 //! steps words and tokens are a state of the core of `ticket_steps`, so what `every_schedule` says
 //! of the core holds of the lock, whatever threads do.
 //!
-//! - `lock`: the lock and its calls.
+//! - `lock`: the lock and its calls; `layout`: at which place of the table each word stands.
 //! - `tokens`: seats, turns and holds; `counts`: what they tell at run time.
 //! - `views`: what seats know in proofs, and the rule; `plays`: the kinds of step.
 //! - `steps`: the law that each kind of step is one event of the core; `laws`: what is so of every seat.
 
 mod counts;
 mod laws;
+mod layout;
 mod lock;
 mod plays;
 mod steps;

@@ -3,10 +3,12 @@ ghost use Rattle.std.specs.Prelude.{⊤, ◌≡◌, ◌↔◌, ℕ, ◌+◌, ◌
 ghost use Rattle.ticket_steps.specs.Books.{book_state, IsLawfulBook};
 ghost use Rattle.ticket_steps.specs.History.{of};
 ghost use Rattle.ticket_lock.specs.Callers.{first_caller, keeping, given, drawn, having_seen, ended, joined, IsHanded};
+ghost use Rattle.ticket_lock.specs.Layout.{word_count};
 ghost use Rattle.ticket_lock.specs.Steps.{Returns};
 ghost use Rattle.ticket_lock.specs.Views.{Follows};
 
 use crate::counts::SeatCounts;
+use crate::layout::{FIRST_WORDS, NEXT, grant_word};
 use crate::plays::{Count, Draws, Gathers, Leaves, Looks, SecondLoad, Splits};
 use crate::tokens::{Hold, Seat, TableSeat, Turn};
 use crate::views::{LockRule, Opening, View};
@@ -24,12 +26,6 @@ type LockTable<K> = Table<
     Global,
 >;
 
-/// The word that holds the next ticket.
-const NEXT: usize = 0;
-
-/// The word that holds the number served.
-const SERVED: usize = 1;
-
 /// A ticket lock round a book, for any number of threads.
 ///
 /// Each call of a caller takes a ticket (`draw`), looks until its ticket is served (`look`),
@@ -44,7 +40,7 @@ pub struct TicketLock<K: Kept> {
     pub(crate) table: LockTable<K>,
     pub(crate) numbers: u32,
     pub(crate) draws: u32,
-    ghost sized: { (table.shared.table_id.words ≡ 2) × (table.shared.table_id.slots ≡ 1) },
+    ghost sized: { (table.shared.table_id.words ≡ word_count) × (table.shared.table_id.slots ≡ 1) },
     ghost told: { (table.shared.key.numbers ≡ numbers) × (table.shared.key.draws ≡ draws) },
 }
 
@@ -96,7 +92,7 @@ impl<K: Kept> TicketLock<K> {
             return Err(book);
         };
         slots.push_reserved(Some(book));
-        match Table::new(alloc, &[0, 0], slots, &opening) {
+        match Table::new(alloc, &FIRST_WORDS, slots, &opening) {
             Ok((table, table_seat)) => {
                 let seat = Seat {
                     table_seat,
@@ -236,8 +232,11 @@ impl<K: Kept> TicketLock<K> {
             counts,
             ticket,
         } = turn;
-        let served = self.table.shared.load::<Looks<K>>(&mut table_seat, SERVED);
-        if served == ticket {
+        let granted = self
+            .table
+            .shared
+            .load::<Looks<K>>(&mut table_seat, grant_word(ticket));
+        if granted == ticket {
             let book = self.take_book(&mut table_seat);
             let hold = Hold {
                 table_seat,
@@ -265,12 +264,13 @@ impl<K: Kept> TicketLock<K> {
         let Hold {
             mut table_seat,
             counts,
-            ticket: _,
+            ticket,
         } = hold;
+        let next = ticket + 1;
         self.put_book(&mut table_seat, book);
         self.table
             .shared
-            .fetch_add::<Leaves<K>>(&mut table_seat, SERVED, 1);
+            .store::<Leaves<K>>(&mut table_seat, grant_word(next), next);
         let counts = SeatCounts {
             number: counts.number,
             count: counts.count,

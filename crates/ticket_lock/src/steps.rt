@@ -1,5 +1,5 @@
 //! Each kind of step of the lock is one event of the core.
-ghost use Rattle.std.specs.Prelude.{◌≡◌, ◌≢◌, ◌⊎◌, ℕ, ◌<◌, ◌≤◌, true, [], ◌∷◌, length, Option, Some};
+ghost use Rattle.std.specs.Prelude.{◌≡◌, ◌≢◌, ◌⊎◌, ℕ, ◌+◌, ◌<◌, ◌≤◌, true, [], ◌∷◌, length, Option, Some};
 ghost use mathlib.Core.Option.{some};
 ghost use lib.ListN.{get_elem?};
 ghost use Rattle.ticket_steps.specs.Happenings.{Happening, split, drew, waited, held, recorded, refused, gathered};
@@ -11,10 +11,10 @@ ghost use Rattle.ticket_lock.specs.declared.views.Start.{Start};
 ghost use Rattle.ticket_lock.specs.declared.views.View.{View as ViewOf};
 ghost use Rattle.ticket_lock.specs.Plays.{DrawTells, LookTells, LeaveTells, SecondLoadTells};
 ghost use Rattle.ticket_lock.specs.Rule.{IsTableOf};
-ghost use Rattle.ticket_lock.specs.Steps.{TableMoment, IsTableMoment, IsOneEvent, IsNoEvent, IsTold, LeavesOnly, Returns, one_more, as_found};
+ghost use Rattle.ticket_lock.specs.Steps.{TableMoment, IsTableMoment, IsOneEvent, IsNoEvent, IsTold, LeavesOnly, Returns, one_more, as_found, stored};
 ghost use Rattle.ticket_lock.specs.Steps.{first_table, after_split, after_draw, after_waiting, after_holding, after_leaving, after_gather, after_second_load};
 ghost use Rattle.ticket_lock.specs.Views.{drawn_view, held_view, left_view, reloaded_view, longer};
-ghost use Rattle.ticket_lock.specs.Words.{next_word, served_word};
+ghost use Rattle.ticket_lock.specs.Layout.{grant_word, next_word};
 
 use ticket_steps::Kept;
 
@@ -26,14 +26,15 @@ use ticket_steps::Kept;
 /// gather. The second load of a gather, by which the joined seat learns that its two histories are
 /// beginnings of one, is no event: it leaves the core state as it was (`second_load`).
 ///
-/// What the seat that steps is told, on which the lock's code relies, is so of that very step: of
-/// the number found in the word, and of the seat as it stands in the table after it (`draw_tells`,
-/// `look_held_tells`, `look_waits_tells`, `leave_tells`, `second_load_tells`).
+/// A look loads the word that its ticket watches, a leave stores the next number in the word that
+/// this number watches. What the seat that steps is told, on which the lock's code relies, is so of
+/// that very step: of the number found in the word, and of the seat as it stands in the table after
+/// it (`draw_tells`, `look_held_tells`, `look_waits_tells`, `leave_tells`, `second_load_tells`).
 ///
-/// Nor could the step be another one: an operation on that word, an add of one or a load, by a seat
-/// that carries what its phase says, of which this is told, leaves that table and no other, whatever
-/// the seat took or gave back (`draw_only`, `look_held_only`, `look_waits_only`, `leave_only`,
-/// `second_load_only`).
+/// Nor could the step be another one: an operation on that word, an add of one, a load or a store of
+/// that number, by a seat that carries what its phase says, of which this is told, leaves that table
+/// and no other, whatever the seat took or gave back (`draw_only`, `look_held_only`,
+/// `look_waits_only`, `leave_only`, `second_load_only`).
 pub fn every_step<K: Kept>()
     ensures opening { (start : Start K) → K.history start.book ≡ [] → K.refusals start.book ≡ 0
         → 0 < start.numbers → start.numbers ≤ 1024 → start.draws ≤ 4294967295
@@ -65,29 +66,30 @@ pub fn every_step<K: Kept>()
         (step : Step (Option K)) → IsTableMoment K.Kept m
         → m.me.0.seat.phase ≡ Waiting m.core.served → m.me.1 ≡ []
         → get_elem? m.table.homes 0 ≡ some (some (Some book))
-        → IsTold K.Kept m served_word (LookTells K.Kept step m.me)
+        → IsTold K.Kept m (grant_word m.core.served) (LookTells K.Kept step m.me)
         (held_view K.Kept m.core.served m.me.0 book, (0, Some book) ∷ m.me.1)
         (after_holding K.Kept m.table m.id m.core.served m.me book) }
     ensures look_held_only { (m : TableMoment K K.State K.Call K.Reply) (book : K)
         (step : Step (Option K)) → IsTableMoment K.Kept m
         → m.me.0.seat.phase ≡ Waiting m.core.served → m.me.1 ≡ []
         → get_elem? m.table.homes 0 ≡ some (some (Some book))
-        → LeavesOnly K.Kept m served_word as_found (LookTells K.Kept step m.me)
+        → LeavesOnly K.Kept m (grant_word m.core.served) as_found (LookTells K.Kept step m.me)
         (after_holding K.Kept m.table m.id m.core.served m.me book) }
     ensures look_waits { (m : TableMoment K K.State K.Call K.Reply) (ticket : ℕ)
         → IsTableMoment K.Kept m
         → m.me.0.seat.phase ≡ Waiting ticket → ticket ≢ m.core.served
-        → IsOneEvent K.Kept m (waited m.me.0.seat.own) (after_waiting m.table m.id m.me) }
+        → IsOneEvent K.Kept m (waited m.me.0.seat.own)
+        (after_waiting m.table m.id ticket m.me) }
     ensures look_waits_tells { (m : TableMoment K K.State K.Call K.Reply) (ticket : ℕ)
         (step : Step (Option K)) → IsTableMoment K.Kept m
         → m.me.0.seat.phase ≡ Waiting ticket → ticket ≢ m.core.served
-        → IsTold K.Kept m served_word (LookTells K.Kept step m.me) m.me
-        (after_waiting m.table m.id m.me) }
+        → IsTold K.Kept m (grant_word ticket) (LookTells K.Kept step m.me) m.me
+        (after_waiting m.table m.id ticket m.me) }
     ensures look_waits_only { (m : TableMoment K K.State K.Call K.Reply) (ticket : ℕ)
         (step : Step (Option K)) → IsTableMoment K.Kept m
         → m.me.0.seat.phase ≡ Waiting ticket → ticket ≢ m.core.served → m.me.1 ≡ []
-        → LeavesOnly K.Kept m served_word as_found (LookTells K.Kept step m.me)
-        (after_waiting m.table m.id m.me) }
+        → LeavesOnly K.Kept m (grant_word ticket) as_found (LookTells K.Kept step m.me)
+        (after_waiting m.table m.id ticket m.me) }
     ensures leave { (m : TableMoment K K.State K.Call K.Reply) (ticket : ℕ) (book : K)
         → IsTableMoment K.Kept m
         → Holds ticket m.me.0.seat.phase → m.me.1 ≡ (0, Some book) ∷ []
@@ -95,17 +97,18 @@ pub fn every_step<K: Kept>()
         → (h : Happening K.Call K.Reply)
         × (((call : K.Call) × (reply : K.Reply) × (h ≡ recorded m.me.0.seat.own call reply))
         ⊎ (h ≡ refused m.me.0.seat.own))
-        × IsOneEvent K.Kept m h (after_leaving K.Kept m.table m.id m.me book) }
+        × IsOneEvent K.Kept m h (after_leaving K.Kept m.table m.id ticket m.me book) }
     ensures leave_tells { (m : TableMoment K K.State K.Call K.Reply) (ticket : ℕ) (book : K)
         (step : Step (Option K)) → IsTableMoment K.Kept m
         → Holds ticket m.me.0.seat.phase → m.me.1 ≡ (0, Some book) ∷ []
-        → IsTold K.Kept m served_word (LeaveTells K.Kept step m.me)
-        (left_view K.Kept m.me.0 book, []) (after_leaving K.Kept m.table m.id m.me book) }
+        → IsTold K.Kept m (grant_word (ticket + 1)) (λ _. LeaveTells K.Kept step m.me (ticket + 1))
+        (left_view K.Kept m.me.0 book, []) (after_leaving K.Kept m.table m.id ticket m.me book) }
     ensures leave_only { (m : TableMoment K K.State K.Call K.Reply) (ticket : ℕ) (book : K)
         (step : Step (Option K)) → IsTableMoment K.Kept m
         → Holds ticket m.me.0.seat.phase → m.me.1 ≡ (0, Some book) ∷ []
-        → LeavesOnly K.Kept m served_word one_more (LeaveTells K.Kept step m.me)
-        (after_leaving K.Kept m.table m.id m.me book) }
+        → LeavesOnly K.Kept m (grant_word (ticket + 1)) (stored (ticket + 1))
+        (λ _. LeaveTells K.Kept step m.me (ticket + 1))
+        (after_leaving K.Kept m.table m.id ticket m.me book) }
     ensures gather { (m : TableMoment K K.State K.Call K.Reply) (other : ℕ)
         (w : ViewOf K K.Call K.Reply)
         → IsTableMoment K.Kept m → m.me.0.seat.phase ≡ Idle → other ≢ m.id

@@ -60,6 +60,7 @@ pub struct Hold<K: Kept> {
     pub(crate) table_seat: TableSeat<K>,
     pub(crate) counts: SeatCounts,
     pub(crate) ticket: u64,
+    ghost few: { ticket < 2 ^ 42 },
     ghost out: { table_seat.me.1 ≡ (0, None) ∷ [] },
     ghost legal: { IsLegalFrom K.Kept table_seat.me.0.start table_seat.me.0.seen } by { IsLegalFrom-prop K.Kept (Coded-set K.Reply.code) table_seat.me.0.start table_seat.me.0.seen },
     ghost holds: { Holds ticket table_seat.me.0.seat.phase },

@@ -16,13 +16,13 @@ use Rattle.ticket_steps.proofs.SeatLemmas.{served_le}
 use Rattle.ticket_steps.proofs.Totals.{length-counted}
 
 -- the core state at the opening
-pub opened_is : {S C R : Type 0} (numbers draws : ℕ) (opening state : S) (entries : List (Entry C R)) (count : ℕ) (seats : List CoreSeat) (all : List ℕ)
-    → all ≡ counted 0 numbers → seats ≡ seat 0 all Idle (numbers * draws) 0 true ∷ [] → state ≡ opening → entries ≡ [] → count ≡ 0
-    → core_state 0 0 seats (book_state state entries count) ≡ opened numbers draws opening
-opened_is numbers draws opening state entries count seats all all_is seats_are state_is none_kept none_refused =
+pub opened_is : {S C R : Type 0} (numbers draws : ℕ) (opening state : S) (entries : List (Entry C R)) (count served : ℕ) (seats : List CoreSeat) (all : List ℕ)
+    → served ≡ 0 → all ≡ counted 0 numbers → seats ≡ seat 0 all Idle (numbers * draws) 0 true ∷ [] → state ≡ opening → entries ≡ [] → count ≡ 0
+    → core_state 0 served seats (book_state state entries count) ≡ opened numbers draws opening
+opened_is numbers draws opening state entries count served seats all served_is all_is seats_are state_is none_kept none_refused =
     let here : seats ≡ seat 0 (counted 0 numbers) Idle (length (counted 0 numbers) * draws) 0 true ∷ [] = seats_are ∙
     (λ i. seat 0 (all_is i) Idle (sym (length-counted 0 numbers) i * draws) 0 true ∷ []) in
-    λ i. core_state 0 0 (here i) (book_state (state_is i) (none_kept i) (none_refused i))
+    λ i. core_state 0 (served_is i) (here i) (book_state (state_is i) (none_kept i) (none_refused i))
 
 -- a core has few tickets
 pub few_tickets : (next left numbers draws : ℕ) → next + left ≤ numbers * draws → numbers ≤ 1024 → draws < 4294967296 → next ≤ 4398046510080

@@ -2,6 +2,7 @@ pub mod Histories
 pub mod Lists
 pub mod Totals
 pub mod Ofs
+pub mod GrantLemmas
 pub mod CoreLemmas
 pub mod SeatLemmas
 pub mod FaultLemmas

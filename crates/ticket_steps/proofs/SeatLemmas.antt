@@ -95,10 +95,18 @@ module _ {S C R : Type 0} (numbers draws : ℕ) (c : CoreState S C R) (l : IsLaw
   pub in_line : (i t : ℕ) (p : CoreSeat) → get_elem? c.seats i ≡ some p → 0 < times t (tickets_of p.phase) → c.served < c.next
   in_line i t p at has = between t c.served c.next (omega (arith, l.tickets t, term_le (tickets t) c.seats i p at))
 
+  -- it is the number served or a later one
+  pub not_left : (i t : ℕ) (p : CoreSeat) → get_elem? c.seats i ≡ some p → 0 < times t (tickets_of p.phase) → c.served ≤ t
+  not_left i t p at has = dite (dec_le c.served t) (λ le. le)
+      (λ left. absurd (omega (arith, l.tickets t, term_le (tickets t) c.seats i p at, below_yes t c.served (omega arith), below_le t c.next)))
+
   pub served_le : c.served ≤ c.next
   served_le =
       dite (dec_le c.served c.next) (λ le. le)
       (λ gt. absurd (omega (arith, l.tickets c.next, below_no c.next c.next (omega arith), below_yes c.next c.served (omega arith))))
+
+  pub waits_in_line : (i t : ℕ) (p : CoreSeat) → get_elem? c.seats i ≡ some p → p.phase ≡ Waiting t → c.served ≤ t
+  waits_in_line i t p at waits = not_left i t p at (omega (arith, tickets_waiting t t p waits, times-same t []))
 
   -- a seat that waits while all others have no numbers is the one that is served
   pub alone_served : (i t : ℕ) (p : CoreSeat) → get_elem? c.seats i ≡ some p → p.phase ≡ Waiting t → numbers ≤ length p.numbers → t ≡ c.served

@@ -8,7 +8,7 @@ use Rattle.ticket_steps.specs.CoreStates.{CoreState, core_state}
 module _ {K C R : Type 0} {G : Ghosts K C R} where
   -- the core state that it stands for
   abbrev pub state_of : Core K C R G → CoreState G.State C R
-  state_of core = core_state core.next core.served core.seats.items (book_state (G.state core.book) (G.history core.book) (G.refusals core.book))
+  state_of core = core_state core.next core.grants core.seats.items (book_state (G.state core.book) (G.history core.book) (G.refusals core.book))
 
   -- the state that its book was opened in
   abbrev pub opening_of : Core K C R G → G.State

@@ -7,6 +7,7 @@ pub mod CoreStates
 pub mod Happenings
 pub mod Faults
 pub mod Lawful
+pub mod Grants
 pub mod CounterBooks
 pub mod Schedules
 pub mod Cores

@@ -10,6 +10,7 @@ ghost use Rattle.ticket_steps.specs.Seats.{IsThere, is_there};
 ghost use Rattle.ticket_steps.specs.Sums.{counted};
 
 use crate::events::{Event, Fault, Seen};
+use crate::grants::Grants;
 use crate::kept::Kept;
 use crate::seats::{CoreSeat, DRAWS, Phase};
 use std::alloc::{AllocError, Global};
@@ -22,7 +23,7 @@ use std::collections::LinkedList;
 #[derive(Drop)]
 pub struct Core<K: Kept> {
     next: u64,
-    served: u64,
+    grants: Grants,
     seats: Vec<CoreSeat>,
     numbers: u32,
     draws: u32,
@@ -30,7 +31,7 @@ pub struct Core<K: Kept> {
     ghost few: { numbers ≤ 1024 },
     ghost few_draws: { draws ≤ 4294967295 },
     ghost roomy: { numbers ≤ vec_capacity seats },
-    ghost lawful: { IsLawful numbers draws (core_state next served seats.items
+    ghost lawful: { IsLawful numbers draws (core_state next grants seats.items
         (book_state (K.state book) (K.history book) (K.refusals book))) },
 }
 
@@ -77,7 +78,7 @@ impl<K: Kept> Core<K> {
         });
         Ok(Core {
             next: 0,
-            served: 0,
+            grants: Grants::open(),
             seats,
             numbers,
             draws,
@@ -180,7 +181,7 @@ impl<K: Kept> Core<K> {
         let Phase::Waiting(ticket) = self.seats[at].phase else {
             return Err(Fault::Phase);
         };
-        if ticket != self.served {
+        if !self.grants.serves(ticket) {
             return Ok(Seen::Waiting);
         }
         self.seats[at].hold(ticket);
@@ -193,12 +194,12 @@ impl<K: Kept> Core<K> {
         ensures alike { IsOpenedAlike self.old self.new }
     {
         let at = self.place_of(seat)?;
-        let Phase::Holding(_) = self.seats[at].phase else {
+        let Phase::Holding(ticket) = self.seats[at].phase else {
             return Err(Fault::Phase);
         };
         let reply = self.book.record(seat, call);
         self.seats[at].end();
-        self.served += 1;
+        self.grants.leave(ticket);
         Ok(Seen::Left(reply))
     }
 

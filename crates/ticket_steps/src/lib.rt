@@ -11,12 +11,14 @@
 //! - `counter`: the smallest book, a running sum.
 //! - `seats`: the seats of the core, with their phases.
 //! - `events`: what a seat may do, what it is shown, and the faults.
+//! - `grants`: the number served, kept in four words.
 //! - `core_steps`: the core as a program, a step or a list of steps at a time.
 //! - `schedules`: what is so after every schedule.
 
 mod core_steps;
 pub mod counter;
 mod events;
+mod grants;
 mod kept;
 mod schedules;
 mod seats;
@@ -25,6 +27,7 @@ mod tests;
 
 pub use core_steps::Core;
 pub use events::{Event, Fault, Seen};
+pub use grants::{Grants, watched_word};
 pub use kept::{Entry, Kept, NoMemory};
 pub use schedules::every_schedule;
 pub use seats::{CoreSeat, DRAWS, Phase};

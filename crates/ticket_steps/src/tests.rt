@@ -6,7 +6,7 @@ ghost use Rattle.std.specs.Prelude.{◌≡◌, ◌<◌, ◌≤◌, [], IfOk};
 ghost use Rattle.ticket_steps.specs.CounterBooks.{entries_of, refused_of};
 
 use crate::counter::CounterBook;
-use crate::{Core, Event, Fault, Kept, NoMemory, Seen, every_schedule};
+use crate::{Core, Event, Fault, Grants, Kept, NoMemory, Seen, every_schedule};
 use std::alloc::{AllocError, Global};
 use std::test::Fail;
 
@@ -174,5 +174,33 @@ fn a_core_of_1024_seats(rt: HostRuntime) -> Result<(), Fail> {
     for seat in 1..1024 {
         assert_eq!(rt; core.step(gather(0, seat)), Ok(Seen::Gathered));
     }
+    Ok(())
+}
+
+/// The four grant words, in their order.
+fn words_of(grants: &Grants) -> (u64, u64, u64, u64) {
+    (
+        grants.word(0),
+        grants.word(1),
+        grants.word(2),
+        grants.word(3),
+    )
+}
+
+#[test]
+fn a_leave_writes_one_grant_word(rt: HostRuntime) -> Result<(), Fail> {
+    let mut grants = Grants::open();
+    assert_eq!(rt; words_of(&grants), (0, 0, 0, 0));
+    grants.leave(0);
+    assert_eq!(rt; words_of(&grants), (0, 1, 0, 0));
+    grants.leave(1);
+    assert_eq!(rt; words_of(&grants), (0, 1, 2, 0));
+    grants.leave(2);
+    assert_eq!(rt; words_of(&grants), (0, 1, 2, 3));
+    grants.leave(3);
+    assert_eq!(rt; words_of(&grants), (4, 1, 2, 3));
+    grants.leave(4);
+    assert_eq!(rt; words_of(&grants), (4, 5, 2, 3));
+    assert!(rt; grants.serves(5) && !grants.serves(9));
     Ok(())
 }

@@ -1,11 +1,13 @@
-use Rattle.std.proofs.Common.{◌≡◌, ℕ, List, get_or, set, refl, sym, ap, ◌∙◌}
+use Rattle.std.proofs.Common.{◌≡◌, ℕ, ◌+◌, List, get_or, set, refl, sym, ap, ◌∙◌}
 use mathlib.Core.Option.{some}
 use lib.ListN.{get_elem?}
 use Rattle.ticket_steps.proofs.Lists.{at_within, set_here}
+use Rattle.ticket_lock.specs.Layout.{next_word}
 use Rattle.ticket_lock.specs.Views.{drawn_view}
 use Rattle.ticket_lock.proofs.Events.{split_event, draw_event, look_event, wait_event, leave_event, gather_event, second_load_same}
 use Rattle.ticket_lock.proofs.Obligations.{opens_with, look_held_told, look_waits_told, leave_told, second_load_told}
 use Rattle.ticket_lock.proofs.OnlyTables.{book_home, draw_only, look_held_only, look_waits_only, leave_only, second_load_only}
+use Rattle.ticket_lock.proofs.WordLemmas.{next_found}
 use Rattle.ticket_lock.proofs.steps.every_step.Goals as goal
 
 stepped_here : {V : Type 0} (views : List V) (id : ℕ) (v w : V) → get_elem? views id ≡ some v → get_elem? (set views id w) id ≡ some w
@@ -20,7 +22,7 @@ returns g c = record {
       split_event g.K.Kept m.start m.happened m.core m.table m.id count m.me.0 is.ruled is.there start idle fresh some_count less;
   draw = λ m is idle some_left. draw_event g.K.Kept m.start m.happened m.core m.table m.id m.me is.ruled is.there idle some_left;
   draw_tells = λ m step is.
-      let next : get_or m.table.words 0 0 ≡ m.core.next = ap (λ (ws : List ℕ). get_or ws 0 0) is.ruled.words.words in
+      let next : get_or m.table.words next_word 0 ≡ m.core.next = next_found m.core.next m.core.served m.table.words is.ruled.words.words in
       record {
         stands = stepped_here m.table.views m.id m.me.0 _ is.there ∙ ap (λ (n : ℕ). some (drawn_view n m.me.0)) next;
         told = ap (λ (n : ℕ). (drawn_view n m.me.0, m.me.1)) (sym next);
@@ -42,7 +44,7 @@ returns g c = record {
   };
   leave_tells = λ m ticket book step is holds hand. record {
     stands = stepped_here m.table.views m.id m.me.0 _ is.there;
-    told = leave_told g.K.Kept m.start m.happened m.core m.table m.id ticket m.me book step is.ruled is.there holds hand;
+    told = leave_told g.K.Kept m.start m.happened m.core m.table m.id ticket m.me book step is.ruled is.there holds hand (ticket + 1);
   };
   second_load_tells = λ m step is. record {
     stands = stepped_here m.table.views m.id m.me.0 _ is.there;

@@ -8,20 +8,21 @@ use Rattle.ticket_lock.specs.Views.{held_view}
 use Rattle.ticket_lock.proofs.Obligations.{looks, in_hand}
 use Rattle.ticket_lock.proofs.lock.TicketLock.look.Goals as goal
 
-pub load-served-requires : goal.load-served-requires
-load-served-requires g c = let s = c.args.turn in (search rules, search rules, looks g.K.Kept _ _ _ s.ticket _ s.waits s.bare)
+pub load-granted-requires : goal.load-granted-requires
+load-granted-requires g c = let s = c.args.turn in (search rules, search rules, looks g.K.Kept _ _ _ s.ticket _ _ c.grant_word.ensures.place s.waits s.bare)
 
 pub invariant_of-hold : goal.invariant_of-hold
 invariant_of-hold g c =
     let s = c.args.turn in
     let k = g.K.Kept in
     let book = c.take_book-book.result in
-    let t = (c.load-served.ensures.2 s.ticket s.waits).0 c.if-served-ticket.true in
+    let t = (c.load-granted.ensures.2 s.ticket s.waits).0 c.if-granted-ticket.true in
     let same : book ≡ t.0 = ap (in_hand t.0) (sym c.take_book-book.ensures.book ∙ ap (λ m. m.1) t.1) in
     let now : c.take_book-book.new.table_seat.me.0 ≡ held_view k s.ticket s.table_seat.me.0 book =
     ap (λ m. m.0) c.take_book-book.ensures.taken ∙ (ap (λ m. m.0) t.1 ∙ ap (held_view k s.ticket s.table_seat.me.0) (sym same)) in
     let handed = subst (IsHanded k (start_of c.args.self.now) s.table_seat.me.0.seat.numbers s.table_seat.me.0.seen s.ticket) (sym same) (t.2 _ c.requires.1) in
     record {
+      few = handed.few;
       out = ap (λ m. m.1) c.take_book-book.ensures.taken;
       legal = subst (λ w. IsLegalFrom k w.start w.seen) (sym now) (subst (λ a. IsLegalFrom k a (k.history book)) (sym c.requires.1)
           (subst (λ o. IsLegal k.step o (k.history book)) handed.opening (g.met.K.Kept.legal book)));
@@ -39,11 +40,11 @@ invariant_of-hold g c =
       stale = ap (λ w. w.seat.fresh) now ∙ s.stale;
     }
 
-pub returns-then-served-ticket-clause-book : goal.returns-then-served-ticket-clause-book
-returns-then-served-ticket-clause-book g c =
+pub returns-then-granted-ticket-clause-book : goal.returns-then-granted-ticket-clause-book
+returns-then-granted-ticket-clause-book g c =
     let s = c.args.turn in
     let k = g.K.Kept in
     let book = c.take_book-book.result in
-    let t = (c.load-served.ensures.2 s.ticket s.waits).0 c.if-served-ticket.true in
+    let t = (c.load-granted.ensures.2 s.ticket s.waits).0 c.if-granted-ticket.true in
     let same : book ≡ t.0 = ap (in_hand t.0) (sym c.take_book-book.ensures.book ∙ ap (λ m. m.1) t.1) in
     subst (IsHanded k (start_of c.args.self.now) s.table_seat.me.0.seat.numbers s.table_seat.me.0.seen s.ticket) (sym same) (t.2 _ c.requires.1)

@@ -2,6 +2,7 @@ use Rattle.std.proofs.Common.{rules, refl, true, ◌≡◌, ℕ, ◌*◌, ◌∷
 use Rattle.atomic_table.specs.Table.{opening}
 use Rattle.ticket_steps.proofs.Totals.{length-counted}
 use Rattle.ticket_lock.specs.declared.counts.SeatCounts.{SeatCounts}
+use Rattle.ticket_lock.specs.Layout.{first_words}
 use Rattle.ticket_lock.specs.Rule.{IsRuled}
 use Rattle.ticket_lock.specs.Views.{first_view}
 use Rattle.ticket_lock.proofs.FreshSeats.{fresh_token}
@@ -13,7 +14,7 @@ new-requires g c =
     let items : c.push_reserved.new.self.items ≡ Some c.args.book ∷ [] = search rules in
     let k = g.K.Kept in
     subst (λ xs. IsRuled k record { book = c.of.result.value; numbers = c.args.numbers; draws = c.args.draws }
-    (opening (0 ∷ 0 ∷ []) xs (first_view record { book = c.of.result.value; numbers = c.args.numbers; draws = c.args.draws })))
+    (opening first_words xs (first_view record { book = c.of.result.value; numbers = c.args.numbers; draws = c.args.draws })))
     (sym items) (starts k _ c.args.book (ap k.opening (sym c.of.ensures)) c.requires.2 c.requires.3 c.requires.0
     c.requires.1 (omega arith))
 

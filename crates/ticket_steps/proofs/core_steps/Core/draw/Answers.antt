@@ -42,7 +42,7 @@ wait-requires g c =
 -- the seat draws
 draws : (g : Over) (c : After-self-1 g) → let self = c.args.self.now in
     Shows g.K.Kept.step self.draws (state_of self) (Draw c.args.seat) (Drew self.next)
-    (core_state (self.next + 1) self.served (set self.seats.items c.in_ok-at.at c.wait.new.self) (state_of self).book)
+    (core_state (self.next + 1) self.grants (set self.seats.items c.in_ok-at.at c.wait.new.self) (state_of self).book)
 draws g c =
     let self = c.args.self.now in let e = c.in_ok-at.ensures.found in
     let is = read_is c.args.self.now.seats.items c.in_ok-at.at c.in_ok-at.ensures.found.1 c.index-place.ensures in

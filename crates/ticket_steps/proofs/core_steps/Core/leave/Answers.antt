@@ -1,4 +1,4 @@
-use Rattle.std.proofs.Common.{◌≡◌, ◌+◌, ◌∷◌, ◌++◌, [], arith, sym, ap, ◌∙◌, refl, List, ℕ, set, Result, Ok, Err, IfOk, OnErr}
+use Rattle.std.proofs.Common.{◌≡◌, ◌+◌, ◌∷◌, ◌++◌, [], arith, sym, ap, ◌∙◌, refl, subst, List, ℕ, set, Result, Ok, Err, IfOk, OnErr}
 use mathlib.Core.Option.{some}
 use lib.ListN.{get_elem?}
 use Rattle.ticket_steps.specs.declared.kept.Entry.{Entry}
@@ -13,44 +13,46 @@ use Rattle.ticket_steps.specs.declared.events.Event.TheVariants.{Leave}
 use Rattle.ticket_steps.specs.declared.events.Seen.TheVariants as seen
 use Rattle.ticket_steps.specs.declared.events.Fault.TheVariants.{Phase}
 use Rattle.ticket_steps.specs.Cores.{state_of}
-use Rattle.ticket_steps.specs.Happenings.{recorded, refused}
+use Rattle.ticket_steps.specs.Happenings.{recorded, refused, Moves}
 use Rattle.ticket_steps.specs.Seats.{ended}
 use Rattle.ticket_steps.proofs.CoreLemmas.{recorded_moves, refused_moves, few_served}
 use Rattle.ticket_steps.proofs.FaultLemmas.{steps_fault, steps_shown, shows_lawful, read_is, unfit_leave}
 use Rattle.ticket_steps.proofs.Histories.{recorded_is}
 use Rattle.ticket_steps.proofs.SeatLemmas.{one_calls}
 use Rattle.ticket_steps.proofs.core_steps.Core.leave.Given.{Over}
-use Rattle.ticket_steps.proofs.core_steps.Core.leave.Goals.{After-self-1}
+use Rattle.ticket_steps.proofs.core_steps.Core.leave.Goals.{After-leave, In-Holding}
 use Rattle.ticket_steps.proofs.core_steps.Core.leave.Goals as goal
 
 -- what the leave of a seat shows, whatever the book answered
 leave_shows : (K S C R : Type 0) (step : S → C → S × R) (opening state : K → S) (history : K → List (Entry C R)) (refusals : K → ℕ)
     → ((book : K) → IsLegal step (opening book) (history book)) → ((book : K) → state book ≡ replay step (opening book) (history book))
-    → (draws next served i own ticket : ℕ) (seats : List CoreSeat) (p w : CoreSeat) (call : C) (old new : K) (reply : Result R NoMemory)
-    → get_elem? seats i ≡ some p → p.own ≡ own → p.phase ≡ Holding ticket → w ≡ ended p → opening new ≡ opening old
+    → (draws next served after i own ticket : ℕ) (seats : List CoreSeat) (p w : CoreSeat) (call : C) (old new : K) (reply : Result R NoMemory)
+    → after ≡ served + 1 → get_elem? seats i ≡ some p → p.own ≡ own → p.phase ≡ Holding ticket → w ≡ ended p → opening new ≡ opening old
     → IfOk reply (λ r. (history new ≡ history old ++ entry own call r ∷ []) × (refusals new ≡ refusals old))
     → OnErr reply ((history new ≡ history old) × (state new ≡ state old) × (refusals new ≡ refusals old + 1))
     → Shows step draws (core_state next served seats (book_state (state old) (history old) (refusals old))) (Leave own call) (seen.Left reply)
-    (core_state next (served + 1) (set seats i w) (book_state (state new) (history new) (refusals new)))
-leave_shows K S C R step opening state history refusals legal replayed draws next served i own ticket seats p w call old new
-    (Ok r) at called holds is same replied _ =
+    (core_state next after (set seats i w) (book_state (state new) (history new) (refusals new)))
+leave_shows K S C R step opening state history refusals legal replayed draws next served after i own ticket seats p w call old new
+    (Ok r) up at called holds is same replied _ =
     let t = recorded_is step (opening old) (opening new) (state old) (state new) (history old) (history new) (refusals old) (refusals new) own call r
     (replayed old) (replayed new) (legal new) same replied.0 replied.1 in
-    let b = core_state next served seats (book_state (state old) (history old) (refusals old)) in (
+    let b = core_state next served seats (book_state (state old) (history old) (refusals old)) in
+    let book = book_state (state new) (history new) (refusals new) in (
       recorded own call r,
       refl,
       refl,
-      recorded_moves step draws b i own p at called ticket w call r
-          (book_state (state new) (history new) (refusals new)) holds is t.0 t.1,
+      subst (λ (n : ℕ). Moves step draws b (recorded own call r) (core_state next n (set seats i w) book)) (sym up)
+          (recorded_moves step draws b i own p at called ticket w call r book holds is t.0 t.1),
     )
-leave_shows K S C R step opening state history refusals legal replayed draws next served i own ticket seats p w call old new
-    (Err e) at called holds is same _ kept =
-    let b = core_state next served seats (book_state (state old) (history old) (refusals old)) in (
+leave_shows K S C R step opening state history refusals legal replayed draws next served after i own ticket seats p w call old new
+    (Err e) up at called holds is same _ kept =
+    let b = core_state next served seats (book_state (state old) (history old) (refusals old)) in
+    let book = book_state (state new) (history new) (refusals new) in (
       refused own,
       (call, refl),
       refl,
-      refused_moves step draws b i own p at called ticket w
-          (book_state (state new) (history new) (refusals new)) holds is (λ j. book_state (kept.1 j) (kept.0 j) (kept.2 j)),
+      subst (λ (n : ℕ). Moves step draws b (refused own) (core_state next n (set seats i w) book)) (sym up)
+          (refused_moves step draws b i own p at called ticket w book holds is (λ j. book_state (kept.1 j) (kept.0 j) (kept.2 j))),
     )
 
 pub returns-in_default-clause-step : goal.returns-in_default-clause-step
@@ -74,15 +76,26 @@ end-requires g c =
     let calls = ap (λ (s : CoreSeat). s.calls) (read_is c.args.self.now.seats.items c.in_ok-at.at c.in_ok-at.ensures.found.1 c.index_mut.ensures.value) in
     omega (arith, calls, one_calls self.numbers self.draws (state_of self) self.lawful c.in_ok-at.at e.0 e.1, served)
 
-pub overflow_add-self : goal.overflow_add-self
-overflow_add-self g c =
+-- the seat that leaves has the number served as its ticket
+served_is : (g : Over) (c : In-Holding g) → c.in-Holding.ticket ≡ c.args.self.now.grants
+served_is g c =
+    let self = c.args.self.now in let e = c.in_ok-at.ensures.found in
+    let is = read_is self.seats.items c.in_ok-at.at e.1 c.index.ensures in
+    (self.lawful.each c.in_ok-at.at e.0 e.1).holder c.in-Holding.ticket (ap (λ (s : CoreSeat). s.phase) (sym is) ∙ c.in-Holding.is)
+
+pub leave-requires-clause-served : goal.leave-requires-clause-served
+leave-requires-clause-served g c = served_is g (goal.at.leave-requires-clause-served g c).In-Holding
+
+pub leave-requires-clause-small : goal.leave-requires-clause-small
+leave-requires-clause-small g c =
     let self = c.args.self.now in
-    omega (arith, few_served self.numbers self.draws (state_of self) self.lawful self.few (omega (arith, self.few_draws)))
+    let first = served_is g (goal.at.leave-requires-clause-small g c).In-Holding in
+    omega (arith, first, few_served self.numbers self.draws (state_of self) self.lawful self.few (omega (arith, self.few_draws)))
 
 -- the seat leaves, and its call is recorded or refused
-leaves : (g : Over) (c : After-self-1 g) → let self = c.args.self.now in let k = g.K.Kept in let book = c.record-reply.new.self in
+leaves : (g : Over) (c : After-leave g) → let self = c.args.self.now in let k = g.K.Kept in let book = c.record-reply.new.self in
     Shows k.step self.draws (state_of self) (Leave c.args.seat c.args.call) (seen.Left c.record-reply.result)
-    (core_state self.next (self.served + 1) (set self.seats.items c.in_ok-at.at c.end.new.self)
+    (core_state self.next c.leave.new.self (set self.seats.items c.in_ok-at.at c.end.new.self)
     (book_state (k.state book) (k.history book) (k.refusals book)))
 leaves g c =
     let self = c.args.self.now in
@@ -91,13 +104,16 @@ leaves g c =
     let is = read_is c.args.self.now.seats.items c.in_ok-at.at c.in_ok-at.ensures.found.1 c.index.ensures in
     let is' = read_is c.args.self.now.seats.items c.in_ok-at.at c.in_ok-at.ensures.found.1 c.index_mut.ensures.value in
     let r = c.record-reply.ensures in
+    let holds = ap (λ (s : CoreSeat). s.phase) (sym is) ∙ c.in-Holding.is in
+    let first = (self.lawful.each c.in_ok-at.at e.0 e.1).holder c.in-Holding.ticket holds in
+    let up : c.leave.new.self ≡ self.grants + 1 = c.leave.ensures ∙ ap (λ (n : ℕ). n + 1) first in
     leave_shows _ _ _ _ k.step k.opening k.state k.history k.refusals g.met.K.Kept.legal g.met.K.Kept.replayed self.draws self.next
-    self.served c.in_ok-at.at c.args.seat c.in-Holding.field-0 self.seats.items e.0 c.end.new.self
-    c.args.call self.book c.record-reply.new.self c.record-reply.result e.1 e.2
-    (ap (λ (s : CoreSeat). s.phase) (sym is) ∙ c.in-Holding.is) (c.end.ensures ∙ ap ended is') r.same r.replied r.refused
+    self.grants c.leave.new.self c.in_ok-at.at c.args.seat c.in-Holding.ticket self.seats.items e.0 c.end.new.self
+    c.args.call self.book c.record-reply.new.self c.record-reply.result up e.1 e.2
+    holds (c.end.ensures ∙ ap ended is') r.same r.replied r.refused
 
 pub invariant_of-self-clause-lawful : goal.invariant_of-self-clause-lawful
 invariant_of-self-clause-lawful g c = shows_lawful g.K.Kept.step _ _ _ _ _ _ c.args.self.now.lawful (leaves g c)
 
 pub returns-clause-step : goal.returns-clause-step
-returns-clause-step g c = steps_shown g.K.Kept.step _ _ _ _ _ (leaves g (goal.at.returns-clause-step g c).After-self-1)
+returns-clause-step g c = steps_shown g.K.Kept.step _ _ _ _ _ (leaves g (goal.at.returns-clause-step g c).After-leave)

@@ -1,0 +1,23 @@
+-- The layout of the table: at which place each of its words stands, and the list of them all. No other definition says it.
+use Rattle.std.specs.Prelude.{ℕ, ◌+◌, List, [], ◌∷◌}
+use Rattle.ticket_steps.specs.Grants.{watched}
+
+-- the place of the next ticket
+abbrev pub next_word : ℕ
+next_word = 0
+
+-- the place of the grant word that a ticket watches: a seat that waits with the ticket looks at it, and the holder before it writes it
+abbrev pub grant_word : ℕ → ℕ
+grant_word ticket = watched ticket + 1
+
+-- the words of the table: the next ticket, and the grant words
+abbrev pub table_words : ℕ → List ℕ → List ℕ
+table_words next grants = next ∷ grants
+
+-- how many they are
+abbrev pub word_count : ℕ
+word_count = 5
+
+-- the words of the table as it is made: no ticket is drawn, and ticket 0 is served
+abbrev pub first_words : List ℕ
+first_words = table_words 0 (0 ∷ 0 ∷ 0 ∷ 0 ∷ [])
