@@ -1,5 +1,5 @@
 -- What clauses see of a book.
-use Rattle.std.specs.Prelude.{ℕ, List}
+use Rattle.std.specs.Prelude.{ℕ, List, vec_capacity}
 use Rattle.ticket_steps.specs.declared.kept.Entry.{Entry}
 use Rattle.check_sched.specs.declared.call.Call.{Call}
 use Rattle.check_sched.specs.declared.call.Reply.{Reply}
@@ -22,6 +22,10 @@ sched_of book = book.sched
 -- for how many entries there was room from the start
 abbrev pub room_of : Book → ℕ
 room_of book = book.room
+
+-- for how many entries there is room now
+abbrev pub capacity_of : Book → ℕ
+capacity_of book = vec_capacity book.entries
 
 -- the state that it was opened with
 abbrev pub opening_of : Book → BookState

@@ -79,7 +79,7 @@ impl Book {
 }
 
 impl Kept for Book {
-    ghost use Rattle.check_sched.specs.Books.{entries_of, opening_of, refused_of, room_of, sched_of, state_of};
+    ghost use Rattle.check_sched.specs.Books.{capacity_of, entries_of, opening_of, refused_of, room_of, sched_of, state_of};
 
     type Call = Call;
 
@@ -103,7 +103,7 @@ impl Kept for Book {
 
     /// Makes one call on the scheduler, and keeps it with its reply. Room for the entry is made
     /// first; where there is no memory for it, the call isn't made, but counted. `NoMemory` comes
-    /// only where the entries have reached the room.
+    /// only where the entries have reached the room, and fill all that was reserved since.
     fn record(&mut self, pass: u32, call: Call) -> Result<Reply, NoMemory>
         requires { refused_of self.old < 2 ^ 60 }
         ensures same { opening_of self.new ≡ opening_of self.old }
@@ -117,6 +117,7 @@ impl Kept for Book {
         ensures step { IfOk result (λ reply. (reply ≡ (step (sched_of self.old) call).1)
             × (sched_of self.new ≡ (step (sched_of self.old) call).0)) }
         ensures full { OnErr result (room_of self.old ≤ length (entries_of self.old)) }
+        ensures used_up { OnErr result (capacity_of self.old ≤ length (entries_of self.old)) }
     {
         if grow(&mut self.entries, self.room).is_err() {
             self.refused += 1;
@@ -142,7 +143,8 @@ fn grow(entries: &mut Vec<Entry<Call, Reply>>, room: usize) -> Result<(), AllocE
     ensures same { entries.new.items ≡ entries.old.items }
     ensures capacity { vec_capacity entries.old ≤ vec_capacity entries.new }
     ensures ok { OnOk result (vec_len entries.new < vec_capacity entries.new) }
-    ensures err { OnErr result (room ≤ length entries.old.items) }
+    ensures room { OnErr result (room ≤ length entries.old.items) }
+    ensures used_up { OnErr result (vec_capacity entries.old ≤ length entries.old.items) }
 {
     if entries.len() < room {
         return Ok(());

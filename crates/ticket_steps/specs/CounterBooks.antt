@@ -1,5 +1,5 @@
 -- What is seen of a counter book.
-use Rattle.std.specs.Prelude.{ℕ, List}
+use Rattle.std.specs.Prelude.{ℕ, List, vec_capacity}
 use Rattle.ticket_steps.specs.declared.kept.Entry.{Entry}
 use Rattle.ticket_steps.specs.declared.counter.CounterBook.{CounterBook}
 
@@ -18,3 +18,7 @@ refused_of book = book.refused
 -- for how many entries there was room from the start
 abbrev pub room_of : CounterBook → ℕ
 room_of book = book.room
+
+-- for how many entries there is room now
+abbrev pub capacity_of : CounterBook → ℕ
+capacity_of book = vec_capacity book.entries

@@ -47,7 +47,7 @@ impl CounterBook {
 }
 
 impl Kept for CounterBook {
-    ghost use Rattle.ticket_steps.specs.CounterBooks.{entries_of, refused_of, sum_of, room_of};
+    ghost use Rattle.ticket_steps.specs.CounterBooks.{capacity_of, entries_of, refused_of, sum_of, room_of};
 
     type Call = u8;
 
@@ -69,7 +69,8 @@ impl Kept for CounterBook {
 
     ghost replayed = { λ book. book.summed };
 
-    /// Adds the call to the sum. `NoMemory` comes only where the entries have reached the room.
+    /// Adds the call to the sum. `NoMemory` comes only where the entries have reached the room, and
+    /// fill all that was reserved since.
     fn record(&mut self, pass: u32, call: u8) -> Result<u64, NoMemory>
         requires { refused_of self.old < 2 ^ 60 }
         ensures same { room_of self.new ≡ room_of self.old }
@@ -81,6 +82,7 @@ impl Kept for CounterBook {
             × (sum_of self.new ≡ sum_of self.old)
             × (refused_of self.new ≡ refused_of self.old + 1)) }
         ensures full { OnErr result (room_of self.old ≤ length (entries_of self.old)) }
+        ensures used_up { OnErr result (capacity_of self.old ≤ length (entries_of self.old)) }
     {
         let reply = self.sum.wrapping_add(call as u64);
         if self.entries.push(Entry { pass, call, reply }).is_err() {
