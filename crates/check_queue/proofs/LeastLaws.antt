@@ -44,7 +44,7 @@ same_is c d e =
     let b : c.1 ≡ d.1 = grind (arith, nat_tests, e) in
     λ i. (a i, b i)
 
-no_later_chain : (c d e : Pair) → is_no_later c d ≡ true → is_no_later d e ≡ true → is_no_later c e ≡ true
+pub no_later_chain : (c d e : Pair) → is_no_later c d ≡ true → is_no_later d e ≡ true → is_no_later c e ≡ true
 no_later_chain c d e g h =
     let a = no_later_reads c d g in
     let b = no_later_reads d e h in
