@@ -8,14 +8,14 @@ use Rattle.std.proofs.lemmas.Bool.Decides.{nat_tests}
 use Rattle.std.proofs.lemmas.Bool.{and_from}
 use Rattle.check_objects.specs.Configuration.{Configuration, host_count}
 use Rattle.check_sched.specs.Scheduling.{Scheduling, candidate_time}
-use Rattle.check_sched.specs.Candidate.{Candidate, candidate, candidates_among, due_among}
-use Rattle.check_sched.specs.Order.{least}
+use Rattle.check_sched.specs.Candidate.{Candidate, candidate, candidates_among, due_among, if_due}
+use Rattle.check_queue.specs.Order.{least}
 use Rattle.check_sched.specs.declared.call.Reply.{Reply}
 use Rattle.check_sched.specs.declared.call.Reply.TheVariants as reply
 use Rattle.check_sched.specs.State.{State, has_room, is_host}
 use Rattle.check_sched.specs.Step.{candidates, due, eligible, is_open, waiting_reply}
-use Rattle.check_sched.proofs.CandidateLaws.{FoundLeast, IsLeast, all_at_least, any_filtered, if_due, is_same, least_due, least_is_found}
-use Rattle.check_sched.proofs.CandidateLaws.{none_filtered, same_is}
+use Rattle.check_queue.proofs.LeastLaws.{FoundLeast, IsLeast, all_at_least, any_filtered, is_same, least_is_found, none_filtered, same_is}
+use Rattle.check_sched.proofs.CandidateLaws.{least_due}
 
 -- ---- filters
 
@@ -25,7 +25,7 @@ filtered_by p c cs true e h = and_from (p c) _ e h
 filtered_by p c cs false e h = h
 
 -- what a filter lets through passes its test
-filtered_pass : (p : Candidate → Bool) (cs : List Candidate) → list_all p (filter p cs) ≡ true
+pub filtered_pass : (p : Candidate → Bool) (cs : List Candidate) → list_all p (filter p cs) ≡ true
 filtered_pass p [] = refl
 filtered_pass p (c ∷ cs) = filtered_by p c cs (p c) refl (filtered_pass p cs)
 
@@ -53,7 +53,7 @@ or_right false = refl
 -- ---- the candidates among the first objects
 
 -- the candidates among objects that stand by number from k on
-abbrev numbered : ℕ → List Scheduling → List Candidate
+abbrev pub numbered : ℕ → List Scheduling → List Candidate
 numbered k objects = filter_map (λ p. candidate p.0 p.1) (enumerate_from k objects)
 
 past_by : (k n : ℕ) (t : Option ℕ) (cs : List Candidate) → n ≤ k → list_all (λ c. not (nat_lt c.1 n)) cs ≡ true
@@ -70,7 +70,7 @@ first_by : (k n : ℕ) (t : Option ℕ) (cs ds : List Candidate) → k < n → c
 first_by k n None cs ds l e = e
 first_by k n (Some t) cs ds l e = let here : nat_lt k n ≡ true = grind (arith, nat_tests, l) in rw here (ap (λ l. (t, k) ∷ l) e)
 
-numbered_first : (k m n : ℕ) (objects : List Scheduling) → k + m ≡ n → numbered k (take m objects) ≡ filter (λ c. nat_lt c.1 n) (numbered k objects)
+pub numbered_first : (k m n : ℕ) (objects : List Scheduling) → k + m ≡ n → numbered k (take m objects) ≡ filter (λ c. nat_lt c.1 n) (numbered k objects)
 numbered_first k zero n objects e = sym (none_filtered (λ c. nat_lt c.1 n) (numbered k objects) (numbered_past k n objects (omega arith)))
 numbered_first k (suc m) n [] e = refl
 numbered_first k (suc m) n (o ∷ objects) e = first_by k n (candidate_time o) _ _ (omega arith) (numbered_first (k + 1) m n objects (omega arith))
@@ -163,18 +163,3 @@ pub waiting_none : (now : ℕ) (s : State) → least (candidates s) ≡ None →
 waiting_none now s e =
     let none : least (due now s) ≡ None = sym (least_due now (candidates s)) ∙ ap (if_due now) e in
     none_due now s none ∙ ap (λ f. reply.Idle (option_map (λ x. x.0) f)) e
-
--- ---- the least of the due, by the least of all
-
-pub least_when_due : (now : ℕ) (cs : List Candidate) (c : Candidate) → Some c ≡ least cs → c.0 ≤ now → Some c ≡ least (due_among now cs)
-least_when_due now cs c e l =
-    let is_due : nat_le c.0 now ≡ true = grind (arith, nat_tests, l) in
-    sym (ap (λ b. cond b (Some c) None) is_due) ∙ ap (if_due now) e ∙ least_due now cs
-
-pub least_when_early : (now : ℕ) (cs : List Candidate) (c : Candidate) → Some c ≡ least cs → now < c.0 → None ≡ least (due_among now cs)
-least_when_early now cs c e l =
-    let is_late : nat_le c.0 now ≡ false = grind (arith, nat_tests, l) in
-    sym (ap (λ b. cond b (Some c) None) is_late) ∙ ap (if_due now) e ∙ least_due now cs
-
-pub least_when_none : (now : ℕ) (cs : List Candidate) → None ≡ least cs → None ≡ least (due_among now cs)
-least_when_none now cs e = ap (if_due now) e ∙ least_due now cs

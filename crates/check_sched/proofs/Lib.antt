@@ -8,8 +8,8 @@ pub mod OperatorLaws
 pub mod PendingLaws
 pub mod ReplyLaws
 pub mod ReportLaws
+pub mod RosterLaws
 pub mod RunLaws
-pub mod ScanLemmas
 pub mod StepLaws
 pub mod TakeLaws
 pub mod UpdateLaws

@@ -1,18 +1,15 @@
 -- Laws of the limit: how many services are being checked, and that no call passes the limit.
 use Rattle.std.proofs.Common.{◌≡◌, ℕ, zero, suc, ◌+◌, ◌<◌, ◌≤◌, Bool, true, false, ◌||◌, cond, List, [], ◌∷◌, map, drop, refl, ap, ◌∙◌, arith}
-use Rattle.std.specs.Prelude.{count_by, is_some}
+use Rattle.std.specs.Prelude.{is_some}
 use Rattle.std.proofs.lemmas.Bool.Decides.{nat_tests}
 use Rattle.std.proofs.lemmas.List.Sums.{sum_by-cons}
 use Rattle.check_objects.specs.Configuration.{host_count}
+use Rattle.check_sched.specs.Roster.{running_among}
 use Rattle.check_sched.specs.Scheduling.{Scheduling, running_from}
 use Rattle.check_sched.specs.State.{State, IsWithinLimit, has_room, is_host, limit_of, running_services}
 use Rattle.check_sched.specs.Step.{is_open, taken, update_at, with_object}
 
--- how many of some objects are being checked
-abbrev pub busy : List Scheduling → ℕ
-busy objects = count_by (λ o. is_some o.run) objects
-
-busy_cons : (o : Scheduling) (os : List Scheduling) → busy (o ∷ os) ≡ cond (is_some o.run) 1 0 + busy os
+busy_cons : (o : Scheduling) (os : List Scheduling) → running_among (o ∷ os) ≡ cond (is_some o.run) 1 0 + running_among os
 busy_cons o os = sum_by-cons (λ x. cond (is_some x.run) 1 0) o os
 
 -- whether f begins no run
@@ -29,23 +26,23 @@ one_at_most : (a : Bool) → cond a 1 0 ≤ 1
 one_at_most true = omega arith
 one_at_most false = omega arith
 
-busy_kept : (n : ℕ) (f : Scheduling → Scheduling) (os : List Scheduling) → BeginsNone f → busy (update_at n f os) ≤ busy os
+busy_kept : (n : ℕ) (f : Scheduling → Scheduling) (os : List Scheduling) → BeginsNone f → running_among (update_at n f os) ≤ running_among os
 busy_kept n f [] h = omega arith
 busy_kept zero f (o ∷ os) h = let here = no_more (is_some (f o).run) (is_some o.run) (h o) in omega (arith, here, busy_cons (f o) os, busy_cons o os)
 busy_kept (suc n) f (o ∷ os) h = let more = busy_kept n f os h in omega (arith, more, busy_cons o (update_at n f os), busy_cons o os)
 
-busy_more : (n : ℕ) (f : Scheduling → Scheduling) (os : List Scheduling) → busy (update_at n f os) ≤ busy os + 1
+busy_more : (n : ℕ) (f : Scheduling → Scheduling) (os : List Scheduling) → running_among (update_at n f os) ≤ running_among os + 1
 busy_more n f [] = omega arith
 busy_more zero f (o ∷ os) = let here = one_at_most (is_some (f o).run) in omega (arith, here, busy_cons (f o) os, busy_cons o os)
 busy_more (suc n) f (o ∷ os) = let more = busy_more n f os in omega (arith, more, busy_cons o (update_at n f os), busy_cons o os)
 
-services_kept : (hosts n : ℕ) (f : Scheduling → Scheduling) (os : List Scheduling) → BeginsNone f → busy (drop hosts (update_at n f os)) ≤ busy (drop hosts os)
+services_kept : (hosts n : ℕ) (f : Scheduling → Scheduling) (os : List Scheduling) → BeginsNone f → running_among (drop hosts (update_at n f os)) ≤ running_among (drop hosts os)
 services_kept zero n f os h = busy_kept n f os h
 services_kept (suc hosts) n f [] h = omega arith
 services_kept (suc hosts) zero f (o ∷ os) h = omega arith
 services_kept (suc hosts) (suc n) f (o ∷ os) h = services_kept hosts n f os h
 
-services_more : (hosts n : ℕ) (f : Scheduling → Scheduling) (os : List Scheduling) → busy (drop hosts (update_at n f os)) ≤ busy (drop hosts os) + 1
+services_more : (hosts n : ℕ) (f : Scheduling → Scheduling) (os : List Scheduling) → running_among (drop hosts (update_at n f os)) ≤ running_among (drop hosts os) + 1
 services_more zero n f os = busy_more n f os
 services_more (suc hosts) n f [] = omega arith
 services_more (suc hosts) zero f (o ∷ os) = omega arith
@@ -69,7 +66,7 @@ room_for_one s e some = grind (arith, nat_tests, e, some)
 taken_by : (now n : ℕ) (s : State) (host : Bool) → is_host s.setup n ≡ host → (host || has_room s) ≡ true → IsWithinLimit s → IsWithinLimit (taken now n s)
 taken_by now n s true e may within some =
     let below : n < host_count s.setup = grind (arith, nat_tests, e) in
-    let same = ap busy (services_apart (host_count s.setup) n (running_from (record { number = s.runs + 1; start = now })) s.objects below) in
+    let same = ap running_among (services_apart (host_count s.setup) n (running_from (record { number = s.runs + 1; start = now })) s.objects below) in
     let was = within some in
     omega (arith, same, was)
 taken_by now n s false e may within some =
@@ -83,15 +80,15 @@ limit_taken now n s may within = taken_by now n s (is_host s.setup n) refl may w
 
 -- ---- the opening
 
-busy_none : {X : Type 0} (made : X → Scheduling) (xs : List X) → ((x : X) → is_some (made x).run ≡ false) → busy (map made xs) ≡ 0
+busy_none : {X : Type 0} (made : X → Scheduling) (xs : List X) → ((x : X) → is_some (made x).run ≡ false) → running_among (map made xs) ≡ 0
 busy_none made [] h = refl
 busy_none made (x ∷ xs) h =
-    busy_cons (made x) (map made xs) ∙ ap (λ b. cond b 1 0 + busy (map made xs)) (h x)
-    ∙ (let zero_more : 0 + busy (map made xs) ≡ busy (map made xs) = omega arith in zero_more) ∙ busy_none made xs h
+    busy_cons (made x) (map made xs) ∙ ap (λ b. cond b 1 0 + running_among (map made xs)) (h x)
+    ∙ (let zero_more : 0 + running_among (map made xs) ≡ running_among (map made xs) = omega arith in zero_more) ∙ busy_none made xs h
 
 -- no service runs among objects that are made without a run
 pub services_none : {X : Type 0} (hosts : ℕ) (made : X → Scheduling) (xs : List X) → ((x : X) → is_some (made x).run ≡ false)
-    → busy (drop hosts (map made xs)) ≡ 0
+    → running_among (drop hosts (map made xs)) ≡ 0
 services_none zero made xs h = busy_none made xs h
 services_none (suc hosts) made [] h = refl
 services_none (suc hosts) made (x ∷ xs) h = services_none hosts made xs h

@@ -1,10 +1,11 @@
 -- Laws of the opening.
-use Rattle.std.proofs.Common.{◌≡◌, ℕ, zero, suc, ◌+◌, ◌<◌, ◌^◌, Bool, true, List, [], ◌∷◌, ◌++◌, length, map, take, get_or, min, Option, Some, None}
+use Rattle.std.proofs.Common.{◌≡◌, ℕ, zero, suc, ◌+◌, ◌<◌, ◌≤◌, ◌^◌, Bool, true, List, [], ◌∷◌, ◌++◌, length, map, drop, take, get_or, min, Option, Some, None}
 use Rattle.std.proofs.Common.{option_map, refl, sym, ap, subst, ◌∙◌, arith, IfSome}
 use Rattle.std.specs.Prelude.{slice_get, zip, All}
 use Rattle.std.specs.List.{list_all, enumerate_from}
 use Rattle.std.proofs.lemmas.Bool.Decides.{nat_tests}
-use Rattle.std.proofs.lemmas.List.{length-map, take_more}
+use Rattle.std.proofs.lemmas.List.{length-append, length-map, take_more}
+use Rattle.check_sched.specs.Roster.{running_among}
 use Rattle.std.proofs.lemmas.List.FromFn.{length-enumerate_from}
 use Rattle.std.proofs.lemmas.Slice.Zip.{length-zip}
 use Rattle.std.proofs.lemmas.Bool.{and_from}
@@ -95,6 +96,31 @@ pub opened_is_state : (setup : Configuration) (start : ℕ) (times seen : List (
 opened_is_state setup start times seen objects standings valid made count within e o t =
     let at : objects ≡ opening_objects setup start = o ∙ ap (objects_at setup) (e ∙ made) in
     rw (at, t) (opening_is_state setup start valid (ap length (sym made) ∙ count) (subst (All (λ first. IfSome first (λ time. time < 2 ^ 61))) made within))
+
+-- ---- the roster that the code opens with
+
+count_is : (setup : Configuration) → object_count setup ≡ host_count setup + length setup.services
+count_is setup = simp (length-append, length-map) refl
+
+-- the objects are few enough
+pub opened_few : (setup : Configuration) (times : List (Option ℕ)) (objects : List Scheduling) → IsSetup setup → length times ≡ object_count setup
+    → objects ≡ objects_at setup times → length objects ≤ 4096
+opened_few setup times objects valid count e =
+    let long = ap length e ∙ length-objects_at setup times count ∙ count_is setup in
+    let few = valid.few in omega (arith, long, few)
+
+-- the hosts are among them
+pub opened_hosts : (setup : Configuration) (times : List (Option ℕ)) (objects : List Scheduling) → length times ≡ object_count setup
+    → objects ≡ objects_at setup times → host_count setup ≤ length objects
+opened_hosts setup times objects count e =
+    let long = ap length e ∙ length-objects_at setup times count ∙ count_is setup in omega (arith, long)
+
+-- no service is being checked
+pub opened_idle : (setup : Configuration) (times : List (Option ℕ)) (objects : List Scheduling) → objects ≡ objects_at setup times
+    → running_among (drop (host_count setup) objects) ≡ 0
+opened_idle setup times objects e =
+    ap (λ os. running_among (drop (host_count setup) os)) e
+    ∙ services_none (host_count setup) (λ (p : Option ℕ × Named). opening_object p.0 p.1.object.enabled) (zip times (objects_of setup)) (λ p. refl)
 
 -- ---- the opening, object by object
 

@@ -1,5 +1,5 @@
 -- Laws of the operators' calls: Abandon, Reschedule, Enable and Status.
-use Rattle.std.proofs.Common.{◌≡◌, ℕ, ◌<◌, ◌≤◌, ◌^◌, Bool, true, false, Option, Some, None, Ok, length, get_or, set, refl, ap, ◌∙◌, arith}
+use Rattle.std.proofs.Common.{◌≡◌, ℕ, ◌<◌, ◌≤◌, ◌^◌, Bool, true, false, Option, Some, None, Ok, length, set, refl, ◌∙◌, arith}
 use Rattle.std.specs.Prelude.{slice_get, unwrap_or}
 use Rattle.std.proofs.lemmas.Bool.Decides.{nat_tests}
 use Rattle.std.proofs.lemmas.Bool.{and_parts, and_from}
@@ -13,7 +13,7 @@ use Rattle.check_sched.specs.Step.{known, step, with_object, within_range}
 use Rattle.check_sched.proofs.AnswerLaws.{by_test, known_is, range_is}
 use Rattle.check_sched.proofs.LimitLaws.{BeginsNone, limit_kept}
 use Rattle.check_sched.proofs.ReportLaws.{next_of_state}
-use Rattle.check_sched.proofs.UpdateLaws.{length-update_at, all-update_at, set_is_update}
+use Rattle.check_sched.proofs.UpdateLaws.{length-update_at, all-update_at, set_is_update_of}
 use Rattle.std.proofs.lemmas.Option.{slice_get_within}
 
 -- ---- each call, by its answers
@@ -86,11 +86,11 @@ rescheduled_in_time time forced o m e =
 -- ---- what the code leaves and answers
 
 -- the state that a write to one object leaves
-pub written : (n : ℕ) (f : Scheduling → Scheduling) (s : State) (o new : Scheduling) → n < length s.objects → o ≡ get_or s.objects n o → new ≡ f o
+pub written : (n : ℕ) (f : Scheduling → Scheduling) (s : State) (o new : Scheduling) → slice_get s.objects n ≡ Some o → new ≡ f o
     → let left : State =
     record { setup = s.setup; start = s.start; objects = set s.objects n new; standings = s.standings; runs = s.runs } in left ≡ with_object n f s
-written n f s o new h e g i =
-    record { setup = s.setup; start = s.start; objects = set_is_update n f s.objects o new h (g ∙ ap f e) i; standings = s.standings; runs = s.runs }
+written n f s o new e g i =
+    record { setup = s.setup; start = s.start; objects = set_is_update_of n f s.objects o new e g i; standings = s.standings; runs = s.runs }
 
 -- an object that was found is one of the objects
 pub known_within : (n : ℕ) (s : State) (o : Scheduling) → known n s ≡ Ok o → n < length s.objects

@@ -13,7 +13,7 @@ use Rattle.check_sched.specs.declared.call.Refusal.{Refusal}
 use Rattle.check_sched.specs.declared.call.Refusal.TheVariants as refusal
 use Rattle.check_sched.specs.Scheduling.{Scheduling, OpenRun, run_under}
 use Rattle.check_sched.specs.Candidate.{Candidate}
-use Rattle.check_sched.specs.Order.{least}
+use Rattle.check_queue.specs.Order.{least}
 use Rattle.check_sched.specs.State.{State}
 use Rattle.check_sched.specs.Step.{◌>>=◌, eligible, report_taken, settled, step, take_least}
 use Rattle.check_sched.specs.BookState.{BookState, book_step}

@@ -14,14 +14,15 @@ use Rattle.check_sched.specs.declared.call.Reply.{Reply}
 use Rattle.check_sched.specs.declared.call.Reply.TheVariants as reply
 use Rattle.check_sched.specs.declared.call.Refusal.TheVariants as refusal
 use Rattle.check_sched.specs.Candidate.{Candidate, candidate, candidates_among}
-use Rattle.check_sched.specs.Order.{least}
+use Rattle.check_queue.specs.Order.{least}
 use Rattle.check_sched.specs.Scheduling.{Scheduling, OpenRun, candidate_time, run_under, running_from}
 use Rattle.check_sched.specs.State.{State, is_host}
 use Rattle.check_sched.specs.Step.{candidates, due, eligible, is_open, known, step, taken, update_at, waiting_reply, within_range}
 use Rattle.check_sched.specs.BookState.{book_step}
 use Rattle.check_sched.specs.Runs.{begins, begins_by, ends, ends_by, runs_begun, runs_under, takes_by}
 use Rattle.check_sched.proofs.AnswerLaws.{by_test, known_is, under_is}
-use Rattle.check_sched.proofs.CandidateLaws.{all_at_least, all_filtered, candidates_within}
+use Rattle.check_queue.proofs.LeastLaws.{all_at_least, all_filtered}
+use Rattle.check_sched.proofs.CandidateLaws.{candidates_within}
 use Rattle.check_sched.proofs.OperatorLaws.{abandon_cases, enable_cases, reschedule_cases, status_cases}
 use Rattle.check_sched.proofs.ReportLaws.{report_cases}
 use Rattle.check_sched.proofs.TakeLaws.{take_cases}

@@ -1,13 +1,13 @@
 -- Laws of Take: its answers, and the state that it leaves.
-use Rattle.std.proofs.Common.{◌≡◌, ℕ, ◌+◌, ◌<◌, ◌≤◌, ◌^◌, Bool, true, false, cond, length, get_or, set, Option, Some, None, option_map, refl, sym, ap, ◌∙◌}
+use Rattle.std.proofs.Common.{◌≡◌, ℕ, ◌+◌, ◌<◌, ◌≤◌, ◌^◌, Bool, true, false, cond, length, set, Option, Some, None, option_map, refl, sym, ◌∙◌}
 use Rattle.std.proofs.Common.{arith, IfSome}
-use Rattle.std.specs.Prelude.{nat_lt, nat_le}
+use Rattle.std.specs.Prelude.{nat_lt, nat_le, slice_get}
 use Rattle.std.proofs.lemmas.Bool.Decides.{nat_tests}
 use Rattle.std.proofs.lemmas.Bool.{and_parts, and_from}
 use Rattle.check_objects.specs.Configuration.{object_count}
 use Rattle.check_sched.specs.Scheduling.{Scheduling, put_off_to, running_from}
 use Rattle.check_sched.specs.Candidate.{Candidate}
-use Rattle.check_sched.specs.Order.{least}
+use Rattle.check_queue.specs.Order.{least}
 use Rattle.check_sched.specs.declared.call.Reply.{Reply}
 use Rattle.check_sched.specs.declared.call.Reply.TheVariants as reply
 use Rattle.check_sched.specs.declared.call.Refusal.{Refusal}
@@ -20,8 +20,9 @@ use Rattle.check_sched.specs.Step.{candidates, due, eligible, is_held_back, is_o
 use Rattle.check_sched.proofs.EligibleLaws.{eligible_open}
 use Rattle.check_sched.proofs.LimitLaws.{limit_taken}
 use Rattle.check_sched.proofs.AnswerLaws.{by_test, left_is, range_is}
-use Rattle.check_sched.proofs.CandidateLaws.{all_at_least, all_filtered, candidates_within, candidates_times}
-use Rattle.check_sched.proofs.UpdateLaws.{length-update_at, all-update_at, set_is_update}
+use Rattle.check_queue.proofs.LeastLaws.{all_at_least, all_filtered}
+use Rattle.check_sched.proofs.CandidateLaws.{candidates_within, candidates_times}
+use Rattle.check_sched.proofs.UpdateLaws.{length-update_at, all-update_at, set_is_update_of}
 
 -- ---- Take, by its answers
 
@@ -109,16 +110,15 @@ put_off_is_state now n s is_state m =
 -- ---- what the code leaves
 
 -- the state that the write to an object leaves whose check begins
-pub taken_left : (now n : ℕ) (s : State) (o new : Scheduling) → n < length s.objects → o ≡ get_or s.objects n o
+pub taken_left : (now n : ℕ) (s : State) (o new : Scheduling) → slice_get s.objects n ≡ Some o
     → new ≡ running_from (record { number = s.runs + 1; start = now }) o
     → let left : State =
     record { setup = s.setup; start = s.start; objects = set s.objects n new; standings = s.standings; runs = s.runs + 1 } in left ≡ taken now n s
-taken_left now n s o new h e g i = record {
+taken_left now n s o new e g i = record {
   setup = s.setup;
   start = s.start;
   objects =
-      set_is_update n (running_from (record { number = s.runs + 1; start = now })) s.objects o new h
-      (g ∙ ap (running_from (record { number = s.runs + 1; start = now })) e) i;
+      set_is_update_of n (running_from (record { number = s.runs + 1; start = now })) s.objects o new e g i;
   standings = s.standings;
   runs = s.runs + 1;
 }

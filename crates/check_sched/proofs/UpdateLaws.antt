@@ -1,8 +1,9 @@
 -- Laws of one place changed in a list, and of what is true at each place.
-use Rattle.std.proofs.Common.{◌≡◌, ℕ, zero, suc, ◌<◌, ◌≤◌, Bool, true, List, [], ◌∷◌, length, get_or, set, Some, None, refl, ap, subst, arith}
+use Rattle.std.proofs.Common.{◌≡◌, ℕ, zero, suc, ◌<◌, ◌≤◌, Bool, true, List, [], ◌∷◌, length, get_or, set, Some, None, refl, sym, ap, ◌∙◌, subst, arith}
 use Rattle.std.specs.Prelude.{slice_get}
 use Rattle.std.specs.List.{list_all}
 use Rattle.std.proofs.lemmas.Bool.{and_parts, and_from}
+use Rattle.std.proofs.lemmas.Option.{get_or_from_slice_get, slice_get_within}
 use Rattle.check_sched.specs.Step.{update_at}
 
 pub length-update_at : {X : Type 0} (n : ℕ) (f : X → X) (xs : List X) → length (update_at n f xs) ≡ length xs
@@ -14,6 +15,10 @@ pub set_is_update : {X : Type 0} (n : ℕ) (f : X → X) (xs : List X) (d y : X)
 set_is_update n f [] d y h e = absurd (omega arith)
 set_is_update zero f (x ∷ xs) d y h e = ap (λ z. z ∷ xs) e
 set_is_update (suc n) f (x ∷ xs) d y h e = ap (λ l. x ∷ l) (set_is_update n f xs d y (omega arith) e)
+
+-- the same by what was at the place
+pub set_is_update_of : {X : Type 0} (n : ℕ) (f : X → X) (xs : List X) (x y : X) → slice_get xs n ≡ Some x → y ≡ f x → set xs n y ≡ update_at n f xs
+set_is_update_of n f xs x y e g = set_is_update n f xs x y (slice_get_within xs n x e) (g ∙ ap f (sym (get_or_from_slice_get xs n x x e)))
 
 -- a test that each passes, and that what is put in the place passes
 pub all-update_at : {X : Type 0} (p : X → Bool) (n : ℕ) (f : X → X) (xs : List X) → list_all p xs ≡ true → ((x : X) → p x ≡ true → p (f x) ≡ true)

@@ -1,6 +1,6 @@
 pub mod Scheduling
-pub mod Order
 pub mod Candidate
+pub mod Roster
 pub mod State
 pub mod Reply
 pub mod Report

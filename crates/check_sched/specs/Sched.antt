@@ -1,15 +1,17 @@
 -- The scheduler of the code as contracts see it.
 use Rattle.std.specs.Prelude.{◌≡◌, length}
-use Rattle.check_objects.specs.Configuration.{object_count}
+use Rattle.check_objects.specs.Configuration.{host_count, object_count}
 use Rattle.check_sched.specs.State.{State, IsState}
 use Rattle.check_sched.specs.declared.sched.Sched.TheInside.{Inside}
 
 -- the state that the fields hold; the marks are scratch, and no part of it
 abbrev pub state_of : Inside → State
-state_of s = record { setup = s.setup; start = s.start; objects = s.objects.items; standings = s.standings.items; runs = s.runs }
+state_of s = record { setup = s.setup; start = s.start; objects = s.roster.objects; standings = s.standings.items; runs = s.runs }
 
 -- what is true of the fields of every scheduler
 pub record IsKept (s : Inside) : Type 0 where
   pub state : IsState (state_of s)
   -- one mark for each object
   pub marks : length s.marks.items ≡ object_count s.setup
+  -- the first objects are the hosts
+  pub hosts : s.roster.hosts ≡ host_count s.setup

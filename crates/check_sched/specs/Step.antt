@@ -13,7 +13,7 @@ use Rattle.check_sched.specs.declared.sched.TheConstants.{MAX_RUNS}
 use Rattle.check_spread.specs.declared.limits.TheConstants.{LAST_MOMENT}
 use Rattle.check_sched.specs.Scheduling.{Scheduling, running_from, ended, run_under, freed_time, put_off_to, rescheduled, enabled_as}
 use Rattle.check_sched.specs.Candidate.{Candidate, candidates_among, due_among}
-use Rattle.check_sched.specs.Order.{least}
+use Rattle.check_queue.specs.Order.{least}
 use Rattle.check_rules.specs.declared.state.Code.{Code}
 use Rattle.check_rules.specs.declared.standing.Standing.{Standing}
 use Rattle.check_rules.specs.State.{is_another_state}

@@ -8,10 +8,10 @@
 //! where the manual leaves a choice, the profile of this project makes it, and the item says so.
 //!
 //! The modules, from what a caller says to how it is answered: `call` has the calls and their
-//! replies, `object_state` what is kept of one object, `candidate` the search for the object that
-//! is checked next, `report` what the result of a check makes of an object, `sched` the scheduler,
-//! `book` the scheduler with the history of its calls, `laws` what follows for all calls that are
-//! made one after another.
+//! replies, `object_state` what is kept of one object, `candidate` an object that waits for its
+//! check, `roster` the objects with the queues of those that wait, `report` what the result of a
+//! check makes of an object, `sched` the scheduler, `book` the scheduler with the history of its
+//! calls, `laws` what follows for all calls that are made one after another.
 
 mod book;
 mod call;
@@ -19,6 +19,7 @@ mod candidate;
 pub mod laws;
 mod object_state;
 mod report;
+mod roster;
 mod sched;
 #[cfg(test)]
 mod tests;

@@ -12,7 +12,7 @@ ghost use Rattle.check_sched.specs.State.{
   run_number_of,
   standing_at,
 };
-ghost use Rattle.check_sched.specs.Order.{least};
+ghost use Rattle.check_queue.specs.Order.{least};
 ghost use Rattle.check_sched.specs.Step.{
   eligible,
   is_held_back,
@@ -28,14 +28,18 @@ ghost use Rattle.check_sched.specs.Report.{put_off_until};
 ghost use Rattle.check_sched.specs.Reply.{OnRefused, NamesObjectOf, TellsTimesUpTo, reply_of};
 
 use crate::call::{Call, Refusal, Reply};
-use crate::candidate::{Candidate, least_candidate, least_due, running_among};
+use crate::candidate::{Candidate, if_due};
 use crate::object_state::{ObjectState, Run};
 use crate::report::{is_changed, judged, next_after, put_off_until};
+use crate::roster::Roster;
 use check_objects::Setup;
 use check_rules::{Code, Standing, blocked, pending};
 use check_spread::{LAST_MOMENT, LAST_TIME, initial_times};
 use std::alloc::{AllocError, Global};
 use std::marker::Model;
+
+#[cfg(test)]
+mod tests;
 
 /// How many runs are handed out at most.
 pub const MAX_RUNS: u64 = 1 << 60;
@@ -46,7 +50,7 @@ pub const MAX_RUNS: u64 = 1 << 60;
 pub struct Sched {
     setup: Setup,
     start: u64,
-    objects: Vec<ObjectState>,
+    roster: Roster,
     standings: Vec<Standing>,
     runs: u64,
     /// Scratch of the search through dependencies: a mark for each object.
@@ -84,6 +88,9 @@ impl Sched {
         let Ok(objects) = opening_objects(alloc, &setup, &times) else {
             return Err(setup);
         };
+        let Ok(roster) = Roster::new(alloc, setup.hosts(), objects) else {
+            return Err(setup);
+        };
         let Ok(standings) = opening_standings(alloc, &setup) else {
             return Err(setup);
         };
@@ -93,7 +100,7 @@ impl Sched {
         Ok(Sched {
             setup,
             start,
-            objects,
+            roster,
             standings,
             runs: 0,
             marks,
@@ -161,11 +168,10 @@ impl Sched {
         ensures there { IfSome result (λ c. c.1 < object_count self.now.setup) }
         ensures open { IfSome result (λ c. IsTrue (is_open self.now c.1)) }
     {
-        let hosts = self.setup.hosts();
         if self.has_room() {
-            least_due(&self.objects, now)
+            if_due(self.roster.first(), now)
         } else {
-            least_due(&self.objects[..hosts], now)
+            if_due(self.roster.first_host(), now)
         }
     }
 
@@ -173,9 +179,8 @@ impl Sched {
     fn has_room(&self) -> bool
         ensures { result ≡ has_room self.now }
     {
-        let hosts = self.setup.hosts();
         let limit = self.setup.options().max_concurrent_checks;
-        limit == 0 || (running_among(&self.objects[hosts..]) as u64) < limit
+        limit == 0 || (self.roster.running_services() as u64) < limit
     }
 
     /// Whether the object whose turn has come isn't to be checked: its check isn't forced, and some
@@ -185,7 +190,7 @@ impl Sched {
         ensures state { self.new ≡ self.old }
         ensures value { result ≡ is_held_back self.old object }
     {
-        if self.objects[object as usize].is_forced() {
+        if self.roster.at(object).is_forced() {
             return false;
         }
         blocked(&self.setup, &self.standings, &mut self.marks, object)
@@ -200,7 +205,9 @@ impl Sched {
         ensures times { TellsTimesUpTo LAST_TIME result }
     {
         let until = put_off_until(&self.setup, object, now);
-        self.objects[object as usize].put_off(until);
+        let mut state = self.roster.at(object);
+        state.put_off(until);
+        self.roster.set(object, state);
         Reply::PutOff { object, until }
     }
 
@@ -218,7 +225,9 @@ impl Sched {
             number: self.runs,
             start: now,
         };
-        self.objects[object as usize].begin_run(run);
+        let mut state = self.roster.at(object);
+        state.begin_run(run);
+        self.roster.set(object, state);
         Reply::Taken {
             object,
             run: self.runs,
@@ -231,7 +240,7 @@ impl Sched {
         ensures reply { result ≡ waiting_reply now self.now }
         ensures times { TellsTimesUpTo LAST_TIME result }
     {
-        match least_candidate(&self.objects) {
+        match self.roster.first() {
             Some((time, _number)) if time <= now => Reply::AtLimit,
             Some((time, _number)) => Reply::Idle { next: Some(time) },
             None => Reply::Idle { next: None },
@@ -244,14 +253,15 @@ impl Sched {
         ensures reply { reply_of result ≡ (step self.old (Call.Report object run code)).1 }
         ensures times { TellsTimesUpTo LAST_TIME (reply_of result) }
     {
-        let state = self.object(object)?;
+        let mut state = self.object(object)?;
         let running = state.run_under(run)?;
         let index = object as usize;
         let before = self.standings[index];
         let standing = judged(&self.setup, &self.standings, object, code);
         let changed = is_changed(before, standing);
         let next = next_after(&self.setup, object, standing, running.start(), state.next());
-        self.objects[index].end_run(next);
+        state.end_run(next);
+        self.roster.set(object, state);
         self.standings[index] = standing;
         Ok(Reply::Standing {
             standing,
@@ -266,11 +276,12 @@ impl Sched {
         ensures reply { reply_of result ≡ (step self.old (Call.Abandon object run now)).1 }
         ensures times { TellsTimesUpTo LAST_TIME (reply_of result) }
     {
-        let state = self.object(object)?;
+        let mut state = self.object(object)?;
         test_moment(now)?;
         state.run_under(run)?;
         let next = state.freed_time(now);
-        self.objects[object as usize].end_run(Some(next));
+        state.end_run(Some(next));
+        self.roster.set(object, state);
         Ok(Reply::Freed { next })
     }
 
@@ -279,9 +290,10 @@ impl Sched {
         ensures state { self.new ≡ (step self.old (Call.Reschedule object time forced)).0 }
         ensures reply { reply_of result ≡ (step self.old (Call.Reschedule object time forced)).1 }
     {
-        self.object(object)?;
+        let mut state = self.object(object)?;
         test_moment(time)?;
-        self.objects[object as usize].reschedule(time, forced);
+        state.reschedule(time, forced);
+        self.roster.set(object, state);
         Ok(Reply::Done)
     }
 
@@ -290,8 +302,9 @@ impl Sched {
         ensures state { self.new ≡ (step self.old (Call.Enable object on)).0 }
         ensures reply { reply_of result ≡ (step self.old (Call.Enable object on)).1 }
     {
-        self.object(object)?;
-        self.objects[object as usize].enable(on);
+        let mut state = self.object(object)?;
+        state.enable(on);
+        self.roster.set(object, state);
         Ok(Reply::Done)
     }
 
@@ -313,8 +326,8 @@ impl Sched {
     fn object(&self, number: u32) -> Result<ObjectState, Refusal>
         ensures { result ≡ known number self.now }
     {
-        match self.objects.get(number as usize) {
-            Some(object) => Ok(*object),
+        match self.roster.get(number) {
+            Some(object) => Ok(object),
             None => Err(Refusal::UnknownObject),
         }
     }
@@ -350,7 +363,7 @@ impl Sched {
         ensures value { result ≡ next_of number self.now }
         ensures within { IfSome result (λ time. time ≤ LAST_TIME) }
     {
-        self.objects[number as usize].next()
+        self.roster.at(number).next()
     }
 
     /// The number of the run under which the object with this number is being checked, or None
@@ -359,7 +372,7 @@ impl Sched {
         requires { number < object_count self.now.setup }
         ensures { result ≡ run_number_of number self.now }
     {
-        self.objects[number as usize].run_number()
+        self.roster.at(number).run_number()
     }
 }
 

@@ -3,7 +3,6 @@ use Rattle.check_sched.specs.Sched.{state_of}
 use Rattle.check_sched.specs.State.{State}
 use Rattle.check_sched.specs.Step.{is_open}
 use Rattle.check_sched.specs.declared.sched.TheConstants.{MAX_RUNS}
-use Rattle.check_sched.proofs.AnswerLaws.{there_by}
 use Rattle.check_sched.proofs.TakeLaws.{taken_is_state, taken_left}
 use Rattle.check_sched.proofs.sched.Sched.begin.Goals as goal
 
@@ -11,18 +10,16 @@ pub invariant_of-self : goal.invariant_of-self
 invariant_of-self c =
     let s = state_of c.self.inside in
     let runs = ap (λ (t : State). t.runs) c.self.view_is in
-    let there = there_by c.args.object s _ c.self.invariant.state c.self.view_is c.requires.there in
     let spare : c.self.inside.runs < MAX_RUNS = let m = c.requires.spare in omega (arith, m, runs) in
     let may = ap (λ (t : State). is_open t c.args.object) c.self.view_is ∙ c.requires.«open» in
     record {
-      state = rw (taken_left c.args.now c.args.object s c.index_mut.result.now c.begin_run.new.self there c.index_mut.ensures.value c.begin_run.ensures)
+      state = rw (c.set.ensures, taken_left c.args.now c.args.object s c.at-state.result c.begin_run.new.self c.at-state.ensures c.begin_run.ensures)
           (taken_is_state c.args.now c.args.object s c.self.invariant.state c.requires.moment spare may);
       marks = c.self.invariant.marks;
+      hosts = rw c.set.ensures c.self.invariant.hosts;
     }
 
 pub returns-clause-state : goal.returns-clause-state
 returns-clause-state c =
     let s = state_of c.self.inside in
-    let there = there_by c.args.object s _ c.self.invariant.state c.self.view_is c.requires.there in
-    rw (← c.self.view_is) (taken_left c.args.now c.args.object s c.index_mut.result.now c.begin_run.new.self there c.index_mut.ensures.value
-    c.begin_run.ensures)
+    rw (← c.self.view_is, c.set.ensures) (taken_left c.args.now c.args.object s c.at-state.result c.begin_run.new.self c.at-state.ensures c.begin_run.ensures)

@@ -12,11 +12,11 @@ use Rattle.check_sched.proofs.AnswerLaws.{known_is, under_is}
 use Rattle.check_sched.proofs.OperatorLaws.{known_within}
 use Rattle.check_sched.proofs.ReportLaws.{is_time_holds, is_time_reads, next_of_state, report_answers, report_standing, reported_is_state, standing_read}
 use Rattle.check_sched.proofs.ReportLaws.{start_of_state, standing_of_state}
-use Rattle.check_sched.proofs.UpdateLaws.{set_is_update}
+use Rattle.check_sched.proofs.UpdateLaws.{set_is_update, set_is_update_of}
 use Rattle.check_sched.proofs.sched.Sched.report.Goals as goal
 
 -- an object that is known has its places
-object_there : (inside : Inside) (n : ℕ) (o : Scheduling) → known n (state_of inside) ≡ Ok o → n < length inside.objects.items
+object_there : (inside : Inside) (n : ℕ) (o : Scheduling) → known n (state_of inside) ≡ Ok o → n < length inside.roster.objects
 object_there inside n o e = known_within n (state_of inside) o e
 
 count_there : (inside : Inside) (n : ℕ) (o : Scheduling) → IsState (state_of inside) → known n (state_of inside) ≡ Ok o → n < object_count inside.setup
@@ -52,24 +52,23 @@ next_after-next-requires-clause-in_time c =
     rw c.next.ensures (is_time_reads c.in_ok-state.state.next
     (next_of_state s c.args.object c.in_ok-state.state c.self.invariant.state (known_is c.args.object s c.in_ok-state.state found)))
 
+pub set-requires : goal.set-requires
+set-requires c =
+    let found = ap (known c.args.object) c.self.view_is ∙ sym c.object.ensures ∙ c.in_ok-state.was in
+    object_there c.self.inside c.args.object c.in_ok-state.state found
+
 pub index_mut-requires : goal.index_mut-requires
 index_mut-requires c =
-    let found = ap (known c.args.object) c.self.view_is ∙ sym c.object.ensures ∙ c.in_ok-state.was in
-    let there = object_there c.self.inside c.args.object c.in_ok-state.state found in
-    omega (arith, there)
-
-pub index_mut-requires-2 : goal.index_mut-requires-2
-index_mut-requires-2 c =
     let found = ap (known c.args.object) c.self.view_is ∙ sym c.object.ensures ∙ c.in_ok-state.was in
     let there = standing_there c.self.inside c.args.object c.in_ok-state.state c.self.invariant.state found in
     omega (arith, there)
 
 -- the object that was found
-found : (c : goal.After-self-2-1) → known c.args.object (state_of c.self.inside) ≡ Ok c.in_ok-state.state
+found : (c : goal.After-self-1) → known c.args.object (state_of c.self.inside) ≡ Ok c.in_ok-state.state
 found c = ap (known c.args.object) c.self.view_is ∙ sym c.object.ensures ∙ c.in_ok-state.was
 
 -- what the step answers, by the standing and the next time that the code makes
-answer : (c : goal.After-self-2-1) → step (state_of c.self.inside) (call.Report c.args.object c.args.run c.args.code)
+answer : (c : goal.After-self-1) → step (state_of c.self.inside) (call.Report c.args.object c.args.run c.args.code)
     ≡ (
       reported c.args.object c.judged-standing.result c.next_after-next.result
           (state_of c.self.inside),
@@ -83,21 +82,20 @@ answer c =
     (c.next_after-next.ensures.value ∙ (λ i. next_after c.self.inside.setup c.args.object c.judged-standing.result (c.start.ensures i) (c.next.ensures i)))
 
 -- the objects and the standings that the writes leave
-objects_left : (c : goal.After-self-2-1)
-    → set c.self.inside.objects.items c.args.object c.end_run.new.self ≡ update_at c.args.object (ended c.next_after-next.result) c.self.inside.objects.items
+objects_left : (c : goal.After-self-1)
+    → set c.self.inside.roster.objects c.args.object c.end_run.new.self ≡ update_at c.args.object (ended c.next_after-next.result) c.self.inside.roster.objects
 objects_left c =
-    set_is_update _ _ _ c.index_mut.result.now _ (object_there c.self.inside c.args.object c.in_ok-state.state (found c))
-    (c.end_run.ensures ∙ ap (ended c.next_after-next.result) c.index_mut.ensures.value)
+    set_is_update_of _ _ _ c.in_ok-state.state _ (known_is c.args.object (state_of c.self.inside) c.in_ok-state.state (found c)) c.end_run.ensures
 
-standings_left : (c : goal.After-self-2-1)
+standings_left : (c : goal.After-self-1)
     → set c.self.inside.standings.items c.args.object c.judged-standing.result ≡ update_at c.args.object
     (λ (before : Standing). c.judged-standing.result) c.self.inside.standings.items
 standings_left c =
     set_is_update _ (λ (before : Standing). c.judged-standing.result) _ c.judged-standing.result _
     (standing_there c.self.inside c.args.object c.in_ok-state.state c.self.invariant.state (found c)) refl
 
-state_left : (c : goal.After-self-2-1) (objects : List Scheduling) (standings : List Standing)
-    → objects ≡ update_at c.args.object (ended c.next_after-next.result) c.self.inside.objects.items
+state_left : (c : goal.After-self-1) (objects : List Scheduling) (standings : List Standing)
+    → objects ≡ update_at c.args.object (ended c.next_after-next.result) c.self.inside.roster.objects
     → standings ≡ update_at c.args.object (λ (before : Standing). c.judged-standing.result) c.self.inside.standings.items
     → let s : State =
     record { setup = c.self.inside.setup; start = c.self.inside.start; objects = objects; standings = standings; runs = c.self.inside.runs } in s
@@ -112,14 +110,15 @@ invariant_of-self c =
     (report_standing c.args.object c.args.code c.in_ok-state.state s c.self.invariant.state (known_is c.args.object s c.in_ok-state.state (found c))) in
     record {
       state =
-          rw (state_left c _ _ (objects_left c) (standings_left c))
+          rw (c.set.ensures, state_left c _ _ (objects_left c) (standings_left c))
           (reported_is_state c.args.object c.judged-standing.result c.next_after-next.result s c.self.invariant.state
           (is_time_holds c.next_after-next.result c.next_after-next.ensures.within) within);
       marks = c.self.invariant.marks;
+      hosts = rw c.set.ensures c.self.invariant.hosts;
     }
 
 pub returns-clause-state : goal.returns-clause-state
-returns-clause-state c = rw (← c.self.view_is, answer c) (state_left c _ _ (objects_left c) (standings_left c))
+returns-clause-state c = rw (← c.self.view_is, answer c, c.set.ensures) (state_left c _ _ (objects_left c) (standings_left c))
 
 pub returns-clause-reply : goal.returns-clause-reply
 returns-clause-reply c =

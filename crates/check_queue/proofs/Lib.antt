@@ -1,0 +1,5 @@
+pub mod LeastLaws
+pub mod TimesLaws
+pub mod EntryLaws
+pub mod SiftLaws
+pub mod QueueLaws

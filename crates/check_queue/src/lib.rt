@@ -1,0 +1,18 @@
+//! A queue of numbers by time: what is put in at any time comes out by time, and of equal times by
+//! number.
+//!
+//! A [`Queue`] is a binary heap of entries with the place of each number, so that an entry is moved
+//! or removed from where it stands. Only [`Queue::new`] takes memory; a call that writes takes the
+//! logarithm of how many numbers have a time, and the others a fixed time.
+//!
+//! The modules: `entry` has an entry and the order of entries, `sift` moves an entry up and down the
+//! heap, `queue` is the queue.
+#![tactic(auto)]
+
+mod entry;
+mod queue;
+mod sift;
+#[cfg(test)]
+mod tests;
+
+pub use queue::Queue;

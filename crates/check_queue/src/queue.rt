@@ -1,0 +1,144 @@
+//! The queue.
+
+ghost use Rattle.std.specs.Prelude.{◌≡◌, ◌<◌, ℕ, IfOk, IfSome, MatchOption, Some, None, is_some, replicate, length, slice_set, slice_index_or};
+ghost use Rattle.check_queue.specs.Order.{least};
+ghost use Rattle.check_queue.specs.Times.{pairs_of};
+
+use crate::entry::Entry;
+use crate::sift::{sift, sift_up};
+use std::alloc::{AllocError, Global};
+use std::marker::Model;
+
+/// The numbers from 0 on, below a bound, each with a time or without one. Contracts see it as the
+/// list of these times, by number. (Our own profile.)
+#[derive(Drop)]
+pub struct Queue {
+    /// A heap, in its first `len` entries.
+    entries: Vec<Entry>,
+    /// The place of each number in the heap, if it has a time.
+    places: Vec<u32>,
+    /// The time of each number.
+    times: Vec<Option<u64>>,
+    len: usize,
+}
+
+impl Model for Queue {
+    ghost use Rattle.std.specs.Prelude.{ℕ, List, Option};
+
+    ghost Value = { List (Option ℕ) };
+
+    ghost use Rattle.check_queue.specs.Kept.{times_of, IsKept};
+
+    ghost view = { times_of };
+
+    ghost invariant = { IsKept };
+}
+
+impl Queue {
+    /// A queue of the numbers below `n`, none of which has a time.
+    ///
+    /// An Err means out of memory. This is the one call that needs memory.
+    pub fn new(alloc: Global, n: u32) -> Result<Queue, AllocError>
+        ensures { IfOk result (λ queue. queue ≡ replicate n None) }
+    {
+        let n = n as usize;
+        let entries = vec![in alloc; Entry { time: 0, number: 0 }; n]?;
+        let places = vec![in alloc; 0; n]?;
+        let times = vec![in alloc; None; n]?;
+        Ok(Queue {
+            entries,
+            places,
+            times,
+            len: 0,
+        })
+    }
+
+    /// The time of a number; None where it has none, or isn't below the bound.
+    pub fn time_of(&self, number: u32) -> Option<u64>
+        ensures { result ≡ slice_index_or self.now number None }
+    {
+        let number = number as usize;
+        if number < self.times.len() {
+            self.times[number]
+        } else {
+            None
+        }
+    }
+
+    /// The least time with its number, and of equal times the one with the least number. None where
+    /// no number has a time.
+    pub fn first(&self) -> Option<(u64, u32)>
+        ensures least { result ≡ least (pairs_of self.now) }
+        ensures there { MatchOption result
+            ((number : ℕ) → slice_index_or self.now number None ≡ None)
+            (λ first. slice_index_or self.now first.1 None ≡ Some first.0) }
+        ensures within { IfSome result (λ first. first.1 < length self.now) }
+    {
+        if self.len == 0 {
+            return None;
+        }
+        let top = self.entries[0];
+        Some((top.time, top.number))
+    }
+
+    /// Gives a number this time, in place of one that it may have. All others stay as they are.
+    pub fn put(&mut self, number: u32, time: u64)
+        requires { number < length self.old }
+        ensures { self.new ≡ slice_set self.old number (Some time) }
+    {
+        let entry = Entry { time, number };
+        let before = self.times[number as usize];
+        self.times[number as usize] = Some(time);
+        match before {
+            None => {
+                let hole = self.len;
+                self.len += 1;
+                sift_up(
+                    &mut self.entries,
+                    &mut self.places,
+                    &self.times,
+                    self.len,
+                    hole,
+                    entry,
+                );
+            }
+            Some(_) => {
+                let hole = self.places[number as usize] as usize;
+                sift(
+                    &mut self.entries,
+                    &mut self.places,
+                    &self.times,
+                    self.len,
+                    hole,
+                    entry,
+                );
+            }
+        }
+    }
+
+    /// Takes the time of a number away, and tells whether it had one. All others stay as they are;
+    /// so does the queue where the number isn't below the bound.
+    pub fn remove(&mut self, number: u32) -> bool
+        ensures had { result ≡ is_some (slice_index_or self.old number None) }
+        ensures after { self.new ≡ slice_set self.old number None }
+    {
+        if self.time_of(number).is_none() {
+            return false;
+        }
+        let hole = self.places[number as usize] as usize;
+        self.times[number as usize] = None;
+        self.len -= 1;
+        if hole < self.len {
+            let last = self.entries[self.len];
+            sift(
+                &mut self.entries,
+                &mut self.places,
+                &self.times,
+                self.len,
+                hole,
+                last,
+            );
+        }
+        true
+    }
+}

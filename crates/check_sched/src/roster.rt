@@ -1,0 +1,155 @@
+//! The scheduling of all objects: who waits, in two queues, and how many services run.
+
+ghost use Rattle.std.specs.Prelude.{◌≡◌, ◌<◌, ◌≤◌, ◌&&◌, IfOk, Some, drop, length, nat_le, nat_lt, slice_get, slice_set, take};
+ghost use Rattle.check_queue.specs.Order.{least};
+ghost use Rattle.check_sched.specs.Candidate.{candidates_among};
+ghost use Rattle.check_sched.specs.Roster.{running_among, waiting_times};
+ghost use Rattle.check_sched.specs.Scheduling.{candidate_time};
+
+use crate::candidate::{Candidate, earlier};
+use crate::object_state::ObjectState;
+use check_queue::Queue;
+use check_spread::MAX_OBJECTS;
+use std::alloc::{AllocError, Global};
+use std::marker::Model;
+
+/// What is kept of each object between calls, with a queue of the hosts and one of the services that
+/// wait for a check, and the number of services that run. An object is written by [`Roster::set`]
+/// alone, so that its place in its queue is always what its state says. Contracts see how many hosts
+/// there are, and the state of each object by number.
+#[derive(Drop)]
+pub(crate) struct Roster {
+    hosts: usize,
+    objects: Vec<ObjectState>,
+    waiting_hosts: Queue,
+    waiting_services: Queue,
+    running_services: usize,
+}
+
+impl Model for Roster {
+    ghost use Rattle.check_sched.specs.Roster.{RosterState};
+
+    ghost Value = { RosterState };
+
+    ghost use Rattle.check_sched.specs.Roster.{roster_of, IsKept};
+
+    ghost view = { roster_of };
+
+    ghost invariant = { IsKept };
+}
+
+impl Roster {
+    /// The roster of these objects, the first of which are hosts; no service is being checked.
+    ///
+    /// An Err means out of memory. This is the one call that needs memory.
+    pub(crate) fn new(
+        alloc: Global,
+        hosts: usize,
+        objects: Vec<ObjectState>,
+    ) -> Result<Roster, AllocError>
+        requires few { length objects.items ≤ MAX_OBJECTS }
+        requires hosts { hosts ≤ length objects.items }
+        requires idle { running_among (drop hosts objects.items) ≡ 0 }
+        ensures { IfOk result (λ roster. roster ≡ record { hosts = hosts; objects = objects.items }) }
+    {
+        let waiting_hosts = waiting(alloc, &objects, 0, hosts)?;
+        let waiting_services = waiting(alloc, &objects, hosts, objects.len())?;
+        Ok(Roster {
+            hosts,
+            objects,
+            waiting_hosts,
+            waiting_services,
+            running_services: 0,
+        })
+    }
+
+    /// The state of the object with this number, if there is one.
+    pub(crate) fn get(&self, number: u32) -> Option<ObjectState>
+        ensures { result ≡ slice_get self.now.objects number }
+    {
+        match self.objects.get(number as usize) {
+            Some(object) => Some(*object),
+            None => None,
+        }
+    }
+
+    /// The state of the object with this number.
+    pub(crate) fn at(&self, number: u32) -> ObjectState
+        requires { number < length self.now.objects }
+        ensures { slice_get self.now.objects number ≡ Some result }
+    {
+        self.objects[number as usize]
+    }
+
+    /// Gives the object with this number a new state.
+    pub(crate) fn set(&mut self, number: u32, object: ObjectState)
+        requires { number < length self.old.objects }
+        ensures { self.new ≡ record { hosts = self.old.hosts; objects = slice_set self.old.objects number object } }
+    {
+        let index = number as usize;
+        let before = self.objects[index];
+        self.objects[index] = object;
+        if index < self.hosts {
+            place(&mut self.waiting_hosts, number, object);
+        } else {
+            place(&mut self.waiting_services, number, object);
+            self.running_services += usize::from(object.is_running());
+            self.running_services -= usize::from(before.is_running());
+        }
+    }
+
+    /// How many services are being checked.
+    pub(crate) fn running_services(&self) -> usize
+        ensures { result ≡ running_among (drop self.now.hosts self.now.objects) }
+    {
+        self.running_services
+    }
+
+    /// The object whose check comes first: the one with the least time, and of those with equal
+    /// times the one with the least number. None where no object waits for a check.
+    pub(crate) fn first(&self) -> Option<Candidate>
+        ensures { result ≡ least (candidates_among self.now.objects) }
+    {
+        earlier(self.waiting_hosts.first(), self.waiting_services.first())
+    }
+
+    /// The same among the hosts.
+    pub(crate) fn first_host(&self) -> Option<Candidate>
+        ensures { result ≡ least (candidates_among (take self.now.hosts self.now.objects)) }
+    {
+        self.waiting_hosts.first()
+    }
+}
+
+/// Gives an object the place in its queue that its state says: at the time for which it waits, or
+/// none.
+fn place(queue: &mut Queue, number: u32, object: ObjectState)
+    requires { number < length queue.old }
+    ensures { queue.new ≡ slice_set queue.old number (candidate_time object) }
+{
+    match object.candidate_time() {
+        Some(time) => queue.put(number, time),
+        None => {
+            queue.remove(number);
+        }
+    }
+}
+
+/// A queue of the objects that wait, of those with the numbers from `from` on and below `to`.
+fn waiting(
+    alloc: Global,
+    objects: &[ObjectState],
+    from: usize,
+    to: usize,
+) -> Result<Queue, AllocError>
+    requires few { length objects.now ≤ MAX_OBJECTS }
+    requires ascending { from ≤ to }
+    requires within { to ≤ length objects.now }
+    ensures { IfOk result (λ queue. queue ≡ waiting_times (λ number. nat_le from number && nat_lt number to) objects.now) }
+{
+    let mut queue = Queue::new(alloc, objects.len() as u32)?;
+    for number in from..to {
+        place(&mut queue, number as u32, objects[number]);
+    }
+    Ok(queue)
+}
