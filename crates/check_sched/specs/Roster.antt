@@ -3,7 +3,7 @@ use Rattle.std.specs.Prelude.{ℕ, ◌≡◌, ◌≤◌, Bool, not, List, length
 use Rattle.std.specs.List.{enumerate_from}
 use Rattle.check_sched.specs.Scheduling.{Scheduling, candidate_time}
 use Rattle.check_sched.specs.declared.roster.Roster.TheInside.{Inside}
-use Rattle.check_spread.specs.declared.limits.TheConstants.{MAX_OBJECTS}
+use Rattle.check_drafts.specs.declared.limits.TheConstants.{MAX_OBJECTS}
 
 pub record RosterState : Type 0 where
   -- how many of the objects are hosts: they have the first numbers

@@ -9,7 +9,7 @@ ghost use Rattle.check_sched.specs.Scheduling.{candidate_time};
 use crate::candidate::{Candidate, earlier};
 use crate::object_state::ObjectState;
 use check_queue::Queue;
-use check_spread::MAX_OBJECTS;
+use check_objects::MAX_OBJECTS;
 use std::alloc::{AllocError, Global};
 use std::marker::Model;
 
