@@ -50,8 +50,8 @@ enum Answer {
 
 /// The answer to a take by a scan.
 fn scanned_answer(scheduler: &Sched, now: u64) -> Answer {
-    let hosts = scheduler.setup().hosts() as u32;
     let count = scheduler.setup().len() as u32;
+    let hosts = (scheduler.setup().hosts() as u64).min(u64::from(count)) as u32;
     let limit = scheduler.setup().options().max_concurrent_checks;
     let room = limit == 0 || services_that_run(scheduler, hosts, count) < limit;
     let first = scanned(scheduler, if room { count } else { hosts });

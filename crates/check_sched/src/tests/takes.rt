@@ -7,6 +7,7 @@ use super::{
 use crate::{Call, Refusal, Reply, Sched};
 use check_objects::Setup;
 use check_rules::pending;
+use std::process::Abort;
 use std::test::Fail;
 
 #[test]
@@ -47,6 +48,18 @@ fn takes_equal_times_by_number(rt: HostRuntime) -> Result<(), Fail> {
     Ok(())
 }
 
+/// Compares what a scheduler tells of a host that was never checked.
+fn tells(rt: &impl Abort, scheduler: &Sched, number: u32, next: Option<u64>, run: Option<u64>) {
+    assert!(rt; (number as usize) < scheduler.setup().len());
+    assert_eq!(rt;
+        scheduler.next_of(number),
+        next,
+        "the next time of {number}"
+    );
+    assert_eq!(rt; scheduler.running(number), run, "the run of {number}");
+    assert_eq!(rt; scheduler.standing(number), pending(true), "{number}");
+}
+
 #[test]
 fn tells_what_it_holds(rt: HostRuntime) -> Result<(), Fail> {
     let mut scheduler = opened(rt.alloc(), FOUR_HOSTS, 1000)?;
@@ -60,13 +73,7 @@ fn tells_what_it_holds(rt: HostRuntime) -> Result<(), Fail> {
         (2, None, None),
         (3, Some(1000), None),
     ] {
-        assert_eq!(rt;
-            scheduler.next_of(number),
-            next,
-            "the next time of {number}"
-        );
-        assert_eq!(rt; scheduler.running(number), run, "the run of {number}");
-        assert_eq!(rt; scheduler.standing(number), pending(true), "{number}");
+        tells(&rt, &scheduler, number, next, run);
     }
     Ok(())
 }
