@@ -240,7 +240,6 @@ impl Desk {
     ///
     /// The book's history is what the pass has seen: each caller's calls stand there once, in its
     /// order, and nothing else does.
-    #[tactic(auto, using(crate::proofs::PassLemmas::all_below))]
     pub fn close(self, pass: Pass) -> Result<Book, (Desk, Pass)>
         requires { IsPassOf self pass }
         ensures missing { IsErr result ↔ (length (pass_of pass).numbers < passes_of self) }

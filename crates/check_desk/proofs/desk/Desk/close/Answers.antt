@@ -1,0 +1,8 @@
+use Rattle.check_sched.specs.Books.{entries_of}
+use Rattle.check_desk.specs.Desks.{passes_of}
+use Rattle.check_desk.proofs.PassLemmas.{all_below}
+use Rattle.check_desk.proofs.desk.Desk.close.Goals as goal
+
+pub returns-in-Ok-clause-made : goal.returns-in-Ok-clause-made
+returns-in-Ok-clause-made c =
+    all_below (passes_of c.args.self) (entries_of c.in-Ok.book) c.in-Ok.ensures.numbers
