@@ -8,8 +8,8 @@ ghost use Rattle.check_sched.specs.Scheduling.{candidate_time};
 
 use crate::candidate::{Candidate, earlier};
 use crate::object_state::ObjectState;
-use check_queue::Queue;
 use check_objects::MAX_OBJECTS;
+use check_queue::Queue;
 use std::alloc::{AllocError, Global};
 use std::marker::Model;
 
