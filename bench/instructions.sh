@@ -1,0 +1,70 @@
+#!/usr/bin/env bash
+# Counts instructions by valgrind's callgrind, and prints one table. Run by hand; no part of the gate.
+#   bench/instructions.sh
+# A figure is the difference of two lengths of the same workload, by their cycles, so that reading the
+# setup cancels. Instructions are steady on any machine, as times aren't. The rows:
+#   queue    the first of n entries is taken out and put back 5 minutes later
+#   calls    a check of one of n objects is taken and reported, by the scheduler alone
+#   run      the same by the whole program: two lines read, two written
+set -eu
+crates=$(cd "$(dirname "$0")/../crates" && pwd)
+work=$(mktemp -d)
+trap 'rm -rf "$work"' EXIT
+
+# Proves and builds the programs where they aren't yet.
+for crate in nagsched nagsched_bench; do
+    input=/dev/null
+    [[ -f $crates/$crate/stdin ]] && input=$crates/$crate/stdin
+    words=()
+    [[ -f $crates/$crate/args ]] && mapfile -t words < "$crates/$crate/args"
+    (cd "$crates/$crate" && rt run -- "${words[@]}" < "$input" > "$work/build.log" 2>&1) || { cat "$work/build.log"; exit 1; }
+done
+
+# The instructions of a program, from its words and standard input.
+instructions() {
+    valgrind --tool=callgrind --callgrind-out-file=/dev/null "$@" 2>&1 > "$work/output" \
+        | sed -n 's/.*Collected : //p'
+}
+
+# A cycle's instructions: of WORKLOAD at n numbers.
+by_workload() {
+    local few many
+    few=$(instructions "$crates/nagsched_bench/out/nagsched_bench" "$1" "$2" 20000)
+    many=$(instructions "$crates/nagsched_bench/out/nagsched_bench" "$1" "$2" 60000)
+    echo $(((many - few) / 40000))
+}
+
+# A setup of so many hosts, and so many takes with their reports.
+input() {
+    awk -v hosts="$1" -v runs="$2" 'BEGIN {
+        setup = "{\"options\":{\"host_inter_check_delay_method\":\"n\"},\"hosts\":["
+        for (h = 0; h < hosts; h++)
+            setup = setup (h ? "," : "") sprintf("{\"name\":\"host%04d\",\"max_check_attempts\":3}", h)
+        print setup "]}"
+        for (run = 0; run < runs; run++) {
+            printf "[\"take\",%.0f]\n", int(run / hosts) * 300000
+            printf "[\"report\",\"host%04d\",%d,0]\n", run % hosts, run + 1
+        }
+    }'
+}
+
+# A cycle's instructions of the whole program at n objects.
+by_run() {
+    local few many
+    input "$1" 20000 > "$work/few"
+    input "$1" 60000 > "$work/many"
+    few=$(instructions "$crates/nagsched/out/nagsched" < "$work/few")
+    many=$(instructions "$crates/nagsched/out/nagsched" < "$work/many")
+    echo $(((many - few) / 40000))
+}
+
+printf '%8s %8s %14s\n' '' numbers instructions
+for numbers in 64 1000 4096; do
+    printf '%8s %8d %14d\n' queue "$numbers" "$(by_workload steady "$numbers")"
+done
+for numbers in 64 512 4096; do
+    printf '%8s %8d %14d\n' calls "$numbers" "$(by_workload cycle "$numbers")"
+done
+for numbers in 64 512 4096; do
+    printf '%8s %8d %14d\n' run "$numbers" "$(by_run "$numbers")"
+done
