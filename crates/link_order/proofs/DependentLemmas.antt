@@ -6,7 +6,8 @@ use Rattle.std.specs.List.{list_all}
 use Rattle.std.proofs.Math.ListN.{set}
 use Rattle.std.proofs.lemmas.Bool.{eq-eqb, ne_eqb, cases_eq, cases_lt}
 use Rattle.std.proofs.lemmas.Bool.Decides.{nat_tests}
-use Rattle.std.proofs.lemmas.List.{take_more, length-map, get_or-set_same, get_or-set_other, length-set, get_or-replicate, length-replicate, get_or_past, length-take}
+use Rattle.std.proofs.lemmas.List.{take_more, length-map, get_or-set_same, get_or-set_other, length-set, get_or-replicate, length-replicate}
+use Rattle.std.proofs.lemmas.List.{get_or_past, length-take}
 use Rattle.std.proofs.lemmas.List.{get_or_append_left, get_or-take, take_all, get_or-map, map-set}
 use Rattle.std.proofs.lemmas.List.Folds.{list_all-append}
 use Rattle.link_order.specs.Cycles.{links_of, are_within}

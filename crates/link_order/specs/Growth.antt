@@ -1,6 +1,6 @@
 -- How an order of linked objects grows: an object whose last link is to a placed object is placed too. A link is open
 -- as long as the object that it goes to isn't placed and read.
-use Rattle.std.specs.Prelude.{◌≡◌, ℕ, ◌+◌, ◌<◌, ◌==◌, Bool, true, List, [], ◌∷◌, ◌++◌, length, take, nat_lt, if◌then◌else◌}
+use Rattle.std.specs.Prelude.{◌≡◌, ℕ, ◌+◌, ◌<◌, ◌==◌, true, List, [], ◌∷◌, ◌++◌, length, take, nat_lt, if◌then◌else◌}
 use Rattle.std.specs.List.{list_all, slice_index_or}
 use Rattle.link_order.specs.Cycles.{links_of, are_within}
 use Rattle.link_order.specs.Orders.{is_among, times, follows}
