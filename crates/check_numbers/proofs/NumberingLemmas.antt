@@ -1,5 +1,5 @@
 -- Objects put in the order of their names.
-use Rattle.std.proofs.Common.{◌≡◌, ℕ, ◌+◌, ◌≤◌, ◌==◌, ◌&&◌, ◌||◌, not, Bool, true, false, cond, List, [], ◌∷◌, ◌++◌, map, drop, Bor, String, Global}
+use Rattle.std.proofs.Common.{◌≡◌, ℕ, ◌+◌, ◌==◌, ◌&&◌, ◌||◌, not, Bool, true, false, List, [], ◌∷◌, ◌++◌, map, drop, Bor, String, Global}
 use Rattle.std.proofs.Common.{string_bytes, bytes_eq, refl, sym, ap, subst, ◌∙◌, append_assoc, append-nil, Ordering, Less, Equal, Greater, nat_cmp, is_eq}
 use Rattle.std.proofs.Common.{arith}
 use Rattle.std.proofs.lemmas.Bool.Decides.{nat_tests}
@@ -51,10 +51,6 @@ module _ {K L X Y : Type 0} (order : K → K → Ordering) (order' : L → L →
       ∙ ap (λ x. insert_entry order' (map view old) (key (one d)) x) same_value in
       ap (λ l. placed order' key value (map view old) (drafts l)) e ∙ ap (λ l. placed order' key value (map view old) l) (step d (drop (i + 1) ds))
       ∙ ap (λ m. placed order' key value m (drafts (drop (i + 1) ds))) (sym m)
-
-pub one_more : (b : Bool) (n m k : ℕ) → n ≡ m + cond b 0 1 → m ≤ k → n ≤ k + 1
-one_more true n m k e h = omega arith
-one_more false n m k e h = omega arith
 
 -- ---- lists that a loop makes of a map's entries, one after another
 

@@ -1,7 +1,6 @@
 //! The numbers of objects: hosts in the order of their names' bytes, then services in the order of
 //! their hosts' names and then of their descriptions; and the links between them by number.
 ghost use Rattle.std.specs.Prelude.{◌≡◌, ◌≤◌, ◌<◌, length, map, bytes_eq, IfOk, OnOk, IsOkUnless, All, None, true, false, [], ◌∷◌, ◌++◌, string_bytes};
-ghost use Rattle.std.specs.BTreeMap.{btree_map_len};
 ghost use Rattle.std.specs.List.{list_all, list_any};
 ghost use Rattle.check_numbers.specs.Numbering.{numbered, hosts_in_order, services_in_order, number_in, numbered_host, numbered_service, object_of};
 ghost use Rattle.check_drafts.specs.Name.{is_host_name, full_name};
@@ -80,7 +79,6 @@ fn sort_hosts<'v>(
     requires distinct { first_repeat bytes_eq (names_of (map host drafts.now)) ≡ None }
     ensures order { IfOk result (λ m.
         map sorted_host m.entries ≡ hosts_in_order (map host drafts.now)) }
-    ensures few { IfOk result (λ m. btree_map_len m ≤ length drafts.now) }
     ensures memory { IsOkUnless result LoadError.Memory }
 {
     let mut sorted = BTreeMap::new(alloc);
@@ -100,7 +98,6 @@ fn sort_services<'v>(
     requires distinct { first_repeat same_key (map key_of (map service drafts.now)) ≡ None }
     ensures order { IfOk result (λ m.
         map sorted_service m.entries ≡ services_in_order (map service drafts.now)) }
-    ensures few { IfOk result (λ m. btree_map_len m ≤ length drafts.now) }
     ensures memory { IsOkUnless result LoadError.Memory }
 {
     let mut sorted = BTreeMap::new(alloc);

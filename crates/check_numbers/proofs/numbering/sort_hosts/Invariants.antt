@@ -1,5 +1,4 @@
-use Rattle.std.proofs.Common.{◌≡◌, ◌≤◌, [], map, drop}
-use Rattle.std.specs.BTreeMap.{btree_map_len}
+use Rattle.std.proofs.Common.{◌≡◌, [], map, drop}
 use Rattle.check_numbers.specs.Numbering.{body_of}
 use Rattle.check_drafts.specs.Name.{text_order}
 use Rattle.check_drafts.specs.Drafted.{host}
@@ -8,8 +7,6 @@ use Rattle.check_numbers.proofs.numbering.sort_hosts.Given as goal
 use Rattle.check_numbers.proofs.Placed.{placed}
 
 abbrev pub invariant-loop-draft : goal.invariant-loop-draft
-invariant-loop-draft l = record {
-  order : placed text_order (λ h. h.name) body_of [] (map host l.drafts)
-      ≡ placed text_order (λ h. h.name) body_of (map sorted_host l.sorted.entries) (map host (drop l.draft-index l.drafts));
-  few : btree_map_len l.sorted ≤ l.draft-index;
-}
+invariant-loop-draft l =
+    placed text_order (λ h. h.name) body_of [] (map host l.drafts)
+    ≡ placed text_order (λ h. h.name) body_of (map sorted_host l.sorted.entries) (map host (drop l.draft-index l.drafts))

@@ -1,4 +1,4 @@
-use Rattle.std.proofs.Common.{◌∙◌, map, is_some, get_or, refl, sym, ap, arith}
+use Rattle.std.proofs.Common.{◌∙◌, map, get_or, refl, sym, ap, arith}
 use Rattle.std.proofs.lemmas.List.{drop_all}
 use Rattle.check_drafts.specs.Drafted.{service}
 use Rattle.check_drafts.specs.Keys.{key_of}
@@ -6,7 +6,7 @@ use Rattle.check_numbers.specs.Numbering.{object_of}
 use Rattle.check_drafts.specs.Name.{pair_order}
 use Rattle.check_drafts.proofs.ListLemmas.{dropped_at}
 use Rattle.check_drafts.proofs.PastEnds.{no_service}
-use Rattle.check_numbers.proofs.NumberingLemmas.{placed_next, one_more}
+use Rattle.check_numbers.proofs.NumberingLemmas.{placed_next}
 use Rattle.check_numbers.specs.Entries.{sorted_service}
 use Rattle.check_numbers.proofs.NumberLaws.{services_placed}
 use Rattle.check_numbers.proofs.Placed.{placed}
@@ -17,18 +17,15 @@ loop-draft-preserved c =
     let ds = c.args.drafts.now in
     let i = c.loop-draft.draft-index in
     let draft = get_or ds i no_service in
-    record {
-      order = c.loop-draft.invariant.order
-          ∙ placed_next _ pair_order (λ k. (k.0.now, k.1.now)) (λ v. v) (λ a b. refl) key_of (λ s. object_of s.check) (map service) service
-          (λ d more. refl) c.loop-draft.sorted.entries c.insert.new.self.entries (draft.host, draft.description) c.object.result ds i draft
-          (dropped_at ds i no_service c.loop-draft-test.true) c.in_ok-insert.ensures.entries refl c.object.ensures;
-      few = one_more (is_some c.in_ok-insert.field-0) _ _ _ c.in_ok-insert.ensures.len c.loop-draft.invariant.few;
-    }
+    c.loop-draft.invariant
+    ∙ placed_next _ pair_order (λ k. (k.0.now, k.1.now)) (λ v. v) (λ a b. refl) key_of (λ s. object_of s.check) (map service) service
+    (λ d more. refl) c.loop-draft.sorted.entries c.insert.new.self.entries (draft.host, draft.description) c.object.result ds i draft
+    (dropped_at ds i no_service c.loop-draft-test.true) c.in_ok-insert.ensures.entries refl c.object.ensures
 
 pub returns-clause-order : goal.returns-clause-order
 returns-clause-order c =
     let ds = c.args.drafts.now in
     let i = c.loop-draft.draft-index in
-    sym (c.loop-draft.invariant.order ∙ ap (λ l. placed pair_order key_of (λ s. object_of s.check) (map sorted_service c.loop-draft.sorted.entries)
+    sym (c.loop-draft.invariant ∙ ap (λ l. placed pair_order key_of (λ s. object_of s.check) (map sorted_service c.loop-draft.sorted.entries)
     (map service l)) (drop_all i ds (omega arith)))
     ∙ services_placed (map service ds) c.requires.distinct

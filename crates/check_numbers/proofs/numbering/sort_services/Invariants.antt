@@ -1,5 +1,4 @@
-use Rattle.std.proofs.Common.{◌≡◌, ◌≤◌, [], map, drop}
-use Rattle.std.specs.BTreeMap.{btree_map_len}
+use Rattle.std.proofs.Common.{◌≡◌, [], map, drop}
 use Rattle.check_drafts.specs.Keys.{key_of}
 use Rattle.check_numbers.specs.Numbering.{object_of}
 use Rattle.check_drafts.specs.Name.{pair_order}
@@ -9,8 +8,6 @@ use Rattle.check_numbers.proofs.numbering.sort_services.Given as goal
 use Rattle.check_numbers.proofs.Placed.{placed}
 
 abbrev pub invariant-loop-draft : goal.invariant-loop-draft
-invariant-loop-draft l = record {
-  order : placed pair_order key_of (λ s. object_of s.check) [] (map service l.drafts)
-      ≡ placed pair_order key_of (λ s. object_of s.check) (map sorted_service l.sorted.entries) (map service (drop l.draft-index l.drafts));
-  few : btree_map_len l.sorted ≤ l.draft-index;
-}
+invariant-loop-draft l =
+    placed pair_order key_of (λ s. object_of s.check) [] (map service l.drafts)
+    ≡ placed pair_order key_of (λ s. object_of s.check) (map sorted_service l.sorted.entries) (map service (drop l.draft-index l.drafts))
