@@ -9,7 +9,8 @@ use Rattle.check_drafts.specs.declared.place.Part.TheVariants as part
 use Rattle.check_drafts.specs.declared.error.LoadError.{LoadError}
 use Rattle.check_drafts.specs.declared.error.LoadError.TheVariants as errors
 use Rattle.check_drafts.specs.Draft.{Drafts, DependencyDraft}
-use Rattle.check_drafts.specs.LoadError.{◌>>=◌, refused_at}
+use Rattle.check_drafts.specs.Agreement.{◌>>=◌}
+use Rattle.check_drafts.specs.LoadError.{refused_at}
 use Rattle.check_drafts.specs.Name.{is_name}
 use Rattle.check_drafts.specs.Place.{host_at, service_at, item_of_part}
 use Rattle.check_documents.specs.Verification.{is_faultless, few_items, few_dependencies, full_names, known_ends, known_links, is_known, few_objects}

@@ -10,7 +10,7 @@ use Rattle.check_drafts.specs.declared.error.LoadError.{LoadError}
 use Rattle.check_drafts.specs.declared.error.LoadError.TheVariants as errors
 use Rattle.check_drafts.specs.declared.place.Place.{Place}
 use Rattle.check_documents.specs.Reading.{items_from}
-use Rattle.check_drafts.specs.LoadError.{◌>>=◌, with_front}
+use Rattle.check_drafts.specs.Agreement.{◌>>=◌, with_front}
 
 module _ {A : Type 0} (shape : Data → Option A) (place : ℕ → Place) where
   with_front-more : (front : List A) (x : A) (rest : Result (List A) LoadError)

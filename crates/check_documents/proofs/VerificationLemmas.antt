@@ -6,7 +6,6 @@ use Rattle.std.specs.List.{list_any, position}
 use Rattle.std.proofs.lemmas.Grind.{common_steps}
 use Rattle.std.proofs.lemmas.List.{length-map, map-append, drop_all}
 use Rattle.std.proofs.lemmas.List.Sums.{sum_by-cons}
-use Rattle.check_drafts.specs.declared.draft.DependencyDraft.{DependencyDraft}
 use Rattle.check_drafts.specs.declared.draft.HostDraft.{HostDraft}
 use Rattle.check_drafts.specs.declared.error.LoadError.{LoadError}
 use Rattle.check_drafts.specs.LoadError.{refused_at}

@@ -16,7 +16,7 @@ use Rattle.check_drafts.specs.declared.place.Part.{Part}
 use Rattle.check_drafts.specs.declared.place.Part.TheVariants as part
 use Rattle.check_documents.specs.Criteria.{criteria_of}
 use Rattle.check_drafts.specs.Draft.{HostDraft, ServiceDraft, DependencyDraft, Drafts}
-use Rattle.check_drafts.specs.LoadError.{◌>>=◌}
+use Rattle.check_drafts.specs.Agreement.{◌>>=◌}
 use Rattle.check_drafts.specs.Place.{the_document, the_options, the_hosts, host_at, the_services, service_at, list_of_part, item_of_part}
 use Rattle.check_documents.specs.Tree.{has_only, whole_number, member_of, member_or, texts_in, ◌>=>◌}
 

@@ -10,7 +10,8 @@ use Rattle.check_drafts.specs.declared.options.DelayMethod.TheVariants as method
 use Rattle.check_drafts.specs.declared.options.InterleaveFactor.{InterleaveFactor}
 use Rattle.check_drafts.specs.declared.options.InterleaveFactor.TheVariants as factor
 use Rattle.check_drafts.specs.declared.options.Options.{Options}
-use Rattle.check_drafts.specs.LoadError.{◌>>=◌, refused_at}
+use Rattle.check_drafts.specs.Agreement.{◌>>=◌}
+use Rattle.check_drafts.specs.LoadError.{refused_at}
 use Rattle.check_drafts.specs.declared.place.Part.{Part}
 use Rattle.check_drafts.specs.declared.place.Part.TheVariants as part
 use Rattle.check_drafts.specs.Keys.{first_repeat, names_of, key_of, same_key}

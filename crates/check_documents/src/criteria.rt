@@ -1,7 +1,6 @@
 //! The criteria of a dependency, by the letters of their text.
-ghost use Rattle.std.specs.Prelude.{◌≡◌, map, bytes_eq, codes};
-ghost use Rattle.std.specs.List.{list_all, list_any};
-ghost use Rattle.check_documents.specs.Criteria.{pieces, are_letters, has_letter, criteria_of};
+ghost use Rattle.std.specs.Prelude.{◌≡◌, map};
+ghost use Rattle.check_documents.specs.Criteria.{are_letters, has_letter, criteria_of};
 
 use crate::tree::is_known;
 use check_drafts::Criteria;

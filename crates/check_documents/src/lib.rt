@@ -6,6 +6,7 @@
 #![tactic(auto)]
 
 mod criteria;
+mod lists;
 mod reading;
 mod tree;
 mod verification;

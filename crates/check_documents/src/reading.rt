@@ -1,13 +1,14 @@
 //! Reading drafts from a document's tree. Here every fault of shape is found, and no other.
-ghost use Rattle.std.specs.Prelude.{◌≡◌, map, option_map};
-ghost use Rattle.serde_json.specs.View.{view, items_view};
+ghost use Rattle.std.specs.Prelude.{◌≡◌, option_map};
+ghost use Rattle.serde_json.specs.View.{view};
 ghost use Rattle.check_drafts.specs.LoadError.{Gives};
-ghost use Rattle.check_drafts.specs.Place.{the_hosts, host_at, the_services, service_at, list_of_part, item_of_part};
-ghost use Rattle.check_documents.specs.Reading.{host_draft, service_draft, check_draft, dependency_draft, drafts_of, items_from, list_of, delay_method, interleave_factor, options_of, has_option_members};
-ghost use Rattle.check_documents.specs.Tree.{member_or};
+ghost use Rattle.check_drafts.specs.Draft as spec;
 ghost use Rattle.check_drafts.specs.Drafted.{host, service, dependency, drafts_view};
+ghost use Rattle.check_documents.specs.Reading.{host_draft, service_draft, check_draft, dependency_draft, drafts_of, delay_method, interleave_factor, options_of, has_option_members};
+ghost use Rattle.check_documents.specs.Tree.{member_or};
 
 use crate::criteria::{HOST_LETTERS, SERVICE_LETTERS, read_criteria};
+use crate::lists::{Item, read_list};
 use crate::tree::{bool_or, has_only, member, number_or, texts_in};
 use check_drafts::{
     CheckDraft, DelayMethod, DependencyDraft, Drafts, HostDraft, InterleaveFactor, LoadError,
@@ -16,34 +17,70 @@ use check_drafts::{
 use serde_json::Value;
 use std::alloc::Global;
 
+/// The members that a document may have.
+const DOCUMENT_MEMBERS: [&str; 5] = [
+    "options",
+    "hosts",
+    "services",
+    "service_dependencies",
+    "host_dependencies",
+];
+
+/// The members that the options may have.
+const OPTION_MEMBERS: [&str; 9] = [
+    "interval_length",
+    "service_inter_check_delay_method",
+    "max_service_check_spread",
+    "service_interleave_factor",
+    "host_inter_check_delay_method",
+    "max_host_check_spread",
+    "max_concurrent_checks",
+    "soft_state_dependencies",
+    "use_aggressive_host_checking",
+];
+
+/// The members that a host may have.
+const HOST_MEMBERS: [&str; 6] = [
+    "name",
+    "parents",
+    "check_interval",
+    "retry_interval",
+    "max_check_attempts",
+    "enabled",
+];
+
+/// The members that a service may have.
+const SERVICE_MEMBERS: [&str; 6] = [
+    "host",
+    "description",
+    "check_interval",
+    "retry_interval",
+    "max_check_attempts",
+    "enabled",
+];
+
+/// The members that a dependency may have.
+const DEPENDENCY_MEMBERS: [&str; 4] = ["dependent", "master", "criteria", "inherits_parent"];
+
 /// The drafts of a document's tree, or its first fault of shape, in the order of the document's
 /// members in [`Part`]. `Memory` may come in place of either.
 #[tactic(auto, unfolding(crate::specs::Reading::drafts_of))]
 pub fn read_drafts<'v>(alloc: Global, tree: &'v Value) -> Result<Drafts<'v>, LoadError>
     ensures { Gives drafts_view result (drafts_of (view tree.now)) }
 {
-    if !has_only(
-        tree,
-        &[
-            "options",
-            "hosts",
-            "services",
-            "service_dependencies",
-            "host_dependencies",
-        ],
-    ) {
+    if !has_only(tree, &DOCUMENT_MEMBERS) {
         return Err(LoadError::Shape(Place::DOCUMENT));
     }
     let options = read_options(tree.get("options")).ok_or(LoadError::Shape(Place::OPTIONS))?;
-    let hosts = read_hosts(alloc, tree.get("hosts"))?;
-    let services = read_services(alloc, tree.get("services"))?;
-    let service_dependencies = read_dependencies(
+    let hosts = read_list(alloc, tree.get("hosts"), Part::Hosts, &[])?;
+    let services = read_list(alloc, tree.get("services"), Part::Services, &[])?;
+    let service_dependencies = read_list(
         alloc,
         tree.get("service_dependencies"),
         Part::ServiceDependencies,
         &SERVICE_LETTERS,
     )?;
-    let host_dependencies = read_dependencies(
+    let host_dependencies = read_list(
         alloc,
         tree.get("host_dependencies"),
         Part::HostDependencies,
@@ -86,20 +123,7 @@ fn has_option_members(value: Option<&Value>) -> bool
     ensures { result ≡ has_option_members (option_map (λ v. view v.now) value.entry) }
 {
     match value {
-        Some(value) => has_only(
-            value,
-            &[
-                "interval_length",
-                "service_inter_check_delay_method",
-                "max_service_check_spread",
-                "service_interleave_factor",
-                "host_inter_check_delay_method",
-                "max_host_check_spread",
-                "max_concurrent_checks",
-                "soft_state_dependencies",
-                "use_aggressive_host_checking",
-            ],
-        ),
+        Some(value) => has_only(value, &OPTION_MEMBERS),
         None => true,
     }
 }
@@ -146,168 +170,66 @@ fn interleave_factor(value: &Value) -> Option<InterleaveFactor>
     }
 }
 
-fn read_hosts<'v>(alloc: Global, value: Option<&'v Value>) -> Result<Vec<HostDraft<'v>>, LoadError>
-    ensures { Gives (λ v. map host v.items) result
-        (list_of host_draft the_hosts host_at (option_map (λ v. view v.now) value.entry)) }
-{
-    match value {
-        Some(value) => {
-            let items = value.as_array().ok_or(LoadError::Shape(Place::HOSTS))?;
-            read_host_list(alloc, items)
+impl<'v> Item<'v> for HostDraft<'v> {
+    ghost Seen = { spec.HostDraft };
+
+    ghost seen = { host };
+
+    ghost shape = { λ letters. host_draft };
+
+    #[tactic(auto, unfolding(crate::specs::Reading::host_draft))]
+    fn read(value: &'v Value, _letters: &[&str]) -> Option<HostDraft<'v>> {
+        if !has_only(value, &HOST_MEMBERS) {
+            return None;
         }
-        None => Ok(Vec::new(alloc)),
+        Some(HostDraft {
+            name: value.get("name").and_then(Value::as_str)?,
+            parents: texts_in(value.get("parents"))?,
+            check: read_check(value)?,
+        })
     }
 }
 
-fn read_host_list<'v>(alloc: Global, items: &'v [Value]) -> Result<Vec<HostDraft<'v>>, LoadError>
-    ensures { Gives (λ v. map host v.items) result
-        (items_from host_draft host_at 0 (items_view items.now)) }
-{
-    let mut hosts = Vec::new(alloc);
-    for (index, item) in items.iter().enumerate() {
-        let draft = read_host(item).ok_or(LoadError::Shape(Place::host(index)))?;
-        hosts.push(draft)?;
-    }
-    Ok(hosts)
-}
+impl<'v> Item<'v> for ServiceDraft<'v> {
+    ghost Seen = { spec.ServiceDraft };
 
-fn read_services<'v>(
-    alloc: Global,
-    value: Option<&'v Value>,
-) -> Result<Vec<ServiceDraft<'v>>, LoadError>
-    ensures { Gives (λ v. map service v.items) result
-        (list_of service_draft the_services service_at (option_map (λ v. view v.now) value.entry)) }
-{
-    match value {
-        Some(value) => {
-            let items = value.as_array().ok_or(LoadError::Shape(Place::SERVICES))?;
-            read_service_list(alloc, items)
+    ghost seen = { service };
+
+    ghost shape = { λ letters. service_draft };
+
+    #[tactic(auto, unfolding(crate::specs::Reading::service_draft))]
+    fn read(value: &'v Value, _letters: &[&str]) -> Option<ServiceDraft<'v>> {
+        if !has_only(value, &SERVICE_MEMBERS) {
+            return None;
         }
-        None => Ok(Vec::new(alloc)),
+        Some(ServiceDraft {
+            host: value.get("host").and_then(Value::as_str)?,
+            description: value.get("description").and_then(Value::as_str)?,
+            check: read_check(value)?,
+        })
     }
 }
 
-fn read_service_list<'v>(
-    alloc: Global,
-    items: &'v [Value],
-) -> Result<Vec<ServiceDraft<'v>>, LoadError>
-    ensures { Gives (λ v. map service v.items) result
-        (items_from service_draft service_at 0 (items_view items.now)) }
-{
-    let mut services = Vec::new(alloc);
-    for (index, item) in items.iter().enumerate() {
-        let draft = read_service(item).ok_or(LoadError::Shape(Place::service(index)))?;
-        services.push(draft)?;
-    }
-    Ok(services)
-}
+impl<'v> Item<'v> for DependencyDraft<'v> {
+    ghost Seen = { spec.DependencyDraft };
 
-/// The dependencies of one sort, with the letters that their criteria may have.
-fn read_dependencies<'v>(
-    alloc: Global,
-    value: Option<&'v Value>,
-    part: Part,
-    letters: &[&str],
-) -> Result<Vec<DependencyDraft<'v>>, LoadError>
-    ensures { Gives (λ v. map dependency v.items) result
-        (list_of (dependency_draft (map (λ letter. letter.now) letters.now)) (list_of_part part)
-        (item_of_part part) (option_map (λ v. view v.now) value.entry)) }
-{
-    match value {
-        Some(value) => {
-            let items = value.as_array().ok_or(LoadError::Shape(Place::list(part)))?;
-            read_dependency_list(alloc, items, part, letters)
+    ghost seen = { dependency };
+
+    ghost shape = { dependency_draft };
+
+    #[tactic(auto, unfolding(crate::specs::Reading::dependency_draft))]
+    fn read(value: &'v Value, letters: &[&str]) -> Option<DependencyDraft<'v>> {
+        if !has_only(value, &DEPENDENCY_MEMBERS) {
+            return None;
         }
-        None => Ok(Vec::new(alloc)),
+        let criteria = value.get("criteria").and_then(Value::as_str);
+        Some(DependencyDraft {
+            dependent: value.get("dependent").and_then(Value::as_str)?,
+            master: value.get("master").and_then(Value::as_str)?,
+            criteria: read_criteria(criteria?, letters)?,
+            inherits: bool_or(value.get("inherits_parent"), false)?,
+        })
     }
-}
-
-fn read_dependency_list<'v>(
-    alloc: Global,
-    items: &'v [Value],
-    part: Part,
-    letters: &[&str],
-) -> Result<Vec<DependencyDraft<'v>>, LoadError>
-    ensures { Gives (λ v. map dependency v.items) result
-        (items_from (dependency_draft (map (λ letter. letter.now) letters.now)) (item_of_part part) 0
-        (items_view items.now)) }
-{
-    let mut dependencies = Vec::new(alloc);
-    for (index, item) in items.iter().enumerate() {
-        let draft = read_dependency(item, letters).ok_or(LoadError::Shape(Place::item(
-            part, index,
-        )))?;
-        dependencies.push(draft)?;
-    }
-    Ok(dependencies)
-}
-
-#[tactic(auto, unfolding(crate::specs::Reading::host_draft))]
-fn read_host(value: &Value) -> Option<HostDraft<'_>>
-    ensures { option_map host result ≡ host_draft (view value.now) }
-{
-    if !has_only(
-        value,
-        &[
-            "name",
-            "parents",
-            "check_interval",
-            "retry_interval",
-            "max_check_attempts",
-            "enabled",
-        ],
-    ) {
-        return None;
-    }
-    Some(HostDraft {
-        name: value.get("name").and_then(Value::as_str)?,
-        parents: texts_in(value.get("parents"))?,
-        check: read_check(value)?,
-    })
-}
-
-#[tactic(auto, unfolding(crate::specs::Reading::service_draft))]
-fn read_service(value: &Value) -> Option<ServiceDraft<'_>>
-    ensures { option_map service result ≡ service_draft (view value.now) }
-{
-    if !has_only(
-        value,
-        &[
-            "host",
-            "description",
-            "check_interval",
-            "retry_interval",
-            "max_check_attempts",
-            "enabled",
-        ],
-    ) {
-        return None;
-    }
-    Some(ServiceDraft {
-        host: value.get("host").and_then(Value::as_str)?,
-        description: value.get("description").and_then(Value::as_str)?,
-        check: read_check(value)?,
-    })
-}
-
-#[tactic(auto, unfolding(crate::specs::Reading::dependency_draft))]
-fn read_dependency<'v>(value: &'v Value, letters: &[&str]) -> Option<DependencyDraft<'v>>
-    ensures { option_map dependency result
-        ≡ dependency_draft (map (λ letter. letter.now) letters.now) (view value.now) }
-{
-    if !has_only(
-        value,
-        &["dependent", "master", "criteria", "inherits_parent"],
-    ) {
-        return None;
-    }
-    let criteria = value.get("criteria").and_then(Value::as_str);
-    Some(DependencyDraft {
-        dependent: value.get("dependent").and_then(Value::as_str)?,
-        master: value.get("master").and_then(Value::as_str)?,
-        criteria: read_criteria(criteria?, letters)?,
-        inherits: bool_or(value.get("inherits_parent"), false)?,
-    })
 }
 
 /// The members that say how an object is checked.

@@ -1,4 +1,5 @@
 pub mod Place
+pub mod Agreement
 pub mod LoadError
 pub mod Name
 pub mod Text

@@ -1,4 +1,7 @@
 //! Why a setup document is refused.
+ghost use Rattle.std.specs.Prelude.{◌≡◌};
+ghost use Rattle.check_drafts.specs.declared.error.LoadError.TheVariants.{Memory};
+
 use crate::place::Place;
 use std::alloc::{AllocError, AllocFailed};
 
@@ -40,9 +43,6 @@ pub enum LoadError {
 }
 
 impl From<AllocError> for LoadError {
-    ghost use Rattle.std.specs.Prelude.{◌≡◌};
-    ghost use Rattle.check_drafts.specs.declared.error.LoadError.TheVariants.{Memory};
-
     ghost from_gives = { λ _ e. e ≡ Memory };
 
     fn from(_refused: AllocError) -> LoadError {
@@ -51,9 +51,6 @@ impl From<AllocError> for LoadError {
 }
 
 impl<T: Drop> From<AllocFailed<T>> for LoadError {
-    ghost use Rattle.std.specs.Prelude.{◌≡◌};
-    ghost use Rattle.check_drafts.specs.declared.error.LoadError.TheVariants.{Memory};
-
     ghost from_gives = { λ _ e. e ≡ Memory };
 
     fn from(_refused: AllocFailed<T>) -> LoadError {

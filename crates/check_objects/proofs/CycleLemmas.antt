@@ -1,17 +1,17 @@
 -- The refusals of cycles: one of dependencies before one of parents.
-use Rattle.std.proofs.Common.{◌≡◌, Bool, true, false, cond, List, Result, Ok, Err, sym, ap, ◌∙◌, refl}
+use Rattle.std.proofs.Common.{◌≡◌, Bool, true, false, cond, List, Option, Some, None, Result, Ok, Err, sym, ap, ◌∙◌, refl}
 use Rattle.check_drafts.specs.declared.error.LoadError.{LoadError}
 use Rattle.check_drafts.specs.declared.error.LoadError.TheVariants as errors
 use Rattle.check_numbers.specs.Configuration.{Configuration, Host, masters_of, parents_by_host}
 use Rattle.link_order.specs.Cycles.{has_cycle}
-use Rattle.check_drafts.specs.LoadError.{◌>>=◌, Fails}
+use Rattle.check_drafts.specs.Agreement.{◌>>=◌, Fails}
 use Rattle.check_objects.specs.Setup.{no_parent_cycle, without_parent_cycle, without_cycles}
 
 -- an error that one answer has is the other's too, running out of memory aside
-pub fails_later : {A B : Type 0} (e : LoadError) (r : Result A LoadError) (s : Result B LoadError) → Fails e r
-    → ((x : LoadError) → r ≡ Err x → s ≡ Err x) → Fails e s
-fails_later errors.Memory r s h f = tt
-fails_later e r s h f = f e h
+pub fails_later : {A B R : Type 0} (refusal : Option R) (r : Result A R) (s : Result B R) → Fails refusal r
+    → ((x : R) → r ≡ Err x → s ≡ Err x) → Fails refusal s
+fails_later None r s h f = tt
+fails_later (Some x) r s h f = f x h
 
 abbrev pub told : Bool → Result (Unit {0}) LoadError
 told b = cond b (Err errors.ParentCycle) (Ok tt)

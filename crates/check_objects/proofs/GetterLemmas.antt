@@ -1,5 +1,5 @@
 -- What the getters of a setup give: items at a place, dependencies by number, links host by host.
-use Rattle.std.proofs.Common.{◌≡◌, ℕ, zero, suc, get_or, ◌+◌, ◌-◌, ◌<◌, Bool, true, List, [], ◌∷◌, ◌++◌, map, take}
+use Rattle.std.proofs.Common.{◌≡◌, ℕ, zero, suc, get_or, ◌+◌, ◌<◌, Bool, true, List, [], ◌∷◌, ◌++◌, map, take}
 use Rattle.std.proofs.Common.{length, Some, String, Global, refl, sym, ap, ◌∙◌, arith}
 use Rattle.std.specs.Prelude.{nat_lt, slice_get, All, slice_index_or}
 use Rattle.std.specs.List.{list_all}

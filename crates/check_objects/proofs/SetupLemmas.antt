@@ -10,7 +10,6 @@ use Rattle.std.proofs.lemmas.List.{length-map, length-append, map-append}
 use Rattle.std.proofs.lemmas.List.Elements.{All-from_recursion}
 use Rattle.std.proofs.lemmas.List.Folds.{list_all-append}
 use Rattle.std.proofs.lemmas.Slice.Eq.{bytes_eq-Decides}
-use Rattle.check_drafts.specs.declared.place.Part.TheVariants as part
 use Rattle.check_drafts.specs.declared.error.LoadError.{LoadError}
 use Rattle.check_drafts.specs.declared.error.LoadError.TheVariants as errors
 use Rattle.check_drafts.specs.declared.dependency.Dependency.{Dependency}
@@ -26,12 +25,11 @@ use Rattle.check_drafts.specs.Name.{full_name, is_host_name, is_name, text_order
 use Rattle.check_numbers.specs.Configuration.{pair_of, IsSameSort}
 use Rattle.link_order.specs.Cycles.{has_cycle, are_within}
 use Rattle.check_drafts.specs.Draft.{Drafts, HostDraft, ServiceDraft, DependencyDraft}
-use Rattle.check_documents.specs.Verification.{is_faultless, few_dependencies, full_names, is_known}
+use Rattle.check_documents.specs.Verification.{is_faultless, full_names, is_known}
 use Rattle.check_drafts.specs.Keys.{names_of, key_of}
-use Rattle.check_documents.specs.Verification.{host_names}
 use Rattle.check_documents.specs.Verification.{good_ranges, good_host_ranges, good_options, good_service_ranges}
 use Rattle.check_documents.specs.Verification.{is_in_range, is_within, is_delay_in_range, is_factor_in_range, are_options_in_range}
-use Rattle.check_drafts.specs.LoadError.{◌>>=◌}
+use Rattle.check_drafts.specs.Agreement.{◌>>=◌}
 use Rattle.check_drafts.specs.Place.{host_at, service_at}
 use Rattle.check_numbers.specs.Numbering.{number_in, dependencies_among, numbered_host, numbered_service, hosts_in_order, services_in_order, names_in_order}
 use Rattle.check_numbers.specs.Numbering.{numbered, configuration, numbered_dependency, all_dependencies, object_of, body_of}

@@ -6,7 +6,7 @@ use Rattle.check_drafts.specs.declared.error.LoadError.{LoadError}
 use Rattle.check_drafts.specs.declared.error.LoadError.TheVariants as errors
 use Rattle.check_numbers.specs.Configuration.{Configuration, Host, masters_of, parents_by_host}
 use Rattle.link_order.specs.Cycles.{has_cycle}
-use Rattle.check_drafts.specs.LoadError.{◌>>=◌}
+use Rattle.check_drafts.specs.Agreement.{◌>>=◌}
 use Rattle.check_documents.specs.Tree.{tree_of}
 use Rattle.check_documents.specs.Reading.{drafts_of}
 use Rattle.check_documents.specs.Verification.{is_faultless}

@@ -1,9 +1,10 @@
 //! The setup: the objects that are checked, with their names and numbers, and their links.
 ghost use Rattle.std.specs.Prelude.{◌≡◌, ◌<◌, ◌≤◌, length, map, Ok, option_map, slice_get, Some, IfSome, IfOk, IsOkUnless, Err, ◌==◌, All, nat_lt, true};
 ghost use Rattle.std.specs.List.{list_all};
-ghost use Rattle.check_numbers.specs.Configuration.{object_count, host_count, objects_of, number_of, name_of, host_of, parents_of, dependencies_of, masters_of, IsSetup};
+ghost use Rattle.check_numbers.specs.Configuration.{Configuration, object_count, host_count, objects_of, number_of, name_of, host_of, parents_of, dependencies_of, masters_of, IsSetup};
 ghost use Rattle.link_order.specs.Orders.{IsOrder};
 ghost use Rattle.check_numbers.specs.Numbering.{configuration};
+ghost use Rattle.check_objects.specs.Kept.{configuration_of, IsKept};
 ghost use Rattle.check_objects.specs.Setup.{setup_of, without_cycles, no_parent_cycle};
 ghost use Rattle.check_documents.specs.Verification.{is_faultless};
 ghost use Rattle.check_drafts.specs.Drafted.{HasFewAttempts};
@@ -37,11 +38,7 @@ pub struct Setup {
 }
 
 impl Model for Setup {
-    ghost use Rattle.check_numbers.specs.Configuration.{Configuration};
-
     ghost Value = { Configuration };
-
-    ghost use Rattle.check_objects.specs.Kept.{configuration_of, IsKept};
 
     ghost view = { configuration_of };
 

@@ -2,7 +2,7 @@ use Rattle.std.proofs.Common.{◌≡◌, ◌≤◌, ◌++◌, List, sym, ap, sub
 use Rattle.std.proofs.lemmas.List.{length-map}
 use Rattle.std.specs.Prelude.{nat_lt, ℕ}
 use Rattle.std.specs.List.{list_all}
-use Rattle.link_order.specs.Cycles.{has_cycle}
+use Rattle.link_order.specs.Cycles.{are_within, has_cycle}
 use Rattle.link_order.specs.Orders.{IsOrder}
 use Rattle.link_order.proofs.ChainLemmas.{order_has_no_cycle}
 use Rattle.check_drafts.specs.declared.dependency.Dependency.{Dependency}
@@ -11,6 +11,7 @@ use Rattle.check_numbers.specs.Configuration.{named_host, named_service}
 use Rattle.check_drafts.specs.Draft.{Drafts}
 use Rattle.check_drafts.specs.declared.draft.HostDraft.{HostDraft}
 use Rattle.check_drafts.specs.Drafted.{drafts_view, host}
+use Rattle.check_drafts.specs.LoadError.{refusal}
 use Rattle.check_documents.proofs.FaultlessLemmas.{faultless, once}
 use Rattle.check_numbers.specs.Entries.{host_entry}
 use Rattle.check_numbers.specs.Numbering.{configuration, numbered, numbered_dependency, all_dependencies, dependencies_by_number}
@@ -37,6 +38,15 @@ same_setup : (ds : Drafts) (hosts : List Host) (services : List Service) (lists 
     → configuration ds ≡ record { options = ds.options; hosts = hosts; services = services; dependencies = lists }
 same_setup ds hosts services lists h s l =
     λ i. record { options = ds.options; hosts = sym h i; services = sym s i; dependencies = sym l i }
+
+-- a slice of the lists, as few as an order asks for, and of masters that there are
+seen_lists : {L : Type 0} (items : L → List Dependency) (ds : Drafts) (hosts : List Host) (services : List Service) (lists seen : List L)
+    → is_faultless ds ≡ Ok tt → seen ≡ lists → hosts ≡ (numbered ds).hosts → services ≡ (numbered ds).services
+    → map items lists ≡ dependencies_by_number (map named_host hosts ++ map named_service services) ds
+    → (length seen ≤ 4096) × (are_within (length seen) (map masters_in (map items seen)) ≡ true)
+seen_lists items ds hosts services lists seen e same h s l =
+    let are = ap (map items) same ∙ same_lists ds hosts services (map items lists) h s l in
+    (few_lists items seen (configuration ds) (has_lists ds e) are, masters_within items seen (configuration ds) (has_lists ds e) are)
 
 acyclic : (ds : Drafts) (lists : List (List Dependency)) (order : List ℕ) → lists ≡ (configuration ds).dependencies → IsOrder (map masters_in lists) order
     → has_cycle (masters_of (configuration ds)) ≡ false
@@ -86,17 +96,13 @@ list_dependencies-requires-clause-within c =
 
 pub order_by_masters-requires-clause-few : goal.order_by_masters-requires-clause-few
 order_by_masters-requires-clause-few c =
-    let ds = drafts_view c.args.drafts.now in
-    let lists = same_lists ds _ _ _ c.in_ok-hosts.ensures.hosts c.in_ok-hosts.ensures.services c.in_ok-dependencies.ensures.lists in
-    let seen = ap (map (λ list. list.items)) c.deref.ensures.value ∙ lists in
-    few_lists (λ list. list.items) c.deref.result.now (configuration ds) (has_lists ds c.requires.faultless) seen
+    (seen_lists (λ list. list.items) (drafts_view c.args.drafts.now) _ _ _ _ c.requires.faultless c.deref.ensures.value
+    c.in_ok-hosts.ensures.hosts c.in_ok-hosts.ensures.services c.in_ok-dependencies.ensures.lists).0
 
 pub order_by_masters-requires-clause-within : goal.order_by_masters-requires-clause-within
 order_by_masters-requires-clause-within c =
-    let ds = drafts_view c.args.drafts.now in
-    let lists = same_lists ds _ _ _ c.in_ok-hosts.ensures.hosts c.in_ok-hosts.ensures.services c.in_ok-dependencies.ensures.lists in
-    let seen = ap (map (λ list. list.items)) c.deref.ensures.value ∙ lists in
-    masters_within (λ list. list.items) c.deref.result.now (configuration ds) (has_lists ds c.requires.faultless) seen
+    (seen_lists (λ list. list.items) (drafts_view c.args.drafts.now) _ _ _ _ c.requires.faultless c.deref.ensures.value
+    c.in_ok-hosts.ensures.hosts c.in_ok-hosts.ensures.services c.in_ok-dependencies.ensures.lists).1
 
 pub verify_no_parent_cycle-requires-clause-few : goal.verify_no_parent_cycle-requires-clause-few
 verify_no_parent_cycle-requires-clause-few c =
@@ -112,7 +118,7 @@ returns-in_err-verify_no_parent_cycle-in-Some c =
     let hosts = c.in_ok-hosts.ensures.hosts in
     let lists = same_lists ds _ _ _ hosts c.in_ok-hosts.ensures.services c.in_ok-dependencies.ensures.lists in
     let free = acyclic ds _ _ (ap (map (λ list. list.items)) c.deref.ensures.value ∙ lists) (rw c.in-Some.is at c.in_ok-order.ensures.order) in
-    let fails = fails_later c.in_err-verify_no_parent_cycle-in-Some.field-0.0 _ (without_cycles (configuration ds))
+    let fails = fails_later (refusal c.in_err-verify_no_parent_cycle-in-Some.field-0.0) _ (without_cycles (configuration ds))
     c.in_err-verify_no_parent_cycle-in-Some.ensures (λ x h. cyclic_parents (configuration ds) _ x hosts free h) in
     search (rules, fails)
 

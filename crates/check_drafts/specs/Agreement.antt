@@ -1,0 +1,23 @@
+-- How a function of the code agrees with what the definitions say, running out of memory aside. The code's error is of any
+-- type; `refusal` says which refusal an error is, if it isn't that the code is out of memory.
+use Rattle.std.specs.Prelude.{◌≡◌, List, ◌++◌, Option, Some, None, Result, Ok, Err}
+
+infixl 10 ◌>>=◌
+-- what follows, unless there was a refusal before it
+abbrev pub ◌>>=◌ : {A B E : Type 0} → Result A E → (A → Result B E) → Result B E
+(Ok x) >>= f = f x
+(Err e) >>= f = Err e
+
+-- a list that goes on with what follows
+abbrev pub with_front : {A E : Type 0} → List A → Result (List A) E → Result (List A) E
+with_front front rest = rest >>= λ more. Ok (front ++ more)
+
+-- the refusal is the one that is defined; where there is none the code is out of memory, which says nothing
+abbrev pub Fails : {Y R : Type 0} → Option R → Result Y R → Type 0
+Fails None expected = Unit {0}
+Fails (Some refusal) expected = expected ≡ Err refusal
+
+-- what the code returned, seen by view, is what is defined, unless memory ran out
+abbrev pub Gives : {X Y E R : Type 0} → (E → Option R) → (X → Y) → Result X E → Result Y R → Type 0
+Gives refusal view (Ok x) expected = expected ≡ Ok (view x)
+Gives refusal view (Err e) expected = Fails (refusal e) expected
