@@ -6,16 +6,12 @@ mod options;
 mod services;
 mod sizes;
 
-use crate::{LoadError, Part, Place, Setup};
+use crate::{LoadError, Setup};
 use std::alloc::{AllocError, Global};
 use std::process::Abort;
 
 const ONE_HOST: &str =
     r#"{"options":{"host_inter_check_delay_method":"n"},"hosts":[{"name":"h","max_check_attempts":3}]}"#;
-
-fn place(part: Part, index: Option<usize>) -> Place {
-    Place { part, index }
-}
 
 /// A document with this text as its list of hosts.
 fn with_hosts(alloc: Global, hosts: &str) -> Result<String, AllocError> {
@@ -28,6 +24,13 @@ fn with_hosts(alloc: Global, hosts: &str) -> Result<String, AllocError> {
 fn refuses(rt: &impl Abort, alloc: Global, document: &str, want: LoadError) {
     let refused = Setup::read(alloc, document.as_bytes());
     assert!(rt; matches!(&refused, Err(e) if *e == want), "{document}");
+}
+
+/// Each document is refused, and for the reason beside it.
+fn refuses_each(rt: &impl Abort, alloc: Global, documents: &[(&str, LoadError)]) {
+    for (document, want) in documents {
+        refuses(rt, alloc, *document, *want);
+    }
 }
 
 /// Host h and service s of it, at 3 attempts each; what stands in the marks is the service's host.

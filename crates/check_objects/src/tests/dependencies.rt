@@ -1,7 +1,7 @@
 //! Dependencies of services and of hosts, and what is refused of them.
 
-use super::{place, refuses};
-use crate::{Criteria, Dependency, LoadError, Options, Part, Setup};
+use super::refuses;
+use crate::{Criteria, Dependency, LoadError, Options, Part, Place, Setup};
 use std::alloc::{AllocError, Global};
 use std::process::Abort;
 use std::test::Fail;
@@ -16,6 +16,36 @@ fn with_members(alloc: Global, members: &str) -> Result<String, AllocError> {
 const SERVICE_DEPENDENCIES: &str = "service_dependencies";
 
 const HOST_DEPENDENCIES: &str = "host_dependencies";
+
+const SERVICE_LIST: Place = Place {
+    part: Part::ServiceDependencies,
+    index: None,
+};
+
+const FIRST_OF_SERVICES: Place = Place {
+    part: Part::ServiceDependencies,
+    index: Some(0),
+};
+
+const SECOND_OF_SERVICES: Place = Place {
+    part: Part::ServiceDependencies,
+    index: Some(1),
+};
+
+const HOST_LIST: Place = Place {
+    part: Part::HostDependencies,
+    index: None,
+};
+
+const FIRST_OF_HOSTS: Place = Place {
+    part: Part::HostDependencies,
+    index: Some(0),
+};
+
+const SECOND_OF_HOSTS: Place = Place {
+    part: Part::HostDependencies,
+    index: Some(1),
+};
 
 /// A document with this member beside its hosts and services is refused for this reason.
 fn refuses_member(
@@ -95,93 +125,57 @@ fn reads_dependencies_of_both_sorts(rt: HostRuntime) -> Result<(), Fail> {
     Ok(())
 }
 
-#[test]
-fn refuses_dependencies_of_services(rt: HostRuntime) -> Result<(), Fail> {
-    let at = |index: usize| place(Part::ServiceDependencies, Some(index));
-    refuses_member(
-        &rt,
-        rt.alloc(),
-        SERVICE_DEPENDENCIES,
-        "5",
-        LoadError::Shape(place(Part::ServiceDependencies, None)),
-    )?;
-    refuses_member(
-        &rt,
-        rt.alloc(),
-        SERVICE_DEPENDENCIES,
-        "[5]",
-        LoadError::Shape(at(0)),
-    )?;
-    refuses_member(
-        &rt,
-        rt.alloc(),
-        SERVICE_DEPENDENCIES,
+/// Lists of dependencies between services, and why each is refused.
+const REFUSED_OF_SERVICES: [(&str, LoadError); 12] = [
+    ("5", LoadError::Shape(SERVICE_LIST)),
+    ("[5]", LoadError::Shape(FIRST_OF_SERVICES)),
+    (
         r#"[{"dependent":"a;x","master":"b;y"}]"#,
-        LoadError::Shape(at(0)),
-    )?;
-    refuses_member(
-        &rt,
-        rt.alloc(),
-        SERVICE_DEPENDENCIES,
+        LoadError::Shape(FIRST_OF_SERVICES),
+    ),
+    (
         r#"[{"dependent":"a;x","master":"b;y","criteria":"o"},{"dependent":"a;x","master":"b;y","criteria":"d"}]"#,
-        LoadError::Shape(at(1)),
-    )?;
-    refuses_member(
-        &rt,
-        rt.alloc(),
-        SERVICE_DEPENDENCIES,
+        LoadError::Shape(SECOND_OF_SERVICES),
+    ),
+    (
         r#"[{"dependent":"a;x","master":"b;y","criteria":"o","inherits_parent":1}]"#,
-        LoadError::Shape(at(0)),
-    )?;
-    refuses_member(
-        &rt,
-        rt.alloc(),
-        SERVICE_DEPENDENCIES,
+        LoadError::Shape(FIRST_OF_SERVICES),
+    ),
+    (
         r#"[{"dependent":"a;x","master":"b;z","criteria":"o"}]"#,
-        LoadError::UnknownMaster(at(0)),
-    )?;
-    refuses_member(
-        &rt,
-        rt.alloc(),
-        SERVICE_DEPENDENCIES,
+        LoadError::UnknownMaster(FIRST_OF_SERVICES),
+    ),
+    (
         r#"[{"dependent":"a;x","master":"b","criteria":"o"}]"#,
-        LoadError::UnknownMaster(at(0)),
-    )?;
-    refuses_member(
-        &rt,
-        rt.alloc(),
-        SERVICE_DEPENDENCIES,
+        LoadError::UnknownMaster(FIRST_OF_SERVICES),
+    ),
+    (
         r#"[{"dependent":"a","master":"b;y","criteria":"o"}]"#,
-        LoadError::UnknownMaster(at(0)),
-    )?;
-    refuses_member(
-        &rt,
-        rt.alloc(),
-        SERVICE_DEPENDENCIES,
+        LoadError::UnknownMaster(FIRST_OF_SERVICES),
+    ),
+    (
         r#"[{"dependent":"a;x","master":"a;x","criteria":"n"}]"#,
         LoadError::DependencyCycle,
-    )?;
-    refuses_member(
-        &rt,
-        rt.alloc(),
-        SERVICE_DEPENDENCIES,
+    ),
+    (
         r#"[{"dependent":"a;x","master":"b;y","criteria":"c"},{"dependent":"b;y","master":"a;x","criteria":"c"}]"#,
         LoadError::DependencyCycle,
-    )?;
-    refuses_member(
-        &rt,
-        rt.alloc(),
-        SERVICE_DEPENDENCIES,
+    ),
+    (
         r#"[{"dependent":"a;x","master":"b;z","criteria":"o"}],"options":{"interval_length":0}"#,
-        LoadError::UnknownMaster(at(0)),
-    )?;
-    refuses_member(
-        &rt,
-        rt.alloc(),
-        SERVICE_DEPENDENCIES,
+        LoadError::UnknownMaster(FIRST_OF_SERVICES),
+    ),
+    (
         r#"[{"dependent":"a;x","master":"a;x","criteria":"o"}],"options":{"interval_length":0}"#,
-        LoadError::Range(place(Part::Options, None)),
-    )?;
+        LoadError::Range(Place::OPTIONS),
+    ),
+];
+
+#[test]
+fn refuses_dependencies_of_services(rt: HostRuntime) -> Result<(), Fail> {
+    for (list, want) in &REFUSED_OF_SERVICES {
+        refuses_member(&rt, rt.alloc(), SERVICE_DEPENDENCIES, *list, *want)?;
+    }
     Ok(())
 }
 
@@ -190,71 +184,53 @@ fn refuses_criteria_of(rt: &impl Abort, alloc: Global, criteria: &str) -> Result
     let list = format!(in alloc;
         "[{{\"dependent\":\"a;x\",\"master\":\"b;y\",\"criteria\":\"{criteria}\"}}]"
     )?;
-    let want = LoadError::Shape(place(Part::ServiceDependencies, Some(0)));
+    let want = LoadError::Shape(FIRST_OF_SERVICES);
     refuses_member(rt, alloc, SERVICE_DEPENDENCIES, list.as_str(), want)
 }
 
+/// Criteria that a dependency between services can't have.
+const REFUSED_CRITERIA: [&str; 11] = [
+    "", ",", "o,", ",o", "o,,c", "oc", "o, c", " o", "O", "d", "x",
+];
+
 #[test]
 fn refuses_criteria(rt: HostRuntime) -> Result<(), Fail> {
-    refuses_criteria_of(&rt, rt.alloc(), "")?;
-    refuses_criteria_of(&rt, rt.alloc(), ",")?;
-    refuses_criteria_of(&rt, rt.alloc(), "o,")?;
-    refuses_criteria_of(&rt, rt.alloc(), ",o")?;
-    refuses_criteria_of(&rt, rt.alloc(), "o,,c")?;
-    refuses_criteria_of(&rt, rt.alloc(), "oc")?;
-    refuses_criteria_of(&rt, rt.alloc(), "o, c")?;
-    refuses_criteria_of(&rt, rt.alloc(), " o")?;
-    refuses_criteria_of(&rt, rt.alloc(), "O")?;
-    refuses_criteria_of(&rt, rt.alloc(), "d")?;
-    refuses_criteria_of(&rt, rt.alloc(), "x")?;
+    for criteria in &REFUSED_CRITERIA {
+        refuses_criteria_of(&rt, rt.alloc(), *criteria)?;
+    }
     Ok(())
 }
 
-#[test]
-fn refuses_dependencies_of_hosts(rt: HostRuntime) -> Result<(), Fail> {
-    let at = |index: usize| place(Part::HostDependencies, Some(index));
-    refuses_member(
-        &rt,
-        rt.alloc(),
-        HOST_DEPENDENCIES,
-        "{}",
-        LoadError::Shape(place(Part::HostDependencies, None)),
-    )?;
-    refuses_member(
-        &rt,
-        rt.alloc(),
-        HOST_DEPENDENCIES,
+/// Lists of dependencies between hosts, and why each is refused.
+const REFUSED_OF_HOSTS: [(&str, LoadError); 6] = [
+    ("{}", LoadError::Shape(HOST_LIST)),
+    (
         r#"[{"dependent":"a","master":"b","criteria":"w"}]"#,
-        LoadError::Shape(at(0)),
-    )?;
-    refuses_member(
-        &rt,
-        rt.alloc(),
-        HOST_DEPENDENCIES,
+        LoadError::Shape(FIRST_OF_HOSTS),
+    ),
+    (
         r#"[{"dependent":"a","master":"b","criteria":"d,c"}]"#,
-        LoadError::Shape(at(0)),
-    )?;
-    refuses_member(
-        &rt,
-        rt.alloc(),
-        HOST_DEPENDENCIES,
+        LoadError::Shape(FIRST_OF_HOSTS),
+    ),
+    (
         r#"[{"dependent":"a","master":"b;y","criteria":"d"}]"#,
-        LoadError::UnknownMaster(at(0)),
-    )?;
-    refuses_member(
-        &rt,
-        rt.alloc(),
-        HOST_DEPENDENCIES,
+        LoadError::UnknownMaster(FIRST_OF_HOSTS),
+    ),
+    (
         r#"[{"dependent":"a","master":"b","criteria":"d"},{"dependent":"c","master":"b","criteria":"d"}]"#,
-        LoadError::UnknownMaster(at(1)),
-    )?;
-    refuses_member(
-        &rt,
-        rt.alloc(),
-        HOST_DEPENDENCIES,
+        LoadError::UnknownMaster(SECOND_OF_HOSTS),
+    ),
+    (
         r#"[{"dependent":"a","master":"b","criteria":"d"},{"dependent":"b","master":"a","criteria":"d"}]"#,
         LoadError::DependencyCycle,
-    )?;
+    ),
+];
+
+#[test]
+fn refuses_dependencies_of_hosts(rt: HostRuntime) -> Result<(), Fail> {
+    for (list, want) in &REFUSED_OF_HOSTS {
+        refuses_member(&rt, rt.alloc(), HOST_DEPENDENCIES, *list, *want)?;
+    }
     Ok(())
 }
 

@@ -1,10 +1,18 @@
 //! Whole documents and their hosts: good ones, and what is refused.
 
-use super::{place, refuses, with_hosts};
-use crate::{DelayMethod, LoadError, Options, Part, Setup};
-use std::alloc::{AllocError, Global};
-use std::process::Abort;
+use super::{refuses, refuses_each, with_hosts};
+use crate::{DelayMethod, LoadError, Options, Part, Place, Setup};
 use std::test::Fail;
+
+const FIRST: Place = Place {
+    part: Part::Hosts,
+    index: Some(0),
+};
+
+const SECOND: Place = Place {
+    part: Part::Hosts,
+    index: Some(1),
+};
 
 #[test]
 fn reads_hosts_in_the_order_of_their_names(rt: HostRuntime) -> Result<(), Fail> {
@@ -55,118 +63,67 @@ fn reads_a_document_without_hosts(rt: HostRuntime) -> Result<(), Fail> {
     Ok(())
 }
 
-#[test]
-fn refuses_whole_documents(rt: HostRuntime) -> Result<(), Fail> {
-    refuses(&rt, rt.alloc(), "", LoadError::NotJson);
-    refuses(&rt, rt.alloc(), "{", LoadError::NotJson);
-    refuses(
-        &rt,
-        rt.alloc(),
-        "[]",
-        LoadError::Shape(place(Part::Document, None)),
-    );
-    refuses(
-        &rt,
-        rt.alloc(),
-        r#"{"hots":[]}"#,
-        LoadError::Shape(place(Part::Document, None)),
-    );
-    refuses(
-        &rt,
-        rt.alloc(),
-        r#"{"hosts":5}"#,
-        LoadError::Shape(place(Part::Hosts, None)),
-    );
-    refuses(
-        &rt,
-        rt.alloc(),
-        r#"{"options":5}"#,
-        LoadError::Shape(place(Part::Options, None)),
-    );
-    refuses(
-        &rt,
-        rt.alloc(),
-        r#"{"hosts":[5]}"#,
-        LoadError::Shape(place(Part::Hosts, Some(0))),
-    );
-    refuses(
-        &rt,
-        rt.alloc(),
+const REFUSED_DOCUMENTS: [(&str, LoadError); 8] = [
+    ("", LoadError::NotJson),
+    ("{", LoadError::NotJson),
+    ("[]", LoadError::Shape(Place::DOCUMENT)),
+    (r#"{"hots":[]}"#, LoadError::Shape(Place::DOCUMENT)),
+    (r#"{"hosts":5}"#, LoadError::Shape(Place::HOSTS)),
+    (r#"{"options":5}"#, LoadError::Shape(Place::OPTIONS)),
+    (r#"{"hosts":[5]}"#, LoadError::Shape(FIRST)),
+    (
         r#"{"options":{"interval_length":0}}"#,
-        LoadError::Range(place(Part::Options, None)),
-    );
-    Ok(())
+        LoadError::Range(Place::OPTIONS),
+    ),
+];
+
+#[test]
+fn refuses_whole_documents(rt: HostRuntime) {
+    refuses_each(&rt, rt.alloc(), &REFUSED_DOCUMENTS);
 }
 
-/// A document with this text as its list of hosts is refused for this reason.
-fn refuses_hosts(
-    rt: &impl Abort,
-    alloc: Global,
-    hosts: &str,
-    want: LoadError,
-) -> Result<(), AllocError> {
-    let document = with_hosts(alloc, hosts)?;
-    refuses(rt, alloc, document.as_str(), want);
-    Ok(())
-}
+const REFUSED_LISTS: [(&str, LoadError); 10] = [
+    ("[5]", LoadError::Shape(FIRST)),
+    (r#"[{"name":"a"}]"#, LoadError::Shape(FIRST)),
+    (
+        r#"[{"name":"a","max_check_attempts":3.0}]"#,
+        LoadError::Shape(FIRST),
+    ),
+    (
+        r#"[{"name":"a","max_check_attempts":3,"parents":[1]}]"#,
+        LoadError::Shape(FIRST),
+    ),
+    (
+        r#"[{"name":"a;b","max_check_attempts":3}]"#,
+        LoadError::BadName(FIRST),
+    ),
+    (
+        r#"[{"name":"","max_check_attempts":3}]"#,
+        LoadError::BadName(FIRST),
+    ),
+    (
+        r#"[{"name":"a","max_check_attempts":3},{"name":"a","max_check_attempts":3}]"#,
+        LoadError::Duplicate(SECOND),
+    ),
+    (
+        r#"[{"name":"a","max_check_attempts":0},{"name":"b;","max_check_attempts":3}]"#,
+        LoadError::BadName(SECOND),
+    ),
+    (
+        r#"[{"name":"b","max_check_attempts":3},{"name":"a","max_check_attempts":256}]"#,
+        LoadError::Range(SECOND),
+    ),
+    (
+        r#"[{"name":"a","max_check_attempts":3,"retry_interval":525601}]"#,
+        LoadError::Range(FIRST),
+    ),
+];
 
 #[test]
 fn refuses_lists_of_hosts(rt: HostRuntime) -> Result<(), Fail> {
-    let at = |index: usize| place(Part::Hosts, Some(index));
-    refuses_hosts(&rt, rt.alloc(), "[5]", LoadError::Shape(at(0)))?;
-    refuses_hosts(
-        &rt,
-        rt.alloc(),
-        r#"[{"name":"a"}]"#,
-        LoadError::Shape(at(0)),
-    )?;
-    refuses_hosts(
-        &rt,
-        rt.alloc(),
-        r#"[{"name":"a","max_check_attempts":3.0}]"#,
-        LoadError::Shape(at(0)),
-    )?;
-    refuses_hosts(
-        &rt,
-        rt.alloc(),
-        r#"[{"name":"a","max_check_attempts":3,"parents":[1]}]"#,
-        LoadError::Shape(at(0)),
-    )?;
-    refuses_hosts(
-        &rt,
-        rt.alloc(),
-        r#"[{"name":"a;b","max_check_attempts":3}]"#,
-        LoadError::BadName(at(0)),
-    )?;
-    refuses_hosts(
-        &rt,
-        rt.alloc(),
-        r#"[{"name":"","max_check_attempts":3}]"#,
-        LoadError::BadName(at(0)),
-    )?;
-    refuses_hosts(
-        &rt,
-        rt.alloc(),
-        r#"[{"name":"a","max_check_attempts":3},{"name":"a","max_check_attempts":3}]"#,
-        LoadError::Duplicate(at(1)),
-    )?;
-    refuses_hosts(
-        &rt,
-        rt.alloc(),
-        r#"[{"name":"a","max_check_attempts":0},{"name":"b;","max_check_attempts":3}]"#,
-        LoadError::BadName(at(1)),
-    )?;
-    refuses_hosts(
-        &rt,
-        rt.alloc(),
-        r#"[{"name":"b","max_check_attempts":3},{"name":"a","max_check_attempts":256}]"#,
-        LoadError::Range(at(1)),
-    )?;
-    refuses_hosts(
-        &rt,
-        rt.alloc(),
-        r#"[{"name":"a","max_check_attempts":3,"retry_interval":525601}]"#,
-        LoadError::Range(at(0)),
-    )?;
+    for (hosts, want) in &REFUSED_LISTS {
+        let document = with_hosts(rt.alloc(), *hosts)?;
+        refuses(&rt, rt.alloc(), document.as_str(), *want);
+    }
     Ok(())
 }

@@ -1,26 +1,13 @@
 //! The options: each, their defaults, and what is refused.
 
-use super::{place, refuses};
-use crate::{DelayMethod, InterleaveFactor, LoadError, Options, Part, Setup};
+use super::refuses;
+use crate::{DelayMethod, InterleaveFactor, LoadError, Options, Place, Setup};
 use std::alloc::{AllocError, Global};
-use std::process::Abort;
 use std::test::Fail;
 
 /// A document with this text as its options alone.
 fn with_options(alloc: Global, options: &str) -> Result<String, AllocError> {
     format!(in alloc; "{{\"options\":{{{options}}}}}")
-}
-
-/// A document with this text as its options is refused for this reason.
-fn refuses_options_of(
-    rt: &impl Abort,
-    alloc: Global,
-    options: &str,
-    want: LoadError,
-) -> Result<(), AllocError> {
-    let document = with_options(alloc, options)?;
-    refuses(rt, alloc, document.as_str(), want);
-    Ok(())
 }
 
 #[test]
@@ -69,55 +56,35 @@ fn options_have_defaults(rt: HostRuntime) -> Result<(), Fail> {
     Ok(())
 }
 
+const SHAPE: LoadError = LoadError::Shape(Place::OPTIONS);
+
+const RANGE: LoadError = LoadError::Range(Place::OPTIONS);
+
+/// Texts of options, and why each is refused.
+const REFUSED_OPTIONS: [(&str, LoadError); 16] = [
+    (r#""service_inter_check_delay_method":"x""#, SHAPE),
+    (r#""host_inter_check_delay_method":true"#, SHAPE),
+    (r#""service_interleave_factor":"n""#, SHAPE),
+    (r#""max_host_check_spread":"s""#, SHAPE),
+    (r#""max_concurrent_checks":-1"#, SHAPE),
+    (r#""soft_state_dependencies":0"#, SHAPE),
+    (r#""interval_length":86401"#, RANGE),
+    (r#""service_inter_check_delay_method":86400001"#, RANGE),
+    (r#""host_inter_check_delay_method":86400001"#, RANGE),
+    (r#""max_service_check_spread":0"#, RANGE),
+    (r#""max_service_check_spread":525601"#, RANGE),
+    (r#""max_host_check_spread":0"#, RANGE),
+    (r#""max_host_check_spread":525601"#, RANGE),
+    (r#""service_interleave_factor":0"#, RANGE),
+    (r#""service_interleave_factor":4097"#, RANGE),
+    (r#""max_concurrent_checks":1000001"#, RANGE),
+];
+
 #[test]
 fn refuses_options(rt: HostRuntime) -> Result<(), Fail> {
-    let shape = LoadError::Shape(place(Part::Options, None));
-    let range = LoadError::Range(place(Part::Options, None));
-    refuses_options_of(
-        &rt,
-        rt.alloc(),
-        r#""service_inter_check_delay_method":"x""#,
-        shape,
-    )?;
-    refuses_options_of(
-        &rt,
-        rt.alloc(),
-        r#""host_inter_check_delay_method":true"#,
-        shape,
-    )?;
-    refuses_options_of(&rt, rt.alloc(), r#""service_interleave_factor":"n""#, shape)?;
-    refuses_options_of(&rt, rt.alloc(), r#""max_host_check_spread":"s""#, shape)?;
-    refuses_options_of(&rt, rt.alloc(), r#""max_concurrent_checks":-1"#, shape)?;
-    refuses_options_of(&rt, rt.alloc(), r#""soft_state_dependencies":0"#, shape)?;
-    refuses_options_of(&rt, rt.alloc(), r#""interval_length":86401"#, range)?;
-    refuses_options_of(
-        &rt,
-        rt.alloc(),
-        r#""service_inter_check_delay_method":86400001"#,
-        range,
-    )?;
-    refuses_options_of(
-        &rt,
-        rt.alloc(),
-        r#""host_inter_check_delay_method":86400001"#,
-        range,
-    )?;
-    refuses_options_of(&rt, rt.alloc(), r#""max_service_check_spread":0"#, range)?;
-    refuses_options_of(
-        &rt,
-        rt.alloc(),
-        r#""max_service_check_spread":525601"#,
-        range,
-    )?;
-    refuses_options_of(&rt, rt.alloc(), r#""max_host_check_spread":0"#, range)?;
-    refuses_options_of(&rt, rt.alloc(), r#""max_host_check_spread":525601"#, range)?;
-    refuses_options_of(&rt, rt.alloc(), r#""service_interleave_factor":0"#, range)?;
-    refuses_options_of(
-        &rt,
-        rt.alloc(),
-        r#""service_interleave_factor":4097"#,
-        range,
-    )?;
-    refuses_options_of(&rt, rt.alloc(), r#""max_concurrent_checks":1000001"#, range)?;
+    for (options, want) in &REFUSED_OPTIONS {
+        let document = with_options(rt.alloc(), *options)?;
+        refuses(&rt, rt.alloc(), document.as_str(), *want);
+    }
     Ok(())
 }

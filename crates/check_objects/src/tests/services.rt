@@ -1,8 +1,23 @@
 //! Services behind their hosts, parents, and what is refused of them.
 
-use super::{place, refuses, with_hosts, with_service};
-use crate::{LoadError, Options, Part, Setup};
+use super::{refuses, refuses_each, with_hosts, with_service};
+use crate::{LoadError, Options, Part, Place, Setup};
 use std::test::Fail;
+
+const SECOND_HOST: Place = Place {
+    part: Part::Hosts,
+    index: Some(1),
+};
+
+const FIRST_SERVICE: Place = Place {
+    part: Part::Services,
+    index: Some(0),
+};
+
+const SECOND_SERVICE: Place = Place {
+    part: Part::Services,
+    index: Some(1),
+};
 
 #[test]
 fn reads_services_behind_the_hosts(rt: HostRuntime) -> Result<(), Fail> {
@@ -55,62 +70,61 @@ fn numbers_services_by_host_and_description(rt: HostRuntime) -> Result<(), Fail>
     Ok(())
 }
 
-#[test]
-fn refuses_services_and_links(rt: HostRuntime) -> Result<(), Fail> {
-    let alloc = rt.alloc();
-    let host = |index: usize| place(Part::Hosts, Some(index));
-    let service = |index: usize| place(Part::Services, Some(index));
-    let unknown = with_service(alloc, "x", "")?;
-    let range = with_service(alloc, "h", r#","interval_length":0"#)?;
-    let twice = with_service(
-        alloc,
+/// What stands in the marks of a service's host, and in the options beside, and why it is refused.
+const REFUSED_SERVICES: [(&str, &str, LoadError); 3] = [
+    ("x", "", LoadError::UnknownHost(FIRST_SERVICE)),
+    (
+        "h",
+        r#","interval_length":0"#,
+        LoadError::Range(Place::OPTIONS),
+    ),
+    (
         r#"h","description":"s","max_check_attempts":1},{"host":"h"#,
         "",
-    )?;
-    let cycle = with_hosts(
-        alloc,
-        r#"[{"name":"a","max_check_attempts":3,"parents":["b"]},{"name":"b","max_check_attempts":3,"parents":["a"]}]"#,
-    )?;
-    let own = with_hosts(
-        alloc,
-        r#"[{"name":"b","max_check_attempts":3},{"name":"a","max_check_attempts":3,"parents":["b","a"]}]"#,
-    )?;
-    let missing = with_hosts(
-        alloc,
-        r#"[{"name":"b","max_check_attempts":3},{"name":"a","max_check_attempts":3,"parents":["b","c"]}]"#,
-    )?;
-    refuses(
-        &rt,
-        alloc,
-        unknown.as_str(),
-        LoadError::UnknownHost(service(0)),
-    );
-    refuses(
-        &rt,
-        alloc,
-        range.as_str(),
-        LoadError::Range(place(Part::Options, None)),
-    );
-    refuses(&rt, alloc, twice.as_str(), LoadError::Duplicate(service(1)));
-    refuses(&rt, alloc, cycle.as_str(), LoadError::ParentCycle);
-    refuses(&rt, alloc, own.as_str(), LoadError::ParentCycle);
-    refuses(
-        &rt,
-        alloc,
-        missing.as_str(),
-        LoadError::UnknownHost(host(1)),
-    );
-    refuses(
-        &rt,
-        alloc,
-        r#"{"services":5}"#,
-        LoadError::Shape(place(Part::Services, None)),
-    );
-    refuses(
-        &rt,
-        alloc,
-        r#"{"services":[5]}"#,
-        LoadError::Shape(service(0)),
-    );
+        LoadError::Duplicate(SECOND_SERVICE),
+    ),
+];
+
+#[test]
+fn refuses_services(rt: HostRuntime) -> Result<(), Fail> {
+    for (host, options, want) in &REFUSED_SERVICES {
+        let document = with_service(rt.alloc(), *host, *options)?;
+        refuses(&rt, rt.alloc(), document.as_str(), *want);
+    }
     Ok(())
+}
+
+/// Lists of hosts with parents, and why each is refused.
+const REFUSED_PARENTS: [(&str, LoadError); 3] = [
+    (
+        r#"[{"name":"a","max_check_attempts":3,"parents":["b"]},{"name":"b","max_check_attempts":3,"parents":["a"]}]"#,
+        LoadError::ParentCycle,
+    ),
+    (
+        r#"[{"name":"b","max_check_attempts":3},{"name":"a","max_check_attempts":3,"parents":["b","a"]}]"#,
+        LoadError::ParentCycle,
+    ),
+    (
+        r#"[{"name":"b","max_check_attempts":3},{"name":"a","max_check_attempts":3,"parents":["b","c"]}]"#,
+        LoadError::UnknownHost(SECOND_HOST),
+    ),
+];
+
+#[test]
+fn refuses_parents(rt: HostRuntime) -> Result<(), Fail> {
+    for (hosts, want) in &REFUSED_PARENTS {
+        let document = with_hosts(rt.alloc(), *hosts)?;
+        refuses(&rt, rt.alloc(), document.as_str(), *want);
+    }
+    Ok(())
+}
+
+const REFUSED_LISTS: [(&str, LoadError); 2] = [
+    (r#"{"services":5}"#, LoadError::Shape(Place::SERVICES)),
+    (r#"{"services":[5]}"#, LoadError::Shape(FIRST_SERVICE)),
+];
+
+#[test]
+fn refuses_lists_of_services(rt: HostRuntime) {
+    refuses_each(&rt, rt.alloc(), &REFUSED_LISTS);
 }
