@@ -13,3 +13,4 @@ pub mod RunLaws
 pub mod StepLaws
 pub mod TakeLaws
 pub mod UpdateLaws
+pub mod ChangeLaws

@@ -2,6 +2,7 @@ pub mod Scheduling
 pub mod Candidate
 pub mod Roster
 pub mod State
+pub mod Change
 pub mod Reply
 pub mod Report
 pub mod Step

@@ -60,18 +60,29 @@ impl Model for ObjectState {
     ghost inverse = { λ o. record { next = o.next; run = o.run; enabled = o.enabled; forced = o.forced } };
 }
 
+/// What is done to one object: all but `Begin` leave the number of runs as it was, or end one.
+#[derive(Clone, Copy, Debug)]
+pub(crate) enum Change {
+    /// Begin this run: the object loses its next time and its forced mark.
+    Begin(Run),
+    /// End the run: the object has its next check at this time, if at all.
+    End(Option<u64>),
+    /// Put the next check off to this time, if there is to be one.
+    PutOff(Option<u64>),
+    /// Set the next check to this time, and whether it is forced.
+    Reschedule { time: u64, forced: bool },
+    /// Turn the active checks on or off.
+    Enable(bool),
+}
+
 impl ObjectState {
     ghost use Rattle.std.specs.Prelude.{◌≡◌, is_some, option_map};
+    ghost use Rattle.check_sched.specs.Change.{changed};
     ghost use Rattle.check_sched.specs.Scheduling.{
       candidate_time,
-      enabled_as,
-      ended,
       freed_time,
       opening_object,
-      put_off_to,
-      rescheduled,
       run_under,
-      running_from,
     };
 
     /// The state of an object when scheduling starts: its first check is at `first`, it doesn't
@@ -130,21 +141,27 @@ impl ObjectState {
         }
     }
 
-    /// Begins a run: the object loses its next time and its forced mark.
-    pub(crate) fn begin_run(&mut self, run: Run)
-        ensures { self.new ≡ running_from run self.old }
+    /// Does this to the object.
+    pub(crate) fn change(&mut self, change: Change)
+        ensures { self.new ≡ changed change self.old }
     {
-        self.next = None;
-        self.run = Some(run);
-        self.forced = false;
-    }
-
-    /// Ends the run: the object has its next check at `next`, if at all.
-    pub(crate) fn end_run(&mut self, next: Option<u64>)
-        ensures { self.new ≡ ended next self.old }
-    {
-        self.next = next;
-        self.run = None;
+        match change {
+            Change::Begin(run) => {
+                self.next = None;
+                self.run = Some(run);
+                self.forced = false;
+            }
+            Change::End(next) => {
+                self.next = next;
+                self.run = None;
+            }
+            Change::PutOff(until) => self.next = until,
+            Change::Reschedule { time, forced } => {
+                self.next = Some(time);
+                self.forced = forced;
+            }
+            Change::Enable(on) => self.enabled = on,
+        }
     }
 
     /// The run of this number, or why there is none.
@@ -164,27 +181,5 @@ impl ObjectState {
         ensures { result ≡ freed_time now self.now }
     {
         self.next.unwrap_or(now)
-    }
-
-    /// Sets the next check, and whether it is forced.
-    pub(crate) fn reschedule(&mut self, time: u64, forced: bool)
-        ensures { self.new ≡ rescheduled time forced self.old }
-    {
-        self.next = Some(time);
-        self.forced = forced;
-    }
-
-    /// Puts the next check off to `until`, if there is to be one.
-    pub(crate) fn put_off(&mut self, until: Option<u64>)
-        ensures { self.new ≡ put_off_to until self.old }
-    {
-        self.next = until;
-    }
-
-    /// Turns the active checks on or off.
-    pub(crate) fn enable(&mut self, on: bool)
-        ensures { self.new ≡ enabled_as on self.old }
-    {
-        self.enabled = on;
     }
 }

@@ -4,17 +4,18 @@ ghost use Rattle.std.specs.Prelude.{◌≡◌, ◌<◌, ◌≤◌, ◌&&◌, IfO
 ghost use Rattle.check_queue.specs.Order.{least};
 ghost use Rattle.check_sched.specs.Candidate.{candidates_among};
 ghost use Rattle.check_sched.specs.Roster.{running_among, waiting_times};
-ghost use Rattle.check_sched.specs.Scheduling.{candidate_time};
+ghost use Rattle.check_sched.specs.Change.{changed};
+ghost use Rattle.check_sched.specs.Step.{update_at};
 
 use crate::candidate::{Candidate, earlier};
-use crate::object_state::ObjectState;
+use crate::object_state::{Change, ObjectState};
 use check_objects::MAX_OBJECTS;
 use check_queue::Queue;
 use std::alloc::{AllocError, Global};
 use std::marker::Model;
 
 /// What is kept of each object between calls, with a queue of the hosts and one of the services that
-/// wait for a check, and the number of services that run. An object is written by [`Roster::set`]
+/// wait for a check, and the number of services that run. An object is changed by [`Roster::change`]
 /// alone, so that its place in its queue is always what its state says. Contracts see how many hosts
 /// there are, and the state of each object by number.
 #[derive(Drop)]
@@ -81,20 +82,26 @@ impl Roster {
         self.objects[number as usize]
     }
 
-    /// Gives the object with this number a new state.
-    pub(crate) fn set(&mut self, number: u32, object: ObjectState)
+    /// Does this to the object with this number, in its place.
+    pub(crate) fn change(&mut self, number: u32, change: Change)
         requires { number < length self.old.objects }
-        ensures { self.new ≡ record { hosts = self.old.hosts; objects = slice_set self.old.objects number object } }
+        ensures { self.new ≡ record {
+          hosts = self.old.hosts;
+          objects = update_at number (changed change) self.old.objects;
+        } }
     {
         let index = number as usize;
-        let before = self.objects[index];
-        self.objects[index] = object;
+        let object = &mut self.objects[index];
+        let was_running = object.is_running();
+        object.change(change);
+        let is_running = object.is_running();
+        let time = object.candidate_time();
         if index < self.hosts {
-            place(&mut self.waiting_hosts, number, object);
+            place(&mut self.waiting_hosts, number, time);
         } else {
-            place(&mut self.waiting_services, number, object);
-            self.running_services += usize::from(object.is_running());
-            self.running_services -= usize::from(before.is_running());
+            place(&mut self.waiting_services, number, time);
+            self.running_services += usize::from(is_running);
+            self.running_services -= usize::from(was_running);
         }
     }
 
@@ -121,13 +128,12 @@ impl Roster {
     }
 }
 
-/// Gives an object the place in its queue that its state says: at the time for which it waits, or
-/// none.
-fn place(queue: &mut Queue, number: u32, object: ObjectState)
+/// Gives an object its place in its queue: at the time for which it waits, or none.
+fn place(queue: &mut Queue, number: u32, time: Option<u64>)
     requires { number < length queue.old }
-    ensures { queue.new ≡ slice_set queue.old number (candidate_time object) }
+    ensures { queue.new ≡ slice_set queue.old number time }
 {
-    match object.candidate_time() {
+    match time {
         Some(time) => queue.put(number, time),
         None => {
             queue.remove(number);
@@ -149,7 +155,7 @@ fn waiting(
 {
     let mut queue = Queue::new(alloc, objects.len() as u32)?;
     for number in from..to {
-        place(&mut queue, number as u32, objects[number]);
+        place(&mut queue, number as u32, objects[number].candidate_time());
     }
     Ok(queue)
 }

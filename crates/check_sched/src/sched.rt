@@ -5,6 +5,7 @@ ghost use Rattle.check_objects.specs.Configuration.{IsSetup, object_count};
 ghost use Rattle.check_sched.specs.State.{
   IsStandingOf,
   has_room,
+  is_time,
   next_of,
   objects_at,
   opening,
@@ -22,14 +23,16 @@ ghost use Rattle.check_sched.specs.Step.{
   step,
   taken,
   waiting_reply,
+  with_object,
   within_range,
 };
+ghost use Rattle.check_sched.specs.Change.{changed, is_quiet};
 ghost use Rattle.check_sched.specs.Report.{put_off_until};
 ghost use Rattle.check_sched.specs.Reply.{OnRefused, NamesObjectOf, TellsTimesUpTo, reply_of};
 
 use crate::call::{Call, Refusal, Reply};
 use crate::candidate::{Candidate, if_due};
-use crate::object_state::{ObjectState, Run};
+use crate::object_state::{Change, ObjectState, Run};
 use crate::report::{is_changed, judged, next_after, put_off_until};
 use crate::roster::Roster;
 use check_objects::Setup;
@@ -205,9 +208,7 @@ impl Sched {
         ensures times { TellsTimesUpTo LAST_TIME result }
     {
         let until = put_off_until(&self.setup, object, now);
-        let mut state = self.roster.at(object);
-        state.put_off(until);
-        self.roster.set(object, state);
+        self.change(object, Change::PutOff(until));
         Reply::PutOff { object, until }
     }
 
@@ -225,9 +226,7 @@ impl Sched {
             number: self.runs,
             start: now,
         };
-        let mut state = self.roster.at(object);
-        state.begin_run(run);
-        self.roster.set(object, state);
+        self.roster.change(object, Change::Begin(run));
         Reply::Taken {
             object,
             run: self.runs,
@@ -253,15 +252,14 @@ impl Sched {
         ensures reply { reply_of result ≡ (step self.old (Call.Report object run code)).1 }
         ensures times { TellsTimesUpTo LAST_TIME (reply_of result) }
     {
-        let mut state = self.object(object)?;
+        let state = self.object(object)?;
         let running = state.run_under(run)?;
         let index = object as usize;
         let before = self.standings[index];
         let standing = judged(&self.setup, &self.standings, object, code);
         let changed = is_changed(before, standing);
         let next = next_after(&self.setup, object, standing, running.start(), state.next());
-        state.end_run(next);
-        self.roster.set(object, state);
+        self.roster.change(object, Change::End(next));
         self.standings[index] = standing;
         Ok(Reply::Standing {
             standing,
@@ -276,12 +274,11 @@ impl Sched {
         ensures reply { reply_of result ≡ (step self.old (Call.Abandon object run now)).1 }
         ensures times { TellsTimesUpTo LAST_TIME (reply_of result) }
     {
-        let mut state = self.object(object)?;
+        let state = self.object(object)?;
         test_moment(now)?;
         state.run_under(run)?;
         let next = state.freed_time(now);
-        state.end_run(Some(next));
-        self.roster.set(object, state);
+        self.change(object, Change::End(Some(next)));
         Ok(Reply::Freed { next })
     }
 
@@ -290,10 +287,9 @@ impl Sched {
         ensures state { self.new ≡ (step self.old (Call.Reschedule object time forced)).0 }
         ensures reply { reply_of result ≡ (step self.old (Call.Reschedule object time forced)).1 }
     {
-        let mut state = self.object(object)?;
+        self.object(object)?;
         test_moment(time)?;
-        state.reschedule(time, forced);
-        self.roster.set(object, state);
+        self.change(object, Change::Reschedule { time, forced });
         Ok(Reply::Done)
     }
 
@@ -302,10 +298,18 @@ impl Sched {
         ensures state { self.new ≡ (step self.old (Call.Enable object on)).0 }
         ensures reply { reply_of result ≡ (step self.old (Call.Enable object on)).1 }
     {
-        let mut state = self.object(object)?;
-        state.enable(on);
-        self.roster.set(object, state);
+        self.object(object)?;
+        self.change(object, Change::Enable(on));
         Ok(Reply::Done)
+    }
+
+    /// Does this to the scheduling of an object; all else stays as it was.
+    fn change(&mut self, object: u32, change: Change)
+        requires there { object < object_count self.old.setup }
+        requires quiet { IsTrue (is_quiet change) }
+        ensures { self.new ≡ with_object object (changed change) self.old }
+    {
+        self.roster.change(object, change);
     }
 
     /// Tells what is known of an object.
@@ -324,7 +328,9 @@ impl Sched {
 
     /// What is kept of the object with this number.
     fn object(&self, number: u32) -> Result<ObjectState, Refusal>
-        ensures { result ≡ known number self.now }
+        ensures value { result ≡ known number self.now }
+        ensures there { OnOk result (number < object_count self.now.setup) }
+        ensures times { IfOk result (λ object. IsTrue (is_time object.next)) }
     {
         match self.roster.get(number) {
             Some(object) => Ok(object),
@@ -388,7 +394,8 @@ fn reply_of(answer: Result<Reply, Refusal>) -> Reply
 
 /// Refuses a moment that is too late.
 fn test_moment(moment: u64) -> Result<(), Refusal>
-    ensures { result ≡ within_range moment }
+    ensures value { result ≡ within_range moment }
+    ensures within { OnOk result (moment ≤ LAST_MOMENT) }
 {
     if moment > LAST_MOMENT {
         Err(Refusal::TimeRange)

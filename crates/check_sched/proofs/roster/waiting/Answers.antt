@@ -1,4 +1,4 @@
-use Rattle.std.proofs.Common.{◌<◌, ap, length, ◌∙◌, arith}
+use Rattle.std.proofs.Common.{◌<◌, ap, length, set, ◌∙◌, arith}
 use Rattle.check_sched.proofs.RosterLaws.{between, between_none, length-waiting_from, set_next}
 use Rattle.check_sched.proofs.roster.waiting.Goals as goal
 
@@ -15,7 +15,8 @@ loop-number-preserved c =
     let above = c.loop-number.invariant.above in
     let there : c.loop-number.number < length c.args.objects.now = omega (arith, c.loop-number-test.true, c.requires.within) in
     record {
-      waiting = c.place.ensures ∙ set_next c.args.from c.loop-number.number c.loop-number.queue c.args.objects.now c.index-objects-number.result
+      waiting = c.place.ensures ∙ ap (λ time. set c.loop-number.queue c.loop-number.number time) c.candidate_time.ensures
+          ∙ set_next c.args.from c.loop-number.number c.loop-number.queue c.args.objects.now c.index-objects-number.result
           c.index-objects-number.result c.loop-number.invariant.waiting c.index-objects-number.is above there;
       above = omega (arith, above);
     }

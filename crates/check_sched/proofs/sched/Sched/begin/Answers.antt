@@ -1,4 +1,4 @@
-use Rattle.std.proofs.Common.{◌<◌, ap, arith, ◌∙◌}
+use Rattle.std.proofs.Common.{◌<◌, ap, arith, refl, ◌∙◌}
 use Rattle.check_sched.specs.Sched.{state_of}
 use Rattle.check_sched.specs.State.{State}
 use Rattle.check_sched.specs.Step.{is_open}
@@ -13,13 +13,13 @@ invariant_of-self c =
     let spare : c.self.inside.runs < MAX_RUNS = let m = c.requires.spare in omega (arith, m, runs) in
     let may = ap (λ (t : State). is_open t c.args.object) c.self.view_is ∙ c.requires.«open» in
     record {
-      state = rw (c.set.ensures, taken_left c.args.now c.args.object s c.at-state.result c.begin_run.new.self c.at-state.ensures c.begin_run.ensures)
+      state = rw c.change.ensures
           (taken_is_state c.args.now c.args.object s c.self.invariant.state c.requires.moment spare may);
       marks = c.self.invariant.marks;
-      hosts = rw c.set.ensures c.self.invariant.hosts;
+      hosts = rw c.change.ensures c.self.invariant.hosts;
     }
 
 pub returns-clause-state : goal.returns-clause-state
 returns-clause-state c =
     let s = state_of c.self.inside in
-    rw (← c.self.view_is, c.set.ensures) (taken_left c.args.now c.args.object s c.at-state.result c.begin_run.new.self c.at-state.ensures c.begin_run.ensures)
+    rw (← c.self.view_is, c.change.ensures) refl

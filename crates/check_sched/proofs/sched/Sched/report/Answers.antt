@@ -28,44 +28,32 @@ standing_there inside n o h e = let l = count_there inside n o h e in let m = h.
 pub judged-standing-requires-clause-before : goal.judged-standing-requires-clause-before
 judged-standing-requires-clause-before c =
     let s = state_of c.self.inside in
-    let found = ap (known c.args.object) c.self.view_is ∙ sym c.object.ensures ∙ c.in_ok-state.was in
+    let found = ap (known c.args.object) c.self.view_is ∙ sym c.object.ensures.value ∙ c.in_ok-state.was in
     rw c.deref.ensures.value (standing_of_state s c.args.object c.self.invariant.state
     (count_there c.self.inside c.args.object c.in_ok-state.state c.self.invariant.state found))
 
 pub next_after-next-requires-clause-there : goal.next_after-next-requires-clause-there
 next_after-next-requires-clause-there c =
-    let found = ap (known c.args.object) c.self.view_is ∙ sym c.object.ensures ∙ c.in_ok-state.was in
+    let found = ap (known c.args.object) c.self.view_is ∙ sym c.object.ensures.value ∙ c.in_ok-state.was in
     count_there c.self.inside c.args.object c.in_ok-state.state c.self.invariant.state found
 
 pub next_after-next-requires-clause-moment : goal.next_after-next-requires-clause-moment
 next_after-next-requires-clause-moment c =
     let s = state_of c.self.inside in
-    let found = ap (known c.args.object) c.self.view_is ∙ sym c.object.ensures ∙ c.in_ok-state.was in
+    let found = ap (known c.args.object) c.self.view_is ∙ sym c.object.ensures.value ∙ c.in_ok-state.was in
     rw c.start.ensures (start_of_state s c.args.object c.in_ok-state.state c.in_ok-running.running c.self.invariant.state
     (known_is c.args.object s c.in_ok-state.state found)
     (under_is c.args.run c.in_ok-state.state.run c.in_ok-running.running (sym c.run_under.ensures ∙ c.in_ok-running.was)))
 
-pub next_after-next-requires-clause-in_time : goal.next_after-next-requires-clause-in_time
-next_after-next-requires-clause-in_time c =
-    let s = state_of c.self.inside in
-    let found = ap (known c.args.object) c.self.view_is ∙ sym c.object.ensures ∙ c.in_ok-state.was in
-    rw c.next.ensures (is_time_reads c.in_ok-state.state.next
-    (next_of_state s c.args.object c.in_ok-state.state c.self.invariant.state (known_is c.args.object s c.in_ok-state.state found)))
-
-pub set-requires : goal.set-requires
-set-requires c =
-    let found = ap (known c.args.object) c.self.view_is ∙ sym c.object.ensures ∙ c.in_ok-state.was in
-    object_there c.self.inside c.args.object c.in_ok-state.state found
-
 pub index_mut-requires : goal.index_mut-requires
 index_mut-requires c =
-    let found = ap (known c.args.object) c.self.view_is ∙ sym c.object.ensures ∙ c.in_ok-state.was in
+    let found = ap (known c.args.object) c.self.view_is ∙ sym c.object.ensures.value ∙ c.in_ok-state.was in
     let there = standing_there c.self.inside c.args.object c.in_ok-state.state c.self.invariant.state found in
     omega (arith, there)
 
 -- the object that was found
 found : (c : goal.After-self-1) → known c.args.object (state_of c.self.inside) ≡ Ok c.in_ok-state.state
-found c = ap (known c.args.object) c.self.view_is ∙ sym c.object.ensures ∙ c.in_ok-state.was
+found c = ap (known c.args.object) c.self.view_is ∙ sym c.object.ensures.value ∙ c.in_ok-state.was
 
 -- what the step answers, by the standing and the next time that the code makes
 answer : (c : goal.After-self-1) → step (state_of c.self.inside) (call.Report c.args.object c.args.run c.args.code)
@@ -81,12 +69,7 @@ answer c =
     (c.judged-standing.ensures ∙ ap (λ standings. judged c.self.inside.setup standings c.args.object c.args.code) c.deref.ensures.value)
     (c.next_after-next.ensures.value ∙ (λ i. next_after c.self.inside.setup c.args.object c.judged-standing.result (c.start.ensures i) (c.next.ensures i)))
 
--- the objects and the standings that the writes leave
-objects_left : (c : goal.After-self-1)
-    → set c.self.inside.roster.objects c.args.object c.end_run.new.self ≡ update_at c.args.object (ended c.next_after-next.result) c.self.inside.roster.objects
-objects_left c =
-    set_is_update_of _ _ _ c.in_ok-state.state _ (known_is c.args.object (state_of c.self.inside) c.in_ok-state.state (found c)) c.end_run.ensures
-
+-- the standings that the write leaves
 standings_left : (c : goal.After-self-1)
     → set c.self.inside.standings.items c.args.object c.judged-standing.result ≡ update_at c.args.object
     (λ (before : Standing). c.judged-standing.result) c.self.inside.standings.items
@@ -110,15 +93,15 @@ invariant_of-self c =
     (report_standing c.args.object c.args.code c.in_ok-state.state s c.self.invariant.state (known_is c.args.object s c.in_ok-state.state (found c))) in
     record {
       state =
-          rw (c.set.ensures, state_left c _ _ (objects_left c) (standings_left c))
+          rw (c.change.ensures, state_left c _ _ refl (standings_left c))
           (reported_is_state c.args.object c.judged-standing.result c.next_after-next.result s c.self.invariant.state
           (is_time_holds c.next_after-next.result c.next_after-next.ensures.within) within);
       marks = c.self.invariant.marks;
-      hosts = rw c.set.ensures c.self.invariant.hosts;
+      hosts = rw c.change.ensures c.self.invariant.hosts;
     }
 
 pub returns-clause-state : goal.returns-clause-state
-returns-clause-state c = rw (← c.self.view_is, answer c, c.set.ensures) (state_left c _ _ (objects_left c) (standings_left c))
+returns-clause-state c = rw (← c.self.view_is, answer c, c.change.ensures) (state_left c _ _ refl (standings_left c))
 
 pub returns-clause-reply : goal.returns-clause-reply
 returns-clause-reply c =

@@ -1,0 +1,24 @@
+-- Laws of what is done to one object.
+use Rattle.std.proofs.Common.{◌≡◌, Bool, true, Some, refl}
+use Rattle.std.proofs.lemmas.Bool.{and_parts, and_from}
+use Rattle.check_sched.specs.declared.object_state.Change.{Change}
+use Rattle.check_sched.specs.declared.object_state.Change.TheVariants as change
+use Rattle.check_sched.specs.Change.{changed, is_quiet}
+use Rattle.check_sched.specs.Scheduling.{Scheduling}
+use Rattle.check_sched.specs.State.{is_in_time, is_moment, is_time}
+use Rattle.check_sched.proofs.LimitLaws.{BeginsNone}
+
+-- a quiet change keeps an object within its limits
+pub quiet_in_time : (c : Change) (o : Scheduling) → is_quiet c ≡ true → is_in_time o ≡ true → is_in_time (changed c o) ≡ true
+quiet_in_time (change.Begin run) o q e = cc
+quiet_in_time (change.End next) o q e = and_from (is_time next) true q refl
+quiet_in_time (change.PutOff until) o q e = and_from (is_time until) (is_moment o.run) q (and_parts (is_time o.next) (is_moment o.run) e).1
+quiet_in_time (change.Reschedule time forced) o q e = and_from (is_time (Some time)) (is_moment o.run) q (and_parts (is_time o.next) (is_moment o.run) e).1
+quiet_in_time (change.Enable on) o q e = e
+
+pub quiet_begins_none : (c : Change) → is_quiet c ≡ true → BeginsNone (changed c)
+quiet_begins_none (change.Begin run) q o e = cc
+quiet_begins_none (change.End next) q o e = cc
+quiet_begins_none (change.PutOff until) q o e = e
+quiet_begins_none (change.Reschedule time forced) q o e = e
+quiet_begins_none (change.Enable on) q o e = e
