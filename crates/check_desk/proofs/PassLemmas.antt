@@ -14,46 +14,51 @@ use Rattle.check_sched.specs.declared.call.Call.{Call}
 use Rattle.check_sched.specs.declared.call.Reply.{Reply}
 use Rattle.check_desk.specs.declared.desk.Desk.{Desk}
 use Rattle.check_desk.specs.declared.passes.Pass.{Pass}
-use Rattle.check_desk.specs.Desks.{AreNewPasses, IsHistoryOf, IsPassOf, passes_of}
-use Rattle.check_desk.specs.Passes.{opening_calls, pass_of, new_pass}
+use Rattle.check_desk.specs.Desks.{AreNewPassesWith, IsHistoryOf, IsPassOf, calls_of, passes_of}
+use Rattle.check_desk.specs.Passes.{pass_of, new_pass_with}
 
--- a caller for the numbers from this one on
-abbrev pub rest_from : ℕ → ℕ → Caller Call Reply
-rest_from n count = caller n (counted n count) (count * opening_calls) 0 true []
+-- a caller for the numbers from this one on, with so many calls for each
+abbrev pub rest_from : ℕ → ℕ → ℕ → Caller Call Reply
+rest_from calls n count = caller n (counted n count) (count * calls) 0 true []
 
 length-counted : (n k : ℕ) → length (counted n k) ≡ k
 length-counted n zero = refl
 length-counted n (suc k) = ap suc (length-counted (n + 1) k)
 
-pub new_push : (desk : Desk) (n : ℕ) (ps : List Pass) (p : Pass) → AreNewPasses desk n ps → IsPassOf desk p → pass_of p ≡ new_pass (n + length ps)
-    → AreNewPasses desk n (ps ++ p ∷ [])
-new_push desk n [] p h is e = (is, e ∙ ap new_pass (let s : n + 0 ≡ n = omega arith in s), tt)
-new_push desk n (q ∷ ps) p h is e =
-    (h.0, h.1, new_push desk (n + 1) ps p h.2 is (e ∙ ap new_pass (let s : n + suc (length ps) ≡ n + 1 + length ps = omega arith in s)))
+pub new_push : (calls : ℕ) (desk : Desk) (n : ℕ) (ps : List Pass) (p : Pass) → AreNewPassesWith calls desk n ps → IsPassOf desk p
+    → pass_of p ≡ new_pass_with calls (n + length ps) → AreNewPassesWith calls desk n (ps ++ p ∷ [])
+new_push calls desk n [] p h is e = (is, e ∙ ap (new_pass_with calls) (let s : n + 0 ≡ n = omega arith in s), tt)
+new_push calls desk n (q ∷ ps) p h is e = (
+  h.0,
+  h.1,
+  new_push calls desk (n + 1) ps p h.2 is (e ∙ ap (new_pass_with calls) (let s : n + suc (length ps) ≡ n + 1 + length ps = omega arith in s)),
+)
 
 -- so many passes are handed out, and the rest is in one seat
 pub record IsHandingOut (desk : Desk) (n : ℕ) (rest : Caller Call Reply) (ps : List Pass) : Type 0 where
   pub count : length ps ≡ n
-  pub new : AreNewPasses desk 0 ps
-  pub rest_is : rest ≡ rest_from n (passes_of desk - n)
+  pub new : AreNewPassesWith (calls_of desk) desk 0 ps
+  pub rest_is : rest ≡ rest_from (calls_of desk) n (passes_of desk - n)
 
 -- the seat of the rest stands for all numbers that are left
-pub rest_size : (n count : ℕ) (rest : Caller Call Reply) → rest ≡ rest_from n count → length rest.numbers ≡ count
-rest_size n count rest e = ap (λ r. length r.numbers) e ∙ length-counted n count
+pub rest_size : (calls n count : ℕ) (rest : Caller Call Reply) → rest ≡ rest_from calls n count → length rest.numbers ≡ count
+rest_size calls n count rest e = ap (λ r. length r.numbers) e ∙ length-counted n count
 
 -- the seat of one pass, split off the front of the rest
-pub own_is : (n count : ℕ) (rest : Caller Call Reply) → 1 < count → rest ≡ rest_from n count → keeping opening_calls (length rest.numbers - 1) rest ≡ new_pass n
-own_is n zero rest h e = absurd (omega arith)
-own_is n (suc k) rest h e =
+pub own_is : (calls n count : ℕ) (rest : Caller Call Reply) → 1 < count → rest ≡ rest_from calls n count
+    → keeping calls (length rest.numbers - 1) rest ≡ new_pass_with calls n
+own_is calls n zero rest h e = absurd (omega arith)
+own_is calls n (suc k) rest h e =
     let size : length (counted (n + 1) k) ≡ k = length-counted (n + 1) k in
     let one : suc (length (counted (n + 1) k)) - (suc (length (counted (n + 1) k)) - 1) ≡ 1 = omega arith in
-    rw (e, one) refl
+    let once : 1 * calls ≡ calls = omega arith in
+    rw (e, one) (ap (λ left. new_pass_with left n) once)
 
 -- and what is left
-pub more_is : (n count : ℕ) (rest : Caller Call Reply) → 1 < count → rest ≡ rest_from n count
-    → given opening_calls (length rest.numbers - 1) rest ≡ rest_from (n + 1) (count - 1)
-more_is n zero rest h e = absurd (omega arith)
-more_is n (suc k) rest h e =
+pub more_is : (calls n count : ℕ) (rest : Caller Call Reply) → 1 < count → rest ≡ rest_from calls n count
+    → given calls (length rest.numbers - 1) rest ≡ rest_from calls (n + 1) (count - 1)
+more_is calls n zero rest h e = absurd (omega arith)
+more_is calls n (suc k) rest h e =
     let size : length (counted (n + 1) k) ≡ k = length-counted (n + 1) k in
     let one : suc (length (counted (n + 1) k)) - (suc (length (counted (n + 1) k)) - 1) ≡ 1 = omega arith in
     let most : suc (length (counted (n + 1) k)) - 1 ≡ k = omega (arith, size) in
@@ -61,19 +66,22 @@ more_is n (suc k) rest h e =
     rw (e, one, most, less) refl
 
 -- the last of them stands for one number
-pub last_is : (n : ℕ) (rest : Caller Call Reply) → rest ≡ rest_from n 1 → rest ≡ new_pass n
-last_is n rest e = e
+pub last_is : (calls n : ℕ) (rest : Caller Call Reply) → rest ≡ rest_from calls n 1 → rest ≡ new_pass_with calls n
+last_is calls n rest e =
+    let once : 1 * calls ≡ calls = omega arith in
+    e ∙ ap (λ left. new_pass_with left n) once
 
 -- each of them is of the desk
-pub new_at : (desk : Desk) (n : ℕ) (ps : List Pass) (i : ℕ) (d : Pass) → AreNewPasses desk n ps → i < length ps → IsPassOf desk (get_or ps i d)
-new_at desk n [] i d h l = absurd (omega arith)
-new_at desk n (p ∷ ps) zero d h l = h.0
-new_at desk n (p ∷ ps) (suc i) d h l = new_at desk (n + 1) ps i d h.2 (omega arith)
+pub new_at : (calls : ℕ) (desk : Desk) (n : ℕ) (ps : List Pass) (i : ℕ) (d : Pass) → AreNewPassesWith calls desk n ps → i < length ps
+    → IsPassOf desk (get_or ps i d)
+new_at calls desk n [] i d h l = absurd (omega arith)
+new_at calls desk n (p ∷ ps) zero d h l = h.0
+new_at calls desk n (p ∷ ps) (suc i) d h l = new_at calls desk (n + 1) ps i d h.2 (omega arith)
 
 -- so is the last of them
-pub new_last : (desk : Desk) (n : ℕ) (ps : List Pass) (p : Pass) → AreNewPasses desk n (ps ++ p ∷ []) → IsPassOf desk p
-new_last desk n [] p h = h.0
-new_last desk n (q ∷ ps) p h = new_last desk (n + 1) ps p h.2
+pub new_last : (calls : ℕ) (desk : Desk) (n : ℕ) (ps : List Pass) (p : Pass) → AreNewPassesWith calls desk n (ps ++ p ∷ []) → IsPassOf desk p
+new_last calls desk n [] p h = h.0
+new_last calls desk n (q ∷ ps) p h = new_last calls desk (n + 1) ps p h.2
 
 -- ---- what each pass is known to have
 

@@ -17,7 +17,7 @@ use Rattle.check_desk.specs.declared.desk.Poll.TheVariants as found
 use Rattle.check_desk.specs.declared.passes.Pass.{Pass}
 use Rattle.check_desk.specs.declared.passes.Turn.{Turn}
 use Rattle.check_desk.specs.declared.passes.Hold.{Hold}
-use Rattle.check_desk.specs.Passes.{book_in_hand, pass_of, new_pass}
+use Rattle.check_desk.specs.Passes.{book_in_hand, opening_calls, pass_of, new_pass_with}
 
 -- the state of the book that the desk was opened with: the setup and the start of its scheduler, and its room
 abbrev pub opened_with : Desk → BookState
@@ -26,6 +26,10 @@ opened_with desk = opening_of (start_of desk.lock).book
 -- how many passes were made
 abbrev pub passes_of : Desk → ℕ
 passes_of desk = (start_of desk.lock).numbers
+
+-- how many calls each of them brought
+abbrev pub calls_of : Desk → ℕ
+calls_of desk = (start_of desk.lock).draws
 
 -- it is of this desk
 abbrev pub IsPassOf : Desk → Pass → Type 0
@@ -41,10 +45,15 @@ IsHolderAt desk hold = IsHoldOf desk.lock hold.hold × (opening_of (book_in_hand
 abbrev pub IsHistoryOf : Desk → List (Entry Call Reply) → Type 0
 IsHistoryOf desk history = IsLegal book_step (opened_with desk) history
 
--- the passes of a desk as it hands them out, from this number on
+-- the passes of a desk as it hands them out with so many calls each, from this number on
+abbrev pub AreNewPassesWith : ℕ → Desk → ℕ → List Pass → Type 0
+AreNewPassesWith calls desk number [] = ⊤
+AreNewPassesWith calls desk number (pass ∷ passes) =
+    IsPassOf desk pass × (pass_of pass ≡ new_pass_with calls number) × AreNewPassesWith calls desk (number + 1) passes
+
+-- the same with as many calls as a pass can bring
 abbrev pub AreNewPasses : Desk → ℕ → List Pass → Type 0
-AreNewPasses desk number [] = ⊤
-AreNewPasses desk number (pass ∷ passes) = IsPassOf desk pass × (pass_of pass ≡ new_pass number) × AreNewPasses desk (number + 1) passes
+AreNewPasses desk number passes = AreNewPassesWith opening_calls desk number passes
 
 -- ---- answers
 

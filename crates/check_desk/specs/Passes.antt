@@ -27,10 +27,14 @@ drawn_ticket turn = ticket_of turn.turn
 abbrev pub book_in_hand : Hold → Book
 book_in_hand hold = hold.book
 
--- how many calls a pass has left as a desk hands it out
+-- how many calls each pass brings where the caller names no other number, and the most that it can bring
 abbrev pub opening_calls : ℕ
 opening_calls = 2 ^ 32 - 1
 
--- the pass of this number as a desk hands it out: it answers for itself, has made no call and has seen nothing
+-- the pass of this number as a desk hands it out with so many calls: it answers for itself, has made no call and has seen nothing
+abbrev pub new_pass_with : ℕ → ℕ → Caller Call Reply
+new_pass_with calls number = caller number (number ∷ []) calls 0 true []
+
+-- the same with as many calls as a pass can bring
 abbrev pub new_pass : ℕ → Caller Call Reply
-new_pass number = caller number (number ∷ []) opening_calls 0 true []
+new_pass number = new_pass_with opening_calls number

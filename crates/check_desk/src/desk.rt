@@ -9,7 +9,6 @@ ghost use Rattle.ticket_lock.specs.Tokens.{seat_of, start_of, IsSeatOf};
 ghost use Rattle.ticket_lock.specs.Views.{Follows};
 ghost use Rattle.check_sched.specs.BookState.{book_step};
 ghost use Rattle.check_sched.specs.Books.{entries_of, opening_of, refused_of, room_of, state_of};
-ghost use Rattle.check_desk.specs.Passes.{opening_calls};
 
 use crate::passes::{Hold, Pass, Turn};
 use check_sched::{Book, Call, Reply};
@@ -27,7 +26,6 @@ pub struct Desk {
     pub(crate) lock: TicketLock<Book>,
     pub(crate) passes: u32,
     ghost passes_are: { (start_of lock).numbers ≡ passes },
-    ghost draws_are: { (start_of lock).draws ≡ opening_calls },
 }
 
 /// What a poll finds.
@@ -51,11 +49,12 @@ pub enum Answer {
 
 impl Desk {
     ghost use Rattle.check_desk.specs.Desks.{AreNewPasses, HasNoMemory, HasRecorded, IsHistoryOf, IsHolderAt, IsPassOf, IsWaitingAt, MatchAnswer};
-    ghost use Rattle.check_desk.specs.Desks.{MatchPoll, opened_with, passes_of, recorded};
+    ghost use Rattle.check_desk.specs.Desks.{AreNewPassesWith, MatchPoll, calls_of, opened_with, passes_of, recorded};
     ghost use Rattle.check_desk.specs.Passes.{book_in_hand, drawn_ticket, holder_of, pass_of, waiting_of};
 
     /// A desk over the book, and its passes in the order of their numbers, from 0. Each has 2^32 - 1
-    /// calls, stands for itself alone, and has made no call and seen nothing.
+    /// calls, the most that [`Desk::open_with`] gives, stands for itself alone, and has made no call
+    /// and seen nothing.
     ///
     /// An Err means out of memory, and hands the book back as it was. No other call but
     /// [`Desk::finish`] and [`Desk::ask`] needs memory, and they only where the book's room is used
@@ -70,10 +69,34 @@ impl Desk {
         ensures own { IfOk result (λ made. All (IsPassOf made.0) made.1.items) }
         ensures err { IfErr result (λ back. back ≡ book) }
     {
+        Desk::open_with(alloc, book, passes, DRAWS)
+    }
+
+    /// A desk as `open` makes it, whose passes bring so many calls each: for callers that are to make
+    /// few calls. A pass is spent when it has made them.
+    ///
+    /// An Err means out of memory, and hands the book back as it was. Which other calls need memory
+    /// is told at [`Desk::open`].
+    pub fn open_with(
+        alloc: Global,
+        book: Book,
+        passes: u32,
+        calls: u32,
+    ) -> Result<(Desk, Vec<Pass>), Book>
+        requires passes { (0 < passes) × (passes ≤ 1024) }
+        requires calls { 0 < calls }
+        requires empty { (entries_of book ≡ []) × (refused_of book ≡ 0) }
+        ensures opening { IfOk result (λ made. opened_with made.0 ≡ opening_of book) }
+        ensures passes { IfOk result (λ made. passes_of made.0 ≡ passes) }
+        ensures list { IfOk result (λ made. length made.1.items ≡ passes) }
+        ensures new { IfOk result (λ made. AreNewPassesWith calls made.0 0 made.1.items) }
+        ensures own { IfOk result (λ made. All (IsPassOf made.0) made.1.items) }
+        ensures err { IfErr result (λ back. back ≡ book) }
+    {
         let Ok(mut list) = Vec::with_capacity(alloc, passes as usize) else {
             return Err(book);
         };
-        match TicketLock::open(alloc, book, passes) {
+        match TicketLock::open_with(alloc, book, passes, calls) {
             Ok((lock, seat)) => {
                 let desk = Desk { lock, passes };
                 desk.hand_out(seat, &mut list);
@@ -86,12 +109,12 @@ impl Desk {
     /// Divides the seat that stands for all numbers into one pass for each.
     fn hand_out(&self, seat: Seat<Book>, list: &mut Vec<Pass>)
         requires desk { IsSeatOf self.now.lock seat }
-        requires all { seat_of seat ≡ first_caller (passes_of self.now) DRAWS }
+        requires all { seat_of seat ≡ first_caller (passes_of self.now) (calls_of self.now) }
         requires some { 0 < passes_of self.now }
         requires empty { list.old.items ≡ [] }
         requires room { passes_of self.now ≤ vec_capacity list.old }
         ensures list { length list.new.items ≡ passes_of self.now }
-        ensures new { AreNewPasses self.now 0 list.new.items }
+        ensures new { AreNewPassesWith (calls_of self.now) self.now 0 list.new.items }
         ensures own { All (IsPassOf self.now) list.new.items }
     {
         let mut rest = seat;

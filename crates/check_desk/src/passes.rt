@@ -11,7 +11,8 @@ ghost use Rattle.ticket_lock.specs.Tokens.{held_ticket_of, hold_of, refused_befo
 use check_sched::Book;
 use ticket_lock::Seat;
 
-/// The right to call: one caller's, for up to 2^32 - 1 calls, which are recorded under its number.
+/// The right to call: one caller's, for as many calls as the desk was opened with, up to 2^32 - 1,
+/// which are recorded under its number.
 ///
 /// Gathering puts passes together, when their callers have returned.
 #[derive(Drop)]

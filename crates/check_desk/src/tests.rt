@@ -5,7 +5,7 @@
 
 ghost use Rattle.std.specs.Prelude.{◌≡◌, ◌<◌, ◌≤◌, [], IfOk, length};
 ghost use Rattle.check_sched.specs.Books.{entries_of, refused_of};
-ghost use Rattle.check_desk.specs.Desks.{AreNewPasses, IsHolderAt, IsPassOf, IsWaitingAt, passes_of};
+ghost use Rattle.check_desk.specs.Desks.{AreNewPasses, AreNewPassesWith, IsHolderAt, IsPassOf, IsWaitingAt, passes_of};
 
 use crate::{Answer, Desk, Hold, Pass, Poll, Turn};
 use check_objects::{LoadError, Setup};
@@ -54,6 +54,22 @@ fn opened(alloc: Global, passes: u32) -> Result<(Desk, Vec<Pass>), Fail>
         Ok(made) => Ok(made),
         Err(book) => Ok(
             Desk::open(alloc, book, passes)
+                .ok()
+                .ok_or("no memory twice")?,
+        ),
+    }
+}
+
+/// The same, with so many calls for each pass.
+fn opened_with(alloc: Global, passes: u32, calls: u32) -> Result<(Desk, Vec<Pass>), Fail>
+    requires { (0 < passes) × (passes ≤ 1024) × (0 < calls) }
+    ensures passes { IfOk result (λ made. length made.1.items ≡ passes) }
+    ensures new { IfOk result (λ made. AreNewPassesWith calls made.0 0 made.1.items) }
+{
+    match Desk::open_with(alloc, empty_book(alloc)?, passes, calls) {
+        Ok(made) => Ok(made),
+        Err(book) => Ok(
+            Desk::open_with(alloc, book, passes, calls)
                 .ok()
                 .ok_or("no memory twice")?,
         ),
@@ -268,6 +284,31 @@ fn three_passes_out_of_order(rt: HostRuntime) -> Result<(), Fail> {
     for (entry, number) in book.entries().iter().zip(numbers) {
         assert_eq!(rt; entry.pass, number);
     }
+    Ok(())
+}
+
+/// Two passes bring two calls each. The first makes them, and is spent; the second makes none.
+#[test]
+fn a_spent_pass_makes_no_call(rt: HostRuntime) -> Result<(), Fail> {
+    let (desk, mut passes) = opened_with(rt.alloc(), 2, 2)?;
+    let second = passes.pop();
+    let first = passes.pop();
+    let (Some(first), Some(second)) = (first, second) else {
+        return Err(Fail::from("not two passes"));
+    };
+    assert_eq!(rt; (first.left(), second.left()), (2, 2));
+    let first = ask_often(&rt, &desk, first, 2);
+    let (first, answer) = desk.ask(&rt, first, STATUS);
+    assert_eq!(rt; answer, Answer::Spent);
+    assert_eq!(rt; (first.left(), first.calls()), (0, 2));
+    let first = match desk.begin(first) {
+        Ok(_turn) => panic!(rt; "a ticket for a spent pass"),
+        Err(pass) => pass,
+    };
+    let pass = desk.gather(first, second);
+    assert_eq!(rt; (pass.left(), pass.calls()), (0, 2));
+    let book = closed(&rt, desk, pass);
+    assert_eq!(rt; (book.entries().len(), book.refused()), (2, 0));
     Ok(())
 }
 

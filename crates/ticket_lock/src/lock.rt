@@ -57,7 +57,8 @@ impl<K: Kept> TicketLock<K> {
     ghost use Rattle.ticket_lock.specs.Tokens.{IsSeatOf, IsTurnOf, IsHoldOf, MatchLook};
 
     /// A lock with the book in it, and a seat for all of `numbers`, each of which brings 2^32 - 1
-    /// draws. Where there is no memory for the lock the book comes back as it was.
+    /// draws, the most that [`TicketLock::open_with`] gives. Where there is no memory for the lock
+    /// the book comes back as it was.
     pub fn open(alloc: Global, book: K, numbers: u32) -> Result<(TicketLock<K>, Seat<K>), K>
         requires numbers { (0 < numbers) × (numbers ≤ 1024) }
         requires empty { (K.history book ≡ []) × (K.refusals book ≡ 0) }
@@ -70,17 +71,21 @@ impl<K: Kept> TicketLock<K> {
         TicketLock::open_with(alloc, book, numbers, DRAWS)
     }
 
-    /// As `open`, with so many draws for each number.
-    fn open_with(
+    /// A lock as `open` makes it, whose numbers bring so many draws each: for callers that are to
+    /// make few calls. Where there is no memory for the lock the book comes back as it was.
+    pub fn open_with(
         alloc: Global,
         book: K,
         numbers: u32,
         draws: u32,
     ) -> Result<(TicketLock<K>, Seat<K>), K>
-        requires { (0 < numbers) × (numbers ≤ 1024) × (K.history book ≡ []) × (K.refusals book ≡ 0) }
-        ensures made { IfOk result (λ made. ((start_of made.0).book ≡ book)
-            × ((start_of made.0).numbers ≡ numbers) × ((start_of made.0).draws ≡ draws)
-            × IsSeatOf made.0 made.1 × (seat_of made.1 ≡ first_caller numbers draws)) }
+        requires numbers { (0 < numbers) × (numbers ≤ 1024) }
+        requires draws { 0 < draws }
+        requires empty { (K.history book ≡ []) × (K.refusals book ≡ 0) }
+        ensures start { IfOk result (λ made. ((start_of made.0).book ≡ book)
+            × ((start_of made.0).numbers ≡ numbers) × ((start_of made.0).draws ≡ draws)) }
+        ensures lock { IfOk result (λ made. IsSeatOf made.0 made.1) }
+        ensures seat { IfOk result (λ made. seat_of made.1 ≡ first_caller numbers draws) }
         ensures refused { IfErr result (λ back. back ≡ book) }
     {
         let opening = Opening {

@@ -56,6 +56,21 @@ fn first_and_rest(alloc: Global, numbers: u32, room: usize) -> Result<LockOfTwo,
     Ok((lock, first, second))
 }
 
+/// A lock of one number that brings so many draws, over an empty book, and its seat.
+fn seat_with(
+    alloc: Global,
+    draws: u32,
+) -> Result<(TicketLock<CounterBook>, Seat<CounterBook>), AllocError>
+    requires { 0 < draws }
+    ensures { IfOk result (λ made. IsSeatOf made.0 made.1) }
+{
+    let book = empty_book(alloc, 10)?;
+    match TicketLock::open_with(alloc, book, 1, draws) {
+        Ok(made) => Ok(made),
+        Err(book) => TicketLock::open_with(alloc, book, 1, draws).map_err(|_book| AllocError),
+    }
+}
+
 /// A lock of two numbers over an empty book, and a seat for each of them.
 fn two_seats(alloc: Global, room: usize) -> Result<LockOfTwo, AllocError>
     ensures { IfOk result (λ made. IsSeatOf made.0 made.1 × IsSeatOf made.0 made.2) }
@@ -107,6 +122,26 @@ fn two_seats_take_turns(rt: HostRuntime) -> Result<(), Fail> {
     assert_eq!(rt; entries.len(), 2);
     assert!(rt; is_entry(&entries[0], 0, 5, 5) && is_entry(&entries[1], 1, 7, 12));
     every_step::<CounterBook>();
+    Ok(())
+}
+
+/// A seat with two draws makes two calls; then it comes back from its third draw as it was.
+#[test]
+fn a_seat_draws_as_often_as_it_was_given(rt: HostRuntime) -> Result<(), Fail> {
+    let (lock, seat) = seat_with(rt.alloc(), 2)?;
+    assert_eq!(rt; seat.left(), 2);
+    let done = add_ones(&lock, seat, 2);
+    let seat = seat_back(&rt, &lock, done);
+    let seat = match lock.draw(seat) {
+        Ok(_turn) => panic!(rt; "drew with no draw left"),
+        Err(seat) => seat,
+    };
+    assert_eq!(rt; (seat.left(), seat.calls()), (0, 2));
+    let book = match lock.close(seat) {
+        Ok(book) => book,
+        Err((_lock, _seat)) => panic!(rt; "missing"),
+    };
+    assert_eq!(rt; book.entries().len(), 2);
     Ok(())
 }
 

@@ -38,7 +38,8 @@ pub struct Core<K: Kept> {
 impl<K: Kept> Core<K> {
     ghost use Rattle.ticket_steps.specs.Cores.{state_of, opening_of, numbers_of, draws_of, IsOpenedAlike};
 
-    /// A core with one seat, whose own number is 0, for all of `numbers`, and with the book at home.
+    /// A core with one seat, whose own number is 0, for all of `numbers`, each of which brings
+    /// 2^32 - 1 draws, the most that [`Core::open_with`] gives, and with the book at home.
     /// It makes places for all seats that can come to be, so that later only a `Leave` can run out of
     /// memory. Where there is no memory for the places the book comes back as it was.
     pub fn open(alloc: Global, book: K, numbers: u32) -> Result<Core<K>, K>
@@ -53,13 +54,17 @@ impl<K: Kept> Core<K> {
         Core::open_with(alloc, book, numbers, DRAWS)
     }
 
-    /// As `open`, with so many draws for each number.
-    fn open_with(alloc: Global, book: K, numbers: u32, draws: u32) -> Result<Core<K>, K>
-        requires { (0 < numbers) × (numbers ≤ 1024) × (K.history book ≡ []) × (K.refusals book ≡ 0) }
+    /// A core as `open` makes it, whose numbers bring so many draws each: for callers that are to
+    /// make few calls, and for schedules that spend their seats. Where there is no memory for the
+    /// places the book comes back as it was.
+    pub fn open_with(alloc: Global, book: K, numbers: u32, draws: u32) -> Result<Core<K>, K>
+        requires numbers { (0 < numbers) × (numbers ≤ 1024) }
+        requires draws { 0 < draws }
+        requires empty { (K.history book ≡ []) × (K.refusals book ≡ 0) }
         ensures opened { IfOk result (λ core.
-            (state_of core ≡ opened numbers draws (K.opening book))
-            × (opening_of core ≡ K.opening book) × (numbers_of core ≡ numbers)
-            × (draws_of core ≡ draws)) }
+            state_of core ≡ opened numbers draws (K.opening book)) }
+        ensures alike { IfOk result (λ core. (opening_of core ≡ K.opening book)
+            × (numbers_of core ≡ numbers) × (draws_of core ≡ draws)) }
         ensures refused { IfErr result (λ back. back ≡ book) }
     {
         let Ok(all) = first_numbers(alloc, numbers) else {

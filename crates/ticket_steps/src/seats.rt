@@ -5,7 +5,8 @@ ghost use Rattle.ticket_steps.specs.Seats.{is_there, keeping, given, waiting, ho
 
 use std::collections::LinkedList;
 
-/// How many draws each number brings: a seat makes at most this many calls for each of its numbers.
+/// How many draws each number of a core that `Core::open` makes brings, and the most that
+/// `Core::open_with` gives: a seat makes at most this many calls for each of its numbers.
 pub const DRAWS: u32 = 4_294_967_295;
 
 /// What a seat is about.

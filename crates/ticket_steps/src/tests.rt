@@ -37,6 +37,15 @@ fn core_of_two(alloc: Global) -> Result<Core<CounterBook>, AllocError> {
     core_of(alloc, 2, 10)
 }
 
+/// A core of one number that brings one draw.
+fn core_of_one_draw(alloc: Global) -> Result<Core<CounterBook>, AllocError> {
+    let book = empty_book(alloc, 1)?;
+    match Core::open_with(alloc, book, 1, 1) {
+        Ok(core) => Ok(core),
+        Err(book) => Core::open_with(alloc, book, 1, 1).map_err(|_book| AllocError),
+    }
+}
+
 const SPLIT: Event<u8> = Event::Split { seat: 0, count: 1 };
 
 fn draw(seat: u32) -> Event<u8> {
@@ -118,6 +127,19 @@ fn a_run_stops_at_the_first_fault(rt: HostRuntime) -> Result<(), Fail> {
         (entries[1].pass, entries[1].call, entries[1].reply),
         (1, 7, 12)
     );
+    Ok(())
+}
+
+#[test]
+fn a_seat_without_a_draw_left_is_spent(rt: HostRuntime) -> Result<(), Fail> {
+    let mut core = core_of_one_draw(rt.alloc())?;
+    assert_eq!(rt; core.step(draw(0)), Ok(Seen::Drew(0)));
+    assert_eq!(rt; core.step(draw(0)), Err(Fault::Phase), "it waits");
+    assert_eq!(rt; core.step(look(0)), Ok(Seen::Held));
+    assert_eq!(rt; core.step(leave(0, 5)), Ok(Seen::Left(Ok(5))));
+    assert_eq!(rt; core.step(draw(0)), Err(Fault::Spent));
+    assert_eq!(rt; core.step(look(0)), Err(Fault::Phase), "it has no ticket");
+    assert_eq!(rt; core.book().entries().len(), 1);
     Ok(())
 }
 

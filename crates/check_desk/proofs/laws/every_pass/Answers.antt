@@ -1,4 +1,5 @@
 use Rattle.check_desk.proofs.PassLemmas.{few_calls, few_numbers, new_at, own_number, seen_history, some_number}
+use Rattle.check_desk.specs.Passes.{opening_calls}
 use Rattle.check_desk.proofs.laws.every_pass.Goals as goal
 
 pub returns : goal.returns
@@ -8,5 +9,5 @@ returns c = record {
   some = λ pass. some_number pass;
   few = λ pass. few_numbers pass;
   few_calls = λ pass. few_calls pass;
-  new = λ desk number passes h k d lt. new_at desk number passes k d h lt;
+  new = λ desk number passes h k d lt. new_at opening_calls desk number passes k d h lt;
 }

@@ -15,13 +15,13 @@ new-requires g c =
     let k = g.K.Kept in
     subst (λ xs. IsRuled k record { book = c.of.result.value; numbers = c.args.numbers; draws = c.args.draws }
     (opening first_words xs (first_view record { book = c.of.result.value; numbers = c.args.numbers; draws = c.args.draws })))
-    (sym items) (starts k _ c.args.book (ap k.opening (sym c.of.ensures)) c.requires.2 c.requires.3 c.requires.0
-    c.requires.1 (omega arith))
+    (sym items) (starts k _ c.args.book (ap k.opening (sym c.of.ensures)) c.requires.empty.0 c.requires.empty.1 c.requires.numbers.0
+    c.requires.numbers.1 (omega arith))
 
 pub invariant_of-seat : goal.invariant_of-seat
 invariant_of-seat g c =
     let counts : SeatCounts = record { number = 0; count = c.args.numbers; left = c.args.numbers * c.args.draws; calls = 0 } in
     let left = ap (λ (n : ℕ). n * c.args.draws) (length-counted 0 c.args.numbers) in
-    let t = fresh_token g.K.Kept counts true _ _ c.in-Ok-new.ensures.ok.4 refl refl tt refl refl left refl c.requires.0
-    (omega (arith, c.requires.1)) (omega arith) in
+    let t = fresh_token g.K.Kept counts true _ _ c.in-Ok-new.ensures.ok.4 refl refl tt refl refl left refl c.requires.numbers.0
+    (omega (arith, c.requires.numbers.1)) (omega arith) in
     record { bare = t.bare; legal = t.legal; idle = t.idle; told = t.told; fresh_is = t.fresh_is; range = t.range; row = t.row }

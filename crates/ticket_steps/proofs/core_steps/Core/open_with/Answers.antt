@@ -1,4 +1,4 @@
-use Rattle.std.proofs.Common.{rules, refl, ◌≡◌, ◌*◌, ◌∷◌, [], sym, ap, ◌∙◌, subst, true}
+use Rattle.std.proofs.Common.{rules, ◌≡◌, ◌*◌, ◌∷◌, [], sym, ap, ◌∙◌, subst, true}
 use Rattle.ticket_steps.specs.declared.seats.Phase.TheVariants.{Idle}
 use Rattle.ticket_steps.specs.History.{replay}
 use Rattle.ticket_steps.specs.Books.{book_state}
@@ -19,14 +19,14 @@ opens g c =
     let k = g.K.Kept in
     let book = c.args.book in
     let items : c.push_reserved.new.self.items ≡ seat 0 c.in-Ok.all Idle (c.args.numbers * c.args.draws) 0 true ∷ [] = search rules in
-    let state : k.state book ≡ k.opening book = g.met.K.Kept.replayed book ∙ ap (replay k.step (k.opening book)) c.requires.2 in
+    let state : k.state book ≡ k.opening book = g.met.K.Kept.replayed book ∙ ap (replay k.step (k.opening book)) c.requires.empty.0 in
     opened_is c.args.numbers c.args.draws (k.opening book) (k.state book) (k.history book) (k.refusals book) c.open.result
-    c.push_reserved.new.self.items c.in-Ok.all c.open.ensures c.in-Ok.ensures items state c.requires.2 c.requires.3
+    c.push_reserved.new.self.items c.in-Ok.all c.open.ensures c.in-Ok.ensures items state c.requires.empty.0 c.requires.empty.1
 
 pub invariant_of-result-clause-lawful : goal.invariant_of-result-clause-lawful
 invariant_of-result-clause-lawful g c =
     subst (IsLawful c.args.numbers c.args.draws) (sym (opens g (goal.at.invariant_of-result-clause-lawful g c).After-open))
-    (lawful_opened c.args.numbers c.args.draws (g.K.Kept.opening c.args.book) c.requires.0)
+    (lawful_opened c.args.numbers c.args.draws (g.K.Kept.opening c.args.book) c.requires.numbers.0)
 
 pub returns-clause-opened : goal.returns-clause-opened
-returns-clause-opened g c = (opens g (goal.at.returns-clause-opened g c).After-open, refl, refl, refl)
+returns-clause-opened g c = opens g (goal.at.returns-clause-opened g c).After-open
