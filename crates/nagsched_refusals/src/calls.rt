@@ -1,7 +1,6 @@
 //! Calls past the room of a book: out of memory each is counted, and nothing else came of it.
 
-ghost use Rattle.std.specs.Prelude.{◌≡◌, ◌<◌, ◌≤◌, ◌^◌, IfOk, length};
-ghost use Rattle.std.specs.List.{All};
+ghost use Rattle.std.specs.Prelude.{◌≤◌, IfOk};
 ghost use Rattle.check_desk.specs.Desks.{IsHolderAt, IsPassOf, IsWaitingAt};
 ghost use Rattle.check_sched.specs.Books.{refused_of};
 

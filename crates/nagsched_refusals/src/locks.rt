@@ -1,6 +1,6 @@
 //! A core, a lock and a desk over a book: out of memory each hands the book back.
 
-ghost use Rattle.std.specs.Prelude.{◌≡◌, [], length};
+ghost use Rattle.std.specs.Prelude.{◌≡◌, []};
 ghost use Rattle.std.specs.List.{All};
 ghost use Rattle.check_desk.specs.Desks.{IsPassOf};
 ghost use Rattle.check_sched.specs.Books.{entries_of, refused_of};
