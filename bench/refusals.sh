@@ -1,17 +1,20 @@
 #!/usr/bin/env bash
-# Refuses the built program each request for memory in turn, and prints one table. Run by hand; no part of the gate.
+# Refuses the built programs each request for memory in turn, and prints one table. Run by hand; no part of the gate.
 #   bench/refusals.sh          wants a C compiler, for the shared object that refuses
 # A run is made with its Nth call of malloc or realloc refused, for N = 1, 2, 3 and on, until one asks for less than N. It has to end in
-# its answer of ample memory, in status 4, or, for a drill, in a total that counts the refusal. Anything else is told with its N, and the
-# script ends in status 1.
+# its answer of ample memory, in status 4, or, for a drill, in a total that counts the refusal. `nagsched_refusals` looks at its calls
+# itself: it ends in status 0, and its lines tell which call was refused. Anything else is told with its N, and the script ends in status 1.
 set -eu
 top=$(cd "$(dirname "$0")/.." && pwd)
 work=$(mktemp -d)
 trap 'rm -rf "$work"' EXIT
 
-# Proves and builds the program where it isn't yet.
-(cd "$top/crates/nagsched" && rt run < stdin > "$work/build.log" 2>&1) || { cat "$work/build.log"; exit 1; }
+# Proves and builds the programs where they aren't yet.
+for crate in nagsched nagsched_refusals; do
+    (cd "$top/crates/$crate" && rt run < stdin > "$work/build.log" 2>&1) || { cat "$work/build.log"; exit 1; }
+done
 program=$top/crates/nagsched/out/nagsched
+calls=$top/crates/nagsched_refusals/out/nagsched_refusals
 
 cat > "$work/refuse.c" <<'C'
 #define _GNU_SOURCE
@@ -71,6 +74,13 @@ is_ample() {
     esac
 }
 
+# Whether the output tells the refusal: a total that counts it, or the ample answer but for one line, whose call answered when it was made again.
+is_counted() {
+    local again='s/: refused, then answered$/: answered/'
+    grep -q '^total [0-9]* [1-9]' "$work/output" && return
+    [[ $(diff "$work/ample" "$work/output" | grep -c '^>') == 1 ]] && cmp -s <(sed "$again" "$work/ample") <(sed "$again" "$work/output")
+}
+
 # Sweeps a command, and prints its line: its name, how an ample answer is known, from where on only every 61st request is refused, its input.
 failures=0
 sweep() {
@@ -86,7 +96,7 @@ sweep() {
             memory=$((memory + 1))
         elif [[ $status == 0 ]] && is_ample "$kind"; then
             ample=$((ample + 1))
-        elif [[ $status == 0 ]] && grep -q '^total [0-9]* [1-9]' "$work/output"; then
+        elif [[ $status == 0 ]] && is_counted; then
             counted=$((counted + 1))
         else
             other="$other $n"
@@ -106,6 +116,7 @@ awk 'BEGIN {
 }' > "$work/many"
 
 printf '%-38s %9s %9s %9s %9s  %s\n' run requests ample 'status 4' counted other
+sweep 'each call' same 1000000 /dev/null "$calls"
 sweep 'run, the office' same 1000000 "$top/examples/office.txt" "$program" run
 for workers in 1 3; do
     kind=$([[ $workers == 1 ]] && echo same || echo total)

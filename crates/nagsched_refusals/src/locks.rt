@@ -1,0 +1,101 @@
+//! A core, a lock and a desk over a book: out of memory each hands the book back.
+
+ghost use Rattle.std.specs.Prelude.{◌≡◌, []};
+ghost use Rattle.std.specs.List.{All};
+ghost use Rattle.check_desk.specs.Desks.{IsPassOf};
+ghost use Rattle.check_sched.specs.Books.{entries_of, refused_of};
+ghost use Rattle.ticket_lock.specs.Tokens.{IsSeatOf};
+
+use crate::openings::{book_of, where_new};
+use crate::outcome::{Outcome, Wrong, second};
+use crate::setups::ONE_SERVICE;
+use check_desk::{Desk, Pass};
+use check_sched::Book;
+use std::alloc::Global;
+use ticket_lock::{Seat, TicketLock};
+use ticket_steps::Core;
+
+/// Makes a core of two numbers over a book.
+pub fn open_core(alloc: Global) -> Result<Outcome, Wrong> {
+    match Core::open(alloc, book_of(alloc, ONE_SERVICE, 4)?, 2) {
+        Ok(core) => where_new(alloc, core.book(), ONE_SERVICE, Outcome::Answered),
+        Err(back) => open_core_again(alloc, back),
+    }
+}
+
+/// Makes a core over the book that came back.
+fn open_core_again(alloc: Global, back: Book) -> Result<Outcome, Wrong>
+    requires { (entries_of back ≡ []) × (refused_of back ≡ 0) }
+{
+    let outcome = where_new(alloc, &back, ONE_SERVICE, Outcome::Refused)?;
+    let core = second(Core::open(alloc, back, 2))?;
+    where_new(alloc, core.book(), ONE_SERVICE, outcome)
+}
+
+/// Makes a lock of two numbers over a book, and closes it.
+pub fn open_lock(alloc: Global) -> Result<Outcome, Wrong> {
+    match TicketLock::open(alloc, book_of(alloc, ONE_SERVICE, 4)?, 2) {
+        Ok((lock, seat)) => close_lock(alloc, lock, seat, Outcome::Answered),
+        Err(back) => open_lock_again(alloc, back),
+    }
+}
+
+/// Makes a lock over the book that came back.
+fn open_lock_again(alloc: Global, back: Book) -> Result<Outcome, Wrong>
+    requires { (entries_of back ≡ []) × (refused_of back ≡ 0) }
+{
+    let outcome = where_new(alloc, &back, ONE_SERVICE, Outcome::Refused)?;
+    let (lock, seat) = second(TicketLock::open(alloc, back, 2))?;
+    close_lock(alloc, lock, seat, outcome)
+}
+
+/// The outcome, where a lock closes with the book that it was made over.
+fn close_lock(
+    alloc: Global,
+    lock: TicketLock<Book>,
+    seat: Seat<Book>,
+    outcome: Outcome,
+) -> Result<Outcome, Wrong>
+    requires { IsSeatOf lock seat }
+{
+    match lock.close(seat) {
+        Ok(book) => where_new(alloc, &book, ONE_SERVICE, outcome),
+        Err((_lock, _seat)) => Err(Wrong),
+    }
+}
+
+/// Makes a desk with one pass over a book, and closes it.
+pub fn open_desk(alloc: Global) -> Result<Outcome, Wrong> {
+    match Desk::open(alloc, book_of(alloc, ONE_SERVICE, 4)?, 1) {
+        Ok((desk, passes)) => close_desk(alloc, desk, passes, Outcome::Answered),
+        Err(back) => open_desk_again(alloc, back),
+    }
+}
+
+/// Makes a desk over the book that came back.
+fn open_desk_again(alloc: Global, back: Book) -> Result<Outcome, Wrong>
+    requires { (entries_of back ≡ []) × (refused_of back ≡ 0) }
+{
+    let outcome = where_new(alloc, &back, ONE_SERVICE, Outcome::Refused)?;
+    let (desk, passes) = second(Desk::open(alloc, back, 1))?;
+    close_desk(alloc, desk, passes, outcome)
+}
+
+/// The outcome, where a desk closes with the book that it was made over.
+fn close_desk(
+    alloc: Global,
+    desk: Desk,
+    passes: Vec<Pass>,
+    outcome: Outcome,
+) -> Result<Outcome, Wrong>
+    requires { All (IsPassOf desk) passes.items }
+{
+    let mut passes = passes;
+    let Some(pass) = passes.pop() else {
+        return Err(Wrong);
+    };
+    match desk.close(pass) {
+        Ok(book) => where_new(alloc, &book, ONE_SERVICE, outcome),
+        Err((_desk, _pass)) => Err(Wrong),
+    }
+}
