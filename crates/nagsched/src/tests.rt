@@ -2,6 +2,8 @@
 //! and writers that fail, the limits of an input and its lines, drills, the program's words and exit
 //! statuses.
 
+mod cuts;
+mod damage;
 mod dependencies;
 mod devices;
 mod drill_example;

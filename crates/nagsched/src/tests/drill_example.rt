@@ -6,7 +6,8 @@ use crate::drill::drill;
 use crate::drive::Outcome;
 use std::test::Fail;
 
-const LINES: &str = "[\"plugin\",\"gateway\",0,2]
+/// The lines of the example.
+pub const LINES: &str = "[\"plugin\",\"gateway\",0,2]
 [\"plugin\",\"file-server\",2,2,0,2]
 [\"plugin\",\"file-server;disk\",1]
 [\"plugin\",\"mail-server;smtp\",0,2]
@@ -38,7 +39,8 @@ const LINES: &str = "[\"plugin\",\"gateway\",0,2]
 [\"moment\",420000]
 ";
 
-const OUTPUT: &str = "0 taken 1 file-server
+/// What one worker writes on them.
+pub const OUTPUT: &str = "0 taken 1 file-server
 0 standing DOWN SOFT 1 yes 60000 file-server
 0 taken 2 gateway
 0 standing DOWN SOFT 1 yes 60000 gateway

@@ -5,7 +5,8 @@ use super::{OFFICE, run_script};
 use crate::drive::Outcome;
 use std::test::Fail;
 
-const LINES: &str = "[\"take\",0]
+/// The lines of the example.
+pub const LINES: &str = "[\"take\",0]
 [\"take\",0]
 [\"report\",\"gateway\",2,2]
 [\"report\",\"file-server\",1,2]
@@ -34,7 +35,8 @@ const LINES: &str = "[\"take\",0]
 [\"take\",120000]
 ";
 
-const OUTPUT: &str = "taken 1 file-server
+/// What they write.
+pub const OUTPUT: &str = "taken 1 file-server
 taken 2 gateway
 standing DOWN SOFT 1 yes 60000 gateway
 standing UNREACHABLE SOFT 1 yes 60000 file-server
