@@ -1,4 +1,4 @@
-use Rattle.std.proofs.Common.{◌≡◌, ◌<◌, ℕ, Option, List, refl, true, false, not, ap, set, length, ◌∙◌, arith}
+use Rattle.std.proofs.Common.{◌≡◌, ◌<◌, ℕ, Option, List, refl, true, false, not, ap, get_or, set, length, ◌∙◌, arith}
 use Rattle.std.specs.Prelude.{nat_lt}
 use mir.Val.{bool_byte}
 use Rattle.std.proofs.lemmas.Bool.Decides.{nat_tests}
@@ -6,14 +6,20 @@ use Rattle.std.proofs.lemmas.List.{length-set}
 use Rattle.check_sched.specs.Change.{changed}
 use Rattle.check_sched.specs.Roster.{RosterState, roster_of, running_among}
 use Rattle.check_sched.specs.declared.roster.Roster.TheInside.{Inside}
-use Rattle.check_sched.specs.Scheduling.{candidate_time}
+use Rattle.check_sched.specs.Scheduling.{Scheduling, candidate_time}
 use Rattle.check_sched.proofs.RosterLaws.{length-waiting_from, running_apart, running_left, running_set, waiting_apart, waiting_set}
+use Rattle.check_sched.specs.Step.{update_at}
 use Rattle.check_sched.proofs.UpdateLaws.{set_is_update}
 use Rattle.check_sched.proofs.roster.Roster.change.Goals as goal
 
 -- the object is there
 there : (r : Inside) (now : RosterState) (n : ℕ) → roster_of r ≡ now → n < length now.objects → n < length r.objects.items
 there r now n e l = let long = ap (λ (s : RosterState). length s.objects) e in omega (arith, long, l)
+
+-- the objects that a change leaves
+left : (r : Inside) (now : RosterState) (n : ℕ) (f : Scheduling → Scheduling) (old new : Scheduling) → roster_of r ≡ now → n < length now.objects
+    → new ≡ f old → old ≡ get_or r.objects.items n old → set r.objects.items n new ≡ update_at n f r.objects.items
+left r now n f old new e l g is = set_is_update n f r.objects.items old new (there r now n e l) (g ∙ ap f is)
 
 pub place-requires : goal.place-requires
 place-requires c =
@@ -74,23 +80,12 @@ invariant_of-self-else-index-self c =
       few = let long = length-set os n o in omega (arith, long, kept.few);
     }
 
--- the objects that the change leaves
 pub returns-then-index-self : goal.returns-then-index-self
 returns-then-index-self c =
-    let f = changed c.args.change in
-    let inside = there c.self.inside c.args.self.now c.args.number c.self.view_is c.requires in
-    rw (
-      ← c.self.view_is,
-      set_is_update c.args.number f c.self.inside.objects.items c.index_mut-object.result.now c.change.new.self inside
-          (c.change.ensures ∙ ap f c.index_mut-object.ensures.value),
-    ) refl
+    rw (← c.self.view_is, left c.self.inside c.args.self.now c.args.number (changed c.args.change) c.index_mut-object.result.now c.change.new.self
+    c.self.view_is c.requires c.change.ensures c.index_mut-object.ensures.value) refl
 
 pub returns-else-index-self : goal.returns-else-index-self
 returns-else-index-self c =
-    let f = changed c.args.change in
-    let inside = there c.self.inside c.args.self.now c.args.number c.self.view_is c.requires in
-    rw (
-      ← c.self.view_is,
-      set_is_update c.args.number f c.self.inside.objects.items c.index_mut-object.result.now c.change.new.self inside
-          (c.change.ensures ∙ ap f c.index_mut-object.ensures.value),
-    ) refl
+    rw (← c.self.view_is, left c.self.inside c.args.self.now c.args.number (changed c.args.change) c.index_mut-object.result.now c.change.new.self
+    c.self.view_is c.requires c.change.ensures c.index_mut-object.ensures.value) refl
