@@ -18,7 +18,7 @@ use Rattle.check_script.specs.DrillCommand.{Command, PluginOf, MomentAt, are_num
 use Rattle.check_script.specs.DrillCommanded.{drill_command}
 use Rattle.check_script.specs.DrillScript.{DrillScript, drill_over, drill_script_of, given_by, moment_of, moments_in}
 use Rattle.check_script.specs.DrillScript.{returns_below, returns_by, returns_of}
-use Rattle.check_script.specs.Line.{◌>>=◌}
+use Rattle.check_drafts.specs.Agreement.{◌>>=◌}
 use Rattle.check_script.specs.Script.{Script, script_by}
 use Rattle.check_script.specs.declared.drill_command.DrillCommand.{DrillCommand}
 use Rattle.check_script.specs.declared.script.TheConstants.{MAX_INPUT_BYTES}

@@ -1,6 +1,6 @@
 -- The lines of a script.
 use Rattle.std.proofs.Common.{ℕ, suc, ◌≡◌, ◌==◌, ◌+◌, ◌≤◌, Bool, true, false, not, if◌then◌else◌, cond, List, [], ◌∷◌, length, map, Option, Some, None}
-use Rattle.std.proofs.Common.{Result, Ok, Err, ◌<◌, ◌++◌, refl, ap, arith, Bor, inl, inr, ◌⊎◌}
+use Rattle.std.proofs.Common.{Result, Ok, Err, ◌<◌, refl, ap, arith, Bor, inl, inr, ◌⊎◌}
 use Rattle.std.specs.Prelude.{nat_lt, IfOk}
 use Rattle.std.proofs.lemmas.Bool.{cases_lt}
 use Rattle.std.proofs.lemmas.Bool.Decides.{nat_tests}
@@ -8,8 +8,9 @@ use Rattle.std.specs.Iterator.{YieldsFirstRef}
 use Rattle.check_objects.specs.Configuration.{Configuration}
 use Rattle.check_objects.specs.Setup.{setup_of}
 use Rattle.serde_json.specs.Data.{Items}
-use Rattle.check_script.specs.Agreement.{Fails}
-use Rattle.check_script.specs.Line.{◌>>=◌, command_of, is_blank}
+use Rattle.check_drafts.specs.Agreement.{◌>>=◌, with_front, Fails}
+use Rattle.check_script.specs.Agreement.{refusal}
+use Rattle.check_script.specs.Line.{command_of, is_blank}
 use Rattle.check_script.specs.Input.{lines_of, onto_first}
 use Rattle.check_script.specs.Script.{Script, all_or_first, commands_of, in_setup, numbered_from, script_by, script_in, script_over}
 use Rattle.check_script.specs.declared.input.Lines.{Lines}
@@ -18,10 +19,6 @@ use Rattle.check_script.specs.declared.refusal.InputRefusal.{InputRefusal}
 use Rattle.check_script.specs.declared.refusal.LineFault.{LineFault}
 use Rattle.check_script.specs.declared.refusal.ScriptError.{ScriptError}
 use Rattle.check_script.specs.declared.refusal.ScriptError.TheVariants as errors
-
--- a list of commands that goes on with what follows it
-abbrev pub with_front : {K : Type 0} → List K → Result (List K) InputRefusal → Result (List K) InputRefusal
-with_front front rest = rest >>= λ more. Ok (front ++ more)
 
 pub with_front-nothing : {K : Type 0} (rest : Result (List K) InputRefusal) → with_front [] rest ≡ rest
 with_front-nothing (Ok more) = refl
@@ -82,14 +79,14 @@ few_left s t (Some x) n h b = omega (arith, ap length h)
 -- the document is refused
 pub over_setup_fails : {K : Type 0} (meaning : Configuration → List ℕ → Items → Result K LineFault) (e : ScriptError)
     (document : List ℕ) (ls : List (List ℕ))
-    → Fails e (in_setup (setup_of document)) → Fails e (script_over meaning document ls)
+    → Fails (refusal e) (in_setup (setup_of document)) → Fails (refusal e) (script_over meaning document ls)
 over_setup_fails meaning errors.Memory document ls f = tt
 over_setup_fails meaning (errors.Refused r) document ls f = rw f refl
 
 -- a line is refused
 pub over_commands_fail : {K : Type 0} (meaning : Configuration → List ℕ → Items → Result K LineFault) (e : ScriptError) (c : Configuration)
     (document : List ℕ) (ls : List (List ℕ))
-    → in_setup (setup_of document) ≡ Ok c → Fails e (commands_of (meaning c) ls) → Fails e (script_over meaning document ls)
+    → in_setup (setup_of document) ≡ Ok c → Fails (refusal e) (commands_of (meaning c) ls) → Fails (refusal e) (script_over meaning document ls)
 over_commands_fail meaning errors.Memory c document ls s f = tt
 over_commands_fail meaning (errors.Refused r) c document ls s f = rw (s, f) refl
 

@@ -10,7 +10,7 @@ use Rattle.check_sched.specs.declared.call.Call.{Call}
 use Rattle.check_sched.specs.declared.call.Call.TheVariants as call
 use Rattle.check_script.specs.declared.refusal.LineFault.{LineFault}
 use Rattle.check_script.specs.declared.refusal.LineFault.TheVariants as fault
-use Rattle.check_script.specs.Line.{◌>>=◌}
+use Rattle.check_drafts.specs.Agreement.{◌>>=◌}
 
 -- ---- the members after a word
 

@@ -7,7 +7,7 @@ use Rattle.check_objects.specs.Configuration.{Configuration}
 use Rattle.check_rules.specs.declared.state.Code.{Code}
 use Rattle.check_script.specs.declared.refusal.LineFault.{LineFault}
 use Rattle.check_script.specs.declared.refusal.LineFault.TheVariants as fault
-use Rattle.check_script.specs.Line.{◌>>=◌}
+use Rattle.check_drafts.specs.Agreement.{◌>>=◌}
 use Rattle.check_script.specs.Command.{code_of, object_named, one_of}
 
 -- a command of a drill

@@ -4,7 +4,7 @@ use Rattle.std.specs.List.{last_or, range_with_len}
 use Rattle.check_objects.specs.Configuration.{Configuration, object_count}
 use Rattle.check_rules.specs.declared.state.Code.{Code}
 use Rattle.check_script.specs.declared.refusal.InputRefusal.{InputRefusal}
-use Rattle.check_script.specs.Line.{◌>>=◌}
+use Rattle.check_drafts.specs.Agreement.{◌>>=◌}
 use Rattle.check_script.specs.DrillCommand.{Command, PluginOf, MomentAt, drill_command_by}
 use Rattle.check_script.specs.Script.{Script, script_by}
 

@@ -5,17 +5,12 @@ use Rattle.std.specs.List.{list_all}
 use Rattle.serde_json.specs.Data.{Data, Items, no_items, item}
 use Rattle.serde_json.specs.Find.{as_array, as_str}
 use Rattle.check_objects.specs.Tree.{◌>=>◌, tree_of}
+pub use Rattle.check_drafts.specs.Agreement.{◌>>=◌}
 use Rattle.check_script.specs.declared.line.TheConstants.{MAX_LINE_BYTES}
 use Rattle.check_script.specs.declared.refusal.LineFault.{LineFault}
 use Rattle.check_script.specs.declared.refusal.LineFault.TheVariants as fault
 use Rattle.check_script.specs.declared.refusal.InputRefusal.{InputRefusal}
 use Rattle.check_script.specs.declared.refusal.InputRefusal.TheVariants as refusal
-
--- a value and what follows from it, or the error before
-infixl 10 ◌>>=◌
-abbrev pub ◌>>=◌ : {A B E : Type 0} → Result A E → (A → Result B E) → Result B E
-(Ok x) >>= f = f x
-(Err e) >>= f = Err e
 
 -- a line that is passed over: spaces, tabs and carriage returns alone, or nothing
 abbrev pub is_blank : List ℕ → Bool

@@ -14,7 +14,8 @@ use Rattle.check_script.specs.declared.refusal.InputRefusal.{InputRefusal}
 use Rattle.check_script.specs.declared.refusal.InputRefusal.TheVariants as refusal
 use Rattle.check_script.specs.Command.{call_by}
 use Rattle.check_script.specs.Input.{lines_of}
-use Rattle.check_script.specs.Line.{is_blank, command_of, ◌>>=◌}
+use Rattle.check_drafts.specs.Agreement.{◌>>=◌}
+use Rattle.check_script.specs.Line.{is_blank, command_of}
 
 -- a setup, and commands in their order
 pub record Script (K : Type 0) : Type 0 where

@@ -1,4 +1,6 @@
 //! Why a run or a drill ended early: its reader, its writer, or memory.
+ghost use Rattle.std.specs.Prelude.{◌≡◌};
+ghost use Rattle.check_script.specs.declared.drive_error.DriveError.TheVariants.{Memory};
 
 use std::alloc::AllocError;
 use thiserror::Error;
@@ -20,9 +22,6 @@ pub enum DriveError {
 }
 
 impl From<AllocError> for DriveError {
-    ghost use Rattle.std.specs.Prelude.{◌≡◌};
-    ghost use Rattle.check_script.specs.declared.drive_error.DriveError.TheVariants.{Memory};
-
     ghost from_gives = { λ _ e. e ≡ Memory };
 
     fn from(_refused: AllocError) -> DriveError {

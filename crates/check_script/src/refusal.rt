@@ -1,4 +1,6 @@
 //! What an input can be refused for. The text of a refusal is in `text`.
+ghost use Rattle.std.specs.Prelude.{◌≡◌};
+ghost use Rattle.check_script.specs.declared.refusal.ScriptError.TheVariants.{Memory};
 
 use check_objects::LoadError;
 use std::alloc::{AllocError, AllocFailed};
@@ -38,9 +40,6 @@ pub enum ScriptError {
 }
 
 impl From<AllocError> for ScriptError {
-    ghost use Rattle.std.specs.Prelude.{◌≡◌};
-    ghost use Rattle.check_script.specs.declared.refusal.ScriptError.TheVariants.{Memory};
-
     ghost from_gives = { λ _ e. e ≡ Memory };
 
     fn from(_refused: AllocError) -> ScriptError {
@@ -49,9 +48,6 @@ impl From<AllocError> for ScriptError {
 }
 
 impl<T: Drop> From<AllocFailed<T>> for ScriptError {
-    ghost use Rattle.std.specs.Prelude.{◌≡◌};
-    ghost use Rattle.check_script.specs.declared.refusal.ScriptError.TheVariants.{Memory};
-
     ghost from_gives = { λ _ e. e ≡ Memory };
 
     fn from(_refused: AllocFailed<T>) -> ScriptError {

@@ -2,7 +2,8 @@ use Rattle.std.proofs.Common.{◌≡◌, ◌+◌, ◌≤◌, length, map}
 use Rattle.check_script.specs.Input.{lines_of}
 use Rattle.check_script.specs.Script.{commands_of}
 use Rattle.check_script.specs.declared.script.TheConstants.{MAX_INPUT_BYTES}
-use Rattle.check_script.proofs.ScriptLemmas.{commands_from, with_front}
+use Rattle.check_drafts.specs.Agreement.{with_front}
+use Rattle.check_script.proofs.ScriptLemmas.{commands_from}
 use Rattle.check_script.proofs.script.read_commands.Given as goal
 
 abbrev pub invariant-loop-line : goal.invariant-loop-line
