@@ -23,6 +23,14 @@ pub fn open_core(alloc: Global) -> Result<Outcome, Wrong> {
     }
 }
 
+/// The same with three draws for each number.
+pub fn open_core_with_draws(alloc: Global) -> Result<Outcome, Wrong> {
+    match Core::open_with(alloc, book_of(alloc, ONE_SERVICE, 4)?, 2, 3) {
+        Ok(core) => where_new(alloc, core.book(), ONE_SERVICE, Outcome::Answered),
+        Err(back) => open_core_again(alloc, back),
+    }
+}
+
 /// Makes a core over the book that came back.
 fn open_core_again(alloc: Global, back: Book) -> Result<Outcome, Wrong>
     requires { (entries_of back ≡ []) × (refused_of back ≡ 0) }
@@ -35,6 +43,14 @@ fn open_core_again(alloc: Global, back: Book) -> Result<Outcome, Wrong>
 /// Makes a lock of two numbers over a book, and closes it.
 pub fn open_lock(alloc: Global) -> Result<Outcome, Wrong> {
     match TicketLock::open(alloc, book_of(alloc, ONE_SERVICE, 4)?, 2) {
+        Ok((lock, seat)) => close_lock(alloc, lock, seat, Outcome::Answered),
+        Err(back) => open_lock_again(alloc, back),
+    }
+}
+
+/// The same with three draws for each number.
+pub fn open_lock_with_draws(alloc: Global) -> Result<Outcome, Wrong> {
+    match TicketLock::open_with(alloc, book_of(alloc, ONE_SERVICE, 4)?, 2, 3) {
         Ok((lock, seat)) => close_lock(alloc, lock, seat, Outcome::Answered),
         Err(back) => open_lock_again(alloc, back),
     }
@@ -67,6 +83,14 @@ fn close_lock(
 /// Makes a desk with one pass over a book, and closes it.
 pub fn open_desk(alloc: Global) -> Result<Outcome, Wrong> {
     match Desk::open(alloc, book_of(alloc, ONE_SERVICE, 4)?, 1) {
+        Ok((desk, passes)) => close_desk(alloc, desk, passes, Outcome::Answered),
+        Err(back) => open_desk_again(alloc, back),
+    }
+}
+
+/// The same with a pass of three calls.
+pub fn open_desk_with_calls(alloc: Global) -> Result<Outcome, Wrong> {
+    match Desk::open_with(alloc, book_of(alloc, ONE_SERVICE, 4)?, 1, 3) {
         Ok((desk, passes)) => close_desk(alloc, desk, passes, Outcome::Answered),
         Err(back) => open_desk_again(alloc, back),
     }

@@ -76,8 +76,13 @@ fn make_schedulers(rt: &impl Print, alloc: Global) -> Result<(), Wrong> {
 /// Makes a core, a lock and a desk.
 fn make_locks(rt: &impl Print, alloc: Global) -> Result<(), Wrong> {
     tell(rt, "Core::open", locks::open_core(alloc))?;
+    let core = locks::open_core_with_draws(alloc);
+    tell(rt, "Core::open_with", core)?;
     tell(rt, "TicketLock::open", locks::open_lock(alloc))?;
-    tell(rt, "Desk::open", locks::open_desk(alloc))
+    let lock = locks::open_lock_with_draws(alloc);
+    tell(rt, "TicketLock::open_with", lock)?;
+    tell(rt, "Desk::open", locks::open_desk(alloc))?;
+    tell(rt, "Desk::open_with", locks::open_desk_with_calls(alloc))
 }
 
 /// Makes calls past the room of a book.
