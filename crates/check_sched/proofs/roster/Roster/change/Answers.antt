@@ -82,10 +82,16 @@ invariant_of-self-else-index-self c =
 
 pub returns-then-index-self : goal.returns-then-index-self
 returns-then-index-self c =
-    rw (← c.self.view_is, left c.self.inside c.args.self.now c.args.number (changed c.args.change) c.index_mut-object.result.now c.change.new.self
-    c.self.view_is c.requires c.change.ensures c.index_mut-object.ensures.value) refl
+    rw (
+      ← c.self.view_is,
+      left c.self.inside c.args.self.now c.args.number (changed c.args.change) c.index_mut-object.result.now c.change.new.self
+          c.self.view_is c.requires c.change.ensures c.index_mut-object.ensures.value,
+    ) refl
 
 pub returns-else-index-self : goal.returns-else-index-self
 returns-else-index-self c =
-    rw (← c.self.view_is, left c.self.inside c.args.self.now c.args.number (changed c.args.change) c.index_mut-object.result.now c.change.new.self
-    c.self.view_is c.requires c.change.ensures c.index_mut-object.ensures.value) refl
+    rw (
+      ← c.self.view_is,
+      left c.self.inside c.args.self.now c.args.number (changed c.args.change) c.index_mut-object.result.now c.change.new.self
+          c.self.view_is c.requires c.change.ensures c.index_mut-object.ensures.value,
+    ) refl
