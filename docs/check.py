@@ -1,0 +1,81 @@
+#!/usr/bin/env python3
+"""Runs the examples of README and docs/FORMATS.md on the built program, and compares what it writes.
+
+    docs/check.py [PROGRAM]     crates/nagsched/out/nagsched where no program is named
+
+By hand, and no part of the gate. It tells each example that comes out otherwise, and ends in status 1 then.
+"""
+import pathlib
+import re
+import subprocess
+import sys
+
+TOP = pathlib.Path(__file__).resolve().parent.parent
+PROGRAM = sys.argv[1] if len(sys.argv) > 1 else str(TOP / "crates/nagsched/out/nagsched")
+HOST = '{"hosts":[{"name":"h","max_check_attempts":3}]}'
+checked = 0
+wrong = []
+
+
+def output(lines, *words):
+    """What the program writes on these lines."""
+    text = "".join(line + "\n" for line in lines)
+    return subprocess.run([PROGRAM, *words], input=text.encode(), stdout=subprocess.PIPE).stdout.decode()
+
+
+def compare(what, wanted, written):
+    """Counts an example, and keeps it where it came out otherwise."""
+    global checked
+    checked += 1
+    if wanted != written:
+        wrong.append(f"{what}:\n  wanted  {wanted!r}\n  written {written!r}")
+
+
+def block_after(page, sentence):
+    """The code block that follows a sentence."""
+    return re.search(r"```\w*\n(.*?)```", page[page.index(sentence):], re.S).group(1)
+
+
+def answered(block):
+    """The lines of a block that has each command with its answer: commands and answers."""
+    pairs = [re.split(r"\s{2,}", line.strip(), maxsplit=1) for line in block.splitlines()]
+    return [pair[0] for pair in pairs], [pair[1] for pair in pairs]
+
+
+def formats(page):
+    """The examples of the formats: a whole script, a drill, and each refusal that has its line."""
+    setup = " ".join(block_after(page, "### A whole setup").split("\n")).strip()
+    commands, answers = answered(block_after(page, "these commands of a run are answered so"))
+    compare("a whole script", "".join(a + "\n" for a in answers), output([setup, *commands]))
+    drill = block_after(page, "A whole input, over a host").splitlines()
+    compare("a drill", block_after(page, "With the drill's input above"), output(drill, "drill", "--workers", "1"))
+    for example, told in re.findall(r"`([\[{][^`]*)`: `(refused [^`]*)`", page):
+        lines = [example] if example.startswith("{") else [HOST, example]
+        compare(example, told + "\n", output(lines))
+    for words in re.findall(r"^nagsched (--help)$", page, re.M):
+        compare("help", True, "Usage" in output([], words))
+
+
+def readme(page):
+    """The examples of README: the first lines of the office, and the ends of the drill."""
+    commands, answers = answered(block_after(page, "It begins, with the answers"))
+    office = (TOP / "examples/office.txt").read_text().splitlines()
+    written = output(office).splitlines()
+    compare("the office's commands", commands, [line for line in office[1:] if line][: len(commands)])
+    compare("the office's answers", answers, written[: len(answers)])
+    compare("the office as a whole", (TOP / "examples/office.out").read_text().splitlines(), written)
+    drill = output((TOP / "examples/drill.txt").read_text().splitlines(), "drill", "--workers", "1")
+    compare("the drill as a whole", (TOP / "examples/drill.out").read_text(), drill)
+    for line in block_after(page, "`nagsched drill` has workers").splitlines()[2:]:
+        left, right = re.split(r"\s{2,}", line.strip(), maxsplit=1)
+        if left != "...":
+            compare(f"the drill's {left}", True, left in (TOP / "examples/drill.txt").read_text())
+            compare(f"the drill's {right}", True, right in drill.splitlines())
+
+
+formats((TOP / "docs/FORMATS.md").read_text())
+readme((TOP / "README.md").read_text())
+for example in wrong:
+    print(example)
+print(f"{checked} examples, {len(wrong)} of them otherwise")
+sys.exit(1 if wrong else 0)
