@@ -1,5 +1,5 @@
 #!/usr/bin/env python3
-"""Runs the examples of README and docs/FORMATS.md on the built program, and compares what it writes.
+"""Runs the examples of README, docs/FORMATS.md and docs/NAGIOS.md on the built program, and compares what it writes.
 
     docs/check.py [PROGRAM]     crates/nagsched/out/nagsched where no program is named
 
@@ -73,7 +73,17 @@ def readme(page):
             compare(f"the drill's {right}", True, right in drill.splitlines())
 
 
+def nagios(page):
+    """The configuration that is moved to a setup: what is due first, what is disabled, and what waits."""
+    setup = " ".join(block_after(page, "The same as a setup").split("\n")).strip()
+    statuses = ['["take",0]', '["status","web;disk"]', '["status","web;http"]']
+    pending = "standing PENDING HARD 1 no"
+    wanted = f"taken 1 router\n{pending} none web;disk\n{pending} 90000 web;http\n"
+    compare("a configuration moved", wanted, output([setup, *statuses]))
+
+
 formats((TOP / "docs/FORMATS.md").read_text())
+nagios((TOP / "docs/NAGIOS.md").read_text())
 readme((TOP / "README.md").read_text())
 for example in wrong:
     print(example)
