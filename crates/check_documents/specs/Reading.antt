@@ -106,7 +106,8 @@ abbrev pub option_members : List (List ℕ)
 option_members =
     codes "interval_length" ∷ codes "service_inter_check_delay_method" ∷ codes "max_service_check_spread" ∷ codes "service_interleave_factor"
     ∷ codes "host_inter_check_delay_method" ∷ codes "max_host_check_spread"
-    ∷ codes "max_concurrent_checks" ∷ codes "soft_state_dependencies" ∷ codes "use_aggressive_host_checking" ∷ []
+    ∷ codes "max_concurrent_checks" ∷ codes "soft_state_dependencies" ∷ codes "use_aggressive_host_checking"
+    ∷ codes "low_service_flap_threshold" ∷ codes "high_service_flap_threshold" ∷ codes "low_host_flap_threshold" ∷ codes "high_host_flap_threshold" ∷ []
 
 -- options that are absent have no unknown member
 abbrev pub has_option_members : Option Data → Bool
@@ -145,6 +146,10 @@ options_of value = if has_option_members value then
     (member_or whole_number 0 (member_of (codes "max_concurrent_checks") value) >=> λ concurrent.
     (member_or as_bool false (member_of (codes "soft_state_dependencies") value) >=> λ soft.
     (member_or as_bool false (member_of (codes "use_aggressive_host_checking") value) >=> λ aggressive.
+    (member_or whole_number 20 (member_of (codes "low_service_flap_threshold") value) >=> λ low_service.
+    (member_or whole_number 30 (member_of (codes "high_service_flap_threshold") value) >=> λ high_service.
+    (member_or whole_number 20 (member_of (codes "low_host_flap_threshold") value) >=> λ low_host.
+    (member_or whole_number 30 (member_of (codes "high_host_flap_threshold") value) >=> λ high_host.
     Some (record {
       interval_length = interval_length;
       service_inter_check_delay_method = service_method;
@@ -155,7 +160,11 @@ options_of value = if has_option_members value then
       max_concurrent_checks = concurrent;
       soft_state_dependencies = soft;
       use_aggressive_host_checking = aggressive;
-    }))))))))))
+      low_service_flap_threshold = low_service;
+      high_service_flap_threshold = high_service;
+      low_host_flap_threshold = low_host;
+      high_host_flap_threshold = high_host;
+    }))))))))))))))
     else None
 
 -- ---- the document

@@ -27,7 +27,7 @@ const DOCUMENT_MEMBERS: [&str; 5] = [
 ];
 
 /// The members that the options may have.
-const OPTION_MEMBERS: [&str; 9] = [
+const OPTION_MEMBERS: [&str; 13] = [
     "interval_length",
     "service_inter_check_delay_method",
     "max_service_check_spread",
@@ -37,6 +37,10 @@ const OPTION_MEMBERS: [&str; 9] = [
     "max_concurrent_checks",
     "soft_state_dependencies",
     "use_aggressive_host_checking",
+    "low_service_flap_threshold",
+    "high_service_flap_threshold",
+    "low_host_flap_threshold",
+    "high_host_flap_threshold",
 ];
 
 /// The members that a host may have.
@@ -116,6 +120,10 @@ fn read_options(value: Option<&Value>) -> Option<Options>
         max_concurrent_checks: number_or(member(value, "max_concurrent_checks"), 0)?,
         soft_state_dependencies: bool_or(member(value, "soft_state_dependencies"), false)?,
         use_aggressive_host_checking: bool_or(aggressive, false)?,
+        low_service_flap_threshold: number_or(member(value, "low_service_flap_threshold"), 20)?,
+        high_service_flap_threshold: number_or(member(value, "high_service_flap_threshold"), 30)?,
+        low_host_flap_threshold: number_or(member(value, "low_host_flap_threshold"), 20)?,
+        high_host_flap_threshold: number_or(member(value, "high_host_flap_threshold"), 30)?,
     })
 }
 
