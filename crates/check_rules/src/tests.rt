@@ -17,6 +17,7 @@ fn standing(state: State, kind: Kind, attempt: u8, last_hard: State) -> Standing
         kind,
         attempt,
         last_hard,
+        flapping: false,
     }
 }
 
@@ -37,7 +38,7 @@ fn runs_as(rt: &impl Abort, case: &Case<'_>) {
         let name = case.name;
         assert!(rt; case.max >= 1 && lawful(now, case.max), "{name}");
         assert!(rt; found.is_host() == now.state.is_host(), "{name}");
-        now = verdict(now, *found, case.max, case.host_up);
+        now = verdict(now, *found, case.max, case.host_up, false);
         let want = standing(*found, *kind, *attempt, *last_hard);
         assert_eq!(rt; now, want, "{name}");
     }
