@@ -38,7 +38,7 @@ changes_weight results = sum_by weight_between (pairs_of results)
 
 -- how much of all that could change did, in whole percents; 0 before there are 21 results
 abbrev pub percent_of : List State → ℕ
-percent_of results = if nat_lt (length results) KEPT_RESULTS then 0 else 100 * changes_weight results / weight_of_all
+percent_of results = if length results == KEPT_RESULTS then 100 * changes_weight results / weight_of_all else 0
 
 -- ---- whether an object flaps
 

@@ -13,6 +13,7 @@ pub const KEPT_RESULTS: usize = 21;
 
 /// What the oldest change weighs; each newer one weighs `WEIGHT_STEP` more.
 const OLDEST_WEIGHT: u32 = 57;
+
 const WEIGHT_STEP: u32 = 2;
 
 /// What all 20 changes weigh together.
@@ -60,10 +61,10 @@ fn changes_weight(results: &HeapCircularBuffer<State>) -> u32
     let Some(oldest) = results.front() else {
         return 0;
     };
-    let before_newer = older.last().unwrap_or(oldest);
+    let before_newer = older.last().copied().unwrap_or(*oldest);
     let first_of_newer = OLDEST_WEIGHT - WEIGHT_STEP + WEIGHT_STEP * older.len() as u32;
     weight_after(*oldest, older, OLDEST_WEIGHT - WEIGHT_STEP)
-        + weight_after(*before_newer, newer, first_of_newer)
+        + weight_after(before_newer, newer, first_of_newer)
 }
 
 /// The weight of the changes from the result `before` through those that come after it, the first of

@@ -28,13 +28,7 @@ use crate::state::State;
 /// The state after is the result; the last hard state becomes the result where the kind after is
 /// hard, and stays otherwise. An object that was never checked stands as [`pending`] before. (Our
 /// own profile, drawn after the manual's "State Types".)
-pub fn verdict(
-    before: Standing,
-    found: State,
-    max: u8,
-    host_up: bool,
-    flapping: bool,
-) -> Standing
+pub fn verdict(before: Standing, found: State, max: u8, host_up: bool, flapping: bool) -> Standing
     requires attempts { 1 ≤ max }
     requires lawful { IsTrue (is_lawful before max) }
     requires same_sort { is_host_state found ≡ is_host_state before.state }
