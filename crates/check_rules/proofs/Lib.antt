@@ -1,3 +1,4 @@
 pub mod BlockedLaws
+pub mod FlappingLemmas
 pub mod MarkLemmas
 pub mod VerdictLaws

@@ -2,5 +2,6 @@ pub mod State
 pub mod Standing
 pub mod Reachability
 pub mod Verdict
+pub mod Flapping
 pub mod Dependencies
 pub mod Marks

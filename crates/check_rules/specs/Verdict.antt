@@ -111,10 +111,17 @@ abbrev pub last_hard_after : Kind → State → State → State
 last_hard_after kind.Hard found before = found
 last_hard_after kind.Soft found before = before
 
-abbrev pub standing_after : Kind × ℕ → State → State → Standing
-standing_after after found last_hard =
-    record { checked = true; state = found; kind = after.0; attempt = after.1; last_hard = last_hard_after after.0 found last_hard }
+abbrev pub standing_after : Kind × ℕ → State → State → Bool → Standing
+standing_after after found last_hard flapping = record {
+  checked = true;
+  state = found;
+  kind = after.0;
+  attempt = after.1;
+  last_hard = last_hard_after after.0 found last_hard;
+  flapping = flapping;
+}
 
--- the standing after a result: its state is the result, and it is checked
-abbrev pub verdict_on : Standing → State → ℕ → Bool → Standing
-verdict_on before found max host_up = standing_after (kind_and_attempt (as_checked before) found max host_up) found (as_checked before).last_hard
+-- the standing after a result: its state is the result, it is checked, and it flaps as the caller says
+abbrev pub verdict_on : Standing → State → ℕ → Bool → Bool → Standing
+verdict_on before found max host_up flapping =
+    standing_after (kind_and_attempt (as_checked before) found max host_up) found (as_checked before).last_hard flapping

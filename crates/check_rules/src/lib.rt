@@ -1,19 +1,21 @@
 #![tactic(auto)]
 //! The rules by which results of checks become states: what a return code means for a service and
-//! for a host, the verdict on a result, which is the state, its kind and the attempt; and the rule by
-//! which dependencies hold checks back.
+//! for a host, the verdict on a result, which is the state, its kind and the attempt; whether a state
+//! keeps changing; and the rule by which dependencies hold checks back.
 //!
 //! The rules are those of the Nagios Core 4 manual, chapters "Plugin API", "Host Checks",
-//! "Determining Status and Reachability of Network Hosts", "State Types" and "Host and Service
-//! Dependencies"; where the manual leaves a choice, the profile of this project makes it, and the
-//! item says so. Every function changes nothing but the scratch that it is handed, and takes no
-//! memory.
+//! "Determining Status and Reachability of Network Hosts", "State Types", "Detection and Handling of
+//! State Flapping" and "Host and Service Dependencies"; where the manual leaves a choice, the profile
+//! of this project makes it, and the item says so. Every function changes nothing but the scratch that
+//! it is handed, and takes no memory.
 //!
 //! The modules: `state` has return codes and states, `standing` what is known of an object,
-//! `verdicts` the verdict on a result, `reachability` the state of a host by its parents,
-//! `dependencies` whether a dependency holds a check back, `laws` what it is worth.
+//! `verdicts` the verdict on a result, `flapping` whether a state keeps changing, `reachability` the
+//! state of a host by its parents, `dependencies` whether a dependency holds a check back, `laws` what
+//! it is worth.
 
 mod dependencies;
+mod flapping;
 pub mod laws;
 mod reachability;
 mod standing;
@@ -23,6 +25,7 @@ mod tests;
 mod verdicts;
 
 pub use dependencies::blocked;
+pub use flapping::{KEPT_RESULTS, flaps, percent};
 pub use reachability::host_state;
 pub use standing::{Kind, Standing, lawful, pending};
 pub use state::{Code, State, service_state};

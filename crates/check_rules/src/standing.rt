@@ -26,6 +26,8 @@ pub struct Standing {
     pub attempt: u8,
     /// The state of the last result whose state was hard; before one `Ok` or `Up`.
     pub last_hard: State,
+    /// Whether the state keeps changing: see [`flaps`](crate::flaps).
+    pub flapping: bool,
 }
 
 /// The three phases of the manual's "State Types": no problem, a problem that is being retried, a
@@ -78,7 +80,8 @@ impl Standing {
     }
 }
 
-/// The standing of a host, or of a service, that was never checked: `Up` or `Ok`, hard, attempt 1.
+/// The standing of a host, or of a service, that was never checked: `Up` or `Ok`, hard, attempt 1, not
+/// flapping.
 /// (Our own profile.)
 pub fn pending(is_host: bool) -> Standing
     ensures { result ≡ pending_standing is_host }
@@ -90,12 +93,13 @@ pub fn pending(is_host: bool) -> Standing
         kind: Kind::Hard,
         attempt: 1,
         last_hard: state,
+        flapping: false,
     }
 }
 
 /// Whether an object with `max` check attempts can have this standing. A soft problem has an
 /// attempt from 1 to `max - 1`, a hard problem the attempt `max`, and OK and UP one from 1 to
-/// `max`; and but for hard problems the last hard state is OK or UP. (Our own profile, after the
+/// `max`; and but for hard problems the last hard state is OK or UP. Any may flap. (Our own profile, after the
 /// manual's "State Types".)
 pub fn lawful(standing: Standing, max: u8) -> bool
     ensures { result ≡ is_lawful standing max }

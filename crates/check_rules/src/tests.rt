@@ -1,6 +1,8 @@
 //! The rules on outside values: the cases of Nagios Core 4.4.6's own test suite (`test_checks.c`)
 //! in which our table says what Nagios does, and worked examples of our own profile.
 
+mod flapping;
+
 use crate::laws::blocked_where_a_dependency_fails;
 use crate::{
     Code, Kind, Standing, State, blocked, host_state, lawful, pending, service_state, verdict,
@@ -17,6 +19,7 @@ fn standing(state: State, kind: Kind, attempt: u8, last_hard: State) -> Standing
         kind,
         attempt,
         last_hard,
+        flapping: false,
     }
 }
 
@@ -37,7 +40,7 @@ fn runs_as(rt: &impl Abort, case: &Case<'_>) {
         let name = case.name;
         assert!(rt; case.max >= 1 && lawful(now, case.max), "{name}");
         assert!(rt; found.is_host() == now.state.is_host(), "{name}");
-        now = verdict(now, *found, case.max, case.host_up);
+        now = verdict(now, *found, case.max, case.host_up, false);
         let want = standing(*found, *kind, *attempt, *last_hard);
         assert_eq!(rt; now, want, "{name}");
     }

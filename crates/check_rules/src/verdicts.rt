@@ -9,8 +9,9 @@ use crate::standing::{Kind, Phase, Standing};
 use crate::state::State;
 
 /// The standing of an object after a check whose result is the state `found`. `before` is its
-/// standing before, `max` its maximum of check attempts, and `host_up` whether the host of a
-/// service is up; it doesn't count for a host, whose caller hands in `true`.
+/// standing before, `max` its maximum of check attempts, `host_up` whether the host of a service is
+/// up; it doesn't count for a host, whose caller hands in `true`. `flapping`, whether the object flaps
+/// with this result ([`flaps`](crate::flaps)), is carried into the answer and decides nothing else.
 ///
 /// The kind and the attempt are those of the first row that fits:
 ///
@@ -27,11 +28,11 @@ use crate::state::State;
 /// The state after is the result; the last hard state becomes the result where the kind after is
 /// hard, and stays otherwise. An object that was never checked stands as [`pending`] before. (Our
 /// own profile, drawn after the manual's "State Types".)
-pub fn verdict(before: Standing, found: State, max: u8, host_up: bool) -> Standing
+pub fn verdict(before: Standing, found: State, max: u8, host_up: bool, flapping: bool) -> Standing
     requires attempts { 1 ≤ max }
     requires lawful { IsTrue (is_lawful before max) }
     requires same_sort { is_host_state found ≡ is_host_state before.state }
-    ensures table { result ≡ verdict_on before found max host_up }
+    ensures table { result ≡ verdict_on before found max host_up flapping }
     ensures lawful { IsTrue (is_lawful result max) }
     ensures checked { IsTrue result.checked }
     ensures state { result.state ≡ found }
@@ -44,6 +45,7 @@ pub fn verdict(before: Standing, found: State, max: u8, host_up: bool) -> Standi
         kind,
         attempt,
         last_hard: last_hard_after(kind, found, before.last_hard),
+        flapping,
     }
 }
 

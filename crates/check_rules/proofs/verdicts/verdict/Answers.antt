@@ -9,4 +9,4 @@ kind_and_attempt-kind-requires-clause-lawful c =
 pub returns-clause-lawful : goal.returns-clause-lawful
 returns-clause-lawful c =
     rw (c.last_hard_after.ensures, c.kind_and_attempt-kind.ensures, c.as_checked-before.ensures)
-    (verdict_is_lawful c.args.before c.args.found c.args.max c.args.host_up c.requires.attempts c.requires.lawful)
+    (verdict_is_lawful c.args.before c.args.found c.args.max c.args.host_up c.args.flapping c.requires.attempts c.requires.lawful)

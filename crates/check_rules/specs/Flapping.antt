@@ -1,0 +1,56 @@
+-- Flapping: an object whose state keeps changing. ("Detection and Handling of State Flapping"; how many
+-- results count, what a change weighs, and that a percent at the high threshold starts it are our own
+-- profile.)
+use Rattle.std.specs.Prelude.{ℕ, ◌+◌, ◌*◌, ◌==◌, Bool, not, List, [], ◌∷◌, ◌++◌, length, zip, drop, nat_lt, nat_le, if◌then◌else◌, ◌/◌}
+use Rattle.std.specs.List.{enumerate_from, sum_by}
+use Rattle.circular_buffer.specs.Buffer.{keep_last}
+use Rattle.check_rules.specs.declared.flapping.TheConstants.{KEPT_RESULTS}
+use Rattle.check_rules.specs.declared.state.State.{State}
+use Rattle.check_rules.specs.State.{is_another_state}
+
+-- ---- the results that are kept
+
+-- the results that are kept after one more: the last 21, the oldest first
+abbrev pub kept_after : List State → State → List State
+kept_after results found = keep_last KEPT_RESULTS (results ++ found ∷ [])
+
+-- ---- the percent
+
+-- what change i weighs, counted from the oldest, which is change 0: newer changes weigh more
+abbrev pub weight_of_change : ℕ → ℕ
+weight_of_change i = 57 + 2 * i
+
+-- what all changes among 21 results weigh together
+abbrev pub weight_of_all : ℕ
+weight_of_all = 1520
+
+-- what there is between a result and the one after it: nothing, where the two are the same state
+abbrev pub weight_between : ℕ × (State × State) → ℕ
+weight_between pair = if is_another_state pair.1.1 pair.1.0 then weight_of_change pair.0 else 0
+
+-- the changes: each result with the one after it, numbered from the oldest
+abbrev pub pairs_of : List State → List (ℕ × (State × State))
+pairs_of results = enumerate_from 0 (zip results (drop 1 results))
+
+-- the weights of the changes that took place, added up
+abbrev pub changes_weight : List State → ℕ
+changes_weight results = sum_by weight_between (pairs_of results)
+
+-- how much of all that could change did, in whole percents; 0 before there are 21 results
+abbrev pub percent_of : List State → ℕ
+percent_of results = if length results == KEPT_RESULTS then 100 * changes_weight results / weight_of_all else 0
+
+-- ---- whether an object flaps
+
+-- Whether an object with these results flaps now: one that didn't begins to at the high threshold, one
+-- that did stops below the low one.
+abbrev pub is_flapping : List State → Bool → ℕ → ℕ → Bool
+is_flapping results was low high = if was then not (nat_lt (percent_of results) low) else nat_le high (percent_of results)
+
+-- ---- how the weights are added up, one result after another
+
+-- The weight of the changes from one result through those that come after it, where the first of them
+-- weighs this much.
+abbrev pub weight_after : State → List State → ℕ → ℕ
+weight_after before [] weight = 0
+weight_after before (found ∷ rest) weight = (if is_another_state found before then weight else 0) + weight_after found rest (weight + 2)
