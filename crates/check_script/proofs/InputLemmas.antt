@@ -1,13 +1,16 @@
 -- Reads one after another, and the first line of an input.
 use Rattle.std.proofs.Common.{◌≡◌, ℕ, suc, ◌+◌, ◌-◌, min, ◌==◌, Bool, true, false, not, cond, length, List, [], ◌∷◌, ◌++◌, take, drop, Option, None, Some}
-use Rattle.std.proofs.Common.{refl, sym, ◌∙◌, ap, append_assoc, arith, ◌≤◌}
+use Rattle.std.proofs.Common.{refl, sym, ◌∙◌, ap, append_assoc, arith, ◌≤◌, ◌<◌, get_or}
 use Rattle.std.specs.List.{position_or_len, position}
+use Rattle.std.proofs.lemmas.Bool.Decides.{nat_tests}
 use Rattle.std.proofs.lemmas.List.{take_rest, take_all, drop_min}
+use Rattle.std.proofs.lemmas.List.Sums.{position_or_len_is}
 use Rattle.std.proofs.Math.Seq.{take-append_seam}
 use Rattle.std.specs.Prelude.{IfSome, nat_lt}
 use borrow.Author.Tests.{ltb-false}
 use Rattle.check_script.specs.Input.{lines_of, first_line_of, onto_first}
 use Rattle.std.specs.Io.KnownBytes.{Consumes, IsAtEnd}
+use Rattle.memchr.specs.Find.{IsFirstByte}
 use Rattle.std.proofs.lemmas.Grind.{common_steps}
 
 pub Consumes-none : (known : Option (List ℕ)) → Consumes known known []
@@ -74,6 +77,28 @@ read_end (Some xs) (Some ys) (Some zs) input piece n limit h k e f l =
     let last : ys ≡ [] = k ∙ rw (e, f) refl in
     let all : xs ≡ input = grind (arith, common_steps, h, last) in
     rw all (sym (take_all limit input l))
+
+fails : (b : Bool) → (b ≡ true → ⊥) → b ≡ false
+fails true h = absurd (h refl)
+fails false h = refl
+
+is_there : (b : Bool) (i : ℕ) → b ≡ true → Some i ≡ cond b (Some i) None
+is_there true i e = refl
+is_there false i e = cc
+
+is_absent : (b : Bool) (i : ℕ) → b ≡ false → None ≡ cond b (Some i) None
+is_absent true i e = cc
+is_absent false i e = refl
+
+-- what a search by memchr gives is the first place
+pub first_place : (p : ℕ → Bool) (xs : List ℕ) (r : Option ℕ) → IsFirstByte p xs r → r ≡ position p xs
+first_place p xs None h =
+    let at = position_or_len_is p xs (length xs) 0 (omega arith) (λ k l. fails (p (get_or xs k 0)) (h k (omega arith) l)) (λ l. absurd (omega (arith, l))) in
+    is_absent (nat_lt (position_or_len p xs) (length xs)) _ (grind (arith, nat_tests, at))
+first_place p xs (Some k) h =
+    let at = position_or_len_is p xs k 0 (omega (arith, h.0.high)) (λ j l. fails (p (get_or xs j 0)) (h.0.before j (omega arith) l)) (λ l. h.1) in
+    let below : nat_lt (position_or_len p xs) (length xs) ≡ true = grind (arith, nat_tests, at, h.0.high) in
+    ap Some (sym at) ∙ is_there (nat_lt (position_or_len p xs) (length xs)) _ below
 
 some_of : (b : Bool) (n i : ℕ) → cond b (Some n) None ≡ Some i → n ≡ i
 some_of true n i e = cc

@@ -5,6 +5,7 @@ ghost use Rattle.std.specs.Iterator.{YieldsFirstRef, item_count};
 ghost use Rattle.check_script.specs.Input.{AreLines, lines_of, first_line_of};
 
 use crate::drive_error::DriveError;
+use memchr::memchr;
 use std::alloc::Global;
 use std::io::Read;
 
@@ -95,5 +96,5 @@ fn line_end(bytes: &[u8]) -> Option<usize>
     ensures place { result ≡ position (λ b. b == LINE_FEED) bytes.now }
     ensures within { IfSome result (λ end. end < length bytes.now) }
 {
-    bytes.iter().position(|byte| *byte == LINE_FEED)
+    memchr(LINE_FEED, bytes)
 }
