@@ -106,7 +106,8 @@ abbrev pub option_members : List (List ℕ)
 option_members =
     codes "interval_length" ∷ codes "service_inter_check_delay_method" ∷ codes "max_service_check_spread" ∷ codes "service_interleave_factor"
     ∷ codes "host_inter_check_delay_method" ∷ codes "max_host_check_spread"
-    ∷ codes "max_concurrent_checks" ∷ codes "soft_state_dependencies" ∷ codes "use_aggressive_host_checking" ∷ []
+    ∷ codes "max_concurrent_checks" ∷ codes "soft_state_dependencies" ∷ codes "use_aggressive_host_checking"
+    ∷ codes "low_service_flap_threshold" ∷ codes "high_service_flap_threshold" ∷ codes "low_host_flap_threshold" ∷ codes "high_host_flap_threshold" ∷ []
 
 -- options that are absent have no unknown member
 abbrev pub has_option_members : Option Data → Bool
@@ -133,10 +134,10 @@ delay_method d = by_text lettered_method (whole_number d >=> λ n. Some (method.
 abbrev pub interleave_factor : Data → Option InterleaveFactor
 interleave_factor d = by_text (λ text. if bytes_eq text (codes "s") then Some factor.Smart else None) (whole_number d >=> λ n. Some (factor.Fixed n)) (as_str d)
 
--- the member `options`; what it doesn't name has its default
-unfoldable pub options_of : Option Data → Option Options
-options_of value = if has_option_members value then
-    (member_or whole_number 60 (member_of (codes "interval_length") value) >=> λ interval_length.
+-- the options, each with its default where it isn't named, and the thresholds of flapping with theirs
+unfoldable pub options_but_thresholds : Option Data → Option Options
+options_but_thresholds value =
+    member_or whole_number 60 (member_of (codes "interval_length") value) >=> λ interval_length.
     (member_or delay_method method.Smart (member_of (codes "service_inter_check_delay_method") value) >=> λ service_method.
     (member_or whole_number 30 (member_of (codes "max_service_check_spread") value) >=> λ service_spread.
     (member_or interleave_factor factor.Smart (member_of (codes "service_interleave_factor") value) >=> λ interleave.
@@ -155,8 +156,29 @@ options_of value = if has_option_members value then
       max_concurrent_checks = concurrent;
       soft_state_dependencies = soft;
       use_aggressive_host_checking = aggressive;
-    }))))))))))
-    else None
+      low_service_flap_threshold = 20;
+      high_service_flap_threshold = 30;
+      low_host_flap_threshold = 20;
+      high_host_flap_threshold = 30;
+    })))))))))
+
+-- these options with the thresholds of flapping that are named
+unfoldable pub with_thresholds : Option Data → Options → Option Options
+with_thresholds value options =
+    member_or whole_number options.low_service_flap_threshold (member_of (codes "low_service_flap_threshold") value) >=> λ low_service.
+    (member_or whole_number options.high_service_flap_threshold (member_of (codes "high_service_flap_threshold") value) >=> λ high_service.
+    (member_or whole_number options.low_host_flap_threshold (member_of (codes "low_host_flap_threshold") value) >=> λ low_host.
+    (member_or whole_number options.high_host_flap_threshold (member_of (codes "high_host_flap_threshold") value) >=> λ high_host.
+    Some (record options {
+      low_service_flap_threshold = low_service;
+      high_service_flap_threshold = high_service;
+      low_host_flap_threshold = low_host;
+      high_host_flap_threshold = high_host;
+    }))))
+
+-- the member `options`; what it doesn't name has its default
+abbrev pub options_of : Option Data → Option Options
+options_of value = if has_option_members value then options_but_thresholds value >=> with_thresholds value else None
 
 -- ---- the document
 

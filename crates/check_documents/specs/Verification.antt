@@ -109,8 +109,12 @@ abbrev pub is_factor_in_range : InterleaveFactor → Bool
 is_factor_in_range factor.Smart = true
 is_factor_in_range (factor.Fixed n) = is_within 1 4096 n
 
--- A unit of the intervals lasts a second to a day, the first checks are spread over a minute to a year, and at most
--- 1,000,000 service checks run at a time.
+-- both thresholds of flapping are 0 to 100 percent, and the low one isn't above the high one
+abbrev pub are_thresholds_in_range : ℕ → ℕ → Bool
+are_thresholds_in_range low high = nat_le low high && nat_le high 100
+
+-- A unit of the intervals lasts a second to a day, the first checks are spread over a minute to a year, at most 1,000,000
+-- service checks run at a time, and the thresholds of flapping are percents in their order.
 abbrev pub are_options_in_range : Options → Bool
 are_options_in_range o =
     is_within 1 86400 o.interval_length
@@ -120,6 +124,8 @@ are_options_in_range o =
     && is_delay_in_range o.host_inter_check_delay_method
     && is_within 1 525600 o.max_host_check_spread
     && nat_le o.max_concurrent_checks 1000000
+    && are_thresholds_in_range o.low_service_flap_threshold o.high_service_flap_threshold
+    && are_thresholds_in_range o.low_host_flap_threshold o.high_host_flap_threshold
 
 abbrev pub good_options : Options → Result (Unit {0}) LoadError
 good_options options = if are_options_in_range options then Ok tt else Err (errors.Range the_options)

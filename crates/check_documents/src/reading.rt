@@ -4,7 +4,7 @@ ghost use Rattle.serde_json.specs.View.{view};
 ghost use Rattle.check_drafts.specs.LoadError.{Gives};
 ghost use Rattle.check_drafts.specs.Draft as spec;
 ghost use Rattle.check_drafts.specs.Drafted.{host, service, dependency, drafts_view};
-ghost use Rattle.check_documents.specs.Reading.{host_draft, service_draft, check_draft, dependency_draft, drafts_of, delay_method, interleave_factor, options_of, has_option_members};
+ghost use Rattle.check_documents.specs.Reading.{host_draft, service_draft, check_draft, dependency_draft, drafts_of, delay_method, interleave_factor, options_of, options_but_thresholds, with_thresholds, has_option_members};
 ghost use Rattle.check_documents.specs.Tree.{member_or};
 
 use crate::criteria::{HOST_LETTERS, SERVICE_LETTERS, read_criteria};
@@ -27,7 +27,7 @@ const DOCUMENT_MEMBERS: [&str; 5] = [
 ];
 
 /// The members that the options may have.
-const OPTION_MEMBERS: [&str; 9] = [
+const OPTION_MEMBERS: [&str; 13] = [
     "interval_length",
     "service_inter_check_delay_method",
     "max_service_check_spread",
@@ -37,6 +37,10 @@ const OPTION_MEMBERS: [&str; 9] = [
     "max_concurrent_checks",
     "soft_state_dependencies",
     "use_aggressive_host_checking",
+    "low_service_flap_threshold",
+    "high_service_flap_threshold",
+    "low_host_flap_threshold",
+    "high_host_flap_threshold",
 ];
 
 /// The members that a host may have.
@@ -96,13 +100,21 @@ pub fn read_drafts<'v>(alloc: Global, tree: &'v Value) -> Result<Drafts<'v>, Loa
 }
 
 /// The options; what the document doesn't name has its default.
-#[tactic(auto, unfolding(crate::specs::Reading::options_of))]
 fn read_options(value: Option<&Value>) -> Option<Options>
     ensures { result ≡ options_of (option_map (λ v. view v.now) value.entry) }
 {
     if !has_option_members(value) {
         return None;
     }
+    with_thresholds(value, options_but_thresholds(value)?)
+}
+
+/// The options, each with its default where it isn't named, and the thresholds of flapping with
+/// theirs.
+#[tactic(auto, unfolding(crate::specs::Reading::options_but_thresholds))]
+fn options_but_thresholds(value: Option<&Value>) -> Option<Options>
+    ensures { result ≡ options_but_thresholds (option_map (λ v. view v.now) value.entry) }
+{
     let service_method = member(value, "service_inter_check_delay_method");
     let host_method = member(value, "host_inter_check_delay_method");
     let aggressive = member(value, "use_aggressive_host_checking");
@@ -116,6 +128,28 @@ fn read_options(value: Option<&Value>) -> Option<Options>
         max_concurrent_checks: number_or(member(value, "max_concurrent_checks"), 0)?,
         soft_state_dependencies: bool_or(member(value, "soft_state_dependencies"), false)?,
         use_aggressive_host_checking: bool_or(aggressive, false)?,
+        low_service_flap_threshold: 20,
+        high_service_flap_threshold: 30,
+        low_host_flap_threshold: 20,
+        high_host_flap_threshold: 30,
+    })
+}
+
+/// These options, with the thresholds of flapping that are named.
+#[tactic(auto, unfolding(crate::specs::Reading::with_thresholds))]
+fn with_thresholds(value: Option<&Value>, options: Options) -> Option<Options>
+    ensures { result ≡ with_thresholds (option_map (λ v. view v.now) value.entry) options }
+{
+    let low_service = member(value, "low_service_flap_threshold");
+    let high_service = member(value, "high_service_flap_threshold");
+    let low_host = member(value, "low_host_flap_threshold");
+    let high_host = member(value, "high_host_flap_threshold");
+    Some(Options {
+        low_service_flap_threshold: number_or(low_service, options.low_service_flap_threshold)?,
+        high_service_flap_threshold: number_or(high_service, options.high_service_flap_threshold)?,
+        low_host_flap_threshold: number_or(low_host, options.low_host_flap_threshold)?,
+        high_host_flap_threshold: number_or(high_host, options.high_host_flap_threshold)?,
+        ..options
     })
 }
 

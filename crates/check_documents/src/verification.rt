@@ -3,16 +3,16 @@
 ghost use Rattle.std.specs.Prelude.{◌≡◌, ◌≤◌, ◌+◌, ◌&&◌, ℕ, List, string_bytes, IfOk, IsOkUnless, map, length, not, position, IfNone, OnOk, IsTrue, All};
 ghost use Rattle.std.specs.List.{list_all};
 ghost use Rattle.check_drafts.specs.LoadError.{Gives};
-ghost use Rattle.check_documents.specs.Verification.{few_objects, has_few_parents, good_names, good_host_names, good_descriptions, host_names, no_repeated_services, known_parents, known_hosts, full_names, known_ends, known_links, few_dependencies, few_items, good_ranges, good_options, good_host_ranges, good_service_ranges, is_faultless, is_known, is_in_range, is_within, is_delay_in_range, is_factor_in_range, are_options_in_range};
+ghost use Rattle.check_documents.specs.Verification.{few_objects, has_few_parents, good_names, good_host_names, good_descriptions, host_names, no_repeated_services, known_parents, known_hosts, full_names, known_ends, known_links, few_dependencies, few_items, good_ranges, good_options, good_host_ranges, good_service_ranges, is_faultless, is_known, is_in_range, is_within, is_delay_in_range, is_factor_in_range, are_thresholds_in_range, are_options_in_range};
 ghost use Rattle.check_drafts.specs.Name.{is_name_byte, is_name};
 ghost use Rattle.check_drafts.specs.Drafted.{host, service, dependency, drafts_view, texts, HasFewAttempts};
 ghost use Rattle.check_drafts.specs.Text.{text};
 
 use check_drafts::{
     CheckDraft, DelayMethod, DependencyDraft, Drafts, HostDraft, InterleaveFactor, LoadError,
-    MAX_ATTEMPTS, MAX_CONCURRENT_CHECKS, MAX_DELAY, MAX_DEPENDENCIES, MAX_FACTOR, MAX_INTERVAL,
-    MAX_INTERVAL_LENGTH, MAX_NAME_BYTES, MAX_OBJECTS, MAX_PARENTS, MAX_SPREAD, Options, Part,
-    Place, ServiceDraft, full_name, text,
+    MAX_ATTEMPTS, MAX_CONCURRENT_CHECKS, MAX_DELAY, MAX_DEPENDENCIES, MAX_FACTOR,
+    MAX_FLAP_THRESHOLD, MAX_INTERVAL, MAX_INTERVAL_LENGTH, MAX_NAME_BYTES, MAX_OBJECTS,
+    MAX_PARENTS, MAX_SPREAD, Options, Part, Place, ServiceDraft, full_name, text,
 };
 use indexmap::IndexSet;
 use serde_json::Value;
@@ -340,6 +340,21 @@ fn are_options_in_range(options: &Options) -> bool
         && is_delay_in_range(options.host_inter_check_delay_method)
         && is_within(options.max_host_check_spread, 1, MAX_SPREAD)
         && options.max_concurrent_checks <= MAX_CONCURRENT_CHECKS
+        && are_thresholds_in_range(
+            options.low_service_flap_threshold,
+            options.high_service_flap_threshold,
+        )
+        && are_thresholds_in_range(
+            options.low_host_flap_threshold,
+            options.high_host_flap_threshold,
+        )
+}
+
+/// Whether the thresholds of flapping are percents, and the low one isn't above the high one.
+fn are_thresholds_in_range(low: u64, high: u64) -> bool
+    ensures { result ≡ are_thresholds_in_range low high }
+{
+    low <= high && high <= MAX_FLAP_THRESHOLD
 }
 
 fn is_within(number: u64, low: u64, high: u64) -> bool

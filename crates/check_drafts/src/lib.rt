@@ -20,8 +20,8 @@ pub use draft::{CheckDraft, DependencyDraft, Drafts, HostDraft, ServiceDraft, te
 pub use error::LoadError;
 pub use limits::{
     MAX_ATTEMPTS, MAX_CONCURRENT_CHECKS, MAX_DELAY, MAX_DEPENDENCIES, MAX_DOCUMENT_BYTES,
-    MAX_FACTOR, MAX_INTERVAL, MAX_INTERVAL_LENGTH, MAX_NAME_BYTES, MAX_OBJECTS, MAX_PARENTS,
-    MAX_SPREAD,
+    MAX_FACTOR, MAX_FLAP_THRESHOLD, MAX_INTERVAL, MAX_INTERVAL_LENGTH, MAX_NAME_BYTES, MAX_OBJECTS,
+    MAX_PARENTS, MAX_SPREAD,
 };
 pub use name::full_name;
 pub use object::Object;

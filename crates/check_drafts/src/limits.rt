@@ -35,3 +35,6 @@ pub const MAX_FACTOR: u64 = 4096;
 
 /// How many service checks may run at a time at most, where there is a limit.
 pub const MAX_CONCURRENT_CHECKS: u64 = 1_000_000;
+
+/// How many percent a threshold of flapping has at most.
+pub const MAX_FLAP_THRESHOLD: u64 = 100;

@@ -50,4 +50,15 @@ pub struct Options {
     /// Whether a WARNING of a host's plugin counts as a problem (manual: Host Checks). False unless
     /// the document says so.
     pub use_aggressive_host_checking: bool,
+    /// Below how many percent of changes a flapping service stops flapping, 0 to 100 and at most the
+    /// high threshold (manual: Detection and Handling of State Flapping; the limits are our own
+    /// profile). 20 unless the document says so.
+    pub low_service_flap_threshold: u64,
+    /// From how many percent of changes on a service flaps, 0 to 100. 30 unless the document says so.
+    pub high_service_flap_threshold: u64,
+    /// Below how many percent of changes a flapping host stops flapping, 0 to 100 and at most the
+    /// high threshold. 20 unless the document says so.
+    pub low_host_flap_threshold: u64,
+    /// From how many percent of changes on a host flaps, 0 to 100. 30 unless the document says so.
+    pub high_host_flap_threshold: u64,
 }

@@ -150,4 +150,10 @@ pub record IsSetup (c : Configuration) : Type 0 where
   pub host_delay : IsDelayInRange c.options.host_inter_check_delay_method
   pub host_spread : IsWithin 1 525600 c.options.max_host_check_spread
   pub concurrent_checks : c.options.max_concurrent_checks ≤ 1000000
+  pub low_service_flap_threshold : c.options.low_service_flap_threshold ≤ 100
+  pub high_service_flap_threshold : c.options.high_service_flap_threshold ≤ 100
+  pub low_host_flap_threshold : c.options.low_host_flap_threshold ≤ 100
+  pub high_host_flap_threshold : c.options.high_host_flap_threshold ≤ 100
+  pub service_flap_thresholds : c.options.low_service_flap_threshold ≤ c.options.high_service_flap_threshold
+  pub host_flap_thresholds : c.options.low_host_flap_threshold ≤ c.options.high_host_flap_threshold
   pub ranges : list_all (λ o. is_object_in_range o.object) (objects_of c) ≡ true

@@ -28,7 +28,7 @@ use Rattle.check_drafts.specs.Draft.{Drafts, HostDraft, ServiceDraft, Dependency
 use Rattle.check_documents.specs.Verification.{is_faultless, full_names, is_known}
 use Rattle.check_drafts.specs.Keys.{names_of, key_of}
 use Rattle.check_documents.specs.Verification.{good_ranges, good_host_ranges, good_options, good_service_ranges}
-use Rattle.check_documents.specs.Verification.{is_in_range, is_within, is_delay_in_range, is_factor_in_range, are_options_in_range}
+use Rattle.check_documents.specs.Verification.{is_in_range, is_within, is_delay_in_range, is_factor_in_range, are_thresholds_in_range, are_options_in_range}
 use Rattle.check_drafts.specs.Agreement.{◌>>=◌}
 use Rattle.check_drafts.specs.Place.{host_at, service_at}
 use Rattle.check_numbers.specs.Numbering.{number_in, dependencies_among, numbered_host, numbered_service, hosts_in_order, services_in_order, names_in_order}
@@ -144,6 +144,19 @@ options_by : (b : Bool) (fault : LoadError) (y : Result (Unit {0}) LoadError) �
 options_by true fault y o e = refl
 options_by false fault y o e = cc
 
+-- both thresholds are percents, and the low one isn't above the high one
+record AreThresholds (low high : ℕ) : Type 0 where
+  percent_low : low ≤ 100
+  percent_high : high ≤ 100
+  ordered : low ≤ high
+
+thresholds : (low high : ℕ) → are_thresholds_in_range low high ≡ true → AreThresholds low high
+thresholds low high e =
+    let b = both_true (nat_le low high) (nat_le high 100) e in
+    let ordered = at_most low high b.0 in
+    let percent = at_most high 100 b.1 in
+    record { percent_low = omega (arith, ordered, percent); percent_high = percent; ordered = ordered }
+
 -- the options are within their limits
 record HasOptionsInRange (o : Options) : Type 0 where
   interval_length : IsWithin 1 86400 o.interval_length
@@ -153,10 +166,14 @@ record HasOptionsInRange (o : Options) : Type 0 where
   host_delay : IsDelayInRange o.host_inter_check_delay_method
   host_spread : IsWithin 1 525600 o.max_host_check_spread
   concurrent_checks : o.max_concurrent_checks ≤ 1000000
+  service_flap : AreThresholds o.low_service_flap_threshold o.high_service_flap_threshold
+  host_flap : AreThresholds o.low_host_flap_threshold o.high_host_flap_threshold
 
 options_in_range : (o : Options) → are_options_in_range o ≡ true → HasOptionsInRange o
 options_in_range o e =
-    let a = both_true _ (nat_le o.max_concurrent_checks 1000000) e in
+    let y = both_true _ (are_thresholds_in_range o.low_host_flap_threshold o.high_host_flap_threshold) e in
+    let z = both_true _ (are_thresholds_in_range o.low_service_flap_threshold o.high_service_flap_threshold) y.0 in
+    let a = both_true _ (nat_le o.max_concurrent_checks 1000000) z.0 in
     let b = both_true _ (is_within 1 525600 o.max_host_check_spread) a.0 in
     let c = both_true _ (is_delay_in_range o.host_inter_check_delay_method) b.0 in
     let d = both_true _ (is_factor_in_range o.service_interleave_factor) c.0 in
@@ -170,6 +187,8 @@ options_in_range o e =
       host_delay = delay_in_range o.host_inter_check_delay_method c.1;
       host_spread = within 1 525600 o.max_host_check_spread b.1;
       concurrent_checks = at_most o.max_concurrent_checks 1000000 a.1;
+      service_flap = thresholds o.low_service_flap_threshold o.high_service_flap_threshold z.1;
+      host_flap = thresholds o.low_host_flap_threshold o.high_host_flap_threshold y.1;
     }
 
 good_options_in_range : (options : Options) (hosts : List HostDraft) (services : List ServiceDraft) → good_ranges options hosts services ≡ Ok tt
@@ -403,6 +422,12 @@ configuration_is_setup ds e acyclic no_parent_cycle =
       host_delay = o.host_delay;
       host_spread = o.host_spread;
       concurrent_checks = o.concurrent_checks;
+      low_service_flap_threshold = o.service_flap.percent_low;
+      high_service_flap_threshold = o.service_flap.percent_high;
+      low_host_flap_threshold = o.host_flap.percent_low;
+      high_host_flap_threshold = o.host_flap.percent_high;
+      service_flap_thresholds = o.service_flap.ordered;
+      host_flap_thresholds = o.host_flap.ordered;
       ranges = objects_in_range ds e f.ranged;
     }
 

@@ -15,7 +15,7 @@ mod tests;
 pub use check_drafts::{
     Criteria, DelayMethod, Dependency, InterleaveFactor, LoadError, MAX_ATTEMPTS,
     MAX_CONCURRENT_CHECKS, MAX_DELAY, MAX_DEPENDENCIES, MAX_DOCUMENT_BYTES, MAX_FACTOR,
-    MAX_INTERVAL, MAX_INTERVAL_LENGTH, MAX_NAME_BYTES, MAX_OBJECTS, MAX_PARENTS, MAX_SPREAD,
-    Object, Options, Part, Place,
+    MAX_FLAP_THRESHOLD, MAX_INTERVAL, MAX_INTERVAL_LENGTH, MAX_NAME_BYTES, MAX_OBJECTS,
+    MAX_PARENTS, MAX_SPREAD, Object, Options, Part, Place,
 };
 pub use setup::Setup;

@@ -16,7 +16,9 @@ fn reads_each_option(rt: HostRuntime) -> Result<(), Fail> {
         rt.alloc(),
         r#""interval_length":86400,"service_inter_check_delay_method":86400000,"max_service_check_spread":525600,
         "service_interleave_factor":4096,"host_inter_check_delay_method":"d","max_host_check_spread":1,
-        "max_concurrent_checks":1000000,"soft_state_dependencies":true,"use_aggressive_host_checking":true"#,
+        "max_concurrent_checks":1000000,"soft_state_dependencies":true,"use_aggressive_host_checking":true,
+        "low_service_flap_threshold":0,"high_service_flap_threshold":99,"low_host_flap_threshold":98,
+        "high_host_flap_threshold":100"#,
     )?;
     let Ok(setup) = Setup::read(rt.alloc(), document.as_bytes()) else {
         panic!(rt; "the document was refused");
@@ -31,6 +33,10 @@ fn reads_each_option(rt: HostRuntime) -> Result<(), Fail> {
         max_concurrent_checks: 1_000_000,
         soft_state_dependencies: true,
         use_aggressive_host_checking: true,
+        low_service_flap_threshold: 0,
+        high_service_flap_threshold: 99,
+        low_host_flap_threshold: 98,
+        high_host_flap_threshold: 100,
     };
     assert_eq!(rt; *setup.options(), want);
     Ok(())
@@ -51,6 +57,10 @@ fn options_have_defaults(rt: HostRuntime) -> Result<(), Fail> {
         max_concurrent_checks: 0,
         soft_state_dependencies: false,
         use_aggressive_host_checking: false,
+        low_service_flap_threshold: 20,
+        high_service_flap_threshold: 30,
+        low_host_flap_threshold: 20,
+        high_host_flap_threshold: 30,
     };
     assert_eq!(rt; *setup.options(), want);
     Ok(())
@@ -61,7 +71,7 @@ const SHAPE: LoadError = LoadError::Shape(Place::OPTIONS);
 const RANGE: LoadError = LoadError::Range(Place::OPTIONS);
 
 /// Texts of options, and why each is refused.
-const REFUSED_OPTIONS: [(&str, LoadError); 16] = [
+const REFUSED_OPTIONS: [(&str, LoadError); 24] = [
     (r#""service_inter_check_delay_method":"x""#, SHAPE),
     (r#""host_inter_check_delay_method":true"#, SHAPE),
     (r#""service_interleave_factor":"n""#, SHAPE),
@@ -78,7 +88,35 @@ const REFUSED_OPTIONS: [(&str, LoadError); 16] = [
     (r#""service_interleave_factor":0"#, RANGE),
     (r#""service_interleave_factor":4097"#, RANGE),
     (r#""max_concurrent_checks":1000001"#, RANGE),
+    (r#""low_host_flap_threshold":true"#, SHAPE),
+    (r#""high_service_flap_threshold":30.5"#, SHAPE),
+    (r#""high_service_flap_threshold":101"#, RANGE),
+    (r#""high_host_flap_threshold":101"#, RANGE),
+    (r#""low_service_flap_threshold":31"#, RANGE),
+    (r#""low_host_flap_threshold":31"#, RANGE),
+    (r#""high_service_flap_threshold":10"#, RANGE),
+    (r#""high_host_flap_threshold":19"#, RANGE),
 ];
+
+/// Thresholds of flapping at their limits: a low one that is its high one, the first and the last
+/// percent, and each beside the other's default.
+const ACCEPTED_THRESHOLDS: [&str; 6] = [
+    r#""low_service_flap_threshold":25,"high_service_flap_threshold":25"#,
+    r#""low_host_flap_threshold":100,"high_host_flap_threshold":100"#,
+    r#""low_service_flap_threshold":0,"high_service_flap_threshold":0"#,
+    r#""low_service_flap_threshold":30"#,
+    r#""high_host_flap_threshold":20"#,
+    r#""low_host_flap_threshold":40,"high_host_flap_threshold":40"#,
+];
+
+#[test]
+fn accepts_thresholds_of_flapping(rt: HostRuntime) -> Result<(), Fail> {
+    for options in &ACCEPTED_THRESHOLDS {
+        let document = with_options(rt.alloc(), *options)?;
+        assert!(rt; Setup::read(rt.alloc(), document.as_bytes()).is_ok());
+    }
+    Ok(())
+}
 
 #[test]
 fn refuses_options(rt: HostRuntime) -> Result<(), Fail> {
