@@ -1,17 +1,17 @@
 -- The way through dependencies that inherit, where a mark says that an object was asked and isn't blocked.
-use Rattle.std.proofs.Common.{◌≡◌, ℕ, zero, suc, ◌+◌, ◌<◌, ◌-◌, ◌==◌, ◌&&◌, ◌||◌, Bool, true, false, List, [], ◌∷◌, length, replicate}
+use Rattle.std.proofs.Common.{◌≡◌, ℕ, zero, suc, ◌<◌, ◌-◌, ◌&&◌, ◌||◌, Bool, true, false, List, [], ◌∷◌, length, replicate}
 use Rattle.std.proofs.Common.{refl, sym, ap, ◌∙◌, arith, inl, inr}
 use Rattle.std.specs.List.{list_any}
 use Rattle.std.specs.Prelude.{All}
 use Rattle.std.proofs.Math.ListN.{get_or, set}
 use Rattle.std.proofs.lemmas.Bool.{cases_eq, false≢true, or_parts}
-use Rattle.std.proofs.lemmas.List.{get_or-set_same, get_or-set_other}
+use Rattle.std.proofs.lemmas.List.{get_or-set_other}
 use Rattle.check_drafts.specs.declared.dependency.Dependency.{Dependency}
 use Rattle.check_objects.specs.Configuration.{Configuration, dependencies_of, masters_in, masters_of, object_count, IsSetup}
-use Rattle.link_order.specs.Cycles.{deep, links_of}
+use Rattle.link_order.specs.Cycles.{deep}
 use Rattle.check_rules.specs.declared.standing.Standing.{Standing}
 use Rattle.check_rules.specs.Dependencies.{is_met, is_blocked}
-use Rattle.check_rules.specs.Marks.{AreUnblocked, is_inheriting, is_marked}
+use Rattle.check_rules.specs.Marks.{AreUnblocked, is_inheriting}
 use Rattle.check_rules.proofs.BlockedLaws.{masters_at, blocked_by_masters}
 
 -- ---- tests of lists

@@ -1,4 +1,4 @@
-use Rattle.std.proofs.Common.{◌≡◌, ◌<◌, ◌∙◌, sym, arith, length}
+use Rattle.std.proofs.Common.{◌∙◌, sym, arith}
 use Rattle.check_rules.proofs.MarkLemmas.{by_masters, deeper, met_blocks, one_more}
 use Rattle.check_rules.proofs.dependencies.+masters.Goals as goal
 

@@ -1,4 +1,4 @@
-use Rattle.std.proofs.Common.{◌≡◌, ◌∙◌, sym}
+use Rattle.std.proofs.Common.{◌∙◌, sym}
 use Rattle.check_objects.specs.Configuration.{object_count}
 use Rattle.check_rules.proofs.BlockedLaws.{short}
 use Rattle.check_rules.proofs.MarkLemmas.{by_masters, deeper, met_blocks, none_inherits}
