@@ -1,5 +1,5 @@
 -- Dependencies followed from master to master: where no object depends on itself, the number of objects is deep enough.
-use Rattle.std.proofs.Common.{◌≡◌, ℕ, zero, suc, ◌<◌, ◌≤◌, ◌&&◌, ◌||◌, Bool, true, false, List, [], ◌∷◌, get_or, length, refl, sym, ap, ◌∙◌, arith, inl, inr}
+use Rattle.std.proofs.Common.{◌≡◌, ℕ, zero, suc, ◌<◌, ◌≤◌, ◌&&◌, ◌||◌, Bool, false, List, [], ◌∷◌, get_or, length, refl, sym, ap, ◌∙◌, arith, inl, inr}
 use Rattle.std.specs.List.{list_any}
 use Rattle.std.proofs.lemmas.Bool.{cases_lt, or_parts}
 use Rattle.std.proofs.lemmas.List.{length-map}
@@ -44,7 +44,7 @@ unfolding has_cycle
 no_chain links n h l = below_by (λ o. deep links o (length links)) (length links) h n l
 
 -- no chain of as many masters as there are objects begins at an object
-short : (c : Configuration) (n : ℕ) → has_cycle (masters_of c) ≡ false → length c.dependencies ≡ object_count c → n < object_count c
+pub short : (c : Configuration) (n : ℕ) → has_cycle (masters_of c) ≡ false → length c.dependencies ≡ object_count c → n < object_count c
     → deep (masters_of c) n (object_count c) ≡ false
 short c n acyclic listed h =
     let size : length (masters_of c) ≡ object_count c = length-map c.dependencies masters_in ∙ listed in

@@ -1,6 +1,6 @@
 -- The weights of changes, added up one result after another.
 use Rattle.std.proofs.Common.{◌≡◌, ℕ, ◌+◌, ◌*◌, ◌≤◌, ◌-◌, zero, suc, Bool, true, false, cond, List, [], ◌∷◌, ◌++◌, length, refl, sym, ap, ◌∙◌, arith}
-use Rattle.std.specs.Prelude.{zip, drop, slice_get, Option, Some, None, unwrap_or}
+use Rattle.std.specs.Prelude.{zip, slice_get, Some, unwrap_or}
 use Rattle.std.specs.List.{enumerate_from, sum_by}
 use Rattle.std.proofs.lemmas.List.Sums.{sum_by-cons}
 use Rattle.std.proofs.lemmas.Option.{none-some}

@@ -1,12 +1,19 @@
--- The objects whose dependencies are still to be read.
-use Rattle.std.specs.Prelude.{ℕ, ◌==◌, ◌&&◌, Bool, false, List}
-use Rattle.std.specs.List.{list_any, slice_index_or}
+-- The masters that were asked before, on the way through dependencies that inherit.
+use Rattle.std.specs.Prelude.{ℕ, ◌≡◌, ◌&&◌, Bool, true, false, List}
+use Rattle.std.specs.List.{slice_index_or}
 use Rattle.check_drafts.specs.declared.dependency.Dependency.{Dependency}
+use Rattle.check_objects.specs.Configuration.{Configuration}
+use Rattle.check_rules.specs.declared.standing.Standing.{Standing}
+use Rattle.check_rules.specs.Dependencies.{is_blocked}
 
 -- whether the object with this number is marked
 abbrev pub is_marked : List Bool → ℕ → Bool
 is_marked marks object = slice_index_or marks object false
 
--- whether the object is the master of a dependency that inherits
-abbrev pub is_inherited : ℕ → List Dependency → Bool
-is_inherited object dependencies = list_any (λ d. d.inherits && (d.master == object)) dependencies
+-- no marked object is blocked
+abbrev pub AreUnblocked : Configuration → List Standing → List Bool → Type 0
+AreUnblocked setup standings marks = (object : ℕ) → is_marked marks object ≡ true → is_blocked setup standings object ≡ false
+
+-- whether a dependency fails by what it inherits: its master is blocked
+abbrev pub is_inheriting : Configuration → List Standing → Dependency → Bool
+is_inheriting setup standings d = d.inherits && is_blocked setup standings d.master

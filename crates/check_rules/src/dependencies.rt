@@ -1,10 +1,11 @@
 //! Whether an execution dependency holds the check of an object back.
 
-ghost use Rattle.std.specs.Prelude.{◌≡◌, ℕ, ◌<◌, ◌||◌, [], length, All};
+ghost use Rattle.std.specs.Prelude.{◌≡◌, ◌<◌, [], false, length, All};
 ghost use Rattle.std.specs.List.{list_any};
-ghost use Rattle.check_objects.specs.Configuration.{dependencies_of, object_count};
+ghost use Rattle.check_objects.specs.Configuration.{IsSetup, dependencies_of, masters_of, object_count};
+ghost use Rattle.link_order.specs.Cycles.{deep};
 ghost use Rattle.check_rules.specs.Dependencies.{is_blocked, is_criterion, is_met, meets, state_read};
-ghost use Rattle.check_rules.specs.Marks.{is_inherited, is_marked};
+ghost use Rattle.check_rules.specs.Marks.{AreUnblocked, is_inheriting};
 
 use crate::standing::Standing;
 use crate::state::State;
@@ -18,8 +19,10 @@ use check_objects::{Criteria, Dependency, Setup};
 /// some dependency of its master does. (Manual: "Host and Service Dependencies".) A master that was
 /// never checked meets the criterion `p` alone. (Our own profile.)
 ///
-/// `marks` is scratch with a place for each object, and may hold anything. It is left alone where
-/// the object has no dependency, which costs a constant; else the objects are gone through once.
+/// `marks` is scratch with a place for each object, and may hold anything. Where a master that the
+/// object depends on is in one of the criteria, or none of its dependencies inherits, it is left
+/// alone; else it is cleared, and each master that is reached through dependencies that inherit is
+/// asked once at most.
 pub fn blocked(setup: &Setup, standings: &[Standing], marks: &mut [bool], n: u32) -> bool
     requires there { n < object_count setup.now }
     requires one_each { length standings.now ≡ object_count setup.now }
@@ -28,25 +31,84 @@ pub fn blocked(setup: &Setup, standings: &[Standing], marks: &mut [bool], n: u32
     ensures size { length marks.new ≡ length marks.old }
     ensures untouched { dependencies_of setup.now n ≡ [] → marks.new ≡ marks.old }
 {
-    if setup.dependencies(n).is_empty() {
+    let depth = setup.len() - 1;
+    let dependencies = setup.dependencies(n);
+    if is_any_met(setup, standings, dependencies) {
+        return true;
+    }
+    if !inherits_any(dependencies) {
         return false;
     }
     marks.fill(false);
-    marks[n as usize] = true;
-    let order = setup.order();
-    let mut place = setup.len();
-    while place > 0 {
-        place -= 1;
-        let object = order[place];
-        if marks[object as usize] {
-            let dependencies = setup.dependencies(object);
-            if is_any_met(setup, standings, dependencies) {
-                return true;
-            }
-            mark_inherited(dependencies, marks);
+    is_any_master_blocked(setup, standings, dependencies, marks, depth)
+}
+
+/// Whether the master of some of the dependencies that inherit is blocked. No chain of masters that
+/// begins at one of them has `depth` members.
+#[cycle(masters)]
+fn is_any_master_blocked(
+    setup: &Setup,
+    standings: &[Standing],
+    dependencies: &[Dependency],
+    marks: &mut [bool],
+    depth: usize,
+) -> bool
+    requires valid { IsSetup setup.now }
+    requires there { All (λ d. d.master < object_count setup.now) dependencies.now }
+    requires shallow { All (λ d. deep (masters_of setup.now) d.master depth ≡ false) dependencies.now }
+    requires scratch { length marks.old ≡ object_count setup.now }
+    requires asked { AreUnblocked setup.now standings.now marks.old }
+    ensures value { result ≡ list_any (is_inheriting setup.now standings.now) dependencies.now }
+    ensures size { length marks.new ≡ length marks.old }
+    ensures asked { AreUnblocked setup.now standings.now marks.new }
+{
+    for dependency in dependencies {
+        let inherits = dependency.inherits;
+        if inherits && is_master_blocked(setup, standings, dependency.master, marks, depth) {
+            return true;
         }
     }
     false
+}
+
+/// Whether a master is blocked. A marked one was asked before, and isn't. No chain of masters that
+/// begins here has `depth` members.
+#[cycle(masters)]
+fn is_master_blocked(
+    setup: &Setup,
+    standings: &[Standing],
+    master: u32,
+    marks: &mut [bool],
+    depth: usize,
+) -> bool
+    requires valid { IsSetup setup.now }
+    requires there { master < object_count setup.now }
+    requires shallow { deep (masters_of setup.now) master depth ≡ false }
+    requires scratch { length marks.old ≡ object_count setup.now }
+    requires asked { AreUnblocked setup.now standings.now marks.old }
+    ensures value { result ≡ is_blocked setup.now standings.now master }
+    ensures size { length marks.new ≡ length marks.old }
+    ensures asked { AreUnblocked setup.now standings.now marks.new }
+{
+    if marks[master as usize] {
+        return false;
+    }
+    let dependencies = setup.dependencies(master);
+    if is_any_met(setup, standings, dependencies) {
+        return true;
+    }
+    if is_any_master_blocked(setup, standings, dependencies, marks, depth - 1) {
+        return true;
+    }
+    marks[master as usize] = true;
+    false
+}
+
+/// Whether some of the dependencies inherits.
+fn inherits_any(dependencies: &[Dependency]) -> bool
+    ensures { result ≡ list_any (λ d. d.inherits) dependencies.now }
+{
+    dependencies.iter().any(|dependency| dependency.inherits)
 }
 
 /// Whether the master of some of the dependencies is in one of its criteria.
@@ -100,19 +162,5 @@ fn is_criterion(criteria: Criteria, state: State) -> bool
         State::Critical => criteria.critical,
         State::Unknown | State::Unreachable => criteria.unknown,
         State::Down => criteria.down,
-    }
-}
-
-/// Marks the masters of the dependencies that inherit.
-fn mark_inherited(dependencies: &[Dependency], marks: &mut [bool])
-    requires { All (λ d. d.master < length marks.old) dependencies.now }
-    ensures size { length marks.new ≡ length marks.old }
-    ensures marks { (object : ℕ) → is_marked marks.new object ≡
-        (is_marked marks.old object || is_inherited object dependencies.now) }
-{
-    for dependency in dependencies {
-        if dependency.inherits {
-            marks[dependency.master as usize] = true;
-        }
     }
 }
