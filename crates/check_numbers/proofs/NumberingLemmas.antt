@@ -60,9 +60,6 @@ pub record Built {E Y : Type 0} (one : E → Y) (all rest : List E) (made : List
   pub whole : all ≡ done ++ rest
   pub same : made ≡ map one done
 
-pub built_none : {E Y : Type 0} (one : E → Y) (all : List E) → Built one all all []
-built_none one all = record { done = []; whole = refl; same = refl }
-
 pub built_next : {E Y : Type 0} (one : E → Y) (all rest more : List E) (made : List Y) (e : E) → Built one all rest made → rest ≡ e ∷ more
     → Built one all more (made ++ one e ∷ [])
 built_next one all rest more made e b r = record {

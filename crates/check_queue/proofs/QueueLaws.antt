@@ -72,9 +72,6 @@ counted ts k o w l e = ap (λ v. count (set ts k o) + one v) (sym e) ∙ sum_by-
 pub count_more : (ts : List (Option ℕ)) (k t : ℕ) → k < length ts → time_at ts k ≡ None → count (set ts k (Some t)) ≡ count ts + 1
 count_more ts k t l e = let h : count (set ts k (Some t)) + 0 ≡ count ts + 1 = counted ts k (Some t) None l e in omega arith
 
-pub count_same : (ts : List (Option ℕ)) (k s t : ℕ) → k < length ts → time_at ts k ≡ Some s → count (set ts k (Some t)) ≡ count ts
-count_same ts k s t l e = let h : count (set ts k (Some t)) + 1 ≡ count ts + 1 = counted ts k (Some t) (Some s) l e in omega arith
-
 pub count_less : (ts : List (Option ℕ)) (k s : ℕ) → k < length ts → time_at ts k ≡ Some s → count (set ts k None) + 1 ≡ count ts
 count_less ts k s l e = let h : count (set ts k None) + 1 ≡ count ts + 0 = counted ts k None (Some s) l e in omega arith
 

@@ -85,9 +85,6 @@ closed es n hole x in' room a over under = record {
 pub above_at : (es : List Entry) (hole p : ℕ) (x : Entry) → 2 * p + 1 ≤ hole → hole ≤ 2 * p + 2 → IsNotBefore x (entry_at es p) → FitsAbove es hole x
 above_at es hole p x from to t = record { above = λ i b c. let e : i ≡ p = omega arith in by _ _ _ _ refl (ap (λ k. entry_at es k) e) t }
 
-pub above_none : (es : List Entry) (x : Entry) → FitsAbove es 0 x
-above_none es x = record { above = λ i b c. absurd (omega arith) }
-
 pub below_none : (es : List Entry) (n hole : ℕ) (x : Entry) → n ≤ 2 * hole + 1 → FitsBelow es n hole x
 below_none es n hole x h = record { below = λ j b c f. absurd (omega arith) }
 

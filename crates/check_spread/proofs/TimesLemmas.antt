@@ -72,12 +72,6 @@ back_in_range n objects all k d h =
 
 -- ---- hosts in front, services behind
 
-pub hosts_in_front : (c : Configuration) (n : ℕ) → n ≡ length c.hosts → take n (all_objects c) ≡ host_objects c
-hosts_in_front c n e = rw (e ∙ sym (length-map c.hosts (λ h. h.object))) (take-append_seam (host_objects c) (service_objects c))
-
-pub services_behind : (c : Configuration) (n : ℕ) → n ≡ length c.hosts → drop n (all_objects c) ≡ service_objects c
-services_behind c n e = rw (e ∙ sym (length-map c.hosts (λ h. h.object))) (drop-append_seam (host_objects c) (service_objects c))
-
 -- ---- the times
 
 pub length-first_times : (spread : Spread) (objects : List Object) → length (first_times spread objects) ≡ length objects

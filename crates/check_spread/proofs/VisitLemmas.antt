@@ -313,13 +313,3 @@ rank_less factor p xs d h s =
     let not_itself : is_visited_earlier factor p (p % factor) p ≡ false = rw (not_less, not_less_itself p) (false_second (p % factor == p % factor)) in
     let at : 0 + p ≡ p = omega arith in
     visits_less (is_visited_earlier factor p (p % factor)) 0 p xs d h s (rw at not_itself)
-
-pub earlier_first : (factor : ℕ) (xs : List Object) (ranks : List ℕ) → HasCounts (has_less_remainder factor) factor xs ranks
-    → HasCounts (is_visited_earlier factor 0) factor xs ranks
-earlier_first factor xs ranks has = record {
-  size = has.size;
-  at =
-      λ r h. has.at r h
-      ∙ visits_same (has_less_remainder factor r) (is_visited_earlier factor 0 r) 0 xs
-      (λ j l m. sym (rw (nothing_below j, false_second (j % factor == r)) (or-false (nat_lt (j % factor) r))));
-}

@@ -52,16 +52,3 @@ made_reply call reply before after h =
       calls = (let s : before.calls + 1 ≡ before.calls + length (e ∷ []) + 0 = omega arith in s);
       left = (let some = h.some_left in let s : before.left ≡ (before.left - 1) + length (e ∷ []) + 0 = omega arith in s);
     })
-
--- a call without memory for its entry
-pub made_refused : (room : ℕ) (before after : Caller Call Reply) → HasNoMemory room before after → HasMade [] 1 before after
-made_refused room before after h =
-    let step = subst (λ c. HasMade [] 1 before c) (sym h.after_is) in
-    step (record {
-      own = refl;
-      numbers = refl;
-      seen = h.follows.0;
-      new = (λ p has. h.follows.1 p has ∙ sym (append-nil (of p before.seen)));
-      calls = (let s : before.calls + 1 ≡ before.calls + 0 + 1 = omega arith in s);
-      left = (let some = h.some_left in let s : before.left ≡ (before.left - 1) + 0 + 1 = omega arith in s);
-    })

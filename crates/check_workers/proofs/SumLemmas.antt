@@ -67,16 +67,6 @@ pub take_sum : (replies : AreTakeReplies) (s : BookState) (now : ℕ) (r : Reply
 take_sum replies s now r before after h legal number at =
     sum_of_take number at r (replies s h.history before.own now r (rw h.after_is at legal))
 
--- the history then ends in it
-pub taken_ends : (now object run : ℕ) (before after : Caller Call Reply) → HasRecorded (call.Take now) (reply.Taken object run) before after
-    → EndsInTaken object run after.seen
-taken_ends now object run before after h = record {
-  front = h.history;
-  pass = before.own;
-  now = now;
-  is = ap (λ c. c.seen) h.after_is;
-}
-
 -- a report that was recorded, of a check that was taken before
 pub report_sum : (replies : AreReportReplies) (s : BookState) (object run : ℕ) (code : Code) (r : Reply) (before after : Caller Call Reply)
     → EndsInTaken object run before.seen → HasRecorded (call.Report object run code) r before after → IsLegal book_step s after.seen → (number : ℕ)

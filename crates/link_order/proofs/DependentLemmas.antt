@@ -19,16 +19,6 @@ use Rattle.link_order.proofs.GrowthLemmas.{times-append, times-same, times-other
 
 -- ---- one object added to the lists of those that it links to
 
-pub adds_none : (object : ℕ) (lists : List (List ℕ)) → AddsDependent object [] lists lists
-adds_none object lists = record {
-  size = refl;
-  counts = λ link other h. elim (other == object) as (λ b. times other (links_of lists link) ≡ times other (links_of lists link) + cond b 0 0) [
-    | true ↦ omega arith
-    | false ↦ omega arith
-  ];
-  within = λ n h w. w;
-}
-
 within_set : (n : ℕ) (lists : List (List ℕ)) (place : ℕ) (ls : List ℕ) → are_within n lists ≡ true → list_all (λ l. nat_lt l n) ls ≡ true
     → are_within n (set lists place ls) ≡ true
 within_set n [] place ls h k = refl
@@ -84,9 +74,6 @@ adds_more object done old mid new link a h is = rw is (record {
 times_nothing : (n link other : ℕ) → link < n → times other (links_of (replicate n []) link) ≡ 0
 times_nothing n link other h = ap (times other) (get_or-replicate {A = List ℕ} n link [] [] h)
 
-within_empty : (n : ℕ) (lists : List (List ℕ)) → list_all (λ ls. list_all (λ l. nat_lt l n) ls) lists ≡ true → are_within n lists ≡ true
-within_empty n lists h = h
-
 get_or-take_past : (links : List (List ℕ)) (k i : ℕ) → k ≤ i → links_of (take k links) i ≡ []
 get_or-take_past links k i h = get_or_past (take k links) i [] (let e = length-take k links in omega arith)
 
@@ -108,9 +95,6 @@ take_before links k i h l =
 
 take_here : (links : List (List ℕ)) (k : ℕ) → k < length links → links_of (take (k + 1) links) k ≡ links_of links k
 take_here links k h = get_or-take (k + 1) links k [] (omega arith)
-
-cond_none : (b : Bool) (t : ℕ) → b ≡ false → t + cond b 0 0 ≡ t
-cond_none b t e = rw e (omega arith)
 
 counts_next : (links old new : List (List ℕ)) (k link object n : ℕ) → k < length links
     → times object (links_of new link) ≡ times object (links_of old link) + cond (object == k) (times link (links_of links k)) 0

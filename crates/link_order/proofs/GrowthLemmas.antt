@@ -113,18 +113,6 @@ waiting_objects-set [] i v h = absurd (omega arith)
 waiting_objects-set (x ∷ xs) zero v h = omega arith
 waiting_objects-set (x ∷ xs) (suc i) v h = let again = waiting_objects-set xs i v (omega arith) in omega arith
 
-pub closed_none : (left order : List ℕ) → Closed [] left order left order
-closed_none left order = record {
-  joined = [];
-  order_is = sym (append-nil order);
-  size = refl;
-  counts = λ o h. omega arith;
-  once = λ o h. omega arith;
-  within = refl;
-  free = refl;
-  total = omega arith;
-}
-
 -- what one closed link leaves of another object's count
 at_other : (left' : List ℕ) (d w o : ℕ) → o ≢ d → open_at (set left' d w) o ≡ open_at left' o
 at_other left' d w o n = get_or-set_other left' d o w 0 n
@@ -232,10 +220,6 @@ among_front : (xs : List ℕ) (k l : ℕ) → is_among (take k xs) l ≡ true �
 among_front xs k l h = let whole : take k xs ++ drop k xs ≡ xs = grind (arith, common_steps) in rw (← whole) (among_more (take k xs) (drop k xs) l h)
 
 -- ---- the first objects
-
-times_pick : (x k : ℕ) (b : Bool) (rest : List ℕ) → times x (cond b (k ∷ rest) rest) ≡ cond b (cond (k == x) 1 0) 0 + times x rest
-times_pick x k true rest = refl
-times_pick x k false rest = omega arith
 
 times_free_by : (x k v : ℕ) (rest : List ℕ) → x < k → times x rest ≡ 0 → times x (cond (v == 0) (k ∷ rest) rest) ≡ 0
 times_free_by x k v rest h e = elim (v == 0) as (λ b. times x (cond b (k ∷ rest) rest) ≡ 0) [
