@@ -104,6 +104,17 @@ unnumbered_calls draws served s is none = ⊎_elim
     (λ (t : is_there s.phase ≡ true). absurd (omega (arith, none, is.own t, times_le s.own s.numbers)))
     (λ (t : is_there s.phase ≡ false). (is.gone t).1) (there_or_not s.phase)
 
+-- and has posted none
+pub unnumbered_posts : (draws served : ℕ) (s : CoreSeat) → IsSeat draws served s → length s.numbers ≡ 0 → posted_one s.phase ≡ 0
+unnumbered_posts draws served s is none = omega (
+  arith,
+  none,
+  busy draws served s is,
+  times_le served (tickets_of s.phase),
+  holder_le draws served s is,
+  posted_le_as s.phase,
+)
+
 module _ {S C R : Type 0} (numbers draws : ℕ) (c : CoreState S C R) (l : IsLawful numbers draws c) where
   -- the number served has one seat at most
   pub one_served : tickets_at c.served c.seats ≡ once_below c.served c.next
