@@ -11,10 +11,12 @@ use Rattle.ticket_steps.specs.Happenings.{Happening, split, drew, waited, held, 
 use Rattle.ticket_steps.specs.Happenings.{with_seats, after_post, after_leave, Moves}
 use Rattle.ticket_steps.specs.History.{entry}
 use Rattle.ticket_steps.specs.Lawful.{IsSeat, IsLawful, spare}
-use Rattle.ticket_steps.specs.Seats.{tickets_of, is_there, posted_one, fresh_seat, gone, keeping, given, waiting, holding, posting, ended, joined, Holds, Stands}
+use Rattle.ticket_steps.specs.Seats.{tickets_of, is_there, posted_one, fresh_seat, gone, keeping, given, waiting, holding, posting, ended, joined}
+use Rattle.ticket_steps.specs.Seats.{Holds, Stands}
 use Rattle.ticket_steps.specs.Sums.{total, times, once_below, counted}
 use Rattle.ticket_steps.proofs.Lists.{at_set, at_snoc, at_same, set_else, at_within}
-use Rattle.ticket_steps.proofs.SeatLemmas.{tickets, posts, tickets_idle, tickets_waiting, tickets_holding, holding_holds, posted_holds, holder_there, same_ticket, sole}
+use Rattle.ticket_steps.proofs.SeatLemmas.{tickets, posts, tickets_idle, tickets_waiting, tickets_holding, holding_holds, posted_holds, holder_there}
+use Rattle.ticket_steps.proofs.SeatLemmas.{same_ticket, sole}
 use Rattle.ticket_steps.proofs.Totals.{total-set, total-append, times-same, times-append, times-take-drop, take-counted, drop-counted, length-counted}
 use Rattle.ticket_steps.proofs.Totals.{counted_first, counted_below, below_no, below_more}
 

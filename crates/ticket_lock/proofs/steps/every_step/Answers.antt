@@ -4,7 +4,8 @@ use lib.ListN.{get_elem?}
 use Rattle.ticket_steps.proofs.Lists.{at_within, set_here}
 use Rattle.ticket_lock.specs.Layout.{next_word}
 use Rattle.ticket_lock.specs.Views.{drawn_view}
-use Rattle.ticket_lock.proofs.Events.{split_event, draw_event, look_event, wait_event, post_event, leave_posted_event, leave_event, gather_event, second_load_same}
+use Rattle.ticket_lock.proofs.Events.{split_event, draw_event, look_event, wait_event, post_event, leave_posted_event, leave_event, gather_event}
+use Rattle.ticket_lock.proofs.Events.{second_load_same}
 use Rattle.ticket_lock.proofs.Obligations.{opens_with, look_held_told, look_waits_told, leave_told, second_load_told}
 use Rattle.ticket_lock.proofs.OnlyTables.{book_home, draw_only, look_held_only, look_waits_only, leave_only, second_load_only}
 use Rattle.ticket_lock.proofs.WordLemmas.{next_found}
