@@ -10,6 +10,7 @@ ghost use Rattle.ticket_steps.specs.Books.{calls_taken};
 ghost use Rattle.ticket_steps.specs.Happenings.{calls_made, recorded_by};
 ghost use Rattle.ticket_steps.specs.History.{of, replay, IsLegal};
 ghost use Rattle.ticket_steps.specs.Schedules.{Schedule};
+ghost use Rattle.ticket_steps.specs.Seats.{posted_one};
 ghost use Rattle.ticket_steps.specs.Sums.{times};
 ghost use Rattle.check_objects.specs.Configuration.{Configuration};
 ghost use Rattle.check_sched.specs.declared.call.Call.{Call};
@@ -29,7 +30,8 @@ ghost use Rattle.check_desk.specs.Schedules.{IsScheduleOver};
 ///
 /// It speaks of every setup, start and room, of 1 to 1,024 passes, and of every schedule of the core
 /// from the opening on. The book is the one at home, whenever no seat holds; while one does, it is
-/// the book as its holder took it out, so that nothing here asks whether the lock is free.
+/// the book as its holder took it out, with what it has posted since, so that nothing here asks
+/// whether the lock is free.
 ///
 /// - Each reply is the sequential scheduler's at its place (`legal`), and the scheduler is in the
 ///   state that those calls leave (`state`).
@@ -38,7 +40,8 @@ ghost use Rattle.check_desk.specs.Schedules.{IsScheduleOver};
 /// - Each number's entries are the calls that it recorded, each once and in its order (`entries`); a
 ///   number that was never given out has none (`strangers`).
 /// - Entries and refusals together are the calls that were made (`made`); where one seat stands for
-///   all numbers, they are the calls that it tells of (`all`).
+///   all numbers, they are the calls that it tells of, and one more while it has posted a call and
+///   not left (`all`).
 pub fn headline()
     ensures legal { (setup : Configuration) (start room : ℕ) (s : Schedule BookState Call Reply)
         → IsScheduleOver setup start room s → IsLegal step (opening setup start) s.end.book.entries }
@@ -66,7 +69,8 @@ pub fn headline()
     ensures all { (setup : Configuration) (start room : ℕ) (s : Schedule BookState Call Reply)
         → IsScheduleOver setup start room s
         → (i : ℕ) (p : CoreSeat) → get_elem? s.end.seats i ≡ some p
-        → length p.numbers ≡ s.numbers → calls_taken s.end.book ≡ p.calls }
+        → length p.numbers ≡ s.numbers
+        → calls_taken s.end.book ≡ p.calls + posted_one p.phase }
 {}
 
 /// What is so of every pass, at any time.

@@ -12,13 +12,14 @@ use Rattle.atomic_table.proofs.Lists.{at_map}
 use Rattle.ticket_steps.specs.declared.kept.Entry.{Entry}
 use Rattle.ticket_steps.specs.declared.kept.Kept.{Ghosts}
 use Rattle.ticket_steps.specs.declared.seats.CoreSeat.{CoreSeat}
-use Rattle.ticket_steps.specs.declared.seats.Phase.TheVariants.{Idle, Waiting, Holding}
+use Rattle.ticket_steps.specs.declared.seats.Phase.TheVariants.{Idle, Waiting, Holding, Posted}
 use Rattle.ticket_steps.specs.Books.{BookState, with_entry, with_refusal, IsLawfulBook}
 use Rattle.ticket_steps.specs.CoreStates.{CoreState, core_state, opened}
-use Rattle.ticket_steps.specs.Happenings.{Happening, split, drew, waited, held, recorded, refused, gathered, with_seats, after_leave, Moves}
+use Rattle.ticket_steps.specs.Happenings.{Happening, split, drew, waited, held, posted, post_refused, left_posted, recorded, refused, gathered}
+use Rattle.ticket_steps.specs.Happenings.{with_seats, after_post, after_leave, Moves}
 use Rattle.ticket_steps.specs.History.{entry, of, IsLegal}
 use Rattle.ticket_steps.specs.Lawful.{IsLawful}
-use Rattle.ticket_steps.specs.Seats.{holds_one, is_there, tickets_of, holders, keeping, given, waiting, holding, ended, gone}
+use Rattle.ticket_steps.specs.Seats.{Holds, holds_one, is_there, tickets_of, holders, keeping, given, waiting, holding, posting, ended, gone}
 use Rattle.ticket_steps.specs.Sums.{times}
 use Rattle.ticket_steps.proofs.CoreLemmas.{few_tickets}
 use Rattle.ticket_steps.proofs.Histories.{legal-last-reply}
@@ -26,17 +27,18 @@ use Rattle.ticket_steps.proofs.LawfulSteps.{lawful_opened}
 use Rattle.ticket_steps.proofs.Lists.{at_set, at_snoc, set_else, set_here, set_again}
 use Rattle.ticket_steps.proofs.Ofs.{of-other}
 use Rattle.ticket_steps.proofs.ScheduleLemmas.{leads_more, leads_lawful, leads_lawful_book, leads_strangers}
-use Rattle.ticket_steps.proofs.SeatLemmas.{holds, one_holder, no_holder, sole, named_once, tickets_holding}
-use Rattle.ticket_steps.proofs.Totals.{times-append, times-same, times-take-drop, total-set, total-append, terms_le, below_le}
+use Rattle.ticket_steps.proofs.SeatLemmas.{holds, one_holder, no_holder, sole, named_once, tickets_holding, holding_holds, posted_holds, holder_there}
+use Rattle.ticket_steps.proofs.Totals.{times-append, times-same, times-take-drop, total-set, total-append, term_le, terms_le, below_le}
 use Rattle.ticket_lock.specs.declared.views.Start.{Start}
 use Rattle.ticket_lock.specs.declared.views.View.{View}
 use Rattle.ticket_lock.specs.Histories.{IsKnown, IsKnownToAll}
 use Rattle.ticket_lock.specs.Layout.{grant_word, next_word}
 use Rattle.ticket_lock.specs.Rule.{IsTableOf}
 use Rattle.ticket_lock.specs.Slots.{IsBook, IsSlotOf}
-use Rattle.ticket_lock.specs.Steps.{after_split, after_draw, after_waiting, after_holding, after_leaving, after_gather, after_second_load, Returns, IsEvent}
+use Rattle.ticket_lock.specs.Steps.{after_split, after_draw, after_waiting, after_holding, after_posting, after_leaving, after_gather, after_second_load}
+use Rattle.ticket_lock.specs.Steps.{Returns, IsPosted, IsEvent}
 use Rattle.ticket_lock.specs.Views.{draws_in, view, seat_in, spent_view, Follows, keeping_view, given_view, drawn_view, joined_view, reloaded_view}
-use Rattle.ticket_lock.specs.Views.{held_view, left_view}
+use Rattle.ticket_lock.specs.Views.{held_view, posted_view, left_view}
 use Rattle.ticket_lock.specs.Words.{AreWordsOf, IsCoreOf}
 use Rattle.ticket_lock.proofs.WordLemmas.{next_found, next_raised, next_granted}
 use Rattle.ticket_lock.proofs.Seen.{follows_whole, follows_none, follows_later, follows_fewer, longer_of}
@@ -80,7 +82,7 @@ module _ {K C R : Type 0} (k : Ghosts K C R) (start : Start K) where
 
   known_view : (b : BookState k.State C R) (a : Option (Start K)) (p : CoreSeat) (seen : List (Entry C R)) (n : ℕ)
       → ((o : Start K) → a ≡ Some o → o ≡ start) → Follows p.numbers seen b.entries
-      → ((t : ℕ) → p.phase ≡ Holding t → (seen ≡ b.entries) × (n ≡ b.refused)) → IsKnown start b (view a p seen n)
+      → ((t : ℕ) → Holds t p.phase → (seen ≡ b.entries) × (n ≡ b.refused)) → IsKnown start b (view a p seen n)
   known_view b a p seen n start_is follows out = record {
     start_is = start_is;
     seen = follows;
@@ -91,7 +93,7 @@ module _ {K C R : Type 0} (k : Ghosts K C R) (start : Start K) where
   }
 
   known_later : (b b' : BookState k.State C R) (u : V) → IsKnown start b u → (zs : List (Entry C R)) → b'.entries ≡ b.entries ++ zs
-      → ((p : ℕ) → 0 < times p u.seat.numbers → of p b'.entries ≡ of p b.entries) → ((t : ℕ) → u.seat.phase ≡ Holding t → ⊥) → IsKnown start b' u
+      → ((p : ℕ) → 0 < times p u.seat.numbers → of p b'.entries ≡ of p b.entries) → ((t : ℕ) → Holds t u.seat.phase → ⊥) → IsKnown start b' u
   known_later b b' u n zs is still free = record {
     start_is = n.start_is;
     seen = follows_later u.seat.numbers u.seen b.entries b'.entries zs n.seen is still;
@@ -170,7 +172,7 @@ module _ {K C R : Type 0} (k : Ghosts K C R) (start : Start K) where
             (slot_stays c d s _ r.slot refl refl (omega (arith, total-set holds c.seats id v.seat p at', ap holds_one idle)))
             record {
               each = known_set c.book s.views id w (known_view c.book v.start (waiting x v.seat) v.seen 0 old.start_is old.seen
-                  (λ t e. absurd (cc))) (λ j u _ e. r.known.each j u e);
+                  (λ t e. absurd (omega (arith, e.0)))) (λ j u _ e. r.known.each j u e);
             },
       )
 
@@ -232,10 +234,70 @@ module _ {K C R : Type 0} (k : Ghosts K C R) (start : Start K) where
         ),
       )
 
+  -- what the other seats know, where a holder adds nothing but entries of its own number to the history
+  others_know : (hs : List (Happening C R)) (c : Core) (s : Table) (id ticket : ℕ) (v : V) (b : BookState k.State C R)
+      → Ruled hs c s → get_elem? s.views id ≡ some v → Holds ticket v.seat.phase → (zs : List (Entry C R)) → b.entries ≡ c.book.entries ++ zs
+      → ((n : ℕ) → v.seat.own ≢ n → of n b.entries ≡ of n c.book.entries)
+      → (j : ℕ) (u : V) → j ≢ id → get_elem? s.views j ≡ some u → IsKnown start b u
+  others_know hs c s id ticket v b r at holder zs more others j u other e =
+      let l = lawful hs c s r in
+      let at' = seat_at hs c s r id v at in
+      let at'' = seat_at hs c s r j u e in
+      let mine = l.each id v.seat at' in
+      let own_in : 0 < times v.seat.own v.seat.numbers = mine.own (holder_there v.seat.phase holder.0) in
+      let ticket_here : times c.served (tickets_of v.seat.phase) ≡ 1 = tickets_holding c.served ticket v.seat holder ∙
+      (ap (λ (n : ℕ). times c.served (n ∷ [])) (mine.holder ticket holder) ∙ times-same c.served []) in
+      known_later c.book b u (r.known.each j u e) zs more
+      (λ n has. others n (λ same. omega (
+        arith,
+        own_in,
+        ap (λ (m : ℕ). times m u.seat.numbers) same,
+        has,
+        l.numbered v.seat.own,
+        below_le v.seat.own start.numbers,
+        terms_le (λ (q : CoreSeat). times v.seat.own q.numbers) c.seats id j v.seat u.seat other at' at'',
+      )))
+      (λ t e'. omega (
+        arith,
+        sole start.numbers start.draws c l id j v.seat u.seat at' ticket_here other at'',
+        tickets_holding c.served t u.seat e',
+        ap (λ (n : ℕ). times c.served (n ∷ [])) ((l.each j u.seat at'').holder t e'),
+        times-same c.served [],
+      ))
+
+  -- the holder posts: the book that it has goes on from the one that it took out, by nothing but entries of its own number
+  post_to : (hs : List (Happening C R)) (c : Core) (s : Table) (id ticket : ℕ) (v : V) (book : K) (h : Happening C R) (b : BookState k.State C R)
+      → Ruled hs c s → get_elem? s.views id ≡ some v → v.seat.phase ≡ Holding ticket
+      → Moves k.step start.draws c h (after_post c id ticket v.seat b) → IsBook k start b book → (zs : List (Entry C R))
+      → b.entries ≡ c.book.entries ++ zs
+      → ((n : ℕ) → v.seat.own ≢ n → of n b.entries ≡ of n c.book.entries)
+      → IsTableOf k start (hs ++ h ∷ []) (after_post c id ticket v.seat b) (after_posting k s id ticket v book)
+  post_to hs c s id ticket v book h b r at holding_is move is_book zs more others =
+      let at' = seat_at hs c s r id v at in
+      let holder = holding_holds ticket v.seat.phase holding_is in
+      let w : V = posted_view k ticket v book in
+      let p : CoreSeat = posting ticket v.seat in
+      let d : Core = after_post c id ticket v.seat b in
+      let old = r.known.each id v at in
+      let as_many : holders (set c.seats id p) ≡ holders c.seats = omega (arith, total-set holds c.seats id v.seat p at', holder.0) in
+      next_ruled hs _ c d s _ r
+      (next_core hs c d s _ h r move r.words.words (ap (λ (q : List CoreSeat). set q id p) r.words.seats ∙ sym (map-set seat_in s.views id w)))
+      record {
+        one_slot = r.slot.one_slot;
+        home = λ e. absurd (omega (arith, e, as_many, term_le holds c.seats id v.seat at', holder.0));
+        away = λ e. r.slot.away (omega (arith, e, as_many));
+      }
+      record {
+        each = known_set b s.views id w
+            (known_view b v.start p (k.history book) (k.refusals book) old.start_is
+            (follows_whole v.seat.numbers (k.history book) b.entries is_book.entries) (λ t e. (is_book.entries, is_book.refused)))
+            (λ j u other e. others_know hs c s id ticket v b r at holder zs more others j u other e);
+      }
+
   -- the holder leaves: the book is home again, with a history that goes on from the one that it took out, by nothing but entries of its own number
   leave_to : (hs : List (Happening C R)) (c : Core) (s : Table) (id ticket : ℕ) (me : Me (Option K) V) (book : K) (h : Happening C R)
       (b : BookState k.State C R)
-      → Ruled hs c s → get_elem? s.views id ≡ some me.0 → me.0.seat.phase ≡ Holding ticket
+      → Ruled hs c s → get_elem? s.views id ≡ some me.0 → Holds ticket me.0.seat.phase
       → me.1 ≡ (0, Some book) ∷ [] → Moves k.step start.draws c h (after_leave c id me.0.seat b) → IsBook k start b book → (zs : List (Entry C R))
       → b.entries ≡ c.book.entries ++ zs
       → ((n : ℕ) → me.0.seat.own ≢ n → of n b.entries ≡ of n c.book.entries)
@@ -244,10 +306,7 @@ module _ {K C R : Type 0} (k : Ghosts K C R) (start : Start K) where
       let v : V = me.0 in
       let l = lawful hs c s r in
       let at' = seat_at hs c s r id v at in
-      let mine = l.each id v.seat at' in
-      let served : ticket ≡ c.served = mine.holder ticket holder in
-      let ticket_here : times c.served (tickets_of v.seat.phase) ≡ 1 = tickets_holding c.served ticket v.seat holder ∙
-      (ap (λ (n : ℕ). times c.served (n ∷ [])) served ∙ times-same c.served []) in
+      let served : ticket ≡ c.served = (l.each id v.seat at').holder ticket holder in
       let words : AreWordsOf c.next (c.served + 1) (set s.words (grant_word (ticket + 1)) (ticket + 1)) =
       subst (λ (n : ℕ). AreWordsOf c.next (c.served + 1) (set s.words (grant_word (n + 1)) (n + 1))) (sym served)
       (next_granted c.next c.served s.words r.words.words) in
@@ -256,7 +315,6 @@ module _ {K C R : Type 0} (k : Ghosts K C R) (start : Start K) where
       let d : Core = after_leave c id v.seat b in
       let here : put_back s.homes me.1 ≡ set s.homes 0 (some (Some book)) = ap (put_back s.homes) hand in
       let old = r.known.each id v at in
-      let own_in : 0 < times v.seat.own v.seat.numbers = mine.own (ap is_there holder) in
       next_ruled hs _ c d s _ r
       (next_core hs c d s _ h r move words (ap (λ (q : List CoreSeat). set q id p) r.words.seats ∙ sym (map-set seat_in s.views id w)))
       record {
@@ -268,42 +326,22 @@ module _ {K C R : Type 0} (k : Ghosts K C R) (start : Start K) where
                   (omega (arith, r.slot.one_slot)),
               is_book,
             );
-        away = λ e. absurd (omega (arith, e, total-set holds c.seats id v.seat p at', ap holds_one holder, one_holder start.numbers start.draws c l));
+        away = λ e. absurd (omega (arith, e, total-set holds c.seats id v.seat p at', holder.0, one_holder start.numbers start.draws c l));
       }
       record {
         each = known_set b s.views id w
             (known_view b v.start p (k.history book) 0 old.start_is
-            (follows_whole v.seat.numbers (k.history book) b.entries is_book.entries) (λ t e. absurd (cc)))
-            (λ j u other e. let at'' = seat_at hs c s r j u e in
-            known_later c.book b u (r.known.each j u e) zs more
-            (λ n has. others n (λ same. omega (
-              arith,
-              own_in,
-              ap (λ (m : ℕ). times m u.seat.numbers) same,
-              has,
-              l.numbered v.seat.own,
-              below_le v.seat.own start.numbers,
-              terms_le (λ (q : CoreSeat). times v.seat.own q.numbers) c.seats id j v.seat u.seat other at' at'',
-            )))
-            (λ t e'. omega (
-              arith,
-              sole start.numbers start.draws c l id j v.seat u.seat at' ticket_here other at'',
-              tickets_holding c.served t u.seat e',
-              ap (λ (n : ℕ). times c.served (n ∷ [])) ((l.each j u.seat at'').holder t e'),
-              times-same c.served [],
-            )));
+            (follows_whole v.seat.numbers (k.history book) b.entries is_book.entries) (λ t e. absurd (omega (arith, e.0))))
+            (λ j u other e. others_know hs c s id ticket v b r at holder zs more others j u other e);
       }
 
-  -- it is the holder's own number that recorded, or that was refused
-  pub leave_event : ((b : K) → IsLegal k.step (k.opening b) (k.history b))
-      → (hs : List (Happening C R)) (c : Core) (s : Table) (id ticket : ℕ) (me : Me (Option K) V) (book : K) → Ruled hs c s
-      → get_elem? s.views id ≡ some me.0
-      → me.0.seat.phase ≡ Holding ticket → me.1 ≡ (0, Some book) ∷ [] → Returns k start me.0.seat.own me.0.seen me.0.refused book
-      → (h : Happening C R) × (((call : C) × (reply : R) × (h ≡ recorded me.0.seat.own call reply)) ⊎ (h ≡ refused me.0.seat.own))
-      × IsEvent k start hs c h (after_leaving k s id ticket me book)
-  leave_event legal hs c s id ticket me book r at holder hand ret =
-      let v : V = me.0 in
-      let at' = seat_at hs c s r id v at in
+  -- a book that comes back from a holder has its call as the core's book has it: recorded with the step's reply, or refused
+  returned : ((b : K) → IsLegal k.step (k.opening b) (k.history b))
+      → (hs : List (Happening C R)) (c : Core) (s : Table) (id ticket : ℕ) (v : V) (book : K) → Ruled hs c s
+      → get_elem? s.views id ≡ some v → Holds ticket v.seat.phase → Returns k start v.seat.own v.seen v.refused book
+      → ((call : C) × (reply : R) × (reply ≡ (k.step c.book.state call).1) × IsBook k start (with_entry k.step v.seat.own call c.book) book)
+      ⊎ IsBook k start (with_refusal c.book) book
+  returned legal hs c s id ticket v book r at holder ret =
       let out = (r.known.each id v at).out ticket holder in
       let lb = lawful_book hs c s r in
       ⊎_elim
@@ -316,39 +354,114 @@ module _ {K C R : Type 0} (k : Ghosts K C R) (start : Start K) where
       let answer : e.reply ≡ (k.step c.book.state e.call).1 = legal-last-reply k.step (k.opening start.book) c.book.entries e legal_here ∙ ap
       (λ (z : k.State). (k.step z e.call).1) (sym lb.replayed) in
       let same : e ≡ entry own e.call (k.step c.book.state e.call).1 = λ i. record { pass = t.1 i; call = e.call; reply = answer i } in
-      let b : BookState k.State C R = with_entry k.step own e.call c.book in
-      let h : Happening C R = recorded own e.call e.reply in
-      let move : Moves k.step start.draws c h (after_leave c id v.seat b) = (id, v.seat, ticket, (at', refl, holder), answer, refl) in
-      let is_book : IsBook k start b book = record {
-        opening = ret.opening;
-        entries = grown ∙ ap
-            (λ (z : Entry C R). c.book.entries ++ z ∷ []) same;
-        refused = t.3 ∙ out.1;
-      } in (
+      inl (
+        e.call,
+        e.reply,
+        answer,
+        record {
+          opening = ret.opening;
+          entries = grown ∙ ap (λ (z : Entry C R). c.book.entries ++ z ∷ []) same;
+          refused = t.3 ∙ out.1;
+        },
+      ))
+      (λ (t : (k.history book ≡ v.seen) × (k.refusals book ≡ v.refused + 1)).
+      inr record { opening = ret.opening; entries = t.0 ∙ out.0; refused = t.1 ∙ ap (λ (n : ℕ). n + 1) out.1 })
+      ret.more
+
+  -- it is the holder's own number whose call was posted, or was refused
+  pub post_event : ((b : K) → IsLegal k.step (k.opening b) (k.history b))
+      → (hs : List (Happening C R)) (c : Core) (s : Table) (id ticket : ℕ) (v : V) (book : K) → Ruled hs c s
+      → get_elem? s.views id ≡ some v → v.seat.phase ≡ Holding ticket → Returns k start v.seat.own v.seen v.refused book
+      → (h : Happening C R) × (((call : C) × (reply : R) × (h ≡ posted v.seat.own call reply)) ⊎ (h ≡ post_refused v.seat.own))
+      × IsEvent k start hs c h (after_posting k s id ticket v book)
+  post_event legal hs c s id ticket v book r at holder ret =
+      let at' = seat_at hs c s r id v at in
+      ⊎_elim
+      (λ (t : (call : C) × (reply : R) × (reply ≡ (k.step c.book.state call).1) × IsBook k start (with_entry k.step v.seat.own call c.book) book).
+      let own : ℕ = v.seat.own in
+      let b : BookState k.State C R = with_entry k.step own t.0 c.book in
+      let h : Happening C R = posted own t.0 t.1 in
+      let move : Moves k.step start.draws c h (after_post c id ticket v.seat b) = (id, v.seat, ticket, (at', refl, holder), t.2, refl) in (
         h,
-        inl (e.call, e.reply, refl),
+        inl (t.0, t.1, refl),
+        (
+          after_post c id ticket v.seat b,
+          move,
+          post_to hs c s id ticket v book h b r at holder move t.3 _ refl
+              (λ n ne. of-other n c.book.entries (entry own t.0 (k.step c.book.state t.0).1) ne),
+        ),
+      ))
+      (λ (t : IsBook k start (with_refusal c.book) book).
+      let b : BookState k.State C R = with_refusal c.book in
+      let h : Happening C R = post_refused v.seat.own in
+      let move : Moves k.step start.draws c h (after_post c id ticket v.seat b) = (id, v.seat, ticket, (at', refl, holder), refl) in (
+        h,
+        inr refl,
+        (
+          after_post c id ticket v.seat b,
+          move,
+          post_to hs c s id ticket v book h b r at holder move t [] (sym (append-nil c.book.entries)) (λ n ne. refl),
+        ),
+      ))
+      (returned legal hs c s id ticket v book r at (holding_holds ticket v.seat.phase holder) ret)
+
+  -- a holder that has posted leaves, and the book that it posted is home
+  pub leave_posted_event : (hs : List (Happening C R)) (c : Core) (s : Table) (id ticket : ℕ) (me : Me (Option K) V) (book : K) → Ruled hs c s
+      → get_elem? s.views id ≡ some me.0
+      → me.0.seat.phase ≡ Posted ticket → me.1 ≡ (0, Some book) ∷ [] → IsPosted k start me.0.seen me.0.refused book
+      → IsEvent k start hs c (left_posted me.0.seat.own) (after_leaving k s id ticket me book)
+  leave_posted_event hs c s id ticket me book r at posts hand is =
+      let v : V = me.0 in
+      let at' = seat_at hs c s r id v at in
+      let holder = posted_holds ticket v.seat.phase posts in
+      let out = (r.known.each id v at).out ticket holder in
+      let h : Happening C R = left_posted v.seat.own in
+      let move : Moves k.step start.draws c h (after_leave c id v.seat c.book) = (id, v.seat, ticket, (at', refl, posts), refl) in
+      let is_book : IsBook k start c.book book = record { opening = is.opening; entries = is.entries ∙ out.0; refused = is.refused_is ∙ out.1 } in (
+        after_leave c id v.seat c.book,
+        move,
+        leave_to hs c s id ticket me book h c.book r at holder hand move is_book [] (sym (append-nil c.book.entries)) (λ n ne. refl),
+      )
+
+  -- it is the holder's own number that recorded, or that was refused
+  pub leave_event : ((b : K) → IsLegal k.step (k.opening b) (k.history b))
+      → (hs : List (Happening C R)) (c : Core) (s : Table) (id ticket : ℕ) (me : Me (Option K) V) (book : K) → Ruled hs c s
+      → get_elem? s.views id ≡ some me.0
+      → me.0.seat.phase ≡ Holding ticket → me.1 ≡ (0, Some book) ∷ [] → Returns k start me.0.seat.own me.0.seen me.0.refused book
+      → (h : Happening C R) × (((call : C) × (reply : R) × (h ≡ recorded me.0.seat.own call reply)) ⊎ (h ≡ refused me.0.seat.own))
+      × IsEvent k start hs c h (after_leaving k s id ticket me book)
+  leave_event legal hs c s id ticket me book r at holder hand ret =
+      let v : V = me.0 in
+      let at' = seat_at hs c s r id v at in
+      let holds_it = holding_holds ticket v.seat.phase holder in
+      ⊎_elim
+      (λ (t : (call : C) × (reply : R) × (reply ≡ (k.step c.book.state call).1) × IsBook k start (with_entry k.step v.seat.own call c.book) book).
+      let own : ℕ = v.seat.own in
+      let b : BookState k.State C R = with_entry k.step own t.0 c.book in
+      let h : Happening C R = recorded own t.0 t.1 in
+      let move : Moves k.step start.draws c h (after_leave c id v.seat b) = (id, v.seat, ticket, (at', refl, holder), t.2, refl) in (
+        h,
+        inl (t.0, t.1, refl),
         (
           after_leave c id v.seat b,
           move,
-          leave_to hs c s id ticket me book h b r at holder hand move is_book _ refl
-              (λ n ne. of-other n c.book.entries (entry own e.call (k.step c.book.state e.call).1) ne),
+          leave_to hs c s id ticket me book h b r at holds_it hand move t.3 _ refl
+              (λ n ne. of-other n c.book.entries (entry own t.0 (k.step c.book.state t.0).1) ne),
         ),
       ))
-      (λ (t : (k.history book ≡ v.seen) × (k.refusals book ≡ v.refused + 1)).
+      (λ (t : IsBook k start (with_refusal c.book) book).
       let b : BookState k.State C R = with_refusal c.book in
       let h : Happening C R = refused v.seat.own in
-      let move : Moves k.step start.draws c h (after_leave c id v.seat b) = (id, v.seat, ticket, (at', refl, holder), refl) in
-      let is_book : IsBook k start b book = record { opening = ret.opening; entries = t.0 ∙ out.0; refused = t.1 ∙ ap (λ (n : ℕ). n + 1) out.1 } in (
+      let move : Moves k.step start.draws c h (after_leave c id v.seat b) = (id, v.seat, ticket, (at', refl, holder), refl) in (
         h,
         inr refl,
         (
           after_leave c id v.seat b,
           move,
-          leave_to hs c s id ticket me book h b r at holder hand move is_book []
-              (sym (append-nil c.book.entries)) (λ n ne. refl),
+          leave_to hs c s id ticket me book h b r at holds_it hand move t [] (sym (append-nil c.book.entries)) (λ n ne. refl),
         ),
       ))
-      ret.more
+      (returned legal hs c s id ticket v book r at holds_it ret)
 
   pub split_event : (hs : List (Happening C R)) (c : Core) (s : Table) (id count : ℕ) (v : V) → Ruled hs c s → get_elem? s.views id ≡ some v
       → v.start ≡ Some start → v.seat.phase ≡ Idle → v.seat.fresh ≡ true
@@ -380,11 +493,11 @@ module _ {K C R : Type 0} (k : Ghosts K C R) (start : Start K) where
               each = known_snoc c.book (set s.views id a) b
                   (known_view c.book v.start b.seat v.seen 0 old.start_is
                   (follows_fewer (drop n v.seat.numbers) v.seat.numbers v.seen c.book.entries old.seen
-                  (λ m has. omega (arith, has, sums m))) (λ t e. absurd (cc)))
+                  (λ m has. omega (arith, has, sums m))) (λ t e. absurd (omega (arith, e.0))))
                   (known_set c.book s.views id a
                   (known_view c.book v.start a.seat v.seen 0 old.start_is
                   (follows_fewer (take n v.seat.numbers) v.seat.numbers v.seen c.book.entries old.seen
-                  (λ m has. omega (arith, has, sums m))) (λ t e. absurd (cc))) (λ j u _ e. r.known.each j u e));
+                  (λ m has. omega (arith, has, sums m))) (λ t e. absurd (omega (arith, e.0)))) (λ j u _ e. r.known.each j u e));
             },
       )
 
@@ -419,14 +532,14 @@ module _ {K C R : Type 0} (k : Ghosts K C R) (start : Start K) where
             )))
             record {
               each = known_set c.book (set s.views id x) other spent_view
-                  (known_view c.book None gone [] 0 (λ o e. absurd (cc)) (follows_none c.book.entries) (λ t e. absurd (cc)))
+                  (known_view c.book None gone [] 0 (λ o e. absurd (cc)) (follows_none c.book.entries) (λ t e. absurd (omega (arith, e.0))))
                   (λ j u ne e. known_set c.book s.views id x record {
                     start_is = old.start_is;
                     seen = longer_of v.seat.numbers w.seat.numbers v.seen w.seen c.book.entries old.seen old'.seen;
                     one = old.seen;
                     two = old'.seen;
                     within = λ m. omega (arith, times-append m v.seat.numbers w.seat.numbers);
-                    out = λ t h. absurd (cc);
+                    out = λ t h. absurd (omega (arith, h.0));
                   } (λ i z _ f. r.known.each i z f) j u e);
             },
       )
@@ -449,5 +562,5 @@ module _ {K C R : Type 0} (k : Ghosts K C R) (start : Start K) where
       (slot_stays c c s _ r.slot refl refl refl)
       record {
         each = known_set c.book s.views id w (known_view c.book v.start v.seat v.seen 0 old.start_is old.seen
-            (λ t e. absurd (cc))) (λ j u _ e. r.known.each j u e);
+            (λ t e. absurd (omega (arith, e.0, ap holds_one idle)))) (λ j u _ e. r.known.each j u e);
       }

@@ -16,11 +16,11 @@ use Rattle.ticket_steps.specs.Books.{empty_book}
 use Rattle.ticket_steps.specs.CoreStates.{CoreState, opened}
 use Rattle.ticket_steps.specs.Happenings.{Happening, drew, waited, held, split, gathered}
 use Rattle.ticket_steps.specs.History.{of, IsLegal}
-use Rattle.ticket_steps.specs.Seats.{holds_one, tickets_of}
+use Rattle.ticket_steps.specs.Seats.{Holds, holds_one, tickets_of}
 use Rattle.ticket_steps.specs.Sums.{total, times}
 use Rattle.ticket_steps.proofs.Lists.{at_snoc, set_else}
 use Rattle.ticket_steps.proofs.SeatLemmas.{holds, alone_served, alone, in_line, served_le, one_calls, busy, holder_le, unnumbered_calls, tickets_waiting}
-use Rattle.ticket_steps.proofs.SeatLemmas.{tickets_holding, waits_in_line}
+use Rattle.ticket_steps.proofs.SeatLemmas.{tickets_holding, waits_in_line, holding_holds, no_holder, taken_at_home}
 use Rattle.ticket_steps.proofs.Totals.{times_le, times-same, below_yes, term_le}
 use Rattle.ticket_lock.specs.declared.views.Start.{Start}
 use Rattle.ticket_lock.specs.declared.views.View.{View}
@@ -77,7 +77,7 @@ module _ {K C R : Type 0} (k : Ghosts K C R) (start : Start K) where
                 one = follows_self [] [];
                 two = follows_self [] [];
                 within = λ n. omega arith;
-                out = λ t' e'. absurd (cc);
+                out = λ t' e'. absurd (omega (arith, e'.0));
               }) (at_snoc [] (first_view start) v j e);
         };
       }
@@ -114,7 +114,13 @@ module _ {K C R : Type 0} (k : Ghosts K C R) (start : Start K) where
           λ o known. let mine : o ≡ start = old.start_is o known in record {
             opening = is_book.opening ∙ ap (λ (z : Start K). k.opening z.book) (sym mine);
             follows = subst (Follows v.seat.numbers v.seen) (sym is_book.entries) old.seen;
-            counted = omega (arith, l.counted, ap length is_book.entries, is_book.refused, ticket t' phase);
+            counted = omega (
+              arith,
+              taken_at_home start.numbers start.draws c l (no_holder start.numbers start.draws c l id v.seat at' waits),
+              ap length is_book.entries,
+              is_book.refused,
+              ticket t' phase,
+            );
             few = omega (arith, ticket t' phase, in_line start.numbers start.draws c l id c.served v.seat at' has, next_small k start hs c s r);
           },
         ),
@@ -187,7 +193,7 @@ module _ {K C R : Type 0} (k : Ghosts K C R) (start : Start K) where
 
   -- what the play of a leave tells
   pub leave_told : (hs : List (Happening C R)) (c : Core) (s : Table) (id t : ℕ) (me : Me (Option K) V) (book : K) (st : Step (Option K))
-      → IsTableOf k start hs c s → get_elem? s.views id ≡ some me.0 → me.0.seat.phase ≡ Holding t → me.1 ≡ (0, Some book) ∷ []
+      → IsTableOf k start hs c s → get_elem? s.views id ≡ some me.0 → Holds t me.0.seat.phase → me.1 ≡ (0, Some book) ∷ []
       → (found : ℕ) → LeaveTells k st me found (left_view k me.0 book, [])
   leave_told hs c s id t me book st r at holder hand found =
       let v : V = me.0 in
@@ -221,7 +227,7 @@ module _ {K C R : Type 0} (k : Ghosts K C R) (start : Start K) where
         tt,
         (hs ++ e.0 ∷ [], e.2.0, e.2.2),
         subst (λ (q : List (ℕ × Option K)). LeaveTells k st me (t + 1) (left_view k v book, q)) (ap rest (sym hand))
-            (leave_told hs c s id t me book st r.2 at holder hand (t + 1)),
+            (leave_told hs c s id t me book st r.2 at (holding_holds t v.seat.phase holder) hand (t + 1)),
       )
 
   pub leaves : ((b : K) → IsLegal k.step (k.opening b) (k.history b)) → (n id t word : ℕ) (me : Me (Option K) V) (book : K) (o : Start K)
@@ -317,7 +323,7 @@ module _ {K C R : Type 0} (k : Ghosts K C R) (start : Start K) where
         record {
           opening = there.2.opening;
           history = there.2.entries ∙ seen;
-          calls = omega (arith, ap length there.2.entries, there.2.refused, l.counted, l.calls, calls);
+          calls = omega (arith, ap length there.2.entries, there.2.refused, taken_at_home start.numbers start.draws c l free, l.calls, calls);
           numbers = λ p h. ap (of p) there.2.entries ∙ strangers p h;
         },
       )

@@ -7,8 +7,8 @@ use mathlib.Core.Option as maybe
 use lib.ListN.{get_elem?}
 use Rattle.atomic_table.specs.Table.{Me, Step, Act, keeps, takes, gives, put_back, rest, homes_after, carried_after, stepped, Valid}
 use Rattle.ticket_steps.specs.declared.kept.Kept.{Ghosts}
-use Rattle.ticket_steps.specs.declared.seats.Phase.TheVariants.{Waiting, Holding}
-use Rattle.ticket_steps.specs.Seats.{holds_one, holders}
+use Rattle.ticket_steps.specs.declared.seats.Phase.TheVariants.{Waiting}
+use Rattle.ticket_steps.specs.Seats.{Holds, holders}
 use Rattle.ticket_steps.proofs.SeatLemmas.{holds, waits_in_line}
 use Rattle.ticket_steps.proofs.Totals.{term_le}
 use Rattle.ticket_lock.specs.declared.views.View.{View}
@@ -118,15 +118,15 @@ module _ {K C R : Type 0} (k : Ghosts K C R) where
   }
 
   -- while a seat holds, the slot is out
-  slot_out : (m : Moment) (ticket : ℕ) → IsTableMoment k m → m.me.0.seat.phase ≡ Holding ticket → m.table.homes ≡ none ∷ []
+  slot_out : (m : Moment) (ticket : ℕ) → IsTableMoment k m → Holds ticket m.me.0.seat.phase → m.table.homes ≡ none ∷ []
   slot_out m ticket is holder =
       let at = seat_at k m.start m.happened m.core m.table is.ruled m.id m.me.0 is.there in
-      let some_holder : 0 < holders m.core.seats = omega (arith, ap holds_one holder, term_le holds m.core.seats m.id m.me.0.seat at) in
+      let some_holder : 0 < holders m.core.seats = omega (arith, holder.0, term_le holds m.core.seats m.id m.me.0.seat at) in
       let homes : m.table.homes ≡ get_or m.table.homes 0 none ∷ [] = one_slot_is m.table.homes is.ruled.slot.one_slot in
       homes ∙ ap (λ (o : maybe.Option (Option K)). o ∷ [])
       (some-injective _ _ (ap (λ (q : Homes). get_elem? q 0) (sym homes) ∙ is.ruled.slot.away some_holder))
 
-  pub leave_only : (m : Moment) (ticket : ℕ) (book : K) (st : Step (Option K)) → IsTableMoment k m → m.me.0.seat.phase ≡ Holding ticket
+  pub leave_only : (m : Moment) (ticket : ℕ) (book : K) (st : Step (Option K)) → IsTableMoment k m → Holds ticket m.me.0.seat.phase
       → m.me.1 ≡ (0, Some book) ∷ []
       → LeavesOnly k m (grant_word (ticket + 1)) (stored (ticket + 1)) (λ _. LeaveTells k st m.me (ticket + 1)) (after_leaving k m.table m.id ticket m.me book)
   leave_only m ticket book st is holder hand = record {

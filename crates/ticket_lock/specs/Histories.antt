@@ -22,7 +22,7 @@ module _ {K S C R : Type 0} (start : Start K) where
     pub one : Follows v.one.numbers v.one.seen b.entries
     pub two : Follows v.two.numbers v.two.seen b.entries
     pub within : (number : ℕ) → times number v.one.numbers + times number v.two.numbers ≤ times number v.seat.numbers
-    -- a holder has seen the whole history, and knows how many calls were refused when it took the book out
+    -- a holder has seen the whole history, and knows how many calls were refused when it took the book out, or when it posted
     pub out : (ticket : ℕ) → Holds ticket v.seat.phase → (v.seen ≡ b.entries) × (v.refused ≡ b.refused)
 
   -- so it is with every seat, however many there are

@@ -11,7 +11,7 @@ use Rattle.ticket_lock.specs.declared.views.Start.{Start}
 use Rattle.ticket_lock.specs.declared.views.View.{View}
 use Rattle.ticket_lock.specs.Layout.{first_words, grant_word, next_word}
 use Rattle.ticket_lock.specs.Rule.{IsTableOf}
-use Rattle.ticket_lock.specs.Views.{first_view, spent_view, keeping_view, given_view, drawn_view, joined_view, reloaded_view, held_view, left_view}
+use Rattle.ticket_lock.specs.Views.{first_view, spent_view, keeping_view, given_view, drawn_view, joined_view, reloaded_view, held_view, posted_view, left_view}
 
 -- what an operation makes of the number that it finds: an add of one, a load, and a store of a number
 abbrev pub one_more : ℕ → ℕ
@@ -55,6 +55,10 @@ module _ {K C R : Type 0} (k : Ghosts K C R) where
   after_holding s id ticket me book =
       stepped s (grant_word ticket) (slice_index s.words (grant_word ticket)) id me.1 (held_view k ticket me.0 book) (takes 0 (Some book))
 
+  -- post: the holder has recorded its call in the book that it has, and holds on; no word and no slot changes
+  abbrev pub after_posting : State (Option K) (View K C R) → ℕ → ℕ → View K C R → K → State (Option K) (View K C R)
+  after_posting s id ticket v book = record { words = s.words; homes = s.homes; views = slice_set s.views id (posted_view k ticket v book) }
+
   -- leave, a store of the next number in the word that it watches, by the holder of this ticket, whose book is back in its slot
   abbrev pub after_leaving : State (Option K) (View K C R) → ℕ → ℕ → Me (Option K) (View K C R) → K → State (Option K) (View K C R)
   after_leaving s id ticket me book = stepped s (grant_word (ticket + 1)) (ticket + 1) id me.1 (left_view k me.0 book) gives
@@ -64,6 +68,12 @@ module _ {K C R : Type 0} (k : Ghosts K C R) where
     pub opening : k.opening book ≡ k.opening start.book
     pub more : ((e : Entry C R) × (e.pass ≡ own) × (k.history book ≡ seen ++ e ∷ []) × (k.refusals book ≡ refused)) ⊎
         ((k.history book ≡ seen) × (k.refusals book ≡ refused + 1))
+
+  -- the book is the one that was posted, with these entries and refusals
+  pub record IsPosted (start : Start K) (seen : List (Entry C R)) (refused : ℕ) (book : K) : Type 0 where
+    pub opening : k.opening book ≡ k.opening start.book
+    pub entries : k.history book ≡ seen
+    pub refused_is : k.refusals book ≡ refused
 
   -- a step to the table s from one with the core state c is this one event
   abbrev pub IsEvent : Start K → List (Happening C R) → CoreState k.State C R → Happening C R → State (Option K) (View K C R) → Type 0

@@ -5,7 +5,7 @@ use Rattle.ticket_steps.specs.declared.kept.Entry.{Entry}
 use Rattle.ticket_steps.specs.declared.kept.Kept.{Ghosts}
 use Rattle.ticket_steps.specs.declared.seats.CoreSeat.{CoreSeat}
 use Rattle.ticket_steps.specs.History.{of}
-use Rattle.ticket_steps.specs.Seats.{fresh_seat, gone, keeping, given, waiting, holding, ended, joined}
+use Rattle.ticket_steps.specs.Seats.{fresh_seat, gone, keeping, given, waiting, holding, posting, ended, joined}
 use Rattle.ticket_steps.specs.Sums.{times, counted}
 use Rattle.ticket_lock.specs.declared.views.Start.{Start}
 use Rattle.ticket_lock.specs.declared.views.Part.{Part}
@@ -71,6 +71,10 @@ module _ {K C R : Type 0} where
     -- the view of a holder that has taken this book
     abbrev pub held_view : ℕ → View K C R → K → View K C R
     held_view ticket v book = view v.start (holding ticket v.seat) (k.history book) (k.refusals book)
+
+    -- the view of a holder that has posted its call, by which the book became this one
+    abbrev pub posted_view : ℕ → View K C R → K → View K C R
+    posted_view ticket v book = view v.start (posting ticket v.seat) (k.history book) (k.refusals book)
 
     -- the view of a holder that has put this book back and left
     abbrev pub left_view : View K C R → K → View K C R

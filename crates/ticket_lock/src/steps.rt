@@ -2,8 +2,8 @@
 ghost use Rattle.std.specs.Prelude.{◌≡◌, ◌≢◌, ◌⊎◌, ℕ, ◌+◌, ◌<◌, ◌≤◌, true, [], ◌∷◌, length, Option, Some};
 ghost use mathlib.Core.Option.{some};
 ghost use lib.ListN.{get_elem?};
-ghost use Rattle.ticket_steps.specs.Happenings.{Happening, split, drew, waited, held, recorded, refused, gathered};
-ghost use Rattle.ticket_steps.specs.declared.seats.Phase.TheVariants.{Idle, Waiting};
+ghost use Rattle.ticket_steps.specs.Happenings.{Happening, split, drew, waited, held, posted, post_refused, left_posted, recorded, refused, gathered};
+ghost use Rattle.ticket_steps.specs.declared.seats.Phase.TheVariants.{Idle, Waiting, Holding, Posted};
 ghost use Rattle.ticket_steps.specs.CoreStates.{opened};
 ghost use Rattle.ticket_steps.specs.Seats.{Holds};
 ghost use Rattle.atomic_table.specs.Table.{Step};
@@ -11,8 +11,8 @@ ghost use Rattle.ticket_lock.specs.declared.views.Start.{Start};
 ghost use Rattle.ticket_lock.specs.declared.views.View.{View as ViewOf};
 ghost use Rattle.ticket_lock.specs.Plays.{DrawTells, LookTells, LeaveTells, SecondLoadTells};
 ghost use Rattle.ticket_lock.specs.Rule.{IsTableOf};
-ghost use Rattle.ticket_lock.specs.Steps.{TableMoment, IsTableMoment, IsOneEvent, IsNoEvent, IsTold, LeavesOnly, Returns, one_more, as_found, stored};
-ghost use Rattle.ticket_lock.specs.Steps.{first_table, after_split, after_draw, after_waiting, after_holding, after_leaving, after_gather, after_second_load};
+ghost use Rattle.ticket_lock.specs.Steps.{TableMoment, IsTableMoment, IsOneEvent, IsNoEvent, IsTold, IsPosted, LeavesOnly, Returns, one_more, as_found, stored};
+ghost use Rattle.ticket_lock.specs.Steps.{first_table, after_split, after_draw, after_waiting, after_holding, after_posting, after_leaving, after_gather, after_second_load};
 ghost use Rattle.ticket_lock.specs.Views.{drawn_view, held_view, left_view, reloaded_view, longer};
 ghost use Rattle.ticket_lock.specs.Layout.{grant_word, next_word};
 
@@ -25,6 +25,11 @@ use ticket_steps::Kept;
 /// this one event of the core leaves: a split, a draw, a look that holds or waits, a leave, and a
 /// gather. The second load of a gather, by which the joined seat learns that its two histories are
 /// beginnings of one, is no event: it leaves the core state as it was (`second_load`).
+///
+/// What a holder records is no operation of the table, so no call of the lock posts. The rule allows
+/// for it: a holder's view that goes to posted leaves a table that meets the rule again, by the event
+/// Post (`post`), and its leave is the event Leave that brings no call (`leave_posted`). What a leave
+/// tells, and that it leaves one table alone, is said of a holder whether it has posted or not.
 ///
 /// A look loads the word that its ticket watches, a leave stores the next number in the word that
 /// this number watches. What the seat that steps is told, on which the lock's code relies, is so of
@@ -90,9 +95,22 @@ pub fn every_step<K: Kept>()
         → m.me.0.seat.phase ≡ Waiting ticket → ticket ≢ m.core.served → m.me.1 ≡ []
         → LeavesOnly K.Kept m (grant_word ticket) as_found (LookTells K.Kept step m.me)
         (after_waiting m.table m.id ticket m.me) }
+    ensures post { (m : TableMoment K K.State K.Call K.Reply) (ticket : ℕ) (book : K)
+        → IsTableMoment K.Kept m → m.me.0.seat.phase ≡ Holding ticket
+        → Returns K.Kept m.start m.me.0.seat.own m.me.0.seen m.me.0.refused book
+        → (h : Happening K.Call K.Reply)
+        × (((call : K.Call) × (reply : K.Reply) × (h ≡ posted m.me.0.seat.own call reply))
+        ⊎ (h ≡ post_refused m.me.0.seat.own))
+        × IsOneEvent K.Kept m h (after_posting K.Kept m.table m.id ticket m.me.0 book) }
+    ensures leave_posted { (m : TableMoment K K.State K.Call K.Reply) (ticket : ℕ) (book : K)
+        → IsTableMoment K.Kept m
+        → m.me.0.seat.phase ≡ Posted ticket → m.me.1 ≡ (0, Some book) ∷ []
+        → IsPosted K.Kept m.start m.me.0.seen m.me.0.refused book
+        → IsOneEvent K.Kept m (left_posted m.me.0.seat.own)
+        (after_leaving K.Kept m.table m.id ticket m.me book) }
     ensures leave { (m : TableMoment K K.State K.Call K.Reply) (ticket : ℕ) (book : K)
         → IsTableMoment K.Kept m
-        → Holds ticket m.me.0.seat.phase → m.me.1 ≡ (0, Some book) ∷ []
+        → m.me.0.seat.phase ≡ Holding ticket → m.me.1 ≡ (0, Some book) ∷ []
         → Returns K.Kept m.start m.me.0.seat.own m.me.0.seen m.me.0.refused book
         → (h : Happening K.Call K.Reply)
         × (((call : K.Call) × (reply : K.Reply) × (h ≡ recorded m.me.0.seat.own call reply))

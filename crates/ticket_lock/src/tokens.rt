@@ -4,8 +4,7 @@
 //! history that it has seen, which is always a beginning of the one history of the book.
 ghost use Rattle.std.specs.Prelude.{◌≡◌, ◌+◌, ◌^◌, ◌<◌, ◌≤◌, true, false, [], ◌∷◌, length, None};
 ghost use Rattle.std.specs.Coded.{Coded-set};
-ghost use Rattle.ticket_steps.specs.declared.seats.Phase.TheVariants.{Idle, Waiting};
-ghost use Rattle.ticket_steps.specs.Seats.{Holds};
+ghost use Rattle.ticket_steps.specs.declared.seats.Phase.TheVariants.{Idle, Waiting, Holding};
 ghost use Rattle.ticket_steps.specs.Sums.{counted, times};
 ghost use Rattle.ticket_lock.specs.Counts.{AreCountsOf};
 ghost use Rattle.ticket_lock.specs.Legal.{IsLegalFrom, IsLegalFrom-prop};
@@ -63,7 +62,7 @@ pub struct Hold<K: Kept> {
     ghost few: { ticket < 2 ^ 42 },
     ghost out: { table_seat.me.1 ≡ (0, None) ∷ [] },
     ghost legal: { IsLegalFrom K.Kept table_seat.me.0.start table_seat.me.0.seen } by { IsLegalFrom-prop K.Kept (Coded-set K.Reply.code) table_seat.me.0.start table_seat.me.0.seen },
-    ghost holds: { Holds ticket table_seat.me.0.seat.phase },
+    ghost holds: { table_seat.me.0.seat.phase ≡ Holding ticket },
     ghost told: { AreCountsOf counts table_seat.me.0.seat },
     ghost stale: { table_seat.me.0.seat.fresh ≡ false },
 }

@@ -4,15 +4,15 @@ use mathlib.Core.Option.{some}
 use lib.ListN.{get_elem?}
 use Rattle.ticket_steps.specs.declared.kept.Entry.{Entry}
 use Rattle.ticket_steps.specs.declared.seats.CoreSeat.{CoreSeat}
-use Rattle.ticket_steps.specs.declared.seats.Phase.TheVariants.{Idle, Waiting, Holding}
+use Rattle.ticket_steps.specs.declared.seats.Phase.TheVariants.{Idle, Waiting, Holding, Posted}
 use Rattle.ticket_steps.specs.Books.{BookState, book_state, with_entry, with_refusal}
 use Rattle.ticket_steps.specs.CoreStates.{CoreState, core_state, opened}
-use Rattle.ticket_steps.specs.Happenings.{split, drew, waited, held, recorded, refused, gathered, with_seats, Moves}
+use Rattle.ticket_steps.specs.Happenings.{split, drew, waited, held, posted, post_refused, left_posted, recorded, refused, gathered, with_seats, Moves}
 use Rattle.ticket_steps.specs.Lawful.{IsLawful}
-use Rattle.ticket_steps.specs.Seats.{seat, keeping, given, waiting, holding, ended, joined, gone}
+use Rattle.ticket_steps.specs.Seats.{seat, keeping, given, waiting, holding, posting, ended, joined, gone}
 use Rattle.ticket_steps.specs.Sums.{counted}
 use Rattle.ticket_steps.proofs.Lists.{at_same, set_swap}
-use Rattle.ticket_steps.proofs.SeatLemmas.{served_le}
+use Rattle.ticket_steps.proofs.SeatLemmas.{served_le, taken_le}
 use Rattle.ticket_steps.proofs.Totals.{length-counted}
 
 -- the core state at the opening
@@ -36,6 +36,11 @@ pub few_served : {S C R : Type 0} (numbers draws : ℕ) (c : CoreState S C R) �
 few_served numbers draws c l few small =
     omega (arith, served_le numbers draws c l, few_tickets c.next _ numbers draws l.supply few small)
 
+-- and so few calls were refused
+pub few_refused : {S C R : Type 0} (numbers draws : ℕ) (c : CoreState S C R) → IsLawful numbers draws c → numbers ≤ 1024 → draws < 4294967296
+    → c.book.refused ≤ 4398046510081
+few_refused numbers draws c l few small = omega (arith, taken_le numbers draws c l, few_served numbers draws c l few small)
+
 module _ {S C R : Type 0} (step : S → C → S × R) (draws : ℕ) (b : CoreState S C R) (i own : ℕ) (p : CoreSeat)
     (at : get_elem? b.seats i ≡ some p) (called : p.own ≡ own) where
   pub split_moves : (count : ℕ) (w x : CoreSeat) (seats : List CoreSeat) → p.phase ≡ Idle → p.fresh ≡ true → 0 < count → count < length p.numbers
@@ -55,6 +60,22 @@ module _ {S C R : Type 0} (step : S → C → S × R) (draws : ℕ) (b : CoreSta
 
   pub wait_moves : (ticket : ℕ) → p.phase ≡ Waiting ticket → ticket ≢ b.served → Moves step draws b (waited own) b
   wait_moves ticket waits later = (i, p, ticket, (at, called, waits), later, refl)
+
+  pub posted_moves : (ticket : ℕ) (w : CoreSeat) (call : C) (reply : R) (book : BookState S C R) → p.phase ≡ Holding ticket → w ≡ posting ticket p
+      → reply ≡ (step b.book.state call).1 → book ≡ with_entry step own call b.book
+      → Moves step draws b (posted own call reply) (core_state b.next b.served (set b.seats i w) book)
+  posted_moves ticket w call reply book holds is answer book_is =
+      (i, p, ticket, (at, called, holds), answer, λ j. core_state b.next b.served (set b.seats i (is j)) (book_is j))
+
+  pub post_refused_moves : (ticket : ℕ) (w : CoreSeat) (book : BookState S C R) → p.phase ≡ Holding ticket → w ≡ posting ticket p
+      → book ≡ with_refusal b.book → Moves step draws b (post_refused own) (core_state b.next b.served (set b.seats i w) book)
+  post_refused_moves ticket w book holds is book_is =
+      (i, p, ticket, (at, called, holds), λ j. core_state b.next b.served (set b.seats i (is j)) (book_is j))
+
+  pub left_posted_moves : (ticket : ℕ) (w : CoreSeat) → p.phase ≡ Posted ticket → w ≡ ended p
+      → Moves step draws b (left_posted own) (core_state b.next (b.served + 1) (set b.seats i w) b.book)
+  left_posted_moves ticket w posts is =
+      (i, p, ticket, (at, called, posts), λ j. core_state b.next (b.served + 1) (set b.seats i (is j)) b.book)
 
   pub recorded_moves : (ticket : ℕ) (w : CoreSeat) (call : C) (reply : R) (book : BookState S C R) → p.phase ≡ Holding ticket → w ≡ ended p
       → reply ≡ (step b.book.state call).1 → book ≡ with_entry step own call b.book

@@ -1,18 +1,19 @@
 -- An event is shown or has one fault.
-use Rattle.std.proofs.Common.{◌≡◌, ◌≢◌, ℕ, ◌<◌, List, length, get_or, arith, sym, refl, ap, ◌∙◌, subst, true, Ok, Err}
+use Rattle.std.proofs.Common.{◌≡◌, ◌≢◌, ℕ, ◌<◌, List, length, get_or, arith, sym, refl, ap, ◌∙◌, subst, true, Ok, Err, Some, None}
 use mathlib.Core.Option.{some}
 use lib.ListN.{get_elem?}
 use Rattle.ticket_steps.specs.declared.seats.CoreSeat.{CoreSeat}
 use Rattle.ticket_steps.specs.declared.seats.Phase.{Phase as PhaseOf}
-use Rattle.ticket_steps.specs.declared.seats.Phase.TheVariants.{Idle, Waiting, Holding}
+use Rattle.ticket_steps.specs.declared.seats.Phase.TheVariants.{Idle, Waiting, Holding, Posted}
 use Rattle.ticket_steps.specs.declared.events.Event.{Event}
-use Rattle.ticket_steps.specs.declared.events.Event.TheVariants.{Split, Draw, Look, Leave, Gather}
+use Rattle.ticket_steps.specs.declared.events.Event.TheVariants.{Split, Draw, Look, Post, Leave, Gather}
 use Rattle.ticket_steps.specs.declared.events.Seen.{Seen}
 use Rattle.ticket_steps.specs.declared.events.Fault.{Fault}
 use Rattle.ticket_steps.specs.declared.events.Fault.TheVariants.{NoSeat, Phase, Spent}
 use Rattle.ticket_steps.specs.CoreStates.{CoreState}
 use Rattle.ticket_steps.specs.Faults.{NamesSeats, Fits, HasDraw, IsFault, Shows, Steps}
-use Rattle.ticket_steps.specs.Happenings.{Happening, split, drew, waited, held, recorded, refused, gathered, IsOf, Moves}
+use Rattle.ticket_steps.specs.Happenings.{Happening, split, drew, waited, held, posted, post_refused, left_posted, recorded, refused, gathered}
+use Rattle.ticket_steps.specs.Happenings.{IsOf, Moves}
 use Rattle.ticket_steps.specs.Lawful.{IsLawful}
 use Rattle.ticket_steps.specs.Seats.{IsThere, Stands, is_there}
 use Rattle.ticket_steps.proofs.LawfulSteps.{moves_lawful}
@@ -28,7 +29,9 @@ module _ {C : Type 0} where
   fits_names seats (Split own count) t = stands_there seats t.0 own Idle t.1 refl t.2
   fits_names seats (Draw own) t = stands_there seats t.0 own Idle t.1 refl t.2
   fits_names seats (Look own) t = stands_there seats t.0 own (Waiting t.2) t.1 refl t.3
-  fits_names seats (Leave own call) t = stands_there seats t.0 own (Holding t.2) t.1 refl t.3
+  fits_names seats (Post own call) t = stands_there seats t.0 own (Holding t.2) t.1 refl t.3
+  fits_names seats (Leave own (Some call)) t = stands_there seats t.0 own (Holding t.2) t.1 refl t.3
+  fits_names seats (Leave own None) t = stands_there seats t.0 own (Posted t.2) t.1 refl t.3
   fits_names seats (Gather own other) t = (stands_there seats t.0 own Idle t.1 refl t.4, stands_there seats t.2 other Idle t.3 refl t.5)
 
   -- no event has two faults
@@ -58,6 +61,9 @@ module _ {S C R : Type 0} (step : S → C → S × R) (draws : ℕ) where
   moves_may b c e (drew own ticket) is t = subst (May b.seats) (sym is) ((t.0, t.1, t.2), (t.0, t.1, t.2, t.3))
   moves_may b c e (waited own) is t = subst (May b.seats) (sym is) ((t.0, t.1, t.2, t.3), tt)
   moves_may b c e (held own) is t = subst (May b.seats) (sym is) ((t.0, t.1, b.served, t.2), tt)
+  moves_may b c e (posted own call reply) is t = subst (May b.seats) (sym is) ((t.0, t.1, t.2, t.3), tt)
+  moves_may b c e (post_refused own) is t = subst (May b.seats) (sym is.1) ((t.0, t.1, t.2, t.3), tt)
+  moves_may b c e (left_posted own) is t = subst (May b.seats) (sym is) ((t.0, t.1, t.2, t.3), tt)
   moves_may b c e (recorded own call reply) is t = subst (May b.seats) (sym is) ((t.0, t.1, t.2, t.3), tt)
   moves_may b c e (refused own) is t = subst (May b.seats) (sym is.1) ((t.0, t.1, t.2, t.3), tt)
   moves_may b c e (gathered own other) is t = subst (May b.seats) (sym is) ((t.0, t.1, t.2, t.3, t.4, t.5, t.6), tt)
@@ -128,8 +134,14 @@ module _ {S C R : Type 0} (numbers draws : ℕ) (c : CoreState S C R) (l : IsLaw
   pub unfit_look : ((ticket : ℕ) → p.phase ≡ Waiting ticket → ⊥) → IsFault {C = C} c.seats (Look own) Phase
   unfit_look wrong = (here, λ t. wrong t.2 (same_phase (Waiting t.2) t.0 t.1 refl t.3))
 
-  pub unfit_leave : (call : C) → ((ticket : ℕ) → p.phase ≡ Holding ticket → ⊥) → IsFault c.seats (Leave own call) Phase
+  pub unfit_post : (call : C) → ((ticket : ℕ) → p.phase ≡ Holding ticket → ⊥) → IsFault c.seats (Post own call) Phase
+  unfit_post call wrong = (here, λ t. wrong t.2 (same_phase (Holding t.2) t.0 t.1 refl t.3))
+
+  pub unfit_leave : (call : C) → ((ticket : ℕ) → p.phase ≡ Holding ticket → ⊥) → IsFault c.seats (Leave own (Some call)) Phase
   unfit_leave call wrong = (here, λ t. wrong t.2 (same_phase (Holding t.2) t.0 t.1 refl t.3))
+
+  pub unfit_leave_posted : ((ticket : ℕ) → p.phase ≡ Posted ticket → ⊥) → IsFault {C = C} c.seats (Leave own None) Phase
+  unfit_leave_posted wrong = (here, λ t. wrong t.2 (same_phase (Posted t.2) t.0 t.1 refl t.3))
 
   pub unfit_gather : (k other : ℕ) (q : CoreSeat) → get_elem? c.seats k ≡ some q → q.own ≡ other → is_there q.phase ≡ true
       → ((own ≢ other) × (p.phase ≡ Idle) × (q.phase ≡ Idle) → ⊥) → IsFault {C = C} c.seats (Gather own other) Phase

@@ -5,15 +5,18 @@ use mathlib.Core.Option.{some, some-ne-none}
 use lib.ListN.{get_elem?}
 use Rattle.ticket_steps.specs.declared.seats.CoreSeat.{CoreSeat}
 use Rattle.ticket_steps.specs.declared.seats.Phase.TheVariants.{Idle, Waiting, Holding}
-use Rattle.ticket_steps.specs.Books.{BookState, with_entry, with_refusal}
+use Rattle.ticket_steps.specs.Books.{BookState, calls_taken, with_entry, with_refusal}
 use Rattle.ticket_steps.specs.CoreStates.{CoreState, core_state, opened}
-use Rattle.ticket_steps.specs.Happenings.{Happening, split, drew, waited, held, recorded, refused, gathered, with_seats, after_leave, Moves}
+use Rattle.ticket_steps.specs.Happenings.{Happening, split, drew, waited, held, posted, post_refused, left_posted, recorded, refused, gathered}
+use Rattle.ticket_steps.specs.Happenings.{with_seats, after_post, after_leave, Moves}
 use Rattle.ticket_steps.specs.History.{entry}
 use Rattle.ticket_steps.specs.Lawful.{IsSeat, IsLawful, spare}
-use Rattle.ticket_steps.specs.Seats.{tickets_of, is_there, fresh_seat, gone, keeping, given, waiting, holding, ended, joined, Stands}
+use Rattle.ticket_steps.specs.Seats.{tickets_of, is_there, posted_one, fresh_seat, gone, keeping, given, waiting, holding, posting, ended, joined}
+use Rattle.ticket_steps.specs.Seats.{Holds, Stands}
 use Rattle.ticket_steps.specs.Sums.{total, times, once_below, counted}
 use Rattle.ticket_steps.proofs.Lists.{at_set, at_snoc, at_same, set_else, at_within}
-use Rattle.ticket_steps.proofs.SeatLemmas.{tickets, tickets_idle, tickets_waiting, tickets_holding, sole}
+use Rattle.ticket_steps.proofs.SeatLemmas.{tickets, posts, tickets_idle, tickets_waiting, tickets_holding, holding_holds, posted_holds, holder_there}
+use Rattle.ticket_steps.proofs.SeatLemmas.{same_ticket, sole}
 use Rattle.ticket_steps.proofs.Totals.{total-set, total-append, times-same, times-append, times-take-drop, take-counted, drop-counted, length-counted}
 use Rattle.ticket_steps.proofs.Totals.{counted_first, counted_below, below_no, below_more}
 
@@ -35,7 +38,7 @@ each_snoc draws served seats w new all j s e =
 fresh_is : (draws served n k calls : ℕ) (numbers : List ℕ) → 0 < k → numbers ≡ counted n k → IsSeat draws served (fresh_seat draws n numbers calls)
 fresh_is draws served n k calls numbers h is =
     let len : length numbers ≡ k = ap length is ∙ length-counted n k in record {
-      holder = λ t e. absurd (cc);
+      holder = λ t e. absurd (omega (arith, e.0));
       own = λ _. omega (arith, ap (times n) is, counted_first n k h);
       whole = λ _. (is ∙ ap (counted n) (sym len), refl);
       gone = λ e. absurd (cc);
@@ -90,25 +93,25 @@ module _ {S C R : Type 0} (numbers draws : ℕ) where
         tickets = λ t. omega (arith, l.tickets t, sums (tickets t), tickets_idle t p st.2);
         numbered = λ n. omega (arith, l.numbered n, sums (λ (s : CoreSeat). times n s.numbers), times-take-drop n k p.numbers);
         count = omega (arith, l.count, sums (λ (s : CoreSeat). length s.numbers), xs, ys);
-        counted = l.counted;
+        counted = omega (arith, l.counted, sums posts, ap posted_one st.2);
         calls = omega (arith, l.calls, sums (λ (s : CoreSeat). s.calls));
         supply = omega (arith, l.supply, sums (λ (s : CoreSeat). s.left), left_x, left_y, left_p);
         places =
             omega (arith, l.places, sums spare, spare_p, xs, ys, length-append (set b.seats i x) (y ∷ []), length-set b.seats i x, at_within b.seats i p at);
       }
 
-  -- one seat goes on to another phase, with its numbers and its calls
-  lawful_phase : (b : CoreState S C R) (next i : ℕ) (p w : CoreSeat) → IsLawful numbers draws b → get_elem? b.seats i ≡ some p
+  -- one seat goes on to another phase, with its numbers and its calls; what the book takes in, it has posted
+  lawful_phase : (b : CoreState S C R) (next i : ℕ) (p w : CoreSeat) (book : BookState S C R) → IsLawful numbers draws b → get_elem? b.seats i ≡ some p
       → IsSeat draws b.served w → ((t : ℕ) → tickets t w + once_below t b.next ≡ tickets t p + once_below t next)
       → w.numbers ≡ p.numbers → w.calls ≡ p.calls → next + w.left ≤ b.next + p.left → spare w ≤ spare p
-      → IsLawful numbers draws (core_state next b.served (set b.seats i w) b.book)
-  lawful_phase b next i p w l at seat moved numbers_are calls_are left less =
+      → calls_taken book + posts p ≡ calls_taken b.book + posts w → IsLawful numbers draws (core_state next b.served (set b.seats i w) book)
+  lawful_phase b next i p w book l at seat moved numbers_are calls_are left less taken =
       let sums : (g : CoreSeat → ℕ) → total g (set b.seats i w) + g p ≡ total g b.seats + g w = λ g. total-set g b.seats i p w at in record {
         each = each_set draws b.served b.served b.seats i w seat (λ j s _ e. l.each j s e);
         tickets = λ t. omega (arith, l.tickets t, sums (tickets t), moved t);
         numbered = λ n. omega (arith, l.numbered n, sums (λ (s : CoreSeat). times n s.numbers), ap (times n) numbers_are);
         count = omega (arith, l.count, sums (λ (s : CoreSeat). length s.numbers), ap length numbers_are);
-        counted = l.counted;
+        counted = omega (arith, l.counted, sums posts, taken);
         calls = omega (arith, l.calls, sums (λ (s : CoreSeat). s.calls), calls_are);
         supply = omega (arith, l.supply, sums (λ (s : CoreSeat). s.left), left);
         places = omega (arith, l.places, sums spare, length-set b.seats i w, less);
@@ -118,38 +121,52 @@ module _ {S C R : Type 0} (numbers draws : ℕ) where
       → IsLawful numbers draws (core_state (b.next + 1) b.served (set b.seats i (waiting b.next p)) b.book)
   lawful_draw b own i p l st some_left =
       let seat : IsSeat draws b.served (waiting b.next p) = record {
-        holder = λ t e. absurd (cc);
+        holder = λ t e. absurd (omega (arith, e.0));
         own = λ _. (l.each i p st.0).own (ap is_there st.2);
         whole = λ e. absurd (cc);
         gone = λ e. absurd (cc);
       } in
-      lawful_phase b (b.next + 1) i p (waiting b.next p) l st.0 seat (λ t. omega (arith, tickets_idle t p st.2, below_more t b.next)) refl refl
-      (omega (arith, some_left)) (omega arith)
+      lawful_phase b (b.next + 1) i p (waiting b.next p) b.book l st.0 seat (λ t. omega (arith, tickets_idle t p st.2, below_more t b.next)) refl refl
+      (omega (arith, some_left)) (omega arith) (omega (arith, ap posted_one st.2))
 
   lawful_look : (b : CoreState S C R) (own i : ℕ) (p : CoreSeat) → IsLawful numbers draws b → Stands b.seats i own (Waiting b.served) p
       → IsLawful numbers draws (with_seats b (set b.seats i (holding b.served p)))
   lawful_look b own i p l st =
       let seat : IsSeat draws b.served (holding b.served p) = record {
-        holder = λ t e. cc;
+        holder = λ t e. sym (same_ticket b.served t e.1);
         own = λ _. (l.each i p st.0).own (ap is_there st.2);
         whole = λ e. (l.each i p st.0).whole e;
         gone = λ e. absurd (cc);
       } in
-      lawful_phase b b.next i p (holding b.served p) l st.0 seat (λ t. omega (arith, tickets_waiting t b.served p st.2)) refl refl
-      (omega arith) (omega arith)
+      lawful_phase b b.next i p (holding b.served p) b.book l st.0 seat (λ t. omega (arith, tickets_waiting t b.served p st.2)) refl refl
+      (omega arith) (omega arith) (omega (arith, ap posted_one st.2))
 
-  lawful_leave : (b : CoreState S C R) (own i t : ℕ) (p : CoreSeat) (book : BookState S C R) → IsLawful numbers draws b → Stands b.seats i own (Holding t) p
-      → length book.entries + book.refused ≡ b.served + 1 → IsLawful numbers draws (after_leave b i p book)
-  lawful_leave b own i t p book l st grown =
-      let at = st.0 in
-      let served : t ≡ b.served = (l.each i p at).holder t st.2 in
-      let phase : p.phase ≡ Holding b.served = st.2 ∙ ap Holding served in
-      let mine : times b.served (tickets_of p.phase) ≡ 1 = tickets_holding b.served b.served p phase ∙ times-same b.served [] in
+  lawful_post : (b : CoreState S C R) (own i t : ℕ) (p : CoreSeat) (book : BookState S C R) → IsLawful numbers draws b → Stands b.seats i own (Holding t) p
+      → calls_taken book ≡ calls_taken b.book + 1 → IsLawful numbers draws (after_post b i t p book)
+  lawful_post b own i t p book l st grown =
+      let holder = holding_holds t p.phase st.2 in
+      let served : t ≡ b.served = (l.each i p st.0).holder t holder in
+      let seat : IsSeat draws b.served (posting t p) = record {
+        holder = λ k e. sym (same_ticket t k e.1) ∙ served;
+        own = λ _. (l.each i p st.0).own (ap is_there st.2);
+        whole = λ e. (l.each i p st.0).whole e;
+        gone = λ e. absurd (cc);
+      } in
+      lawful_phase b b.next i p (posting t p) book l st.0 seat (λ k. omega (arith, tickets_holding k t p holder)) refl refl
+      (omega arith) (omega arith) (omega (arith, grown, ap posted_one st.2))
+
+  lawful_leave : (b : CoreState S C R) (i t : ℕ) (p : CoreSeat) (book : BookState S C R) → IsLawful numbers draws b → get_elem? b.seats i ≡ some p
+      → Holds t p.phase → calls_taken book + posts p ≡ calls_taken b.book + 1 → IsLawful numbers draws (after_leave b i p book)
+  lawful_leave b i t p book l at holder grown =
+      let served : t ≡ b.served = (l.each i p at).holder t holder in
+      let has : (k : ℕ) → times k (tickets_of p.phase) ≡ times k (b.served ∷ []) =
+      λ k. tickets_holding k t p holder ∙ ap (λ (n : ℕ). times k (n ∷ [])) served in
+      let mine : times b.served (tickets_of p.phase) ≡ 1 = has b.served ∙ times-same b.served [] in
       let w : CoreSeat = ended p in
       let sums : (g : CoreSeat → ℕ) → total g (set b.seats i w) + g p ≡ total g b.seats + g w = λ g. total-set g b.seats i p w at in record {
         each = each_set draws b.served (b.served + 1) b.seats i w record {
-          holder = λ t e. absurd (cc);
-          own = λ _. (l.each i p at).own (ap is_there st.2);
+          holder = λ t e. absurd (omega (arith, e.0));
+          own = λ _. (l.each i p at).own (holder_there p.phase holder.0);
           whole = λ e. (l.each i p at).whole e;
           gone = λ e. absurd (cc);
         } (λ j s other e. let is = l.each j s e in record {
@@ -164,10 +181,10 @@ module _ {S C R : Type 0} (numbers draws : ℕ) where
           whole = is.whole;
           gone = is.gone;
         });
-        tickets = λ t. omega (arith, l.tickets t, sums (tickets t), tickets_holding t b.served p phase, below_more t b.served);
+        tickets = λ t. omega (arith, l.tickets t, sums (tickets t), has t, below_more t b.served);
         numbered = λ n. omega (arith, l.numbered n, sums (λ (s : CoreSeat). times n s.numbers));
         count = omega (arith, l.count, sums (λ (s : CoreSeat). length s.numbers));
-        counted = grown;
+        counted = omega (arith, l.counted, sums posts, grown);
         calls = omega (arith, l.calls, sums (λ (s : CoreSeat). s.calls));
         supply = omega (arith, l.supply, sums (λ (s : CoreSeat). s.left));
         places = omega (arith, l.places, sums spare, length-set b.seats i w);
@@ -185,12 +202,12 @@ module _ {S C R : Type 0} (numbers draws : ℕ) where
       let sums : (g : CoreSeat → ℕ) → total g (set (set b.seats i w) k gone) + g p + g q
       ≡ total g b.seats + g w + g gone = λ g. omega (arith, total-set g (set b.seats i w) k q gone there, total-set g b.seats i p w at) in record {
         each = each_set draws b.served b.served (set b.seats i w) k gone record {
-          holder = λ t e. absurd (cc);
+          holder = λ t e. absurd (omega (arith, e.0));
           own = λ e. absurd (cc);
           whole = λ e. absurd (cc);
           gone = λ _. (refl, refl, refl, refl);
         } (λ j s _ e. each_set draws b.served b.served b.seats i w record {
-          holder = λ t e. absurd (cc);
+          holder = λ t e. absurd (omega (arith, e.0));
           own = λ _. omega (arith, (l.each i p at).own (ap is_there st.2), times-append p.own p.numbers q.numbers);
           whole = λ e. absurd (cc);
           gone = λ e. absurd (cc);
@@ -198,21 +215,38 @@ module _ {S C R : Type 0} (numbers draws : ℕ) where
         tickets = λ t. omega (arith, l.tickets t, sums (tickets t), tickets_idle t p st.2, tickets_idle t q st'.2);
         numbered = λ n. omega (arith, l.numbered n, sums (λ (s : CoreSeat). times n s.numbers), times-append n p.numbers q.numbers);
         count = omega (arith, l.count, sums (λ (s : CoreSeat). length s.numbers), length-append p.numbers q.numbers);
-        counted = l.counted;
+        counted = omega (arith, l.counted, sums posts, ap posted_one st.2, ap posted_one st'.2);
         calls = omega (arith, l.calls, sums (λ (s : CoreSeat). s.calls));
         supply = omega (arith, l.supply, sums (λ (s : CoreSeat). s.left));
         places = omega (arith, l.places, sums spare, length-set (set b.seats i w) k gone, length-set b.seats i w);
       }
 
   module _ (step : S → C → S × R) where
+    -- a book takes in one call by an entry, and one by a refusal
+    pub taken_entry : (book : BookState S C R) (own : ℕ) (call : C) → calls_taken (with_entry step own call book) ≡ calls_taken book + 1
+    taken_entry book own call = omega (arith, length-append book.entries (entry own call (step book.state call).1 ∷ []))
+
+    pub taken_refusal : (book : BookState S C R) → calls_taken (with_refusal book) ≡ calls_taken book + 1
+    taken_refusal book = omega arith
+
     pub moves_lawful : (b c : CoreState S C R) (h : Happening C R) → IsLawful numbers draws b → Moves step draws b h c → IsLawful numbers draws c
     moves_lawful b c (split own count) l t = subst (IsLawful numbers draws) (sym t.6) (lawful_split b own count t.0 t.1 l t.2 t.3 t.4 t.5)
     moves_lawful b c (drew own ticket) l t = subst (IsLawful numbers draws) (sym t.5) (lawful_draw b own t.0 t.1 l t.2 t.3)
     moves_lawful b c (waited own) l t = subst (IsLawful numbers draws) (sym t.5) l
     moves_lawful b c (held own) l t = subst (IsLawful numbers draws) (sym t.3) (lawful_look b own t.0 t.1 l t.2)
+    moves_lawful b c (posted own call reply) l t =
+        subst (IsLawful numbers draws) (sym t.5) (lawful_post b own t.0 t.2 t.1 (with_entry step own call b.book) l t.3 (taken_entry b.book own call))
+    moves_lawful b c (post_refused own) l t =
+        subst (IsLawful numbers draws) (sym t.4) (lawful_post b own t.0 t.2 t.1 (with_refusal b.book) l t.3 (taken_refusal b.book))
+    moves_lawful b c (left_posted own) l t =
+        subst (IsLawful numbers draws) (sym t.4)
+        (lawful_leave b t.0 t.2 t.1 b.book l t.3.0 (posted_holds t.2 t.1.phase t.3.2) (omega (arith, ap posted_one t.3.2)))
     moves_lawful b c (recorded own call reply) l t =
-        subst (IsLawful numbers draws) (sym t.5) (lawful_leave b own t.0 t.2 t.1 (with_entry step own call b.book) l t.3
-        (omega (arith, l.counted, length-append b.book.entries (entry own call (step b.book.state call).1 ∷ []))))
+        subst (IsLawful numbers draws) (sym t.5)
+        (lawful_leave b t.0 t.2 t.1 (with_entry step own call b.book) l t.3.0 (holding_holds t.2 t.1.phase t.3.2)
+        (omega (arith, taken_entry b.book own call, ap posted_one t.3.2)))
     moves_lawful b c (refused own) l t =
-        subst (IsLawful numbers draws) (sym t.4) (lawful_leave b own t.0 t.2 t.1 (with_refusal b.book) l t.3 (omega (arith, l.counted)))
+        subst (IsLawful numbers draws) (sym t.4)
+        (lawful_leave b t.0 t.2 t.1 (with_refusal b.book) l t.3.0 (holding_holds t.2 t.1.phase t.3.2)
+        (omega (arith, taken_refusal b.book, ap posted_one t.3.2)))
     moves_lawful b c (gathered own other) l t = subst (IsLawful numbers draws) (sym t.7) (lawful_gather b own other t.0 t.2 t.1 t.3 l t.4 t.5 t.6)

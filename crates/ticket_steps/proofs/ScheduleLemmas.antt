@@ -5,17 +5,21 @@ use Rattle.std.proofs.Math.Seq.{take-suc}
 use Rattle.std.proofs.lemmas.List.{append-nil}
 use Rattle.ticket_steps.specs.declared.kept.Entry.{Entry}
 use Rattle.ticket_steps.specs.declared.events.Event.{Event}
-use Rattle.ticket_steps.specs.Books.{BookState, IsLawfulBook, with_entry, with_refusal}
+use Rattle.ticket_steps.specs.declared.seats.CoreSeat.{CoreSeat}
+use Rattle.ticket_steps.specs.declared.seats.Phase.{Phase}
+use Rattle.ticket_steps.specs.declared.seats.Phase.TheVariants.{Holding}
+use Rattle.ticket_steps.specs.Books.{BookState, IsLawfulBook, calls_taken, with_entry, with_refusal}
 use Rattle.ticket_steps.specs.declared.events.Seen.{Seen}
 use Rattle.ticket_steps.specs.CoreStates.{CoreState, opened}
 use Rattle.ticket_steps.specs.Faults.{Shows, LeadsBy}
-use Rattle.ticket_steps.specs.Happenings.{Happening, split, drew, waited, held, recorded, refused, gathered, IsOf, AreOf, calls_made, recorded_by, Moves, Leads}
+use Rattle.ticket_steps.specs.Happenings.{Happening, split, drew, waited, held, posted, post_refused, left_posted, recorded, refused, gathered}
+use Rattle.ticket_steps.specs.Happenings.{IsOf, AreOf, calls_made, turns_ended, recorded_by, Moves, Leads}
 use Rattle.ticket_steps.specs.History.{entry, of}
 use Rattle.ticket_steps.specs.Lawful.{IsLawful}
-use Rattle.ticket_steps.specs.Seats.{is_there}
+use Rattle.ticket_steps.specs.Seats.{Stands, is_there}
 use Rattle.ticket_steps.specs.Schedules.{Schedule, IsSchedule, IsLine}
 use Rattle.ticket_steps.proofs.Histories.{lawful_empty, lawful_entry, lawful_refusal}
-use Rattle.ticket_steps.proofs.LawfulSteps.{lawful_opened, moves_lawful}
+use Rattle.ticket_steps.proofs.LawfulSteps.{lawful_opened, moves_lawful, taken_entry, taken_refusal}
 use Rattle.ticket_steps.proofs.Ofs.{of-append}
 use Rattle.ticket_steps.proofs.SeatLemmas.{own_below}
 use Rattle.ticket_steps.proofs.Totals.{below_yes, below_no}
@@ -41,6 +45,9 @@ module _ {S C R : Type 0} (step : S → C → S × R) where
     book_stays P e r b c (drew own ticket) t l = subst (λ (z : CoreState S C R). P z.book) (sym t.5) l
     book_stays P e r b c (waited own) t l = subst (λ (z : CoreState S C R). P z.book) (sym t.5) l
     book_stays P e r b c (held own) t l = subst (λ (z : CoreState S C R). P z.book) (sym t.3) l
+    book_stays P e r b c (posted own call reply) t l = subst (λ (z : CoreState S C R). P z.book) (sym t.5) (e own call b.book l)
+    book_stays P e r b c (post_refused own) t l = subst (λ (z : CoreState S C R). P z.book) (sym t.4) (r b.book l)
+    book_stays P e r b c (left_posted own) t l = subst (λ (z : CoreState S C R). P z.book) (sym t.4) l
     book_stays P e r b c (recorded own call reply) t l = subst (λ (z : CoreState S C R). P z.book) (sym t.5) (e own call b.book l)
     book_stays P e r b c (refused own) t l = subst (λ (z : CoreState S C R). P z.book) (sym t.4) (r b.book l)
     book_stays P e r b c (gathered own other) t l = subst (λ (z : CoreState S C R). P z.book) (sym t.7) l
@@ -59,21 +66,30 @@ module _ {S C R : Type 0} (step : S → C → S × R) where
     moves_of n b c (drew own ticket) t = ap (λ (z : CoreState S C R). of n z.book.entries) t.5 ∙ sym (append-nil (of n b.book.entries))
     moves_of n b c (waited own) t = ap (λ (z : CoreState S C R). of n z.book.entries) t.5 ∙ sym (append-nil (of n b.book.entries))
     moves_of n b c (held own) t = ap (λ (z : CoreState S C R). of n z.book.entries) t.3 ∙ sym (append-nil (of n b.book.entries))
+    moves_of n b c (posted own call reply) t = ap (λ (z : CoreState S C R). of n z.book.entries) t.5
+        ∙ (of-append n b.book.entries (entry own call (step b.book.state call).1 ∷ [])
+        ∙ ap (λ (r : R). of n b.book.entries ++ recorded_by n (posted own call r ∷ [])) (sym t.4))
+    moves_of n b c (post_refused own) t = ap (λ (z : CoreState S C R). of n z.book.entries) t.4 ∙ sym (append-nil (of n b.book.entries))
+    moves_of n b c (left_posted own) t = ap (λ (z : CoreState S C R). of n z.book.entries) t.4 ∙ sym (append-nil (of n b.book.entries))
     moves_of n b c (recorded own call reply) t = ap (λ (z : CoreState S C R). of n z.book.entries) t.5
         ∙ (of-append n b.book.entries (entry own call (step b.book.state call).1 ∷ [])
         ∙ ap (λ (r : R). of n b.book.entries ++ recorded_by n (recorded own call r ∷ [])) (sym t.4))
     moves_of n b c (refused own) t = ap (λ (z : CoreState S C R). of n z.book.entries) t.4 ∙ sym (append-nil (of n b.book.entries))
     moves_of n b c (gathered own other) t = ap (λ (z : CoreState S C R). of n z.book.entries) t.7 ∙ sym (append-nil (of n b.book.entries))
 
+    entry-cons : (n own : ℕ) (mine : Entry C R) (es : List (Entry C R)) → cond (eqb own n) (mine ∷ es) es ≡ cond (eqb own n) (mine ∷ []) [] ++ es
+    entry-cons n own mine es =
+        elim (eqb own n) as (λ b. cond b (mine ∷ es) es ≡ cond b (mine ∷ []) [] ++ es) [ true ↦ refl | false ↦ refl ]
+
     recorded-cons : (n : ℕ) (h : Happening C R) (hs : List (Happening C R)) → recorded_by n (h ∷ hs) ≡ recorded_by n (h ∷ []) ++ recorded_by n hs
     recorded-cons n (split own count) hs = refl
     recorded-cons n (drew own ticket) hs = refl
     recorded-cons n (waited own) hs = refl
     recorded-cons n (held own) hs = refl
-    recorded-cons n (recorded own call reply) hs =
-        let mine = entry own call reply in
-        elim (eqb own n) as (λ b. cond b (mine ∷ recorded_by n hs) (recorded_by n hs) ≡ cond b (mine ∷ []) [] ++ recorded_by n hs)
-        [ true ↦ refl | false ↦ refl ]
+    recorded-cons n (posted own call reply) hs = entry-cons n own (entry own call reply) (recorded_by n hs)
+    recorded-cons n (post_refused own) hs = refl
+    recorded-cons n (left_posted own) hs = refl
+    recorded-cons n (recorded own call reply) hs = entry-cons n own (entry own call reply) (recorded_by n hs)
     recorded-cons n (refused own) hs = refl
     recorded-cons n (gathered own other) hs = refl
 
@@ -85,28 +101,69 @@ module _ {S C R : Type 0} (step : S → C → S × R) where
         ∙ (append_assoc (of n b.book.entries) (recorded_by n (h ∷ [])) (recorded_by n hs) ∙ ap
         (λ (l : List (Entry C R)). of n b.book.entries ++ l) (sym (recorded-cons n h hs))))
 
-    -- each happening that ends a turn raises the number served by one
-    moves_made : (b c : CoreState S C R) (h : Happening C R) → Moves step draws b h c → c.served ≡ b.served + calls_made (h ∷ [])
-    moves_made b c (split own count) t = omega (arith, ap (λ (z : CoreState S C R). z.served) t.6)
-    moves_made b c (drew own ticket) t = omega (arith, ap (λ (z : CoreState S C R). z.served) t.5)
-    moves_made b c (waited own) t = omega (arith, ap (λ (z : CoreState S C R). z.served) t.5)
-    moves_made b c (held own) t = omega (arith, ap (λ (z : CoreState S C R). z.served) t.3)
-    moves_made b c (recorded own call reply) t = omega (arith, ap (λ (z : CoreState S C R). z.served) t.5)
-    moves_made b c (refused own) t = omega (arith, ap (λ (z : CoreState S C R). z.served) t.4)
-    moves_made b c (gathered own other) t = omega (arith, ap (λ (z : CoreState S C R). z.served) t.7)
+    -- each happening that makes a call adds one to those that the book has taken in
+    abbrev taken : CoreState S C R → ℕ
+    taken c = calls_taken c.book
+
+    moves_made : (b c : CoreState S C R) (h : Happening C R) → Moves step draws b h c → taken c ≡ taken b + calls_made (h ∷ [])
+    moves_made b c (split own count) t = omega (arith, ap taken t.6)
+    moves_made b c (drew own ticket) t = omega (arith, ap taken t.5)
+    moves_made b c (waited own) t = omega (arith, ap taken t.5)
+    moves_made b c (held own) t = omega (arith, ap taken t.3)
+    moves_made b c (posted own call reply) t = omega (arith, ap taken t.5, taken_entry 0 draws step b.book own call)
+    moves_made b c (post_refused own) t = omega (arith, ap taken t.4, taken_refusal 0 draws step b.book)
+    moves_made b c (left_posted own) t = omega (arith, ap taken t.4)
+    moves_made b c (recorded own call reply) t = omega (arith, ap taken t.5, taken_entry 0 draws step b.book own call)
+    moves_made b c (refused own) t = omega (arith, ap taken t.4, taken_refusal 0 draws step b.book)
+    moves_made b c (gathered own other) t = omega (arith, ap taken t.7)
 
     made-cons : (h : Happening C R) (hs : List (Happening C R)) → calls_made (h ∷ hs) ≡ calls_made (h ∷ []) + calls_made hs
     made-cons (split own count) hs = omega arith
     made-cons (drew own ticket) hs = omega arith
     made-cons (waited own) hs = omega arith
     made-cons (held own) hs = omega arith
+    made-cons (posted own call reply) hs = omega arith
+    made-cons (post_refused own) hs = omega arith
+    made-cons (left_posted own) hs = omega arith
     made-cons (recorded own call reply) hs = omega arith
     made-cons (refused own) hs = omega arith
     made-cons (gathered own other) hs = omega arith
 
-    pub leads_made : (b c : CoreState S C R) (hs : List (Happening C R)) → Leads step draws b hs c → c.served ≡ b.served + calls_made hs
-    leads_made b c [] t = omega (arith, ap (λ (z : CoreState S C R). z.served) t)
+    pub leads_made : (b c : CoreState S C R) (hs : List (Happening C R)) → Leads step draws b hs c → taken c ≡ taken b + calls_made hs
+    leads_made b c [] t = omega (arith, ap taken t)
     leads_made b c (h ∷ hs) t = omega (arith, moves_made b t.0 h t.1, leads_made t.0 c hs t.2, made-cons h hs)
+
+    -- each happening that ends a turn raises the number served by one
+    abbrev served : CoreState S C R → ℕ
+    served c = c.served
+
+    moves_ended : (b c : CoreState S C R) (h : Happening C R) → Moves step draws b h c → served c ≡ served b + turns_ended (h ∷ [])
+    moves_ended b c (split own count) t = omega (arith, ap served t.6)
+    moves_ended b c (drew own ticket) t = omega (arith, ap served t.5)
+    moves_ended b c (waited own) t = omega (arith, ap served t.5)
+    moves_ended b c (held own) t = omega (arith, ap served t.3)
+    moves_ended b c (posted own call reply) t = omega (arith, ap served t.5)
+    moves_ended b c (post_refused own) t = omega (arith, ap served t.4)
+    moves_ended b c (left_posted own) t = omega (arith, ap served t.4)
+    moves_ended b c (recorded own call reply) t = omega (arith, ap served t.5)
+    moves_ended b c (refused own) t = omega (arith, ap served t.4)
+    moves_ended b c (gathered own other) t = omega (arith, ap served t.7)
+
+    ended-cons : (h : Happening C R) (hs : List (Happening C R)) → turns_ended (h ∷ hs) ≡ turns_ended (h ∷ []) + turns_ended hs
+    ended-cons (split own count) hs = omega arith
+    ended-cons (drew own ticket) hs = omega arith
+    ended-cons (waited own) hs = omega arith
+    ended-cons (held own) hs = omega arith
+    ended-cons (posted own call reply) hs = omega arith
+    ended-cons (post_refused own) hs = omega arith
+    ended-cons (left_posted own) hs = omega arith
+    ended-cons (recorded own call reply) hs = omega arith
+    ended-cons (refused own) hs = omega arith
+    ended-cons (gathered own other) hs = omega arith
+
+    pub leads_ended : (b c : CoreState S C R) (hs : List (Happening C R)) → Leads step draws b hs c → served c ≡ served b + turns_ended hs
+    leads_ended b c [] t = omega (arith, ap served t)
+    leads_ended b c (h ∷ hs) t = omega (arith, moves_ended b t.0 h t.1, leads_ended t.0 c hs t.2, ended-cons h hs)
 
     are_more : (es : List (Event C)) (hs : List (Happening C R)) (e : Event C) (h : Happening C R) → AreOf es hs → IsOf e h
         → AreOf (es ++ e ∷ []) (hs ++ h ∷ [])
@@ -124,6 +181,14 @@ module _ {S C R : Type 0} (step : S → C → S × R) where
         let of_all = subst (λ (l : List (Event C)). AreOf l (t.0 ++ m.0 ∷ [])) (sym more) (are_more (take k es) t.0 e m.0 t.1 m.1) in
         (t.0 ++ m.0 ∷ [], of_all, leads_more b c d t.0 m.0 t.2 m.3)
 
+    -- a seat that is there has no number from all of them on, so what it records is nothing to such a number
+    nothing : (numbers n : ℕ) (b : CoreState S C R) (own : ℕ) (call : C) (reply : R) (phase : Phase) → IsLawful numbers draws b → numbers ≤ n
+        → (i : ℕ) (p : CoreSeat) → is_there phase ≡ true → Stands b.seats i own phase p → cond (eqb own n) (entry own call reply ∷ []) [] ≡ []
+    nothing numbers n b own call reply phase l le i p there st =
+        let below = own_below numbers draws b l i p st.0 (ap is_there st.2 ∙ there) in
+        let apart : own ≢ n = λ e. omega (arith, below, le, st.1, e) in
+        ap (λ (x : Bool). cond x (entry own call reply ∷ []) []) (ne_eqb own n apart)
+
     -- only seats that are there record, and their own numbers are among the numbers
     moves_strangers : (numbers n : ℕ) (b c : CoreState S C R) (h : Happening C R) → IsLawful numbers draws b → numbers ≤ n
         → of n b.book.entries ≡ [] → Moves step draws b h c → of n c.book.entries ≡ []
@@ -131,13 +196,18 @@ module _ {S C R : Type 0} (step : S → C → S × R) where
     moves_strangers numbers n b c (drew own ticket) l le none t = moves_of n b c (drew own ticket) t ∙ (append-nil (of n b.book.entries) ∙ none)
     moves_strangers numbers n b c (waited own) l le none t = moves_of n b c (waited own) t ∙ (append-nil (of n b.book.entries) ∙ none)
     moves_strangers numbers n b c (held own) l le none t = moves_of n b c (held own) t ∙ (append-nil (of n b.book.entries) ∙ none)
+    moves_strangers numbers n b c (posted own call reply) l le none t =
+        moves_of n b c (posted own call reply) t
+        ∙ (ap (λ (l : List (Entry C R)). of n b.book.entries ++ l) (nothing numbers n b own call reply (Holding t.2) l le t.0 t.1 refl t.3)
+        ∙ (append-nil (of n b.book.entries) ∙ none))
+    moves_strangers numbers n b c (post_refused own) l le none t =
+        moves_of n b c (post_refused own) t ∙ (append-nil (of n b.book.entries) ∙ none)
+    moves_strangers numbers n b c (left_posted own) l le none t =
+        moves_of n b c (left_posted own) t ∙ (append-nil (of n b.book.entries) ∙ none)
     moves_strangers numbers n b c (recorded own call reply) l le none t =
-        let p = t.1 in
-        let below = own_below numbers draws b l t.0 p t.3.0 (ap is_there t.3.2) in
-        let apart : own ≢ n = λ e. omega (arith, below, le, t.3.1, e) in
-        let nothing : recorded_by n (recorded own call reply ∷ []) ≡ [] = ap (λ (x : Bool). cond x (entry own call reply ∷ []) []) (ne_eqb own n apart) in
         moves_of n b c (recorded own call reply) t
-        ∙ (ap (λ (l : List (Entry C R)). of n b.book.entries ++ l) nothing ∙ (append-nil (of n b.book.entries) ∙ none))
+        ∙ (ap (λ (l : List (Entry C R)). of n b.book.entries ++ l) (nothing numbers n b own call reply (Holding t.2) l le t.0 t.1 refl t.3)
+        ∙ (append-nil (of n b.book.entries) ∙ none))
     moves_strangers numbers n b c (refused own) l le none t = moves_of n b c (refused own) t ∙ (append-nil (of n b.book.entries) ∙ none)
     moves_strangers numbers n b c (gathered own other) l le none t = moves_of n b c (gathered own other) t ∙ (append-nil (of n b.book.entries) ∙ none)
 
@@ -157,8 +227,11 @@ module _ {S C R : Type 0} (step : S → C → S × R) where
   pub schedule_of : (s : Schedule S C R) → IsSchedule step s → (n : ℕ) → of n s.end.book.entries ≡ recorded_by n s.happened
   schedule_of s is n = leads_of s.draws n (opened s.numbers s.draws s.opening) s.end s.happened is.leads
 
-  pub schedule_made : (s : Schedule S C R) → IsSchedule step s → calls_made s.happened ≡ s.end.served
+  pub schedule_made : (s : Schedule S C R) → IsSchedule step s → calls_made s.happened ≡ calls_taken s.end.book
   schedule_made s is = omega (arith, leads_made s.draws (opened s.numbers s.draws s.opening) s.end s.happened is.leads)
+
+  pub schedule_ended : (s : Schedule S C R) → IsSchedule step s → turns_ended s.happened ≡ s.end.served
+  schedule_ended s is = omega (arith, leads_ended s.draws (opened s.numbers s.draws s.opening) s.end s.happened is.leads)
 
   pub schedule_strangers : (s : Schedule S C R) → IsSchedule step s → (n : ℕ) → s.numbers ≤ n → of n s.end.book.entries ≡ []
   schedule_strangers s is n le =

@@ -1,15 +1,16 @@
 -- What a lawful core state says of its seats.
-use Rattle.std.proofs.Common.{◌≡◌, ℕ, ◌+◌, ◌-◌, ◌<◌, ◌≤◌, ◌≢◌, ◌⊎◌, [], ◌∷◌, length, sym, refl, ap, ◌∙◌, ⊎_elim, inl, inr, arith, true, false}
+use Rattle.std.proofs.Common.{◌≡◌, ℕ, ◌+◌, ◌-◌, ◌<◌, ◌≤◌, ◌≢◌, ◌⊎◌, List, [], ◌∷◌, length, sym, refl, ap, ◌∙◌, ⊎_elim, inl, inr, arith, true, false}
 use mathlib.Core.Logic.{dite}
 use native.Mathlib.Decide.{ℕ_discrete, dec_le}
 use mathlib.Core.Option.{some}
 use lib.ListN.{get_elem?}
 use Rattle.ticket_steps.specs.declared.seats.CoreSeat.{CoreSeat}
 use Rattle.ticket_steps.specs.declared.seats.Phase.{Phase}
-use Rattle.ticket_steps.specs.declared.seats.Phase.TheVariants.{Idle, Waiting, Holding, Gone}
+use Rattle.ticket_steps.specs.declared.seats.Phase.TheVariants.{Idle, Waiting, Holding, Posted, Gone}
+use Rattle.ticket_steps.specs.Books.{calls_taken}
 use Rattle.ticket_steps.specs.CoreStates.{CoreState}
 use Rattle.ticket_steps.specs.Lawful.{IsSeat, IsLawful}
-use Rattle.ticket_steps.specs.Seats.{tickets_of, holds_one, is_there, tickets_at, holders}
+use Rattle.ticket_steps.specs.Seats.{Holds, tickets_of, holds_one, posted_one, is_there, tickets_at, holders, posters}
 use Rattle.ticket_steps.specs.Sums.{total, times, once_below, counted}
 use Rattle.ticket_steps.proofs.Totals.{times-same, times-other, times_le, below_le, below_no, below_yes, between, term_le, terms_le, sums_le, sums_lt}
 use Rattle.ticket_steps.proofs.Totals.{only_term, counted_last}
@@ -20,6 +21,28 @@ tickets t s = times t (tickets_of s.phase)
 abbrev pub holds : CoreSeat → ℕ
 holds s = holds_one s.phase
 
+abbrev pub posts : CoreSeat → ℕ
+posts s = posted_one s.phase
+
+-- a seat in one of the two phases of a holder holds
+pub holding_holds : (t : ℕ) (p : Phase) → p ≡ Holding t → Holds t p
+holding_holds t p e = (ap holds_one e, ap tickets_of e)
+
+pub posted_holds : (t : ℕ) (p : Phase) → p ≡ Posted t → Holds t p
+posted_holds t p e = (ap holds_one e, ap tickets_of e)
+
+-- a seat that holds is there
+pub holder_there : (p : Phase) → holds_one p ≡ 1 → is_there p ≡ true
+holder_there Idle e = absurd (omega (arith, e))
+holder_there (Waiting t) e = absurd (omega (arith, e))
+holder_there (Holding t) e = refl
+holder_there (Posted t) e = refl
+holder_there Gone e = absurd (omega (arith, e))
+
+-- and has one ticket
+pub same_ticket : (t k : ℕ) → t ∷ [] ≡ k ∷ [] → t ≡ k
+same_ticket t k e = cc
+
 -- the ticket of a seat in a known phase
 pub tickets_idle : (t : ℕ) (s : CoreSeat) → s.phase ≡ Idle → times t (tickets_of s.phase) ≡ 0
 tickets_idle t s e = ap (λ (p : Phase). times t (tickets_of p)) e
@@ -27,13 +50,14 @@ tickets_idle t s e = ap (λ (p : Phase). times t (tickets_of p)) e
 pub tickets_waiting : (t k : ℕ) (s : CoreSeat) → s.phase ≡ Waiting k → times t (tickets_of s.phase) ≡ times t (k ∷ [])
 tickets_waiting t k s e = ap (λ (p : Phase). times t (tickets_of p)) e
 
-pub tickets_holding : (t k : ℕ) (s : CoreSeat) → s.phase ≡ Holding k → times t (tickets_of s.phase) ≡ times t (k ∷ [])
-tickets_holding t k s e = ap (λ (p : Phase). times t (tickets_of p)) e
+pub tickets_holding : (t k : ℕ) (s : CoreSeat) → Holds k s.phase → times t (tickets_of s.phase) ≡ times t (k ∷ [])
+tickets_holding t k s e = ap (times t) e.1
 
-holder_le_as : (served : ℕ) (p : Phase) → ((t : ℕ) → p ≡ Holding t → t ≡ served) → holds_one p ≤ times served (tickets_of p)
+holder_le_as : (served : ℕ) (p : Phase) → ((t : ℕ) → Holds t p → t ≡ served) → holds_one p ≤ times served (tickets_of p)
 holder_le_as served Idle h = omega arith
 holder_le_as served (Waiting t) h = omega arith
-holder_le_as served (Holding t) h = omega (arith, ap (λ (k : ℕ). times served (k ∷ [])) (h t refl), times-same served [])
+holder_le_as served (Holding t) h = omega (arith, ap (λ (k : ℕ). times served (k ∷ [])) (h t (refl, refl)), times-same served [])
+holder_le_as served (Posted t) h = omega (arith, ap (λ (k : ℕ). times served (k ∷ [])) (h t (refl, refl)), times-same served [])
 holder_le_as served Gone h = omega arith
 
 -- a holder has the number served as its ticket
@@ -44,13 +68,26 @@ busy_as : (p : Phase) → length (tickets_of p) ≤ 1
 busy_as Idle = omega arith
 busy_as (Waiting t) = omega arith
 busy_as (Holding t) = omega arith
+busy_as (Posted t) = omega arith
 busy_as Gone = omega arith
 
 gone_none_as : (p : Phase) → is_there p ≡ false → length (tickets_of p) ≡ 0
 gone_none_as Idle h = absurd (cc)
 gone_none_as (Waiting t) h = absurd (cc)
 gone_none_as (Holding t) h = absurd (cc)
+gone_none_as (Posted t) h = absurd (cc)
 gone_none_as Gone h = refl
+
+-- a seat that has posted holds
+posted_le_as : (p : Phase) → posted_one p ≤ holds_one p
+posted_le_as Idle = omega arith
+posted_le_as (Waiting t) = omega arith
+posted_le_as (Holding t) = omega arith
+posted_le_as (Posted t) = omega arith
+posted_le_as Gone = omega arith
+
+pub posters_le : (seats : List CoreSeat) → posters seats ≤ holders seats
+posters_le seats = sums_le posts holds seats (λ k u e. posted_le_as u.phase)
 
 there_or_not : (p : Phase) → (is_there p ≡ true) ⊎ (is_there p ≡ false)
 there_or_not p = elim (is_there p) as (λ b. (b ≡ true) ⊎ (b ≡ false)) [ true ↦ inl refl | false ↦ inr refl ]
@@ -67,6 +104,17 @@ unnumbered_calls draws served s is none = ⊎_elim
     (λ (t : is_there s.phase ≡ true). absurd (omega (arith, none, is.own t, times_le s.own s.numbers)))
     (λ (t : is_there s.phase ≡ false). (is.gone t).1) (there_or_not s.phase)
 
+-- and has posted none
+pub unnumbered_posts : (draws served : ℕ) (s : CoreSeat) → IsSeat draws served s → length s.numbers ≡ 0 → posted_one s.phase ≡ 0
+unnumbered_posts draws served s is none = omega (
+  arith,
+  none,
+  busy draws served s is,
+  times_le served (tickets_of s.phase),
+  holder_le draws served s is,
+  posted_le_as s.phase,
+)
+
 module _ {S C R : Type 0} (numbers draws : ℕ) (c : CoreState S C R) (l : IsLawful numbers draws c) where
   -- the number served has one seat at most
   pub one_served : tickets_at c.served c.seats ≡ once_below c.served c.next
@@ -77,6 +125,14 @@ module _ {S C R : Type 0} (numbers draws : ℕ) (c : CoreState S C R) (l : IsLaw
 
   pub one_holder : holders c.seats ≤ 1
   one_holder = omega (arith, holders_le, one_served, below_le c.served c.next)
+
+  -- the book has taken in as many calls as were ended, and at most one that was posted
+  pub taken_le : calls_taken c.book ≤ c.served + 1
+  taken_le = omega (arith, l.counted, posters_le c.seats, one_holder)
+
+  -- where no seat holds, they are as many
+  pub taken_at_home : holders c.seats ≡ 0 → calls_taken c.book ≡ c.served
+  taken_at_home home = omega (arith, l.counted, posters_le c.seats, home)
 
   -- where the seat that is served waits, no seat holds
   pub no_holder : (i : ℕ) (p : CoreSeat) → get_elem? c.seats i ≡ some p → p.phase ≡ Waiting c.served → holders c.seats ≡ 0

@@ -1,8 +1,8 @@
 -- The states of the core: the next ticket, the number served, the seats and the book.
-use Rattle.std.specs.Prelude.{◌≡◌, ℕ, List, [], ◌∷◌}
+use Rattle.std.specs.Prelude.{◌≡◌, ℕ, ◌+◌, List, [], ◌∷◌}
 use Rattle.ticket_steps.specs.declared.seats.CoreSeat.{CoreSeat}
 use Rattle.ticket_steps.specs.Books.{BookState, calls_taken, empty_book}
-use Rattle.ticket_steps.specs.Seats.{fresh_seat, holders}
+use Rattle.ticket_steps.specs.Seats.{fresh_seat, holders, posters}
 use Rattle.ticket_steps.specs.Sums.{counted}
 
 pub record CoreState (S C R : Type 0) : Type 0 where
@@ -11,7 +11,7 @@ pub record CoreState (S C R : Type 0) : Type 0 where
   pub served : ℕ
   -- in the order in which they came to be
   pub seats : List CoreSeat
-  -- as it is at home, or as the holder took it out
+  -- as it is at home, or as the holder took it out, with what the holder has posted since
   pub book : BookState S C R
 
 module _ {S C R : Type 0} where
@@ -26,6 +26,6 @@ module _ {S C R : Type 0} where
   abbrev pub IsHome : CoreState S C R → Type 0
   IsHome c = holders c.seats ≡ 0
 
-  -- what is counted: the calls that the book has taken in are the number served
+  -- what is counted: the calls that the book has taken in are the number served, and one more while a seat has posted and not left
   abbrev pub IsCounted : CoreState S C R → Type 0
-  IsCounted c = calls_taken c.book ≡ c.served
+  IsCounted c = calls_taken c.book ≡ c.served + posters c.seats

@@ -1,9 +1,9 @@
 -- The faults of an event in a core state, and what one step of the core does.
-use Rattle.std.specs.Prelude.{◌≡◌, ◌≢◌, ◌↔◌, ℕ, ◌<◌, List, length, true, IfOk, OnErr, Result, Err}
+use Rattle.std.specs.Prelude.{◌≡◌, ◌≢◌, ◌↔◌, ℕ, ◌<◌, List, length, true, IfOk, OnErr, Result, Err, Some, None}
 use Rattle.ticket_steps.specs.declared.seats.CoreSeat.{CoreSeat}
-use Rattle.ticket_steps.specs.declared.seats.Phase.TheVariants.{Idle, Waiting, Holding}
+use Rattle.ticket_steps.specs.declared.seats.Phase.TheVariants.{Idle, Waiting, Holding, Posted}
 use Rattle.ticket_steps.specs.declared.events.Event.{Event}
-use Rattle.ticket_steps.specs.declared.events.Event.TheVariants.{Split, Draw, Look, Leave, Gather}
+use Rattle.ticket_steps.specs.declared.events.Event.TheVariants.{Split, Draw, Look, Post, Leave, Gather}
 use Rattle.ticket_steps.specs.declared.events.Seen.{Seen}
 use Rattle.ticket_steps.specs.declared.events.Fault.{Fault}
 use Rattle.ticket_steps.specs.declared.events.Fault.TheVariants.{NoSeat, Phase, Spent}
@@ -17,15 +17,19 @@ module _ {C : Type 0} where
   NamesSeats seats (Split own count) = IsThere seats own
   NamesSeats seats (Draw own) = IsThere seats own
   NamesSeats seats (Look own) = IsThere seats own
+  NamesSeats seats (Post own call) = IsThere seats own
   NamesSeats seats (Leave own call) = IsThere seats own
   NamesSeats seats (Gather own other) = IsThere seats own × IsThere seats other
 
-  -- an event fits the phases of its seats; a split also asks for a fresh seat and a count in range
+  -- an event fits the phases of its seats; a split also asks for a fresh seat and a count in range. A leave brings a call
+  -- exactly where its seat has posted none
   abbrev pub Fits : List CoreSeat → Event C → Type 0
   Fits seats (Split own count) = (i : ℕ) × (p : CoreSeat) × Stands seats i own Idle p × (p.fresh ≡ true) × (0 < count) × (count < length p.numbers)
   Fits seats (Draw own) = (i : ℕ) × (p : CoreSeat) × Stands seats i own Idle p
   Fits seats (Look own) = (i : ℕ) × (p : CoreSeat) × (ticket : ℕ) × Stands seats i own (Waiting ticket) p
-  Fits seats (Leave own call) = (i : ℕ) × (p : CoreSeat) × (ticket : ℕ) × Stands seats i own (Holding ticket) p
+  Fits seats (Post own call) = (i : ℕ) × (p : CoreSeat) × (ticket : ℕ) × Stands seats i own (Holding ticket) p
+  Fits seats (Leave own (Some call)) = (i : ℕ) × (p : CoreSeat) × (ticket : ℕ) × Stands seats i own (Holding ticket) p
+  Fits seats (Leave own None) = (i : ℕ) × (p : CoreSeat) × (ticket : ℕ) × Stands seats i own (Posted ticket) p
   Fits seats (Gather own other) = (i : ℕ) × (p : CoreSeat) × (k : ℕ) × (q : CoreSeat) × Stands seats i own Idle p × Stands seats k other Idle q × (own ≢ other)
 
   -- a draw has a draw left
@@ -33,6 +37,7 @@ module _ {C : Type 0} where
   HasDraw seats (Split own count) = Unit {0}
   HasDraw seats (Draw own) = (i : ℕ) × (p : CoreSeat) × Stands seats i own Idle p × (0 < p.left)
   HasDraw seats (Look own) = Unit {0}
+  HasDraw seats (Post own call) = Unit {0}
   HasDraw seats (Leave own call) = Unit {0}
   HasDraw seats (Gather own other) = Unit {0}
 

@@ -1,18 +1,18 @@
 -- What happens in the core: each event with what came of it, and the states that it leads to.
-use Rattle.std.specs.Prelude.{◌≡◌, ◌≢◌, ℕ, ◌+◌, ◌<◌, List, [], ◌∷◌, ◌++◌, length, slice_set, true, cond, ◌==◌, Ok, Err}
+use Rattle.std.specs.Prelude.{◌≡◌, ◌≢◌, ℕ, ◌+◌, ◌<◌, List, [], ◌∷◌, ◌++◌, length, slice_set, true, cond, ◌==◌, Ok, Err, Some, None}
 use Rattle.ticket_steps.specs.declared.kept.Entry.{Entry}
 use Rattle.ticket_steps.specs.declared.seats.CoreSeat.{CoreSeat}
-use Rattle.ticket_steps.specs.declared.seats.Phase.TheVariants.{Idle, Waiting, Holding}
+use Rattle.ticket_steps.specs.declared.seats.Phase.TheVariants.{Idle, Waiting, Holding, Posted}
 use Rattle.ticket_steps.specs.declared.events.Event.{Event}
-use Rattle.ticket_steps.specs.declared.events.Event.TheVariants.{Split, Draw, Look, Leave, Gather}
+use Rattle.ticket_steps.specs.declared.events.Event.TheVariants.{Split, Draw, Look, Post, Leave, Gather}
 use Rattle.ticket_steps.specs.declared.events.Seen.{Seen}
 use Rattle.ticket_steps.specs.declared.events.Seen.TheVariants as shows
 use Rattle.ticket_steps.specs.Books.{BookState, with_entry, with_refusal}
 use Rattle.ticket_steps.specs.CoreStates.{CoreState, core_state}
 use Rattle.ticket_steps.specs.History.{entry}
-use Rattle.ticket_steps.specs.Seats.{Stands, keeping, given, waiting, holding, ended, joined, gone}
+use Rattle.ticket_steps.specs.Seats.{Stands, keeping, given, waiting, holding, posting, ended, joined, gone}
 
--- one event with its outcome; seats are named by their own numbers. A leave that was refused for memory keeps nothing of its call
+-- one event with its outcome; seats are named by their own numbers. What was refused for memory keeps nothing of its call
 pub data Happening (C R : Type 0) : Type 0 where
   -- a seat gave so many numbers to a new one
   split : ℕ → ℕ → Happening C R
@@ -22,6 +22,12 @@ pub data Happening (C R : Type 0) : Type 0 where
   waited : ℕ → Happening C R
   -- a seat looked, and holds
   held : ℕ → Happening C R
+  -- the holder posted, and this call of it was recorded with this reply; it holds on
+  posted : ℕ → C → R → Happening C R
+  -- the holder posted, and its call was refused, out of memory; it holds on
+  post_refused : ℕ → Happening C R
+  -- the holder left that had posted its call before
+  left_posted : ℕ → Happening C R
   -- the holder left, and this call of it was recorded with this reply
   recorded : ℕ → C → R → Happening C R
   -- the holder left, and its call was refused, out of memory
@@ -36,8 +42,11 @@ module _ {C R : Type 0} where
   shown (drew own ticket) = shows.Drew ticket
   shown (waited own) = shows.Waiting
   shown (held own) = shows.Held
-  shown (recorded own call reply) = shows.Left (Ok reply)
-  shown (refused own) = shows.Left (Err (record {}))
+  shown (posted own call reply) = shows.Posted (Ok reply)
+  shown (post_refused own) = shows.Posted (Err (record {}))
+  shown (left_posted own) = shows.Left None
+  shown (recorded own call reply) = shows.Left (Some (Ok reply))
+  shown (refused own) = shows.Left (Some (Err (record {})))
   shown (gathered own other) = shows.Gathered
 
   -- what happened is this event
@@ -46,8 +55,11 @@ module _ {C R : Type 0} where
   IsOf event (drew own ticket) = event ≡ Draw own
   IsOf event (waited own) = event ≡ Look own
   IsOf event (held own) = event ≡ Look own
-  IsOf event (recorded own call reply) = event ≡ Leave own call
-  IsOf event (refused own) = (call : C) × (event ≡ Leave own call)
+  IsOf event (posted own call reply) = event ≡ Post own call
+  IsOf event (post_refused own) = (call : C) × (event ≡ Post own call)
+  IsOf event (left_posted own) = event ≡ Leave own None
+  IsOf event (recorded own call reply) = event ≡ Leave own (Some call)
+  IsOf event (refused own) = (call : C) × (event ≡ Leave own (Some call))
   IsOf event (gathered own other) = event ≡ Gather own other
 
   -- what happened are these events, one after another
@@ -57,25 +69,40 @@ module _ {C R : Type 0} where
   AreOf (e ∷ es) [] = ⊥
   AreOf (e ∷ es) (h ∷ hs) = IsOf e h × AreOf es hs
 
-  -- the calls that a number has recorded, each with its reply, in their order
+  -- the calls that a number has recorded, by a post or when it left, each with its reply, in their order
   abbrev pub recorded_by : ℕ → List (Happening C R) → List (Entry C R)
   recorded_by number [] = []
   recorded_by number (recorded own call reply ∷ hs) = cond (own == number) (entry own call reply ∷ recorded_by number hs) (recorded_by number hs)
+  recorded_by number (posted own call reply ∷ hs) = cond (own == number) (entry own call reply ∷ recorded_by number hs) (recorded_by number hs)
   recorded_by number (_ ∷ hs) = recorded_by number hs
 
-  -- how many turns have ended, each by a call that was recorded or by one that was refused
+  -- how many calls were made, by a post or by a leave, each recorded or refused
   abbrev pub calls_made : List (Happening C R) → ℕ
   calls_made [] = 0
+  calls_made (posted own call reply ∷ hs) = 1 + calls_made hs
+  calls_made (post_refused own ∷ hs) = 1 + calls_made hs
   calls_made (recorded own call reply ∷ hs) = 1 + calls_made hs
   calls_made (refused own ∷ hs) = 1 + calls_made hs
   calls_made (_ ∷ hs) = calls_made hs
+
+  -- how many turns have ended: each leave ends one
+  abbrev pub turns_ended : List (Happening C R) → ℕ
+  turns_ended [] = 0
+  turns_ended (left_posted own ∷ hs) = 1 + turns_ended hs
+  turns_ended (recorded own call reply ∷ hs) = 1 + turns_ended hs
+  turns_ended (refused own ∷ hs) = 1 + turns_ended hs
+  turns_ended (_ ∷ hs) = turns_ended hs
 
 module _ {S C R : Type 0} where
   -- other seats, and all else as it was
   abbrev pub with_seats : CoreState S C R → List CoreSeat → CoreState S C R
   with_seats b seats = core_state b.next b.served seats b.book
 
-  -- the holder at the place i has left: its turn is over, and the book is home with what the leave added
+  -- the holder at the place i has posted: the book has what the post added, and the turn goes on
+  abbrev pub after_post : CoreState S C R → ℕ → ℕ → CoreSeat → BookState S C R → CoreState S C R
+  after_post b i ticket p book = core_state b.next b.served (slice_set b.seats i (posting ticket p)) book
+
+  -- the holder at the place i has left: its turn is over, and this book is home
   abbrev pub after_leave : CoreState S C R → ℕ → CoreSeat → BookState S C R → CoreState S C R
   after_leave b i p book = core_state b.next (b.served + 1) (slice_set b.seats i (ended p)) book
 
@@ -92,6 +119,15 @@ module _ {S C R : Type 0} where
     Moves b (waited own) c = (i : ℕ) × (p : CoreSeat) × (ticket : ℕ) × Stands b.seats i own (Waiting ticket) p × (ticket ≢ b.served) × (c ≡ b)
     -- a seat whose ticket is the number served becomes the holder
     Moves b (held own) c = (i : ℕ) × (p : CoreSeat) × Stands b.seats i own (Waiting b.served) p × (c ≡ with_seats b (slice_set b.seats i (holding b.served p)))
+    -- the holder posts its call: it is recorded under its own number, answered by the sequential step
+    Moves b (posted own call reply) c =
+        (i : ℕ) × (p : CoreSeat) × (ticket : ℕ) × Stands b.seats i own (Holding ticket) p × (reply ≡ (step b.book.state call).1)
+        × (c ≡ after_post b i ticket p (with_entry step own call b.book))
+    -- the holder posts its call, and it is refused for memory
+    Moves b (post_refused own) c =
+        (i : ℕ) × (p : CoreSeat) × (ticket : ℕ) × Stands b.seats i own (Holding ticket) p × (c ≡ after_post b i ticket p (with_refusal b.book))
+    -- the holder leaves that has posted its call: nothing more is recorded
+    Moves b (left_posted own) c = (i : ℕ) × (p : CoreSeat) × (ticket : ℕ) × Stands b.seats i own (Posted ticket) p × (c ≡ after_leave b i p b.book)
     -- the holder leaves with its call recorded under its own number, answered by the sequential step
     Moves b (recorded own call reply) c =
         (i : ℕ) × (p : CoreSeat) × (ticket : ℕ) × Stands b.seats i own (Holding ticket) p × (reply ≡ (step b.book.state call).1)

@@ -4,7 +4,7 @@ use mathlib.Core.Option.{some}
 use lib.ListN.{get_elem?}
 use Rattle.ticket_steps.specs.declared.seats.CoreSeat.{CoreSeat}
 use Rattle.ticket_steps.specs.declared.seats.Phase.{Phase}
-use Rattle.ticket_steps.specs.declared.seats.Phase.TheVariants.{Idle, Waiting, Holding, Gone}
+use Rattle.ticket_steps.specs.declared.seats.Phase.TheVariants.{Idle, Waiting, Holding, Posted, Gone}
 use Rattle.ticket_steps.specs.Sums.{total, times}
 
 -- the ticket of a seat that waits or holds; no other seat has one
@@ -12,24 +12,35 @@ abbrev pub tickets_of : Phase → List ℕ
 tickets_of Idle = []
 tickets_of (Waiting ticket) = ticket ∷ []
 tickets_of (Holding ticket) = ticket ∷ []
+tickets_of (Posted ticket) = ticket ∷ []
 tickets_of Gone = []
 
--- 1 for a seat that holds, and else 0
+-- 1 for a seat that holds, and else 0; a seat that has posted its call holds until it leaves
 abbrev pub holds_one : Phase → ℕ
 holds_one Idle = 0
 holds_one (Waiting ticket) = 0
 holds_one (Holding ticket) = 1
+holds_one (Posted ticket) = 1
 holds_one Gone = 0
+
+-- 1 for a seat that has posted its call and hasn't left yet, and else 0
+abbrev pub posted_one : Phase → ℕ
+posted_one Idle = 0
+posted_one (Waiting ticket) = 0
+posted_one (Holding ticket) = 0
+posted_one (Posted ticket) = 1
+posted_one Gone = 0
 
 -- a seat in this phase has this ticket, and holds
 abbrev pub Holds : ℕ → Phase → Type 0
-Holds ticket phase = phase ≡ Holding ticket
+Holds ticket phase = (holds_one phase ≡ 1) × (tickets_of phase ≡ ticket ∷ [])
 
 -- whether a seat is there: it was not gathered into another
 abbrev pub is_there : Phase → Bool
 is_there Idle = true
 is_there (Waiting ticket) = true
 is_there (Holding ticket) = true
+is_there (Posted ticket) = true
 is_there Gone = false
 
 abbrev pub seat : ℕ → List ℕ → Phase → ℕ → ℕ → Bool → CoreSeat
@@ -57,6 +68,10 @@ waiting ticket s = seat s.own s.numbers (Waiting ticket) (s.left - 1) s.calls fa
 abbrev pub holding : ℕ → CoreSeat → CoreSeat
 holding ticket s = seat s.own s.numbers (Holding ticket) s.left s.calls s.fresh
 
+-- a holder that has posted its call
+abbrev pub posting : ℕ → CoreSeat → CoreSeat
+posting ticket s = seat s.own s.numbers (Posted ticket) s.left s.calls s.fresh
+
 -- a holder that has left
 abbrev pub ended : CoreSeat → CoreSeat
 ended s = seat s.own s.numbers Idle s.left (s.calls + 1) s.fresh
@@ -72,6 +87,10 @@ tickets_at ticket seats = total (λ s. times ticket (tickets_of s.phase)) seats
 -- how many seats hold
 abbrev pub holders : List CoreSeat → ℕ
 holders seats = total (λ s. holds_one s.phase) seats
+
+-- how many seats have posted a call and haven't left yet
+abbrev pub posters : List CoreSeat → ℕ
+posters seats = total (λ s. posted_one s.phase) seats
 
 -- how many seats answer for this number
 abbrev pub answering : ℕ → List CoreSeat → ℕ

@@ -1,5 +1,5 @@
 //! The core as a program: a step or a list of steps at a time, on one thread.
-ghost use Rattle.std.specs.Prelude.{◌≡◌, ◌↔◌, ◌+◌, ◌<◌, ◌≤◌, [], length, take, true, IfOk, IfErr, OnErr, OnOk, Some, slice_get, vec_capacity, vec_len};
+ghost use Rattle.std.specs.Prelude.{◌≡◌, ◌↔◌, ◌+◌, ◌<◌, ◌≤◌, [], length, take, true, IfOk, IfErr, OnErr, OnOk, Some, None, slice_get, vec_capacity, vec_len};
 ghost use mathlib.Core.Option.{some};
 ghost use lib.ListN.{get_elem?};
 ghost use Rattle.ticket_steps.specs.Books.{book_state, IsLawfulBook};
@@ -40,8 +40,8 @@ impl<K: Kept> Core<K> {
 
     /// A core with one seat, whose own number is 0, for all of `numbers`, each of which brings
     /// 2^32 - 1 draws, the most that [`Core::open_with`] gives, and with the book at home.
-    /// It makes places for all seats that can come to be, so that later only a `Leave` can run out of
-    /// memory. Where there is no memory for the places the book comes back as it was.
+    /// It makes places for all seats that can come to be, so that later only a `Post` or a `Leave` can
+    /// run out of memory. Where there is no memory for the places the book comes back as it was.
     pub fn open(alloc: Global, book: K, numbers: u32) -> Result<Core<K>, K>
         requires numbers { (0 < numbers) × (numbers ≤ 1024) }
         requires empty { (K.history book ≡ []) × (K.refusals book ≡ 0) }
@@ -92,8 +92,8 @@ impl<K: Kept> Core<K> {
     }
 
     /// One event. It is shown what came of it, or it has a fault and nothing changes: `NoSeat` before
-    /// `Phase`, and `Phase` before `Spent`. A `Leave` whose call was refused, out of memory, is no
-    /// fault: the seat has left, and is shown the refusal.
+    /// `Phase`, and `Phase` before `Spent`. A `Post` or a `Leave` whose call was refused, out of memory,
+    /// is no fault: the seat has posted or left, and is shown the refusal.
     pub fn step(&mut self, event: Event<K::Call>) -> Result<Seen<K::Reply>, Fault>
         ensures shown { IfOk result (λ seen.
             Shows K.step (draws_of self.old) (state_of self.old) event seen (state_of self.new)) }
@@ -108,7 +108,11 @@ impl<K: Kept> Core<K> {
             Event::Split { seat, count } => self.split(seat, count),
             Event::Draw { seat } => self.draw(seat),
             Event::Look { seat } => self.look(seat),
-            Event::Leave { seat, call } => self.leave(seat, call),
+            Event::Post { seat, call } => self.post(seat, call),
+            Event::Leave { seat, call } => match call {
+                Some(call) => self.leave(seat, call),
+                None => self.leave_posted(seat),
+            },
             Event::Gather { seat, other } => self.gather(seat, other),
         }
     }
@@ -193,9 +197,40 @@ impl<K: Kept> Core<K> {
         Ok(Seen::Held)
     }
 
-    fn leave(&mut self, seat: u32, call: K::Call) -> Result<Seen<K::Reply>, Fault>
-        ensures step { Steps K.step (draws_of self.old) (state_of self.old) (Event.Leave seat call)
+    /// The holder's call is recorded, and it holds on.
+    fn post(&mut self, seat: u32, call: K::Call) -> Result<Seen<K::Reply>, Fault>
+        ensures step { Steps K.step (draws_of self.old) (state_of self.old) (Event.Post seat call)
             result (state_of self.new) }
+        ensures alike { IsOpenedAlike self.old self.new }
+    {
+        let at = self.place_of(seat)?;
+        let Phase::Holding(ticket) = self.seats[at].phase else {
+            return Err(Fault::Phase);
+        };
+        let recorded = self.book.record(seat, call);
+        self.seats[at].post(ticket);
+        Ok(Seen::Posted(recorded))
+    }
+
+    /// The holder leaves that has posted its call: nothing more is recorded.
+    fn leave_posted(&mut self, seat: u32) -> Result<Seen<K::Reply>, Fault>
+        ensures step { Steps K.step (draws_of self.old) (state_of self.old) (Event.Leave seat None)
+            result (state_of self.new) }
+        ensures alike { IsOpenedAlike self.old self.new }
+    {
+        let at = self.place_of(seat)?;
+        let Phase::Posted(ticket) = self.seats[at].phase else {
+            return Err(Fault::Phase);
+        };
+        self.seats[at].end();
+        self.grants.leave(ticket);
+        Ok(Seen::Left(None))
+    }
+
+    /// The holder's call is recorded, and it leaves.
+    fn leave(&mut self, seat: u32, call: K::Call) -> Result<Seen<K::Reply>, Fault>
+        ensures step { Steps K.step (draws_of self.old) (state_of self.old)
+            (Event.Leave seat (Some call)) result (state_of self.new) }
         ensures alike { IsOpenedAlike self.old self.new }
     {
         let at = self.place_of(seat)?;
@@ -205,7 +240,7 @@ impl<K: Kept> Core<K> {
         let reply = self.book.record(seat, call);
         self.seats[at].end();
         self.grants.leave(ticket);
-        Ok(Seen::Left(reply))
+        Ok(Seen::Left(Some(reply)))
     }
 
     fn gather(&mut self, seat: u32, other: u32) -> Result<Seen<K::Reply>, Fault>

@@ -11,8 +11,11 @@ pub enum Event<C> {
     Draw { seat: u32 },
     /// The waiting seat looks whether its ticket is served, and holds the book if it is.
     Look { seat: u32 },
-    /// The holder records the call in the book under its own number, and leaves.
-    Leave { seat: u32, call: C },
+    /// The holder records the call in the book under its own number, and holds on until it leaves.
+    Post { seat: u32, call: C },
+    /// The holder leaves. One that hasn't posted brings its call, which is recorded in the book under
+    /// its own number; one that has posted brings none.
+    Leave { seat: u32, call: Option<C> },
     /// The first idle seat takes over the numbers and calls of another idle seat.
     Gather { seat: u32, other: u32 },
 }
@@ -27,7 +30,9 @@ pub enum Seen<R> {
     Waiting,
     Held,
     /// What `record` answered.
-    Left(Result<R, NoMemory>),
+    Posted(Result<R, NoMemory>),
+    /// What `record` answered; nothing where the call was posted before.
+    Left(Option<Result<R, NoMemory>>),
     Gathered,
 }
 
@@ -37,7 +42,8 @@ pub enum Fault {
     /// No seat has this own number, or it was gathered into another.
     NoSeat,
     /// The event doesn't fit the seat's phase, the seat to be split isn't fresh or the count is out
-    /// of range, or a seat is to be gathered into itself.
+    /// of range, a leave brings a call though one was posted or brings none though none was, or a seat
+    /// is to be gathered into itself.
     Phase,
     /// No draw is left.
     Spent,

@@ -3,9 +3,9 @@ ghost use Rattle.std.specs.Prelude.{◌≡◌, ℕ, ◌+◌, ◌<◌, ◌≤◌,
 ghost use mathlib.Core.Option.{some};
 ghost use lib.ListN.{get_elem?};
 ghost use Rattle.ticket_steps.specs.declared.seats.CoreSeat.{CoreSeat};
-ghost use Rattle.ticket_steps.specs.Books.{IsLawfulBook};
+ghost use Rattle.ticket_steps.specs.Books.{IsLawfulBook, calls_taken};
 ghost use Rattle.ticket_steps.specs.CoreStates.{IsCounted};
-ghost use Rattle.ticket_steps.specs.Happenings.{calls_made, recorded_by};
+ghost use Rattle.ticket_steps.specs.Happenings.{calls_made, recorded_by, turns_ended};
 ghost use Rattle.ticket_steps.specs.History.{of};
 ghost use Rattle.ticket_steps.specs.Schedules.{Schedule, IsSchedule, IsLine};
 ghost use Rattle.ticket_steps.specs.Seats.{Holds, answering, holders, is_there};
@@ -21,12 +21,13 @@ use crate::kept::Kept;
 /// - at most one seat holds (`one_holder`), with the number served as its ticket (`holder`);
 /// - the tickets of the waiting and holding seats are the numbers from the number served to the
 ///   last one drawn, each once (`line`);
-/// - entries and refusals together are the number served (`counted`), and so are the calls that were
-///   made (`made`), those ended by all seats together (`calls`), and those of the seat that stands for
-///   all numbers, where there is one (`alone`);
+/// - entries and refusals together are the number served, and one more while a seat has posted its
+///   call and not left (`counted`); they are the calls that were made (`made`);
+/// - the number served is the turns that have ended (`ended`), the calls ended by all seats together
+///   (`calls`), and those of the seat that stands for all numbers, where there is one (`alone`);
 /// - the book is lawful: its entries are legal, and its state is their replay (`lawful`);
-/// - the entries of each number are the calls that it recorded when it left, in their order
-///   (`entries`), and there are none of numbers that weren't given out (`strangers`);
+/// - the entries of each number are the calls that it recorded, by a post or when it left, in their
+///   order (`entries`), and there are none of numbers that weren't given out (`strangers`);
 /// - no two seats have the same own number (`named`), and each number is one seat's to answer for
 ///   (`numbered`);
 /// - the tickets drawn and the draws left are together no more than all numbers brought (`supply`).
@@ -40,7 +41,9 @@ pub fn every_schedule<K: Kept>()
     ensures counted { (s : Schedule K.State K.Call K.Reply) → IsSchedule K.step s
         → IsCounted s.end }
     ensures made { (s : Schedule K.State K.Call K.Reply) → IsSchedule K.step s
-        → calls_made s.happened ≡ s.end.served }
+        → calls_made s.happened ≡ calls_taken s.end.book }
+    ensures ended { (s : Schedule K.State K.Call K.Reply) → IsSchedule K.step s
+        → turns_ended s.happened ≡ s.end.served }
     ensures calls { (s : Schedule K.State K.Call K.Reply) → IsSchedule K.step s
         → total (λ (p : CoreSeat). p.calls) s.end.seats ≡ s.end.served }
     ensures alone { (s : Schedule K.State K.Call K.Reply) → IsSchedule K.step s

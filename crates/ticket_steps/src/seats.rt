@@ -1,7 +1,7 @@
 //! The seats of the core.
 ghost use Rattle.std.specs.Prelude.{◌≡◌, ◌↔◌, ◌+◌, ◌*◌, ◌^◌, ◌<◌, ◌≤◌, length, IsTrue, true};
 ghost use Rattle.ticket_steps.specs.declared.seats.Phase.TheVariants.{Idle};
-ghost use Rattle.ticket_steps.specs.Seats.{is_there, keeping, given, waiting, holding, ended, joined, gone};
+ghost use Rattle.ticket_steps.specs.Seats.{is_there, keeping, given, waiting, holding, posting, ended, joined, gone};
 
 use std::collections::LinkedList;
 
@@ -18,6 +18,8 @@ pub enum Phase {
     Waiting(u64),
     /// It has this ticket, and it is its turn: it has the book.
     Holding(u64),
+    /// It has this ticket, and its call is recorded in the book: it has only to leave.
+    Posted(u64),
     /// It was gathered into another seat.
     Gone,
 }
@@ -102,6 +104,13 @@ impl CoreSeat {
         ensures { self.new ≡ holding ticket self.old }
     {
         self.phase = Phase::Holding(ticket);
+    }
+
+    /// Holds on, with its call recorded.
+    pub(crate) fn post(&mut self, ticket: u64)
+        ensures { self.new ≡ posting ticket self.old }
+    {
+        self.phase = Phase::Posted(ticket);
     }
 
     /// Ends its turn.

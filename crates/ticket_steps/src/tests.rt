@@ -56,8 +56,21 @@ fn look(seat: u32) -> Event<u8> {
     Event::Look { seat }
 }
 
+fn post(seat: u32, call: u8) -> Event<u8> {
+    Event::Post { seat, call }
+}
+
+/// The leave of a holder that hasn't posted.
 fn leave(seat: u32, call: u8) -> Event<u8> {
-    Event::Leave { seat, call }
+    Event::Leave {
+        seat,
+        call: Some(call),
+    }
+}
+
+/// The leave of a holder that has posted its call.
+fn leave_posted(seat: u32) -> Event<u8> {
+    Event::Leave { seat, call: None }
 }
 
 fn gather(seat: u32, other: u32) -> Event<u8> {
@@ -72,11 +85,69 @@ fn two_seats_take_turns(rt: HostRuntime) -> Result<(), Fail> {
     assert_eq!(rt; core.step(draw(1)), Ok(Seen::Drew(1)));
     assert_eq!(rt; core.step(look(1)), Ok(Seen::Waiting));
     assert_eq!(rt; core.step(look(0)), Ok(Seen::Held));
-    assert_eq!(rt; core.step(leave(0, 5)), Ok(Seen::Left(Ok(5))));
+    assert_eq!(rt; core.step(leave(0, 5)), Ok(Seen::Left(Some(Ok(5)))));
     assert_eq!(rt; core.step(look(1)), Ok(Seen::Held));
-    assert_eq!(rt; core.step(leave(1, 7)), Ok(Seen::Left(Ok(12))));
+    assert_eq!(rt; core.step(leave(1, 7)), Ok(Seen::Left(Some(Ok(12)))));
     assert_eq!(rt; core.step(gather(0, 1)), Ok(Seen::Gathered));
     every_schedule::<CounterBook>();
+    Ok(())
+}
+
+#[test]
+fn a_seat_posts_before_it_leaves(rt: HostRuntime) -> Result<(), Fail> {
+    let mut core = core_of_two(rt.alloc())?;
+    assert_eq!(rt; core.step(SPLIT), Ok(Seen::Split));
+    assert_eq!(rt; core.step(draw(0)), Ok(Seen::Drew(0)));
+    assert_eq!(rt; core.step(post(0, 5)), Err(Fault::Phase), "it waits");
+    assert_eq!(rt; core.step(look(0)), Ok(Seen::Held));
+    assert_eq!(rt;
+        core.step(leave_posted(0)),
+        Err(Fault::Phase),
+        "none was posted"
+    );
+    assert_eq!(rt; core.step(post(0, 5)), Ok(Seen::Posted(Ok(5))));
+    assert_eq!(rt; core.step(post(0, 5)), Err(Fault::Phase), "it has posted");
+    assert_eq!(rt; core.step(leave(0, 5)), Err(Fault::Phase), "one was posted");
+    assert_eq!(rt; core.step(post(7, 5)), Err(Fault::NoSeat));
+    assert_eq!(rt; core.step(leave_posted(0)), Ok(Seen::Left(None)));
+    let entries = core.book().entries();
+    assert_eq!(rt; entries.len(), 1);
+    assert_eq!(rt;
+        (entries[0].pass, entries[0].call, entries[0].reply),
+        (0, 5, 5)
+    );
+    Ok(())
+}
+
+/// A posted seat holds: the next ticket is served when it leaves.
+#[test]
+fn a_posted_seat_is_waited_for(rt: HostRuntime) -> Result<(), Fail> {
+    let mut core = core_of_two(rt.alloc())?;
+    let events = [
+        SPLIT,
+        draw(0),
+        draw(1),
+        look(0),
+        post(0, 5),
+        look(1),
+        leave_posted(0),
+        look(1),
+        leave(1, 7),
+        gather(0, 1),
+        draw(0),
+        look(0),
+        post(0, 1),
+        draw(0),
+    ];
+    assert_eq!(rt; core.run(&events), Err((13, Fault::Phase)));
+    let entries = core.book().entries();
+    assert_eq!(rt; entries.len(), 3);
+    assert_eq!(rt;
+        (entries[1].pass, entries[1].call, entries[1].reply),
+        (1, 7, 12)
+    );
+    assert_eq!(rt; core.step(look(0)), Err(Fault::Phase), "it holds");
+    assert_eq!(rt; core.step(leave_posted(0)), Ok(Seen::Left(None)));
     Ok(())
 }
 
@@ -136,7 +207,7 @@ fn a_seat_without_a_draw_left_is_spent(rt: HostRuntime) -> Result<(), Fail> {
     assert_eq!(rt; core.step(draw(0)), Ok(Seen::Drew(0)));
     assert_eq!(rt; core.step(draw(0)), Err(Fault::Phase), "it waits");
     assert_eq!(rt; core.step(look(0)), Ok(Seen::Held));
-    assert_eq!(rt; core.step(leave(0, 5)), Ok(Seen::Left(Ok(5))));
+    assert_eq!(rt; core.step(leave(0, 5)), Ok(Seen::Left(Some(Ok(5)))));
     assert_eq!(rt; core.step(draw(0)), Err(Fault::Spent));
     assert_eq!(rt; core.step(look(0)), Err(Fault::Phase), "it has no ticket");
     assert_eq!(rt; core.book().entries().len(), 1);
@@ -190,7 +261,7 @@ fn a_core_of_1024_seats(rt: HostRuntime) -> Result<(), Fail> {
         assert_eq!(rt; core.step(look(seat)), Ok(Seen::Held));
         assert_eq!(rt;
             core.step(leave(seat, 1)),
-            Ok(Seen::Left(Ok(seat as u64 + 1)))
+            Ok(Seen::Left(Some(Ok(seat as u64 + 1))))
         );
     }
     for seat in 1..1024 {

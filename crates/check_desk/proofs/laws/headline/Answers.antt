@@ -1,7 +1,7 @@
 use Rattle.std.proofs.Common.{refl, sym, arith, ◌∙◌}
 use Rattle.ticket_steps.specs.declared.seats.CoreSeat.{CoreSeat}
 use Rattle.ticket_steps.proofs.ScheduleLemmas.{schedule_lawful, schedule_made, schedule_of, schedule_strangers}
-use Rattle.ticket_steps.proofs.SeatLemmas.{alone, unnumbered_calls}
+use Rattle.ticket_steps.proofs.SeatLemmas.{alone, posts, unnumbered_calls, unnumbered_posts}
 use Rattle.check_sched.specs.BookState.{book_step}
 use Rattle.check_sched.specs.State.{opening}
 use Rattle.check_sched.proofs.RunLaws.{taken_next, taken_once}
@@ -20,7 +20,7 @@ returns c = record {
       taken_next (opening setup start) front back e object run refl (legal_parts setup start room s is front back e parts) begun;
   entries = λ setup start room s is number. schedule_of book_step s is.schedule number;
   strangers = λ setup start room s is number past. schedule_strangers book_step s is.schedule number past;
-  made = λ setup start room s is. (schedule_lawful book_step s is.schedule).counted ∙ sym (schedule_made book_step s is.schedule);
+  made = λ setup start room s is. sym (schedule_made book_step s is.schedule);
   all = λ setup start room s is i p at stands_for_all.
       let l = schedule_lawful book_step s is.schedule in
       omega (
@@ -29,5 +29,7 @@ returns c = record {
         l.calls,
         alone s.numbers s.draws s.end l i p at (omega (arith, stands_for_all))
             (λ (q : CoreSeat). q.calls) (λ k u e none. unnumbered_calls s.draws s.end.served u (l.each k u e) none),
+        alone s.numbers s.draws s.end l i p at (omega (arith, stands_for_all))
+            posts (λ k u e none. unnumbered_posts s.draws s.end.served u (l.each k u e) none),
       );
 }

@@ -4,7 +4,8 @@ use lib.ListN.{get_elem?}
 use Rattle.ticket_steps.proofs.Lists.{at_within, set_here}
 use Rattle.ticket_lock.specs.Layout.{next_word}
 use Rattle.ticket_lock.specs.Views.{drawn_view}
-use Rattle.ticket_lock.proofs.Events.{split_event, draw_event, look_event, wait_event, leave_event, gather_event, second_load_same}
+use Rattle.ticket_lock.proofs.Events.{split_event, draw_event, look_event, wait_event, post_event, leave_posted_event, leave_event, gather_event}
+use Rattle.ticket_lock.proofs.Events.{second_load_same}
 use Rattle.ticket_lock.proofs.Obligations.{opens_with, look_held_told, look_waits_told, leave_told, second_load_told}
 use Rattle.ticket_lock.proofs.OnlyTables.{book_home, draw_only, look_held_only, look_waits_only, leave_only, second_load_only}
 use Rattle.ticket_lock.proofs.WordLemmas.{next_found}
@@ -52,6 +53,12 @@ returns g c = record {
   };
   look_held = λ m is waits. let e = look_event g.K.Kept m.start m.happened m.core m.table m.id m.me is.ruled is.there waits in (e.0, e.1, e.3);
   look_waits = λ m ticket is waits later. wait_event g.K.Kept m.start m.happened m.core m.table m.id ticket m.me is.ruled is.there waits later;
+  post =
+      λ m ticket book is holds returns.
+      post_event g.K.Kept m.start g.met.K.Kept.legal m.happened m.core m.table m.id ticket m.me.0 book is.ruled is.there holds returns;
+  leave_posted =
+      λ m ticket book is posts hand posted.
+      leave_posted_event g.K.Kept m.start m.happened m.core m.table m.id ticket m.me book is.ruled is.there posts hand posted;
   leave =
       λ m ticket book is holds hand returns.
       leave_event g.K.Kept m.start g.met.K.Kept.legal m.happened m.core m.table m.id ticket m.me book is.ruled is.there holds hand returns;

@@ -1,6 +1,6 @@
 use Rattle.std.proofs.Common.{arith}
 use Rattle.ticket_steps.specs.declared.seats.CoreSeat.{CoreSeat}
-use Rattle.ticket_steps.proofs.ScheduleLemmas.{schedule_lawful, schedule_book, schedule_made, schedule_of, schedule_strangers, lawful_line}
+use Rattle.ticket_steps.proofs.ScheduleLemmas.{schedule_lawful, schedule_book, schedule_made, schedule_ended, schedule_of, schedule_strangers, lawful_line}
 use Rattle.ticket_steps.proofs.SeatLemmas.{alone, named_once, one_holder, served_le, unnumbered_calls}
 use Rattle.ticket_steps.proofs.schedules.every_schedule.Goals as goal
 
@@ -11,6 +11,7 @@ returns g c = record {
   line = λ s is. let l = schedule_lawful g.K.Kept.step s is in lawful_line s.numbers s.draws s.end l (served_le s.numbers s.draws s.end l);
   counted = λ s is. (schedule_lawful g.K.Kept.step s is).counted;
   made = λ s is. schedule_made g.K.Kept.step s is;
+  ended = λ s is. schedule_ended g.K.Kept.step s is;
   calls = λ s is. (schedule_lawful g.K.Kept.step s is).calls;
   alone = λ s is i p at all.
       let l = schedule_lawful g.K.Kept.step s is in

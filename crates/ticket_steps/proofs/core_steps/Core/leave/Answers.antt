@@ -1,4 +1,4 @@
-use Rattle.std.proofs.Common.{◌≡◌, ◌+◌, ◌∷◌, ◌++◌, [], arith, sym, ap, ◌∙◌, refl, subst, List, ℕ, set, Result, Ok, Err, IfOk, OnErr}
+use Rattle.std.proofs.Common.{◌≡◌, ◌+◌, ◌∷◌, ◌++◌, [], arith, sym, ap, ◌∙◌, refl, subst, List, ℕ, set, Result, Ok, Err, Some, IfOk, OnErr}
 use mathlib.Core.Option.{some}
 use lib.ListN.{get_elem?}
 use Rattle.ticket_steps.specs.declared.kept.Entry.{Entry}
@@ -15,10 +15,10 @@ use Rattle.ticket_steps.specs.declared.events.Fault.TheVariants.{Phase}
 use Rattle.ticket_steps.specs.Cores.{state_of}
 use Rattle.ticket_steps.specs.Happenings.{recorded, refused, Moves}
 use Rattle.ticket_steps.specs.Seats.{ended}
-use Rattle.ticket_steps.proofs.CoreLemmas.{recorded_moves, refused_moves, few_served}
+use Rattle.ticket_steps.proofs.CoreLemmas.{recorded_moves, refused_moves, few_refused, few_served}
 use Rattle.ticket_steps.proofs.FaultLemmas.{steps_fault, steps_shown, shows_lawful, read_is, unfit_leave}
 use Rattle.ticket_steps.proofs.Histories.{recorded_is}
-use Rattle.ticket_steps.proofs.SeatLemmas.{one_calls}
+use Rattle.ticket_steps.proofs.SeatLemmas.{holding_holds, one_calls}
 use Rattle.ticket_steps.proofs.core_steps.Core.leave.Given.{Over}
 use Rattle.ticket_steps.proofs.core_steps.Core.leave.Goals.{After-leave, In-Holding}
 use Rattle.ticket_steps.proofs.core_steps.Core.leave.Goals as goal
@@ -30,7 +30,7 @@ leave_shows : (K S C R : Type 0) (step : S → C → S × R) (opening state : K 
     → after ≡ served + 1 → get_elem? seats i ≡ some p → p.own ≡ own → p.phase ≡ Holding ticket → w ≡ ended p → opening new ≡ opening old
     → IfOk reply (λ r. (history new ≡ history old ++ entry own call r ∷ []) × (refusals new ≡ refusals old))
     → OnErr reply ((history new ≡ history old) × (state new ≡ state old) × (refusals new ≡ refusals old + 1))
-    → Shows step draws (core_state next served seats (book_state (state old) (history old) (refusals old))) (Leave own call) (seen.Left reply)
+    → Shows step draws (core_state next served seats (book_state (state old) (history old) (refusals old))) (Leave own (Some call)) (seen.Left (Some reply))
     (core_state next after (set seats i w) (book_state (state new) (history new) (refusals new)))
 leave_shows K S C R step opening state history refusals legal replayed draws next served after i own ticket seats p w call old new
     (Ok r) up at called holds is same replied _ =
@@ -61,13 +61,13 @@ returns-in_default-clause-step g c =
     let is = read_is self.seats.items c.in_ok-at.at e.1 c.index.ensures in
     let unfit = unfit_leave self.numbers self.draws (state_of self) self.lawful c.in_ok-at.at c.args.seat e.0 e.1 e.2 e.3 c.args.call
     (λ ticket holds. c.in_default.not-Holding ticket (ap (λ (s : CoreSeat). s.phase) is ∙ holds)) in
-    steps_fault g.K.Kept.step self.draws (state_of self) (Leave c.args.seat c.args.call) Phase unfit
+    steps_fault g.K.Kept.step self.draws (state_of self) (Leave c.args.seat (Some c.args.call)) Phase unfit
 
 pub record-reply-requires : goal.record-reply-requires
 record-reply-requires g c =
     let self = c.args.self.now in
-    let served = few_served self.numbers self.draws (state_of self) self.lawful self.few (omega (arith, self.few_draws)) in
-    omega (arith, self.lawful.counted, served)
+    let refused = few_refused self.numbers self.draws (state_of self) self.lawful self.few (omega (arith, self.few_draws)) in
+    omega (arith, refused)
 
 pub end-requires : goal.end-requires
 end-requires g c =
@@ -81,7 +81,8 @@ served_is : (g : Over) (c : In-Holding g) → c.in-Holding.ticket ≡ c.args.sel
 served_is g c =
     let self = c.args.self.now in let e = c.in_ok-at.ensures.found in
     let is = read_is self.seats.items c.in_ok-at.at e.1 c.index.ensures in
-    (self.lawful.each c.in_ok-at.at e.0 e.1).holder c.in-Holding.ticket (ap (λ (s : CoreSeat). s.phase) (sym is) ∙ c.in-Holding.is)
+    (self.lawful.each c.in_ok-at.at e.0 e.1).holder c.in-Holding.ticket
+    (holding_holds c.in-Holding.ticket e.0.phase (ap (λ (s : CoreSeat). s.phase) (sym is) ∙ c.in-Holding.is))
 
 pub leave-requires-clause-served : goal.leave-requires-clause-served
 leave-requires-clause-served g c = served_is g (goal.at.leave-requires-clause-served g c).In-Holding
@@ -94,7 +95,7 @@ leave-requires-clause-small g c =
 
 -- the seat leaves, and its call is recorded or refused
 leaves : (g : Over) (c : After-leave g) → let self = c.args.self.now in let k = g.K.Kept in let book = c.record-reply.new.self in
-    Shows k.step self.draws (state_of self) (Leave c.args.seat c.args.call) (seen.Left c.record-reply.result)
+    Shows k.step self.draws (state_of self) (Leave c.args.seat (Some c.args.call)) (seen.Left (Some c.record-reply.result))
     (core_state self.next c.leave.new.self (set self.seats.items c.in_ok-at.at c.end.new.self)
     (book_state (k.state book) (k.history book) (k.refusals book)))
 leaves g c =
@@ -105,7 +106,7 @@ leaves g c =
     let is' = read_is c.args.self.now.seats.items c.in_ok-at.at c.in_ok-at.ensures.found.1 c.index_mut.ensures.value in
     let r = c.record-reply.ensures in
     let holds = ap (λ (s : CoreSeat). s.phase) (sym is) ∙ c.in-Holding.is in
-    let first = (self.lawful.each c.in_ok-at.at e.0 e.1).holder c.in-Holding.ticket holds in
+    let first = (self.lawful.each c.in_ok-at.at e.0 e.1).holder c.in-Holding.ticket (holding_holds c.in-Holding.ticket e.0.phase holds) in
     let up : c.leave.new.self ≡ self.grants + 1 = c.leave.ensures ∙ ap (λ (n : ℕ). n + 1) first in
     leave_shows _ _ _ _ k.step k.opening k.state k.history k.refusals g.met.K.Kept.legal g.met.K.Kept.replayed self.draws self.next
     self.grants c.leave.new.self c.in_ok-at.at c.args.seat c.in-Holding.ticket self.seats.items e.0 c.end.new.self

@@ -1,0 +1,77 @@
+use Rattle.std.proofs.Common.{◌≡◌, ◌+◌, arith, sym, ap, ◌∙◌, refl, subst, ℕ, set, None}
+use Rattle.ticket_steps.specs.CoreStates.{core_state}
+use Rattle.ticket_steps.specs.Faults.{Shows}
+use Rattle.ticket_steps.specs.declared.seats.CoreSeat.{CoreSeat}
+use Rattle.ticket_steps.specs.declared.events.Event.TheVariants.{Leave}
+use Rattle.ticket_steps.specs.declared.events.Seen.TheVariants as seen
+use Rattle.ticket_steps.specs.declared.events.Fault.TheVariants.{Phase}
+use Rattle.ticket_steps.specs.Cores.{state_of}
+use Rattle.ticket_steps.specs.Happenings.{left_posted, Moves}
+use Rattle.ticket_steps.specs.Seats.{ended}
+use Rattle.ticket_steps.proofs.CoreLemmas.{left_posted_moves, few_served}
+use Rattle.ticket_steps.proofs.FaultLemmas.{steps_fault, steps_shown, shows_lawful, read_is, unfit_leave_posted}
+use Rattle.ticket_steps.proofs.SeatLemmas.{one_calls, posted_holds}
+use Rattle.ticket_steps.proofs.core_steps.Core.leave_posted.Given.{Over}
+use Rattle.ticket_steps.proofs.core_steps.Core.leave_posted.Goals.{After-leave, In-Posted}
+use Rattle.ticket_steps.proofs.core_steps.Core.leave_posted.Goals as goal
+
+pub returns-in_default-clause-step : goal.returns-in_default-clause-step
+returns-in_default-clause-step g c =
+    let self = c.args.self.now in let e = c.in_ok-at.ensures.found in
+    let is = read_is self.seats.items c.in_ok-at.at e.1 c.index.ensures in
+    let unfit = unfit_leave_posted self.numbers self.draws (state_of self) self.lawful c.in_ok-at.at c.args.seat e.0 e.1 e.2 e.3
+    (λ ticket posts. c.in_default.not-Posted ticket (ap (λ (s : CoreSeat). s.phase) is ∙ posts)) in
+    steps_fault g.K.Kept.step self.draws (state_of self) (Leave c.args.seat None) Phase unfit
+
+pub end-requires : goal.end-requires
+end-requires g c =
+    let self = c.args.self.now in let e = c.in_ok-at.ensures.found in
+    let served = few_served self.numbers self.draws (state_of self) self.lawful self.few (omega (arith, self.few_draws)) in
+    let calls = ap (λ (s : CoreSeat). s.calls) (read_is c.args.self.now.seats.items c.in_ok-at.at c.in_ok-at.ensures.found.1 c.index_mut.ensures.value) in
+    omega (arith, calls, one_calls self.numbers self.draws (state_of self) self.lawful c.in_ok-at.at e.0 e.1, served)
+
+-- the seat that leaves has the number served as its ticket
+served_is : (g : Over) (c : In-Posted g) → c.in-Posted.ticket ≡ c.args.self.now.grants
+served_is g c =
+    let self = c.args.self.now in let e = c.in_ok-at.ensures.found in
+    let is = read_is self.seats.items c.in_ok-at.at e.1 c.index.ensures in
+    (self.lawful.each c.in_ok-at.at e.0 e.1).holder c.in-Posted.ticket
+    (posted_holds c.in-Posted.ticket e.0.phase (ap (λ (s : CoreSeat). s.phase) (sym is) ∙ c.in-Posted.is))
+
+pub leave-requires-clause-served : goal.leave-requires-clause-served
+leave-requires-clause-served g c = served_is g (goal.at.leave-requires-clause-served g c).In-Posted
+
+pub leave-requires-clause-small : goal.leave-requires-clause-small
+leave-requires-clause-small g c =
+    let self = c.args.self.now in
+    let first = served_is g (goal.at.leave-requires-clause-small g c).In-Posted in
+    omega (arith, first, few_served self.numbers self.draws (state_of self) self.lawful self.few (omega (arith, self.few_draws)))
+
+-- the seat leaves, and nothing more is recorded
+leaves : (g : Over) (c : After-leave g) → let self = c.args.self.now in
+    Shows g.K.Kept.step self.draws (state_of self) (Leave c.args.seat None) (seen.Left None)
+    (core_state self.next c.leave.new.self (set self.seats.items c.in_ok-at.at c.end.new.self) (state_of self).book)
+leaves g c =
+    let self = c.args.self.now in
+    let step = g.K.Kept.step in
+    let e = c.in_ok-at.ensures.found in
+    let is = read_is c.args.self.now.seats.items c.in_ok-at.at c.in_ok-at.ensures.found.1 c.index.ensures in
+    let is' = read_is c.args.self.now.seats.items c.in_ok-at.at c.in_ok-at.ensures.found.1 c.index_mut.ensures.value in
+    let posts = ap (λ (s : CoreSeat). s.phase) (sym is) ∙ c.in-Posted.is in
+    let first = (self.lawful.each c.in_ok-at.at e.0 e.1).holder c.in-Posted.ticket (posted_holds c.in-Posted.ticket e.0.phase posts) in
+    let up : c.leave.new.self ≡ self.grants + 1 = c.leave.ensures ∙ ap (λ (n : ℕ). n + 1) first in
+    let b = state_of self in
+    let seats = set self.seats.items c.in_ok-at.at c.end.new.self in (
+      left_posted c.args.seat,
+      refl,
+      refl,
+      subst (λ (n : ℕ). Moves step self.draws b (left_posted c.args.seat) (core_state self.next n seats b.book)) (sym up)
+          (left_posted_moves step self.draws b c.in_ok-at.at c.args.seat e.0 e.1 e.2 c.in-Posted.ticket c.end.new.self posts
+          (c.end.ensures ∙ ap ended is')),
+    )
+
+pub invariant_of-self-clause-lawful : goal.invariant_of-self-clause-lawful
+invariant_of-self-clause-lawful g c = shows_lawful g.K.Kept.step _ _ _ _ _ _ c.args.self.now.lawful (leaves g c)
+
+pub returns-clause-step : goal.returns-clause-step
+returns-clause-step g c = steps_shown g.K.Kept.step _ _ _ _ _ (leaves g (goal.at.returns-clause-step g c).After-leave)
