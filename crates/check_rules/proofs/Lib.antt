@@ -1,3 +1,4 @@
+pub mod BoardLemmas
 pub mod BlockedLaws
 pub mod FlappingLemmas
 pub mod MarkLemmas

@@ -11,9 +11,10 @@
 //!
 //! The modules: `state` has return codes and states, `standing` what is known of an object,
 //! `verdicts` the verdict on a result, `flapping` whether a state keeps changing, `reachability` the
-//! state of a host by its parents, `dependencies` whether a dependency holds a check back, `laws` what
-//! it is worth.
+//! state of a host by its parents, `dependencies` whether a dependency holds a check back, `board`
+//! a standing as one word, `laws` what it is worth.
 
+mod board;
 mod dependencies;
 mod flapping;
 pub mod laws;
@@ -24,6 +25,7 @@ mod state;
 mod tests;
 mod verdicts;
 
+pub use board::{code, decode};
 pub use dependencies::blocked;
 pub use flapping::{KEPT_RESULTS, flaps, percent};
 pub use reachability::host_state;

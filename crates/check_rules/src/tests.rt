@@ -1,6 +1,7 @@
 //! The rules on outside values: the cases of Nagios Core 4.4.6's own test suite (`test_checks.c`)
 //! in which our table says what Nagios does, and worked examples of our own profile.
 
+mod board;
 mod flapping;
 
 use crate::laws::blocked_where_a_dependency_fails;

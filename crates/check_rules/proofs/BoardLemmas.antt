@@ -1,0 +1,98 @@
+-- The digits of a standing's word.
+use Rattle.std.proofs.Common.{◌≡◌, ℕ, ◌+◌, ◌*◌, ◌/◌, ◌%◌, ◌<◌, ◌==◌, Bool, true, false, cond, Some, refl, arith}
+use Rattle.std.specs.Prelude.{nat_lt}
+use Rattle.std.proofs.lemmas.Bool.Decides.{nat_tests}
+use Rattle.check_rules.specs.declared.state.State.{State}
+use Rattle.check_rules.specs.declared.state.State.TheVariants as state
+use Rattle.check_rules.specs.declared.standing.Kind.{Kind}
+use Rattle.check_rules.specs.declared.standing.Kind.TheVariants as kind
+use Rattle.check_rules.specs.declared.standing.Standing.{Standing}
+use Rattle.check_rules.specs.State.{state_number}
+use Rattle.check_rules.specs.Board.{code_of, flag, kind_number, numbered_state, standing_coded}
+
+module _ (c s k a l f : ℕ) (small_c : c < 2) (small_s : s < 8) (small_k : k < 2) (small_a : a < 256) (small_l : l < 8) (small_f : f < 2) where
+  abbrev whole : ℕ
+  whole = c + 2 * s + 16 * k + 32 * a + 8192 * l + 65536 * f
+
+  pub first : whole / 1 % 2 ≡ c
+  first = omega (arith, small_c, small_s, small_k, small_a, small_l, small_f)
+
+  pub second : whole / 2 % 8 ≡ s
+  second = omega (arith, small_c, small_s, small_k, small_a, small_l, small_f)
+
+  pub third : whole / 16 % 2 ≡ k
+  third = omega (arith, small_c, small_s, small_k, small_a, small_l, small_f)
+
+  pub fourth : whole / 32 % 256 ≡ a
+  fourth = omega (arith, small_c, small_s, small_k, small_a, small_l, small_f)
+
+  pub fifth : whole / 8192 % 8 ≡ l
+  fifth = omega (arith, small_c, small_s, small_k, small_a, small_l, small_f)
+
+  pub sixth : whole / 65536 % 2 ≡ f
+  sixth = omega (arith, small_c, small_s, small_k, small_a, small_l, small_f)
+
+-- ---- each digit is read back
+
+numbered : (s : State) → numbered_state (state_number s) ≡ Some s
+numbered state.Ok = refl
+numbered state.Warning = refl
+numbered state.Critical = refl
+numbered state.Unknown = refl
+numbered state.Up = refl
+numbered state.Down = refl
+numbered state.Unreachable = refl
+
+small_state : (s : State) → state_number s < 8
+small_state state.Ok = omega arith
+small_state state.Warning = omega arith
+small_state state.Critical = omega arith
+small_state state.Unknown = omega arith
+small_state state.Up = omega arith
+small_state state.Down = omega arith
+small_state state.Unreachable = omega arith
+
+flag_read : (b : Bool) → (flag b == 1) ≡ b
+flag_read true = refl
+flag_read false = refl
+
+small_flag : (b : Bool) → flag b < 2
+small_flag true = omega arith
+small_flag false = omega arith
+
+kind_read : (k : Kind) → cond (kind_number k == 1) kind.Hard kind.Soft ≡ k
+kind_read kind.Soft = refl
+kind_read kind.Hard = refl
+
+small_kind : (k : Kind) → kind_number k < 2
+small_kind kind.Soft = omega arith
+small_kind kind.Hard = omega arith
+
+-- the word of a standing is read as that standing
+pub coded_back : (s : Standing) → s.attempt < 256 → standing_coded (code_of s) ≡ Some s
+coded_back s few =
+    let c = flag s.checked in
+    let n = state_number s.state in
+    let k = kind_number s.kind in
+    let l = state_number s.last_hard in
+    let f = flag s.flapping in
+    let small_c = small_flag s.checked in
+    let small_n = small_state s.state in
+    let small_k = small_kind s.kind in
+    let small_l = small_state s.last_hard in
+    let small_f = small_flag s.flapping in
+    let below : nat_lt (code_of s) 131072 ≡ true = grind (arith, nat_tests, small_c, small_n, small_k, few, small_l, small_f) in
+    rw (
+      below,
+      second c n k s.attempt l f small_c small_n small_k few small_l small_f,
+      numbered s.state,
+      fifth c n k s.attempt l f small_c small_n small_k few small_l small_f,
+      numbered s.last_hard,
+      first c n k s.attempt l f small_c small_n small_k few small_l small_f,
+      flag_read s.checked,
+      third c n k s.attempt l f small_c small_n small_k few small_l small_f,
+      kind_read s.kind,
+      fourth c n k s.attempt l f small_c small_n small_k few small_l small_f,
+      sixth c n k s.attempt l f small_c small_n small_k few small_l small_f,
+      flag_read s.flapping,
+    ) refl

@@ -1,0 +1,54 @@
+-- A standing as one word, as it stands on a board that is read without the lock. (Our own profile.)
+use Rattle.std.specs.Prelude.{ℕ, ◌+◌, ◌*◌, ◌/◌, ◌%◌, ◌==◌, Bool, true, false, Option, Some, None, option_map, option_and_then, List, [], ◌∷◌, find, nat_lt, if◌then◌else◌}
+use Rattle.check_rules.specs.declared.state.State.{State}
+use Rattle.check_rules.specs.declared.state.State.TheVariants as state
+use Rattle.check_rules.specs.declared.standing.Kind.{Kind}
+use Rattle.check_rules.specs.declared.standing.Kind.TheVariants as kind
+use Rattle.check_rules.specs.declared.standing.Standing.{Standing}
+use Rattle.check_rules.specs.State.{state_number}
+
+-- ---- a standing's word
+
+abbrev pub flag : Bool → ℕ
+flag b = if b then 1 else 0
+
+abbrev pub kind_number : Kind → ℕ
+kind_number kind.Soft = 0
+kind_number kind.Hard = 1
+
+-- bit 0 whether it is checked, bits 1 to 3 the state, bit 4 whether it is hard, bits 5 to 12 the attempt, bits 13 to 15 the last
+-- hard state, bit 16 whether it flaps
+abbrev pub code_of : Standing → ℕ
+code_of s =
+    flag s.checked + 2 * state_number s.state + 16 * kind_number s.kind + 32 * s.attempt + 8192 * state_number s.last_hard + 65536 * flag s.flapping
+
+-- ---- the standing of a word
+
+abbrev pub all_states : List State
+all_states = state.Ok ∷ state.Warning ∷ state.Critical ∷ state.Unknown ∷ state.Up ∷ state.Down ∷ state.Unreachable ∷ []
+
+-- the state of this number
+abbrev pub numbered_state : ℕ → Option State
+numbered_state number = find (λ s. state_number s == number) all_states
+
+-- whether this bit is set
+abbrev pub has_bit : ℕ → ℕ → Bool
+has_bit word weight = word / weight % 2 == 1
+
+-- the standing of a word with these two states
+abbrev pub standing_of : ℕ → State → State → Standing
+standing_of word current last_hard = record {
+  checked = has_bit word 1;
+  state = current;
+  kind = if has_bit word 16 then kind.Hard else kind.Soft;
+  attempt = word / 32 % 256;
+  last_hard = last_hard;
+  flapping = has_bit word 65536;
+}
+
+-- the standing whose word this is, if it is one's: both numbers of states are below 7, and no bit above the 17 is set
+abbrev pub standing_coded : ℕ → Option Standing
+standing_coded word =
+    if nat_lt word 131072
+    then option_and_then (λ current. option_map (standing_of word current) (numbered_state (word / 8192 % 8))) (numbered_state (word / 2 % 8))
+    else None
