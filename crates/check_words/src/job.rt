@@ -13,63 +13,92 @@ use clap::error::ErrorKind;
 use clap::{Arg, ArgMatches, Command};
 use std::alloc::{AllocError, Global};
 
+// The texts of the help are broken by hand, for 80 columns.
+
 /// What the help says of the program.
 const ABOUT: &str = "\
-Schedules the active checks of hosts and services as Nagios Core 4 does: it decides whose
-check is due, and what a result does to state, attempt and next time.
+Schedules the active checks of hosts and services as Nagios Core 4 does: it
+decides whose check is due, and what a result does to state, attempt and next
+time. It runs no plugins: return codes are part of its input.
 
-It reads a setup and a script from standard input. `run` makes the calls of the script one
-after another on one scheduler, and writes a line for each reply. `drill` has workers, each
-in a thread, share one scheduler: they take what is due at the script's moments and report
-what its plugins return, and it writes a line for each call that was recorded.
-
-Without a command it does `run --start 0`. `nagsched run --help` and `nagsched drill --help`
-tell more.";
+A setup and a script come from standard input. `run` makes the script's calls
+one after another, and answers each by a line. `drill` has workers, each in a
+thread, share one scheduler, and writes the history that they made. Without a
+command it does `run --start 0`.";
 
 /// What the help says of the subcommand `run`.
 const ABOUT_RUN: &str = "Makes the calls of a script on one scheduler";
 
 /// What the help says of the subcommand `drill`.
-const ABOUT_DRILL: &str =
-    "Has workers share one scheduler, with the moments and plugins of a script";
+const ABOUT_DRILL: &str = "Has workers share one scheduler, with scripted plugins";
 
 /// What the help says of the option `--start`.
-const ABOUT_START: &str = "\
-Moment at which the scheduler starts, in milliseconds, from 0 to 1152921504606846976 (2^60)";
+const ABOUT_START: &str = "Moment of the start, in ms, from 0 to 2^60";
 
 /// What the help says of the option `--workers`.
-const ABOUT_WORKERS: &str = "Number of workers, each in a thread of its own, from 1 to 64";
+const ABOUT_WORKERS: &str = "Workers, a thread each, from 1 to 64";
 
 /// What the help says of the option `--room`.
-const ABOUT_ROOM: &str = "\
-Number of recorded calls for which memory is set aside at the start, from 0 to 1000000";
+const ABOUT_ROOM: &str = "Calls to make room for, from 0 to 1000000";
 
-/// What stands at the end of the help.
+/// What stands at the end of the program's help.
 const NOTES: &str = "\
 Input:
-  Line 1 is the setup, a JSON object with options, hosts and services. Each later line is
-  a JSON array. Moments are milliseconds of a clock of your choice. The whole input is
-  checked before the first call is made. docs/FORMATS.md describes every member, line and
-  refusal, each with an example.
-
-  run    Each later line is a call, such as [\"take\",0].
-  drill  Each later line is one of these, in any order:
-           [\"plugin\",name,code,..]  the return codes of an object's plugin, in order,
-                                    over and over; without such a line it returns 0
-           [\"moment\",now]           one more moment at which each worker asks for a check
-
-Output:
-  run    A line for each reply.
-  drill  The number of a pass, which is one worker's, and a line for each recorded call;
-         last `total ENTRIES REFUSED`: the calls that were recorded, and those that
-         weren't for want of memory.
+  Line 1 is the setup, a JSON object with options, hosts and services. Each
+  later line is a JSON array: `nagsched run --help` and `nagsched drill --help`
+  tell which. The whole input is checked before the first call is made.
+  docs/FORMATS.md has every member, line and refusal, each with an example.
 
 Exit status:
   0  ran, or told its help
   1  the input was refused, and one line says why and where
   2  the words were refused, with the line `refused words`
   3  standard input or standard output failed
-  4  there was not enough memory, or a thread couldn't be had";
+  4  out of memory
+
+Example:
+  printf '%s\n' '{\"hosts\":[{\"name\":\"gateway\",\"max_check_attempts\":3}]}' \\
+    '[\"take\",0]' '[\"report\",\"gateway\",1,2]' | nagsched run";
+
+/// What stands at the end of the help of `run`.
+const RUN_NOTES: &str = "\
+Input, behind the setup, a call a line; moments and times in milliseconds:
+  [\"take\",now]                    asks what is due, and takes it
+  [\"report\",name,run,code]        the return code of a check, 0 to 3
+  [\"abandon\",name,run,now]        gives a check up that won't come back
+  [\"reschedule\",name,time,forced] sets the next check
+  [\"enable\",name,on]              switches an object's active checks
+  [\"status\",name]                 asks how an object stands
+
+Output, a line for each call:
+  taken RUN NAME        putoff TIME NAME        idle TIME        atlimit
+  standing STATE KIND ATTEMPT CHANGED FLAP TIME NAME
+  freed TIME NAME       done NAME               refused CODE WHY
+
+Exit status:
+  0 ran   1 input refused   2 words refused   3 device failed   4 out of memory
+
+Example:
+  printf '%s\n' '{\"hosts\":[{\"name\":\"gateway\",\"max_check_attempts\":3}]}' \\
+    '[\"take\",0]' '[\"report\",\"gateway\",1,2]' | nagsched run --start 0";
+
+/// What stands at the end of the help of `drill`.
+const DRILL_NOTES: &str = "\
+Input, behind the setup, in any order:
+  [\"plugin\",name,code,..]  the return codes of an object's plugin, by the run's
+                           number, over and over; without such a line it is 0
+  [\"moment\",now]           one more moment, in ms, at which each worker takes
+
+Output:
+  PASS LINE              the worker's pass and the line of `run`, for each call
+  total ENTRIES REFUSED  calls recorded, and refused out of memory
+
+Exit status:
+  0 ran   1 input refused   2 words refused   3 device failed   4 out of memory
+
+Example:
+  printf '%s\n' '{\"hosts\":[{\"name\":\"gateway\",\"max_check_attempts\":3}]}' \\
+    '[\"plugin\",\"gateway\",2]' '[\"moment\",0]' | nagsched drill --workers 1";
 
 /// The latest moment at which a scheduler may start, in milliseconds.
 const LAST_MOMENT: u64 = 1 << 60;
@@ -116,7 +145,7 @@ fn build_run<'a>(alloc: Global) -> Result<Command<'a>, AllocError>
 {
     Command::new(alloc, "run")
         .about(ABOUT_RUN)
-        .after_help(NOTES)
+        .after_help(RUN_NOTES)
         .arg(start_option(alloc))
 }
 
@@ -129,7 +158,7 @@ fn build_drill<'a>(alloc: Global) -> Result<Command<'a>, AllocError>
     let room = number_option(alloc, "room", "1000").help(ABOUT_ROOM);
     Command::new(alloc, "drill")
         .about(ABOUT_DRILL)
-        .after_help(NOTES)
+        .after_help(DRILL_NOTES)
         .arg(start_option(alloc))?
         .arg(workers)?
         .arg(room)

@@ -120,7 +120,7 @@ fn tell<W: Write>(writer: &mut W, text: &[u8]) -> Result<(), DriveError>
 }
 
 /// The exit status of a session: 0 ran or told its help, 1 input refused, 2 words refused, 3 a fault
-/// of the reader or the writer, 4 out of memory, or a thread that couldn't be had.
+/// of the reader or the writer, 4 out of memory.
 pub fn exit_status(ended: Result<Ending, DriveError>) -> u8
     ensures { result ≡ exit_status ended }
 {

@@ -143,32 +143,44 @@ fn refuses_options_given_twice(rt: HostRuntime) {
     );
 }
 
-/// The help of `drill` has its options, each with its limits and its default.
+/// The help of `drill` has its options, each with its limits and its default, its input and its output.
 #[test]
 fn tells_the_options_of_drill(rt: HostRuntime) -> Result<(), Fail> {
     let help = help_of(rt.alloc(), &["nagsched", "drill", "--help"])?;
-    assert!(rt; help.contains("--start <N>"));
-    assert!(rt; help.contains("from 0 to 1152921504606846976 (2^60) [default: 0]"));
-    assert!(rt; help.contains("--workers <N>"));
-    assert!(rt; help.contains("from 1 to 64 [default: 2]"));
-    assert!(rt; help.contains("--room <N>"));
-    assert!(rt; help.contains("from 0 to 1000000 [default: 1000]"));
+    assert!(rt; help.contains("--start <N>") && help.contains("from 0 to 2^60 [default: 0]"));
+    assert!(rt; help.contains("--workers <N>") && help.contains("from 1 to 64 [default: 2]"));
+    assert!(rt; help.contains("--room <N>") && help.contains("from 0 to 1000000 [default: 1000]"));
+    assert!(rt; help.contains("[\"plugin\",name,code,..]") && help.contains("[\"moment\",now]"));
+    assert!(rt; help.contains("total ENTRIES REFUSED"));
     Ok(())
 }
 
-/// The program's help has both subcommands and the input of both, and that of `run` its own option
-/// alone.
+/// The program's help has both subcommands and every exit status, and that of `run` its own option alone.
 #[test]
 fn tells_of_drill_beside_run(rt: HostRuntime) -> Result<(), Fail> {
     let alloc = rt.alloc();
     let help = help_of(alloc, &["nagsched", "--help"])?;
     assert!(rt; help.contains("Makes the calls of a script on one scheduler"));
     assert!(rt; help.contains("Has workers share one scheduler"));
-    assert!(rt; help.contains("[\"take\",0]") && help.contains("[\"moment\",now]"));
-    assert!(rt; help.contains("[\"plugin\",name,code,..]"));
-    assert!(rt; help.contains("total ENTRIES REFUSED"));
-    assert!(rt; help.contains("a thread couldn't be had"));
+    assert!(rt; help.contains("1  the input was refused") && help.contains("4  out of memory"));
     let help = help_of(alloc, &["nagsched", "run", "--help"])?;
     assert!(rt; help.contains("--start <N>") && !help.contains("--workers"));
+    assert!(rt; help.contains("[\"take\",now]") && help.contains("standing STATE KIND"));
+    Ok(())
+}
+
+/// Every line of each help fits 80 columns.
+#[test]
+fn help_fits_80_columns(rt: HostRuntime) -> Result<(), Fail> {
+    for words in [
+        ["nagsched", "--help"].as_slice(),
+        ["nagsched", "run", "--help"].as_slice(),
+        ["nagsched", "drill", "--help"].as_slice(),
+    ] {
+        let help = help_of(rt.alloc(), words)?;
+        for line in help.lines() {
+            assert!(rt; line.len() <= 80, "{line}");
+        }
+    }
     Ok(())
 }
