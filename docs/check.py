@@ -77,7 +77,7 @@ def nagios(page):
     """The configuration that is moved to a setup: what is due first, what is disabled, and what waits."""
     setup = " ".join(block_after(page, "The same as a setup").split("\n")).strip()
     statuses = ['["take",0]', '["status","web;disk"]', '["status","web;http"]']
-    pending = "standing PENDING HARD 1 no"
+    pending = "standing PENDING HARD 1 no STEADY"
     wanted = f"taken 1 router\n{pending} none web;disk\n{pending} 90000 web;http\n"
     compare("a configuration moved", wanted, output([setup, *statuses]))
 

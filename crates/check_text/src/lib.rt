@@ -6,6 +6,8 @@
 //! hands bytes to a writer, whole or up to a fault.
 
 mod output;
+#[cfg(test)]
+mod tests;
 mod text;
 
 pub use output::{flush, write_refusal, write_text};

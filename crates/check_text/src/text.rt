@@ -3,7 +3,7 @@
 ghost use Rattle.std.specs.Prelude.{◌≡◌, ◌++◌, OnOk, string_bytes};
 ghost use Rattle.check_objects.specs.Configuration.{name_of};
 ghost use Rattle.check_text.specs.Text.{reply_line, refusal_line, entry_line, total_line};
-ghost use Rattle.check_text.specs.Text.{asked_name, state_text, kind_text, changed_text};
+ghost use Rattle.check_text.specs.Text.{asked_name, state_text, kind_text, changed_text, flapping_text};
 ghost use Rattle.check_text.specs.Text.{call_refusal_text, part_text, fault_text};
 
 use check_objects::{LoadError, Part, Place, Setup};
@@ -68,11 +68,12 @@ impl<'a> fmt::Display for ReplyText<'a> {
                 let kind = kind_text(standing.kind);
                 let attempt = standing.attempt;
                 let changed = changed_text(changed);
+                let flapping = flapping_text(standing.flapping);
                 let next = TimeText(next);
                 let name = asked_name(self.setup, self.call);
                 write!(
                     f,
-                    "standing {state} {kind} {attempt} {changed} {next} {name}"
+                    "standing {state} {kind} {attempt} {changed} {flapping} {next} {name}"
                 )
             }
             Reply::Freed { next } => {
@@ -149,6 +150,13 @@ fn changed_text(changed: bool) -> &'static str
     ensures { result.now ≡ changed_text changed }
 {
     if changed { "yes" } else { "no" }
+}
+
+/// Whether an object's states come and go.
+fn flapping_text(flapping: bool) -> &'static str
+    ensures { result.now ≡ flapping_text flapping }
+{
+    if flapping { "FLAPPING" } else { "STEADY" }
 }
 
 /// Appends the line of an entry of a history, with its line feed: the number of the pass that made

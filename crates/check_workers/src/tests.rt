@@ -191,6 +191,7 @@ fn changed(state: State, attempt: u8, next: u64) -> Reply {
         kind: Kind::Soft,
         attempt,
         last_hard: State::Ok,
+        flapping: false,
     };
     Reply::Standing {
         standing,

@@ -11,6 +11,7 @@ mod drill_faults;
 mod drill_sessions;
 mod drills;
 mod faults;
+mod flapping;
 mod limits;
 mod office;
 mod operators;

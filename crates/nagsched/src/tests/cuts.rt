@@ -23,8 +23,8 @@ pub const LINES: &str = "[\"take\",0]
 ";
 
 const OUTPUT: &str = "taken 1 h;s
-standing CRITICAL SOFT 1 yes 60000 h;s
-standing CRITICAL SOFT 1 no 60000 h;s
+standing CRITICAL SOFT 1 yes STEADY 60000 h;s
+standing CRITICAL SOFT 1 no STEADY 60000 h;s
 taken 2 h;s
 freed 60010 h;s
 done h;s
@@ -40,7 +40,7 @@ pub const OPERATORS: &str = "[\"status\",\"mail-server\"]
 [\"abandon\",\"old-scanner\",12,300000]
 ";
 
-const OPERATORS_OUTPUT: &str = "standing UP HARD 1 no 300000 mail-server
+const OPERATORS_OUTPUT: &str = "standing UP HARD 1 no STEADY 300000 mail-server
 done old-scanner
 done old-scanner
 taken 12 old-scanner

@@ -35,7 +35,7 @@ fn puts_off(rt: HostRuntime) -> Result<(), Fail> {
 [\"take\",0]
 ";
     let wanted = "taken 1 h;a
-standing CRITICAL HARD 1 yes 300000 h;a
+standing CRITICAL HARD 1 yes STEADY 300000 h;a
 putoff 300000 h;b
 done h;b
 taken 2 h;b

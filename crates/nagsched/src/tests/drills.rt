@@ -147,6 +147,7 @@ fn standing(state: State, attempt: u8) -> Standing {
         kind: Kind::Soft,
         attempt,
         last_hard: State::Ok,
+        flapping: false,
     }
 }
 
@@ -185,7 +186,8 @@ fn history() -> [Entry<Call, Reply>; 4] {
 }
 
 /// The text of that history and three refusals.
-const HISTORY: &str = "0 taken 1 h;s\n12 idle none\n0 standing CRITICAL SOFT 1 yes 60000 h;s\n\
+const HISTORY: &str =
+    "0 taken 1 h;s\n12 idle none\n0 standing CRITICAL SOFT 1 yes STEADY 60000 h;s\n\
 12 refused C2 TimeRange\ntotal 4 3\n";
 
 /// The setup with one host and its service.

@@ -38,27 +38,27 @@ pub const LINES: &str = "[\"take\",0]
 /// What they write.
 pub const OUTPUT: &str = "taken 1 file-server
 taken 2 gateway
-standing DOWN SOFT 1 yes 60000 gateway
-standing UNREACHABLE SOFT 1 yes 60000 file-server
+standing DOWN SOFT 1 yes STEADY 60000 gateway
+standing UNREACHABLE SOFT 1 yes STEADY 60000 file-server
 taken 3 mail-server
-standing UP HARD 1 no 300000 mail-server
+standing UP HARD 1 no STEADY 300000 mail-server
 taken 4 printer-2nd-floor
-standing UP HARD 1 no 600000 printer-2nd-floor
+standing UP HARD 1 no STEADY 600000 printer-2nd-floor
 taken 5 file-server;disk
-standing WARNING HARD 3 yes 300000 file-server;disk
+standing WARNING HARD 3 yes STEADY 300000 file-server;disk
 taken 6 mail-server;smtp
-standing CRITICAL SOFT 1 yes 60000 mail-server;smtp
+standing CRITICAL SOFT 1 yes STEADY 60000 mail-server;smtp
 taken 7 printer-2nd-floor;toner
-standing WARNING HARD 1 yes 3600000 printer-2nd-floor;toner
+standing WARNING HARD 1 yes STEADY 3600000 printer-2nd-floor;toner
 idle 60000
 taken 8 file-server
 taken 9 gateway
-standing UP SOFT 2 yes 360000 gateway
-standing UP SOFT 2 yes 360000 file-server
+standing UP SOFT 2 yes STEADY 360000 gateway
+standing UP SOFT 2 yes STEADY 360000 file-server
 taken 10 mail-server;smtp
-standing CRITICAL SOFT 2 no 120000 mail-server;smtp
+standing CRITICAL SOFT 2 no STEADY 120000 mail-server;smtp
 taken 11 mail-server;smtp
-standing CRITICAL HARD 3 no 420000 mail-server;smtp
+standing CRITICAL HARD 3 no STEADY 420000 mail-server;smtp
 refused C3 NotRunning
 idle 300000
 ";

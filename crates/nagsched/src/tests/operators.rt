@@ -14,11 +14,11 @@ fn makes_operators_calls(rt: HostRuntime) -> Result<(), Fail> {
 [\"status\",\"h;s\"]
 [\"status\",\"h\"]
 ",
-            "standing PENDING HARD 1 no 0 h;s
+            "standing PENDING HARD 1 no STEADY 0 h;s
 taken 1 h;s
-standing CRITICAL SOFT 1 yes 60000 h;s
-standing CRITICAL SOFT 1 no 60000 h;s
-standing PENDING HARD 1 no none h
+standing CRITICAL SOFT 1 yes STEADY 60000 h;s
+standing CRITICAL SOFT 1 no STEADY 60000 h;s
+standing PENDING HARD 1 no STEADY none h
 ",
         ),
         (
@@ -53,7 +53,7 @@ freed 70 h;s
 ",
             "taken 1 h;s
 done h;s
-standing OK HARD 1 no 500 h;s
+standing OK HARD 1 no STEADY 500 h;s
 done h;s
 idle none
 done h;s

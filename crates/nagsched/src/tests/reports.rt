@@ -24,15 +24,15 @@ fn reports_services(rt: HostRuntime) -> Result<(), Fail> {
 [\"report\",\"h\",5,0]
 ";
     let wanted = "taken 1 h;s
-standing CRITICAL SOFT 1 yes 60000 h;s
+standing CRITICAL SOFT 1 yes STEADY 60000 h;s
 refused C3 NotRunning
 taken 2 h;s
 refused C4 WrongRun
-standing WARNING SOFT 2 yes 120000 h;s
+standing WARNING SOFT 2 yes STEADY 120000 h;s
 taken 3 h;s
-standing UNKNOWN HARD 3 yes 420000 h;s
+standing UNKNOWN HARD 3 yes STEADY 420000 h;s
 taken 4 h;s
-standing OK HARD 1 yes 720000 h;s
+standing OK HARD 1 yes STEADY 720000 h;s
 refused C3 NotRunning
 ";
     let (written, outcome) = run_script(rt.alloc(), SERVICE, lines)?;
@@ -52,10 +52,10 @@ fn reports_hosts(rt: HostRuntime) -> Result<(), Fail> {
 ";
     let wanted = "taken 1 h
 taken 2 p
-standing DOWN SOFT 1 yes 60000 p
-standing UNREACHABLE SOFT 1 yes 60000 h
+standing DOWN SOFT 1 yes STEADY 60000 p
+standing UNREACHABLE SOFT 1 yes STEADY 60000 h
 taken 3 h
-standing UP SOFT 2 yes 360000 h
+standing UP SOFT 2 yes STEADY 360000 h
 ";
     let (written, outcome) = run_script(rt.alloc(), PARENT, lines)?;
     assert!(rt; written.as_slice() == wanted.as_bytes());

@@ -1,0 +1,71 @@
+//! The lines of replies, as they are written.
+
+use crate::push_reply;
+use check_objects::Setup;
+use check_rules::{Kind, Standing, State};
+use check_sched::{Call, Reply};
+use std::alloc::Global;
+use std::test::Fail;
+
+/// A host 0 and its service 1.
+const SETUP: &[u8] =
+    br#"{"hosts":[{"name":"h","max_check_attempts":3}],"services":[{"host":"h","description":"s","max_check_attempts":3}]}"#;
+
+/// The line of a reply to a call for the service, after a text that was there before.
+fn line_of(alloc: Global, reply: Reply) -> Result<String, Fail> {
+    let setup = Setup::read(alloc, SETUP)?;
+    let mut line = String::from_str(alloc, "before ")?;
+    push_reply(&mut line, &setup, Call::Status { object: 1 }, reply)?;
+    Ok(line)
+}
+
+/// The standing of a service that was checked.
+fn standing(state: State, kind: Kind, attempt: u8, flapping: bool) -> Standing {
+    Standing {
+        checked: true,
+        state,
+        kind,
+        attempt,
+        last_hard: State::Ok,
+        flapping,
+    }
+}
+
+#[test]
+fn tells_whether_an_object_flaps(rt: HostRuntime) -> Result<(), Fail> {
+    let flapping = Reply::Standing {
+        standing: standing(State::Ok, Kind::Hard, 1, true),
+        changed: true,
+        next: Some(1_260_000),
+    };
+    let line = line_of(rt.alloc(), flapping)?;
+    assert_eq!(rt;
+        line.as_str(),
+        "before standing OK HARD 1 yes FLAPPING 1260000 h;s\n"
+    );
+    let steady = Reply::Standing {
+        standing: standing(State::Critical, Kind::Soft, 255, false),
+        changed: false,
+        next: None,
+    };
+    let line = line_of(rt.alloc(), steady)?;
+    assert_eq!(rt;
+        line.as_str(),
+        "before standing CRITICAL SOFT 255 no STEADY none h;s\n"
+    );
+    Ok(())
+}
+
+#[test]
+fn tells_the_last_run(rt: HostRuntime) -> Result<(), Fail> {
+    let taken = Reply::Taken {
+        object: 0,
+        run: 1_152_921_504_606_846_976,
+    };
+    let line = line_of(rt.alloc(), taken)?;
+    assert_eq!(rt; line.as_str(), "before taken 1152921504606846976 h\n");
+    let freed = Reply::Freed { next: 0 };
+    let line = line_of(rt.alloc(), freed)?;
+    assert_eq!(rt; line.as_str(), "before freed 0 h;s\n");
+    Ok(())
+}
