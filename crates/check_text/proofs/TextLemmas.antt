@@ -33,3 +33,32 @@ entries_next c es i d total h =
 pub entries_end : (c : Configuration) (es : List (Entry Call Reply)) (i : ℕ) (total : List ℕ) → length es ≤ i
     → flat_map (entry_line c) (drop i es) ++ total ≡ total ++ []
 entries_end c es i total h = ap (λ l. flat_map (entry_line c) l ++ total) (drop_all i es h) ∙ sym (append-nil total)
+
+-- ---- texts in parts
+
+-- what was appended in two parts is the text that they are together
+in_two : (a b c x y : List ℕ) → b ≡ a ++ x → c ≡ b ++ y → c ≡ a ++ (x ++ y)
+in_two a b c x y first second = second ∙ ap (λ l. l ++ y) first ∙ append_assoc a x y
+
+-- the parts of a standing's text; s is a space
+standing_parts : (word s state kind attempt changed flapping next name : List ℕ)
+    → ((((((word ++ state) ++ (s ++ (kind ++ s))) ++ attempt) ++ (s ++ (changed ++ (s ++ (flapping ++ s))))) ++ next) ++ s) ++ name
+    ≡ word ++ (state ++ (s ++ (kind ++ (s ++ (attempt ++ (s ++ (changed ++ (s ++ (flapping ++ (s ++ (next ++ (s ++ name))))))))))))
+standing_parts word s state kind attempt changed flapping next name = simp (append_assoc) refl
+
+-- what these parts were appended to, one after the other, is what a standing's text was appended to
+pub standing_appended : (old word s state kind attempt changed flapping next name states kinds marks l1 l2 l3 l4 l5 l6 l7 l8 : List ℕ)
+    → states ≡ state → kinds ≡ s ++ (kind ++ s) → marks ≡ s ++ (changed ++ (s ++ (flapping ++ s)))
+    → l1 ≡ old ++ word → l2 ≡ l1 ++ states → l3 ≡ l2 ++ kinds → l4 ≡ l3 ++ attempt → l5 ≡ l4 ++ marks → l6 ≡ l5 ++ next → l7 ≡ l6 ++ s → l8 ≡ l7 ++ name
+    → l8 ≡ old ++ (word ++ (state ++ (s ++ (kind ++ (s ++ (attempt ++ (s ++ (changed ++ (s ++ (flapping ++ (s ++ (next ++ (s ++ name)))))))))))))
+standing_appended old word s state kind attempt changed flapping next name states kinds marks l1 l2 l3 l4 l5 l6 l7 l8 t k m e1 e2 e3 e4 e5 e6 e7 e8 =
+    let a = in_two old l1 l2 word state e1 (e2 ∙ ap (λ l. l1 ++ l) t) in
+    let b = in_two old l2 l3 (word ++ state) kinds a e3 in
+    let c = in_two old l3 l4 ((word ++ state) ++ kinds) attempt b e4 in
+    let d = in_two old l4 l5 (((word ++ state) ++ kinds) ++ attempt) marks c e5 in
+    let e = in_two old l5 l6 ((((word ++ state) ++ kinds) ++ attempt) ++ marks) next d e6 in
+    let f = in_two old l6 l7 (((((word ++ state) ++ kinds) ++ attempt) ++ marks) ++ next) s e e7 in
+    let g = in_two old l7 l8 ((((((word ++ state) ++ kinds) ++ attempt) ++ marks) ++ next) ++ s) name f e8 in
+    g ∙ ap (λ l. old ++ l)
+    ((λ i. ((((((word ++ state) ++ k i) ++ attempt) ++ m i) ++ next) ++ s) ++ name)
+    ∙ standing_parts word s state kind attempt changed flapping next name)

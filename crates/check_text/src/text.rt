@@ -1,8 +1,9 @@
 //! The text of replies and refusals. Each has one definition, in `specs/Text.antt`, whatever
 //! subcommand writes it.
-ghost use Rattle.std.specs.Prelude.{◌≡◌, ◌++◌, OnOk, string_bytes};
+ghost use Rattle.std.specs.Prelude.{◌≡◌, ◌++◌, OnOk, codes, decimal, string_bytes};
 ghost use Rattle.check_objects.specs.Configuration.{name_of};
-ghost use Rattle.check_text.specs.Text.{reply_line, refusal_line, entry_line, total_line};
+ghost use Rattle.check_text.specs.Text.{reply_text, reply_line, refusal_line, entry_line, total_line};
+ghost use Rattle.check_text.specs.Text.{taken_text, putoff_text, idle_text, standing_text, freed_text, done_text, refused_text, time_text};
 ghost use Rattle.check_text.specs.Text.{asked_name, state_text, kind_text, changed_text, flapping_text};
 ghost use Rattle.check_text.specs.Text.{call_refusal_text, part_text, fault_text};
 
@@ -10,6 +11,7 @@ use check_objects::{LoadError, Part, Place, Setup};
 use check_rules::{Kind, Standing, State};
 use check_sched::{Call, Refusal, Reply};
 use check_script::{InputRefusal, LineFault};
+use itoa::Buffer;
 use std::alloc::AllocError;
 use std::fmt;
 use ticket_steps::Entry;
@@ -25,70 +27,135 @@ pub fn push_reply(
     ensures { OnOk result
         (string_bytes line.new ≡ string_bytes line.old ++ reply_line setup.now call reply) }
 {
-    let text = ReplyText { setup, call, reply };
-    writeln!(line, "{text}")
+    push_reply_text(line, setup, call, reply)?;
+    line.push_str("\n")
 }
 
-/// The text of the reply to a call.
-#[derive(Clone, Copy)]
-struct ReplyText<'a> {
-    setup: &'a Setup,
+/// Appends the text of the reply to a call.
+fn push_reply_text(
+    line: &mut String,
+    setup: &Setup,
     call: Call,
     reply: Reply,
+) -> Result<(), AllocError>
+    ensures { OnOk result
+        (string_bytes line.new ≡ string_bytes line.old ++ reply_text setup.now call reply) }
+{
+    match reply {
+        Reply::Taken { object, run } => push_taken(line, run, name_or_nothing(setup, object)),
+        Reply::PutOff { object, until } => push_put_off(
+            line,
+            until,
+            name_or_nothing(setup, object),
+        ),
+        Reply::Idle { next } => push_idle(line, next),
+        Reply::AtLimit => line.push_str("atlimit"),
+        Reply::Standing {
+            standing,
+            changed,
+            next,
+        } => push_standing(line, standing, changed, next, asked_name(setup, call)),
+        Reply::Freed { next } => push_freed(line, next, asked_name(setup, call)),
+        Reply::Done => push_done(line, asked_name(setup, call)),
+        Reply::Refused(refusal) => push_refused(line, call_refusal_text(refusal)),
+    }
 }
 
-impl<'a> fmt::Display for ReplyText<'a> {
-    ghost use Rattle.std.specs.Prelude.{Some};
-    ghost use Rattle.check_text.specs.Text.{reply_text};
+/// Appends that the object with this full name runs under this number.
+fn push_taken(line: &mut String, run: u64, name: &str) -> Result<(), AllocError>
+    ensures { OnOk result
+        (string_bytes line.new ≡ string_bytes line.old ++ taken_text run name.now) }
+{
+    line.push_str("taken ")?;
+    push_number(line, run)?;
+    line.push_str(" ")?;
+    line.push_str(name)
+}
 
-    ghost output = { λ text. Some (reply_text text.setup.now text.call text.reply) };
+/// Appends that the object with this full name was put off.
+fn push_put_off(line: &mut String, until: Option<u64>, name: &str) -> Result<(), AllocError>
+    ensures { OnOk result
+        (string_bytes line.new ≡ string_bytes line.old ++ putoff_text until name.now) }
+{
+    line.push_str("putoff ")?;
+    push_time(line, until)?;
+    line.push_str(" ")?;
+    line.push_str(name)
+}
 
-    fn fmt<W: fmt::Write>(&self, f: &mut fmt::Formatter<W>) -> fmt::Result {
-        match self.reply {
-            Reply::Taken { object, run } => {
-                let name = name_or_nothing(self.setup, object);
-                write!(f, "taken {run} {name}")
-            }
-            Reply::PutOff { object, until } => {
-                let until = TimeText(until);
-                let name = name_or_nothing(self.setup, object);
-                write!(f, "putoff {until} {name}")
-            }
-            Reply::Idle { next } => {
-                let next = TimeText(next);
-                write!(f, "idle {next}")
-            }
-            Reply::AtLimit => f.write_str("atlimit"),
-            Reply::Standing {
-                standing,
-                changed,
-                next,
-            } => {
-                let state = state_text(standing);
-                let kind = kind_text(standing.kind);
-                let attempt = standing.attempt;
-                let changed = changed_text(changed);
-                let flapping = flapping_text(standing.flapping);
-                let next = TimeText(next);
-                let name = asked_name(self.setup, self.call);
-                write!(
-                    f,
-                    "standing {state} {kind} {attempt} {changed} {flapping} {next} {name}"
-                )
-            }
-            Reply::Freed { next } => {
-                let name = asked_name(self.setup, self.call);
-                write!(f, "freed {next} {name}")
-            }
-            Reply::Done => {
-                let name = asked_name(self.setup, self.call);
-                write!(f, "done {name}")
-            }
-            Reply::Refused(refusal) => {
-                let reason = call_refusal_text(refusal);
-                write!(f, "refused {reason}")
-            }
-        }
+/// Appends that nothing is due.
+fn push_idle(line: &mut String, next: Option<u64>) -> Result<(), AllocError>
+    ensures { OnOk result (string_bytes line.new ≡ string_bytes line.old ++ idle_text next) }
+{
+    line.push_str("idle ")?;
+    push_time(line, next)
+}
+
+/// Appends how the object with this full name stands, and when it is checked next.
+fn push_standing(
+    line: &mut String,
+    standing: Standing,
+    changed: bool,
+    next: Option<u64>,
+    name: &str,
+) -> Result<(), AllocError>
+    ensures { OnOk result (string_bytes line.new
+        ≡ string_bytes line.old ++ standing_text standing changed next name.now) }
+{
+    line.push_str("standing ")?;
+    line.push_str(state_text(standing))?;
+    line.push_str(kind_between_spaces(standing.kind))?;
+    push_number(line, standing.attempt as u64)?;
+    line.push_str(marks_between_spaces(changed, standing.flapping))?;
+    push_time(line, next)?;
+    line.push_str(" ")?;
+    line.push_str(name)?;
+    Ok(())
+}
+
+/// Appends that the check of the object with this full name was given up.
+fn push_freed(line: &mut String, next: u64, name: &str) -> Result<(), AllocError>
+    ensures { OnOk result
+        (string_bytes line.new ≡ string_bytes line.old ++ freed_text next name.now) }
+{
+    line.push_str("freed ")?;
+    push_number(line, next)?;
+    line.push_str(" ")?;
+    line.push_str(name)
+}
+
+/// Appends that what was asked for the object with this full name was done.
+fn push_done(line: &mut String, name: &str) -> Result<(), AllocError>
+    ensures { OnOk result (string_bytes line.new ≡ string_bytes line.old ++ done_text name.now) }
+{
+    line.push_str("done ")?;
+    line.push_str(name)
+}
+
+/// Appends a refusal for this reason.
+fn push_refused(line: &mut String, reason: &str) -> Result<(), AllocError>
+    ensures { OnOk result
+        (string_bytes line.new ≡ string_bytes line.old ++ refused_text reason.now) }
+{
+    line.push_str("refused ")?;
+    line.push_str(reason)
+}
+
+/// Appends a number in decimal.
+fn push_number(line: &mut String, number: u64) -> Result<(), AllocError>
+    ensures { OnOk result (string_bytes line.new ≡ string_bytes line.old ++ decimal number) }
+{
+    let mut buffer = Buffer::new();
+    line.push_str(buffer.format(number))
+}
+
+/// Appends a time in milliseconds, or `none`.
+fn push_time(line: &mut String, time: Option<u64>) -> Result<(), AllocError>
+    ensures { OnOk result (string_bytes line.new ≡ string_bytes line.old ++ time_text time) }
+{
+    match time {
+        Some(time) => push_number(line, time),
+        None => line.push_str("none"),
     }
 }
 
@@ -135,28 +202,27 @@ fn state_text(standing: Standing) -> &'static str
     }
 }
 
-/// The kind of a state.
-fn kind_text(kind: Kind) -> &'static str
-    ensures { result.now ≡ kind_text kind }
+/// The kind of a state, between spaces.
+fn kind_between_spaces(kind: Kind) -> &'static str
+    ensures { result.now ≡ codes " " ++ (kind_text kind ++ codes " ") }
 {
     match kind {
-        Kind::Soft => "SOFT",
-        Kind::Hard => "HARD",
+        Kind::Soft => " SOFT ",
+        Kind::Hard => " HARD ",
     }
 }
 
-/// Whether a state differs from the one before.
-fn changed_text(changed: bool) -> &'static str
-    ensures { result.now ≡ changed_text changed }
+/// Whether a state differs from the one before, and whether the object is flapping, between spaces.
+fn marks_between_spaces(changed: bool, flapping: bool) -> &'static str
+    ensures { result.now ≡ codes " " ++ (changed_text changed
+        ++ (codes " " ++ (flapping_text flapping ++ codes " "))) }
 {
-    if changed { "yes" } else { "no" }
-}
-
-/// Whether an object's states come and go.
-fn flapping_text(flapping: bool) -> &'static str
-    ensures { result.now ≡ flapping_text flapping }
-{
-    if flapping { "FLAPPING" } else { "STEADY" }
+    match (changed, flapping) {
+        (true, true) => " yes FLAPPING ",
+        (true, false) => " yes STEADY ",
+        (false, true) => " no FLAPPING ",
+        (false, false) => " no STEADY ",
+    }
 }
 
 /// Appends the line of an entry of a history, with its line feed: the number of the pass that made
@@ -170,7 +236,8 @@ pub fn push_entry(
         (string_bytes line.new ≡ string_bytes line.old ++ entry_line setup.now entry.now) }
 {
     let Entry { pass, call, reply } = *entry;
-    write!(line, "{pass} ")?;
+    push_number(line, pass as u64)?;
+    line.push_str(" ")?;
     push_reply(line, setup, call, reply)
 }
 
@@ -212,24 +279,6 @@ impl fmt::Display for RefusalText {
                 let reason = fault_text(fault);
                 write!(f, "{reason} {line}")
             }
-        }
-    }
-}
-
-/// A time in milliseconds, or `none`.
-#[derive(Clone, Copy)]
-struct TimeText(Option<u64>);
-
-impl fmt::Display for TimeText {
-    ghost use Rattle.std.specs.Prelude.{Some};
-    ghost use Rattle.check_text.specs.Text.{time_text};
-
-    ghost output = { λ t. Some (time_text t.0) };
-
-    fn fmt<W: fmt::Write>(&self, f: &mut fmt::Formatter<W>) -> fmt::Result {
-        match self.0 {
-            Some(time) => write!(f, "{time}"),
-            None => f.write_str("none"),
         }
     }
 }
