@@ -1,6 +1,6 @@
 -- Laws of refusals: what is true of every refusal, and of the answer where nothing is refused, is true
 -- of the step.
-use Rattle.std.proofs.Common.{◌≡◌, ℕ, ◌<◌, ◌≤◌, ◌^◌, Bool, true, false, ◌==◌, cond, Option, Some, None, Result, Ok, Err, length, refl, ap, arith}
+use Rattle.std.proofs.Common.{◌≡◌, ℕ, ◌<◌, ◌≤◌, ◌^◌, Bool, true, false, ◌==◌, cond, Option, Some, None, Result, Ok, Err, refl, ap, arith}
 use Rattle.std.specs.Prelude.{nat_lt, ok_or, slice_get}
 use Rattle.std.proofs.lemmas.Bool.Decides.{nat_tests}
 use Rattle.check_sched.specs.Scheduling.{Scheduling, OpenRun, run_under}
@@ -8,8 +8,7 @@ use Rattle.check_sched.specs.declared.call.Reply.{Reply}
 use Rattle.check_sched.specs.declared.call.Reply.TheVariants as reply
 use Rattle.check_sched.specs.declared.call.Refusal.{Refusal}
 use Rattle.check_sched.specs.declared.call.Refusal.TheVariants as refusal
-use Rattle.check_objects.specs.Configuration.{object_count}
-use Rattle.check_sched.specs.State.{State, IsState}
+use Rattle.check_sched.specs.State.{State}
 use Rattle.check_sched.specs.Step.{◌>>=◌, known, run_left, settled, within_range}
 
 -- one test after another
@@ -17,13 +16,6 @@ pub by_test : {A : Type 0} (P : State × Reply → Type 0) (s : State) (test : R
     → ((why : Refusal) → P (s, reply.Refused why)) → ((x : A) → test ≡ Ok x → P (settled s (more x))) → P (settled s (test >>= more))
 by_test P s (Ok x) more refused passed = passed x refl
 by_test P s (Err why) more refused passed = refused why
-
--- an object of the setup is there, by what is seen of a scheduler
-pub there_by : (n : ℕ) (s seen : State) → IsState s → s ≡ seen → n < object_count seen.setup → n < length s.objects
-there_by n s seen is_state same h =
-    let count = ap (λ (t : State). object_count t.setup) same in
-    let each = is_state.one_each in
-    omega (arith, each, h, count)
 
 -- ---- what a passed test tells
 

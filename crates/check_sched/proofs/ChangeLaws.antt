@@ -1,5 +1,5 @@
 -- Laws of what is done to one object.
-use Rattle.std.proofs.Common.{◌≡◌, Bool, true, Some, refl}
+use Rattle.std.proofs.Common.{◌≡◌, true, Some, refl}
 use Rattle.std.proofs.lemmas.Bool.{and_parts, and_from}
 use Rattle.check_sched.specs.declared.object_state.Change.{Change}
 use Rattle.check_sched.specs.declared.object_state.Change.TheVariants as change

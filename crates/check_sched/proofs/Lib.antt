@@ -2,12 +2,14 @@ pub mod BookLemmas
 pub mod AnswerLaws
 pub mod CandidateLaws
 pub mod EligibleLaws
+pub mod FlappingLaws
 pub mod LimitLaws
 pub mod OpeningLaws
 pub mod OperatorLaws
 pub mod PendingLaws
 pub mod ReplyLaws
 pub mod ReportLaws
+pub mod ResultsLaws
 pub mod RosterLaws
 pub mod RunLaws
 pub mod StepLaws

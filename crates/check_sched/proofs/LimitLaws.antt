@@ -36,13 +36,15 @@ busy_more n f [] = omega arith
 busy_more zero f (o ∷ os) = let here = one_at_most (is_some (f o).run) in omega (arith, here, busy_cons (f o) os, busy_cons o os)
 busy_more (suc n) f (o ∷ os) = let more = busy_more n f os in omega (arith, more, busy_cons o (update_at n f os), busy_cons o os)
 
-services_kept : (hosts n : ℕ) (f : Scheduling → Scheduling) (os : List Scheduling) → BeginsNone f → running_among (drop hosts (update_at n f os)) ≤ running_among (drop hosts os)
+services_kept : (hosts n : ℕ) (f : Scheduling → Scheduling) (os : List Scheduling) → BeginsNone f
+    → running_among (drop hosts (update_at n f os)) ≤ running_among (drop hosts os)
 services_kept zero n f os h = busy_kept n f os h
 services_kept (suc hosts) n f [] h = omega arith
 services_kept (suc hosts) zero f (o ∷ os) h = omega arith
 services_kept (suc hosts) (suc n) f (o ∷ os) h = services_kept hosts n f os h
 
-services_more : (hosts n : ℕ) (f : Scheduling → Scheduling) (os : List Scheduling) → running_among (drop hosts (update_at n f os)) ≤ running_among (drop hosts os) + 1
+services_more : (hosts n : ℕ) (f : Scheduling → Scheduling) (os : List Scheduling)
+    → running_among (drop hosts (update_at n f os)) ≤ running_among (drop hosts os) + 1
 services_more zero n f os = busy_more n f os
 services_more (suc hosts) n f [] = omega arith
 services_more (suc hosts) zero f (o ∷ os) = omega arith

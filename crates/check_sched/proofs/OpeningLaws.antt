@@ -4,7 +4,7 @@ use Rattle.std.proofs.Common.{option_map, refl, sym, ap, subst, ◌∙◌, arith
 use Rattle.std.specs.Prelude.{slice_get, zip, All}
 use Rattle.std.specs.List.{list_all, enumerate_from}
 use Rattle.std.proofs.lemmas.Bool.Decides.{nat_tests}
-use Rattle.std.proofs.lemmas.List.{length-append, length-map, take_more}
+use Rattle.std.proofs.lemmas.List.{length-append, length-map, length-replicate, take_more}
 use Rattle.check_sched.specs.Roster.{running_among}
 use Rattle.std.proofs.lemmas.List.FromFn.{length-enumerate_from}
 use Rattle.std.proofs.lemmas.Slice.Zip.{length-zip}
@@ -12,12 +12,13 @@ use Rattle.std.proofs.lemmas.Bool.{and_from}
 use Rattle.check_drafts.specs.declared.object.Object.{Object}
 use Rattle.check_objects.specs.Configuration.{Configuration, Named, objects_of, object_count, host_count, IsSetup}
 use Rattle.check_rules.specs.declared.standing.Standing.{Standing}
+use Rattle.check_rules.specs.declared.state.State as rules
 use Rattle.check_rules.specs.Standing.{pending_standing}
 use Rattle.check_rules.proofs.VerdictLaws.{pending_is_lawful, pending_sort}
 use Rattle.check_sched.specs.Scheduling.{Scheduling, opening_object}
 use Rattle.check_spread.specs.Spread.{initial_times}
 use Rattle.check_sched.specs.State.{State, IsState, IsStandingOf, IsWithinLimit, is_host, is_in_time, is_time, objects_at, opening, opening_objects}
-use Rattle.check_sched.specs.State.{opening_standings}
+use Rattle.check_sched.specs.State.{opening_results, opening_standings}
 use Rattle.check_sched.proofs.LimitLaws.{services_none}
 use Rattle.check_sched.proofs.ReportLaws.{some_attempts}
 
@@ -82,6 +83,7 @@ opening_is_state setup start valid count within = record {
   valid_setup = valid;
   one_each = length-objects_at setup (initial_times setup start) count;
   one_standing_each = length-opening_standings setup;
+  results_each = length-replicate (object_count setup) [];
   runs = omega arith;
   times = times_in_time (initial_times setup start) (objects_of setup) within;
   limit = opening_limit setup start;
@@ -90,12 +92,14 @@ opening_is_state setup start valid count within = record {
 
 -- the same of what the code opens with, by the times that it was given
 pub opened_is_state : (setup : Configuration) (start : ℕ) (times seen : List (Option ℕ)) (objects : List Scheduling) (standings : List Standing)
+    (results : List (List rules.State))
     → IsSetup setup → times ≡ initial_times setup start → length times ≡ object_count setup → All (λ first. IfSome first (λ time. time < 2 ^ 61)) times
-    → seen ≡ times → objects ≡ objects_at setup seen → standings ≡ opening_standings setup
-    → let s : State = record { setup = setup; start = start; objects = objects; standings = standings; runs = 0 } in IsState s
-opened_is_state setup start times seen objects standings valid made count within e o t =
+    → seen ≡ times → objects ≡ objects_at setup seen → standings ≡ opening_standings setup → results ≡ opening_results setup
+    → let s : State =
+    record { setup = setup; start = start; objects = objects; standings = standings; results = results; runs = 0 } in IsState s
+opened_is_state setup start times seen objects standings results valid made count within e o t r =
     let at : objects ≡ opening_objects setup start = o ∙ ap (objects_at setup) (e ∙ made) in
-    rw (at, t) (opening_is_state setup start valid (ap length (sym made) ∙ count) (subst (All (λ first. IfSome first (λ time. time < 2 ^ 61))) made within))
+    rw (at, t, r) (opening_is_state setup start valid (ap length (sym made) ∙ count) (subst (All (λ first. IfSome first (λ time. time < 2 ^ 61))) made within))
 
 -- ---- the roster that the code opens with
 

@@ -1,19 +1,16 @@
 -- Laws of the operators' calls: Abandon, Reschedule, Enable and Status.
-use Rattle.std.proofs.Common.{◌≡◌, ℕ, ◌<◌, ◌≤◌, ◌^◌, Bool, true, false, Option, Some, None, Ok, length, set, refl, ◌∙◌, arith}
-use Rattle.std.specs.Prelude.{slice_get, unwrap_or}
-use Rattle.std.proofs.lemmas.Bool.Decides.{nat_tests}
-use Rattle.std.proofs.lemmas.Bool.{and_parts, and_from}
+use Rattle.std.proofs.Common.{◌≡◌, ℕ, ◌<◌, ◌≤◌, ◌^◌, Bool, true, false, Some, Ok, length, refl, ◌∙◌}
+use Rattle.std.specs.Prelude.{slice_get}
 use Rattle.check_sched.specs.Scheduling.{Scheduling, OpenRun, ended, enabled_as, freed_time, rescheduled, run_under}
 use Rattle.check_sched.specs.declared.call.Call.TheVariants as call
 use Rattle.check_sched.specs.declared.call.Reply.{Reply}
 use Rattle.check_sched.specs.declared.call.Reply.TheVariants as reply
 use Rattle.check_sched.specs.declared.call.Refusal.{Refusal}
-use Rattle.check_sched.specs.State.{State, IsState, is_in_time, is_moment, is_time, standing_at}
+use Rattle.check_sched.specs.State.{State, IsState, is_in_time, standing_at}
 use Rattle.check_sched.specs.Step.{known, step, with_object, within_range}
 use Rattle.check_sched.proofs.AnswerLaws.{by_test, known_is, range_is}
 use Rattle.check_sched.proofs.LimitLaws.{BeginsNone, limit_kept}
-use Rattle.check_sched.proofs.ReportLaws.{next_of_state}
-use Rattle.check_sched.proofs.UpdateLaws.{length-update_at, all-update_at, set_is_update_of}
+use Rattle.check_sched.proofs.UpdateLaws.{length-update_at, all-update_at}
 use Rattle.std.proofs.lemmas.Option.{slice_get_within}
 
 -- ---- each call, by its answers
@@ -58,39 +55,14 @@ with_object_is_state n f s is_state h none = record {
   valid_setup = is_state.valid_setup;
   one_each = length-update_at n f s.objects ∙ is_state.one_each;
   one_standing_each = is_state.one_standing_each;
+  results_each = is_state.results_each;
   runs = is_state.runs;
   times = all-update_at is_in_time n f s.objects is_state.times h;
   limit = limit_kept n f s none is_state.limit;
   standings = is_state.standings;
 }
 
-moment_is_time : (time : ℕ) → time ≤ 2 ^ 60 → is_time (Some time) ≡ true
-moment_is_time time h = grind (arith, nat_tests, h)
-
-freed_by : (now : ℕ) (next : Option ℕ) → now ≤ 2 ^ 60 → is_time next ≡ true → is_time (Some (unwrap_or next now)) ≡ true
-freed_by now None m e = moment_is_time now m
-freed_by now (Some time) m e = e
-
--- the time of the check after a run that was given up is at most 2^61
-pub freed_in_time : (now n : ℕ) (o : Scheduling) (s : State) → IsState s → slice_get s.objects n ≡ Some o → now ≤ 2 ^ 60
-    → is_time (Some (freed_time now o)) ≡ true
-freed_in_time now n o s is_state e m = freed_by now o.next m (next_of_state s n o is_state e)
-
-pub ended_in_time : (next : Option ℕ) (o : Scheduling) → is_time next ≡ true → is_in_time (ended next o) ≡ true
-ended_in_time next o e = and_from (is_time next) true e refl
-
-pub rescheduled_in_time : (time : ℕ) (forced : Bool) (o : Scheduling) → time ≤ 2 ^ 60 → is_in_time o ≡ true → is_in_time (rescheduled time forced o) ≡ true
-rescheduled_in_time time forced o m e =
-    and_from (is_time (Some time)) (is_moment o.run) (moment_is_time time m) (and_parts (is_time o.next) (is_moment o.run) e).1
-
 -- ---- what the code leaves and answers
-
--- the state that a write to one object leaves
-pub written : (n : ℕ) (f : Scheduling → Scheduling) (s : State) (o new : Scheduling) → slice_get s.objects n ≡ Some o → new ≡ f o
-    → let left : State =
-    record { setup = s.setup; start = s.start; objects = set s.objects n new; standings = s.standings; runs = s.runs } in left ≡ with_object n f s
-written n f s o new e g i =
-    record { setup = s.setup; start = s.start; objects = set_is_update_of n f s.objects o new e g i; standings = s.standings; runs = s.runs }
 
 -- an object that was found is one of the objects
 pub known_within : (n : ℕ) (s : State) (o : Scheduling) → known n s ≡ Ok o → n < length s.objects
@@ -100,11 +72,3 @@ pub abandon_answers : (n run now : ℕ) (s : State) (o : Scheduling) (u : Unit {
     → run_under run o.run ≡ Ok r
     → step s (call.Abandon n run now) ≡ (with_object n (ended (Some (freed_time now o))) s, reply.Freed (freed_time now o))
 abandon_answers n run now s o u r e f g = rw (e, f, g) refl
-
-pub reschedule_answers : (n time : ℕ) (forced : Bool) (s : State) (o : Scheduling) (u : Unit {0}) → known n s ≡ Ok o → within_range time ≡ Ok u
-    → step s (call.Reschedule n time forced) ≡ (with_object n (rescheduled time forced) s, reply.Done)
-reschedule_answers n time forced s o u e f = rw (e, f) refl
-
-pub enable_answers : (n : ℕ) (on : Bool) (s : State) (o : Scheduling) → known n s ≡ Ok o
-    → step s (call.Enable n on) ≡ (with_object n (enabled_as on) s, reply.Done)
-enable_answers n on s o e = rw e refl

@@ -1,15 +1,13 @@
 -- An object that was never checked stands as pending, whatever calls are made.
-use Rattle.std.proofs.Common.{◌≡◌, ℕ, ◌+◌, true, List, [], ◌∷◌, Option, Some, None, refl, sym, ap, subst, ◌∙◌, arith}
+use Rattle.std.proofs.Common.{◌≡◌, ℕ, ◌+◌, List, [], ◌∷◌, Some, sym, ap, subst, ◌∙◌, arith}
 use Rattle.std.specs.Prelude.{slice_get}
-use Rattle.check_objects.specs.Configuration.{Configuration, host_of, objects_of}
-use Rattle.check_rules.specs.declared.state.Code.{Code}
+use Rattle.check_objects.specs.Configuration.{Configuration, objects_of}
 use Rattle.check_rules.specs.declared.standing.Standing.{Standing}
 use Rattle.check_rules.specs.Standing.{pending_standing}
 use Rattle.check_sched.specs.declared.call.Call.{Call}
 use Rattle.check_sched.specs.declared.call.Call.TheVariants as call
 use Rattle.check_sched.specs.State.{State, IsPendingUntilChecked, is_host, opening}
-use Rattle.check_sched.specs.Report.{judged, judged_by}
-use Rattle.check_sched.specs.Step.{after, step}
+use Rattle.check_sched.specs.Step.{after, found_in, judged_in, step}
 use Rattle.check_sched.proofs.OpeningLaws.{pending_at}
 use Rattle.check_sched.proofs.OperatorLaws.{abandon_cases, enable_cases, reschedule_cases, status_cases}
 use Rattle.check_sched.proofs.ReportLaws.{report_cases}
@@ -21,22 +19,12 @@ use Rattle.check_sched.proofs.UpdateLaws.{each-update_at}
 abbrev pub ArePending : State → Type 0
 ArePending s = (n : ℕ) (t : Standing) → slice_get s.standings n ≡ Some t → IsPendingUntilChecked s.setup n t
 
-judged_is_checked_by : (setup : Configuration) (standings : List Standing) (n : ℕ) (c : Code) (host : Option ℕ)
-    → (judged_by host setup standings n c).checked ≡ true
-judged_is_checked_by setup standings n c None = refl
-judged_is_checked_by setup standings n c (Some host) = refl
-
--- what a result makes of an object was checked
-judged_is_checked : (setup : Configuration) (standings : List Standing) (n : ℕ) (c : Code) → (judged setup standings n c).checked ≡ true
-judged_is_checked setup standings n c = judged_is_checked_by setup standings n c (host_of setup n)
-
 -- no call makes another standing of one that was never checked
 step_pending : (s : State) (c : Call) → ArePending s → ArePending (step s c).0
 step_pending s (call.Take now) was = take_cases (λ a. ArePending a.0) now s (λ why. was) (λ c m e. was) (λ c m r e. was) (λ e. was)
 step_pending s (call.Report n run c) was =
     report_cases (λ a. ArePending a.0) n run c s (λ why. was)
-    (λ o r e f. each-update_at (IsPendingUntilChecked s.setup) n (judged s.setup s.standings n c) s.standings was
-    (λ never. let made = judged_is_checked s.setup s.standings n c in cc))
+    (λ o r e f. each-update_at (IsPendingUntilChecked s.setup) n (judged_in s n (found_in s n c)) s.standings was (λ never. cc))
 step_pending s (call.Abandon n run now) was = abandon_cases (λ a. ArePending a.0) n run now s (λ why. was) (λ o e m. was)
 step_pending s (call.Reschedule n time forced) was = reschedule_cases (λ a. ArePending a.0) n time forced s (λ why. was) (λ m. was)
 step_pending s (call.Enable n on) was = enable_cases (λ a. ArePending a.0) n on s (λ why. was) was

@@ -1,26 +1,19 @@
 -- Laws of reports: the standing and the next time that a result gives are within their limits.
-use Rattle.std.proofs.Common.{◌≡◌, ℕ, zero, suc, ◌+◌, ◌-◌, ◌*◌, ◌<◌, ◌≤◌, ◌^◌, Bool, true, false, not, ◌==◌, cond, List, [], ◌∷◌, length, get_or, Option}
+use Rattle.std.proofs.Common.{◌≡◌, ℕ, ◌<◌, ◌≤◌, ◌^◌, Bool, true, false, cond, List, length, get_or, Option}
 use Rattle.std.proofs.Common.{Some, None, Ok, option_map, refl, sym, ap, subst, ◌∙◌, arith, IfSome}
-use Rattle.std.specs.Prelude.{nat_lt, option_and_then, slice_get, unwrap_or}
+use Rattle.std.specs.Prelude.{slice_get, unwrap_or}
 use Rattle.std.specs.Option.{option_map_or}
-use Rattle.std.proofs.Math.Nat.{mul-le-mul_left}
 use Rattle.std.proofs.lemmas.Bool.Decides.{nat_tests}
-use Rattle.std.proofs.lemmas.List.{length-map, length-append}
-use Rattle.std.proofs.lemmas.Option.{slice_get-get_or, slice_get_within, slice_get_read}
+use Rattle.std.proofs.lemmas.Option.{slice_get-get_or, slice_get_read}
 use Rattle.std.proofs.lemmas.Bool.{and_parts, and_from}
 use Rattle.check_drafts.specs.declared.object.Object.{Object}
-use Rattle.check_objects.specs.Configuration.{Configuration, Named, Service, objects_of, object_count, host_count, host_of, IsSetup, is_object_in_range}
+use Rattle.check_objects.specs.Configuration.{Configuration, Named, objects_of, object_count, host_of, IsSetup, is_object_in_range}
 use Rattle.check_rules.specs.declared.state.Code.{Code}
-use Rattle.check_rules.specs.declared.state.Code.TheVariants as code
 use Rattle.check_rules.specs.declared.state.State as rules
-use Rattle.check_rules.specs.declared.state.State.TheVariants as state
 use Rattle.check_rules.specs.declared.standing.Standing.{Standing}
-use Rattle.check_rules.specs.State.{is_host_state, service_state_of}
-use Rattle.check_rules.specs.Standing.{is_down, is_soft_problem}
-use Rattle.check_rules.specs.Reachability.{host_state_of, is_problem_of_host, is_cut_off}
-use Rattle.check_rules.specs.Verdict.{verdict_on}
+use Rattle.check_rules.specs.State.{is_host_state}
+use Rattle.check_rules.specs.Standing.{is_soft_problem}
 use Rattle.check_rules.proofs.VerdictLaws.{verdict_is_lawful}
-use Rattle.check_objects.specs.Configuration.{parents_of}
 use Rattle.check_rules.specs.Standing.{pending_standing}
 use Rattle.check_sched.specs.Scheduling.{Scheduling, OpenRun, ended, run_under}
 use Rattle.check_sched.specs.declared.call.Reply.{Reply}
@@ -28,40 +21,13 @@ use Rattle.check_sched.specs.declared.call.Reply.TheVariants as reply
 use Rattle.check_sched.specs.declared.call.Refusal.{Refusal}
 use Rattle.check_sched.specs.declared.call.Call.TheVariants as call
 use Rattle.check_sched.specs.State.{State, IsState, IsStandingOf, is_host, is_time, is_moment, is_in_time, max_attempts_of, standing_at}
-use Rattle.check_sched.specs.Step.{known, report_taken, reported, standing_reply, step}
+use Rattle.check_sched.specs.Step.{found_in, judged_in, known, report_taken, reported, standing_reply, step}
 use Rattle.check_sched.proofs.AnswerLaws.{by_test, known_is, under_is}
 use Rattle.check_sched.proofs.LimitLaws.{limit_kept}
 use Rattle.check_sched.proofs.UpdateLaws.{length-update_at, all-update_at, each-update_at, all_at_place, none_there}
-use Rattle.check_sched.specs.Report.{interval_after, judged, judged_by, milliseconds, next_after, put_off_until, time_after}
+use Rattle.check_sched.specs.Report.{interval_after, is_host_up, judged, next_after}
 
--- ---- hosts and services
-
-none_past : (services : List Service) (i : ℕ) → option_map (λ s. s.host) (slice_get services i) ≡ None → length services ≤ i
-none_past [] i e = omega arith
-none_past (s ∷ services) zero e = cc
-none_past (s ∷ services) (suc i) e = let more = none_past services i e in omega (arith, more)
-
-no_host_by : (setup : Configuration) (n : ℕ) (b : Bool) → nat_lt n (host_count setup) ≡ b → n < object_count setup
-    → cond b None (option_map (λ s. s.host) (slice_get setup.services (n - host_count setup))) ≡ None → b ≡ true
-no_host_by setup n true e h f = refl
-no_host_by setup n false e h f =
-    let past = none_past setup.services (n - host_count setup) f in
-    let least : host_count setup ≤ n = grind (arith, nat_tests, e) in
-    let count : object_count setup ≡ host_count setup + length setup.services = simp (length-append, length-map) refl in
-    absurd (omega (arith, past, least, count, h))
-
--- an object of the setup without a host is a host
-pub is_host-none : (setup : Configuration) (n : ℕ) → n < object_count setup → host_of setup n ≡ None → is_host setup n ≡ true
-is_host-none setup n h e = no_host_by setup n (nat_lt n (host_count setup)) refl h e
-
-host_by : (setup : Configuration) (n host : ℕ) (b : Bool)
-    → cond b None (option_map (λ s. s.host) (slice_get setup.services (n - host_count setup))) ≡ Some host → b ≡ false
-host_by setup n host true e = cc
-host_by setup n host false e = refl
-
--- an object with a host is a service
-pub is_host-some : (setup : Configuration) (n host : ℕ) → host_of setup n ≡ Some host → is_host setup n ≡ false
-is_host-some setup n host e = host_by setup n host (nat_lt n (host_count setup)) e
+-- ---- the limits of an object
 
 -- the limits of an object's numbers
 pub object_in_range : (setup : Configuration) (n : ℕ) (o : Named) → IsSetup setup → slice_get (objects_of setup) n ≡ Some o → is_object_in_range o.object ≡ true
@@ -87,50 +53,19 @@ max_attempts_at (Some x) o e = let same : x.object ≡ o = cc in ap (λ y. y.max
 
 -- ---- the standing
 
-host_sort_by : (a b : Bool) → is_host_state (cond a (cond b state.Unreachable state.Down) state.Up) ≡ true
-host_sort_by true true = refl
-host_sort_by true false = refl
-host_sort_by false b = refl
-
--- the state of a host is one of hosts
-pub host_sort : (setup : Configuration) (standings : List Standing) (n : ℕ) (c : Code) → is_host_state (host_state_of setup standings n c) ≡ true
-host_sort setup standings n c = host_sort_by (is_problem_of_host setup.options.use_aggressive_host_checking c) (is_cut_off standings (parents_of setup n))
-
--- the state of a service is one of services
-pub service_sort : (c : Code) → is_host_state (service_state_of c) ≡ false
-service_sort code.Ok = refl
-service_sort code.Warning = refl
-service_sort code.Critical = refl
-service_sort code.Unknown = refl
-
-judged_is_standing_by : (setup : Configuration) (standings : List Standing) (n : ℕ) (c : Code) (host : Option ℕ) → IsSetup setup
-    → n < object_count setup → host_of setup n ≡ host → IsStandingOf setup n (standing_at standings n)
-    → IsStandingOf setup n (judged_by host setup standings n c)
-judged_is_standing_by setup standings n c None h l e b = record {
-  lawful = verdict_is_lawful (standing_at standings n) (host_state_of setup standings n c) (max_attempts_of setup n) true (some_attempts setup n h) b.lawful;
-  sort = host_sort setup standings n c ∙ sym (is_host-none setup n l e);
-  until_checked = λ never. cc;
-}
-judged_is_standing_by setup standings n c (Some host) h l e b = record {
-  lawful =
-      verdict_is_lawful (standing_at standings n) (service_state_of c) (max_attempts_of setup n) (not (is_down (standing_at standings host)))
-      (some_attempts setup n h) b.lawful;
-  sort = service_sort c ∙ sym (is_host-some setup n host e);
-  until_checked = λ never. cc;
-}
-
 -- an object can have the standing that a result gives it
-pub judged_is_standing : (setup : Configuration) (standings : List Standing) (n : ℕ) (c : Code) → IsSetup setup → n < object_count setup
-    → IsStandingOf setup n (standing_at standings n) → IsStandingOf setup n (judged setup standings n c)
-judged_is_standing setup standings n c h l b = judged_is_standing_by setup standings n c (host_of setup n) h l refl b
+pub judged_is_standing : (setup : Configuration) (standings : List Standing) (n : ℕ) (found : rules.State) (flapping : Bool) → IsSetup setup
+    → is_host_state found ≡ is_host setup n → IsStandingOf setup n (standing_at standings n)
+    → IsStandingOf setup n (judged setup standings n found flapping)
+judged_is_standing setup standings n found flapping h sort b = record {
+  lawful =
+      verdict_is_lawful (standing_at standings n) found (max_attempts_of setup n) (is_host_up (host_of setup n) standings) flapping
+      (some_attempts setup n h) b.lawful;
+  sort = sort;
+  until_checked = λ never. cc;
+}
 
 -- ---- the next time
-
--- an interval within its limit is at most 45,411,840,000,000 milliseconds
-pub milliseconds_bound : (interval unit : ℕ) → interval ≤ 525600 → unit ≤ 86400 → interval * unit * 1000 ≤ 45411840000000
-milliseconds_bound interval unit a b =
-    let first : interval * unit ≤ interval * 86400 = mul-le-mul_left interval b in
-    omega (arith, first, a)
 
 pub check_in_range : (o : Object) → is_object_in_range o ≡ true → o.check_interval ≤ 525600
 check_in_range o e = grind (arith, nat_tests, e)
@@ -157,37 +92,6 @@ time_by : (none : Bool) (time : ℕ) → time ≤ 2 ^ 61 → is_time (cond none 
 time_by true time h = refl
 time_by false time h = grind (arith, nat_tests, h)
 
-interval_next_by : (setup : Configuration) (n : ℕ) (standing : Standing) (start : ℕ) (found : Option Named) → IsSetup setup → start ≤ 2 ^ 60
-    → slice_get (objects_of setup) n ≡ found
-    → is_time (option_and_then (λ o. time_after setup start (interval_after o.object standing)) found) ≡ true
-interval_next_by setup n standing start None h l e = refl
-interval_next_by setup n standing start (Some o) h l e =
-    let bound = milliseconds_bound (interval_after o.object standing) setup.options.interval_length
-    (interval_bound o.object standing (object_in_range setup n o h e)) h.interval_length in
-    time_by (interval_after o.object standing == 0) (start + milliseconds setup (interval_after o.object standing)) (omega (arith, bound, l))
-
-next_by : (setup : Configuration) (n : ℕ) (standing : Standing) (start : ℕ) (already : Option ℕ) → IsSetup setup → start ≤ 2 ^ 60
-    → is_time already ≡ true → is_time (next_after setup n standing start already) ≡ true
-next_by setup n standing start None h l t = interval_next_by setup n standing start (slice_get (objects_of setup) n) h l refl
-next_by setup n standing start (Some time) h l t = t
-
--- the next time after a report is at most 2^61
-pub next_in_time : (setup : Configuration) (n : ℕ) (standing : Standing) (start : ℕ) (already : Option ℕ) → IsSetup setup → start ≤ 2 ^ 60
-    → is_time already ≡ true → is_time (next_after setup n standing start already) ≡ true
-next_in_time setup n standing start already h l t = next_by setup n standing start already h l t
-
-put_off_by : (setup : Configuration) (n now : ℕ) (found : Option Named) → IsSetup setup → now ≤ 2 ^ 60 → slice_get (objects_of setup) n ≡ found
-    → is_time (option_and_then (λ o. time_after setup now o.object.check_interval) found) ≡ true
-put_off_by setup n now None h l e = refl
-put_off_by setup n now (Some o) h l e =
-    let in_range : o.object.check_interval ≤ 525600 = check_in_range o.object (object_in_range setup n o h e) in
-    let bound = milliseconds_bound o.object.check_interval setup.options.interval_length in_range h.interval_length in
-    time_by (o.object.check_interval == 0) (now + milliseconds setup o.object.check_interval) (omega (arith, bound, l))
-
--- the time to which an object is put off is at most 2^61
-pub put_off_in_time : (setup : Configuration) (n now : ℕ) → IsSetup setup → now ≤ 2 ^ 60 → is_time (put_off_until setup n now) ≡ true
-put_off_in_time setup n now h l = put_off_by setup n now (slice_get (objects_of setup) n) h l refl
-
 -- ---- the state
 
 standing_by : (s : State) (n : ℕ) (found : Option Standing) → IsState s → n < object_count s.setup → slice_get s.standings n ≡ found
@@ -211,30 +115,18 @@ pub next_of_state : (s : State) (n : ℕ) (o : Scheduling) → IsState s → sli
 next_of_state s n o is_state e = (and_parts (is_time o.next) (is_moment o.run) (all_at_place is_in_time s.objects n o is_state.times e)).0
 
 -- a report leaves the state one that a scheduler can be in
-pub reported_is_state : (n : ℕ) (standing : Standing) (next : Option ℕ) (s : State) → IsState s → is_time next ≡ true
-    → IsStandingOf s.setup n standing → IsState (reported n standing next s)
-reported_is_state n standing next s is_state t new = record {
+pub reported_is_state : (n : ℕ) (found : rules.State) (standing : Standing) (next : Option ℕ) (s : State) → IsState s → is_time next ≡ true
+    → IsStandingOf s.setup n standing → IsState (reported n found standing next s)
+reported_is_state n found standing next s is_state t new = record {
   valid_setup = is_state.valid_setup;
   one_each = length-update_at n _ s.objects ∙ is_state.one_each;
   one_standing_each = length-update_at n _ s.standings ∙ is_state.one_standing_each;
+  results_each = length-update_at n _ s.results ∙ is_state.results_each;
   runs = is_state.runs;
   times = all-update_at is_in_time n (ended next) s.objects is_state.times (λ o e. and_from (is_time next) true t refl);
   limit = limit_kept n (ended next) s (λ o e. cc) is_state.limit;
   standings = each-update_at (IsStandingOf s.setup) n standing s.standings is_state.standings new;
 }
-
--- what a report makes of the standing and the next time is within the limits
-pub report_standing : (n : ℕ) (c : Code) (o : Scheduling) (s : State) → IsState s → slice_get s.objects n ≡ Some o
-    → IsStandingOf s.setup n (judged s.setup s.standings n c)
-report_standing n c o s is_state e =
-    let within : n < object_count s.setup = let l = slice_get_within s.objects n o e in omega (arith, l, is_state.one_each) in
-    judged_is_standing s.setup s.standings n c is_state.valid_setup within (standing_of_state s n is_state within)
-
-pub report_next : (n : ℕ) (c : Code) (o : Scheduling) (r : OpenRun) (s : State) → IsState s → slice_get s.objects n ≡ Some o → o.run ≡ Some r
-    → is_time (next_after s.setup n (judged s.setup s.standings n c) r.start o.next) ≡ true
-report_next n c o r s is_state e f =
-    next_in_time s.setup n (judged s.setup s.standings n c) r.start o.next is_state.valid_setup (start_of_state s n o r is_state e f)
-    (next_of_state s n o is_state e)
 
 -- a time that passes the test is at most 2^61
 pub is_time_reads : (next : Option ℕ) → is_time next ≡ true → IfSome next (λ time. time ≤ 2 ^ 61)
@@ -253,18 +145,19 @@ report_cases P n run c s refused take =
     (λ o e. by_test P s (run_under run o.run) _ refused
     (λ r f. take o r (known_is n s o e) (under_is run o.run r f)))
 
--- what a Report answers, by the standing and the next time that it makes
-pub report_answers : (n run : ℕ) (c : Code) (s : State) (o : Scheduling) (r : OpenRun) (standing : Standing) (next : Option ℕ) → known n s ≡ Ok o
-    → run_under run o.run ≡ Ok r
-    → standing ≡ judged s.setup s.standings n c → next ≡ next_after s.setup n standing r.start o.next
-    → step s (call.Report n run c) ≡ (reported n standing next s, standing_reply n standing next s)
-report_answers n run c s o r standing next e f j k =
+-- what a Report answers, by the state that it finds, and by the standing and the next time that it makes
+pub report_answers : (n run : ℕ) (c : Code) (s : State) (o : Scheduling) (r : OpenRun) (found : rules.State) (standing : Standing) (next : Option ℕ)
+    → known n s ≡ Ok o → run_under run o.run ≡ Ok r
+    → found ≡ found_in s n c → standing ≡ judged_in s n found → next ≡ next_after s.setup n standing r.start o.next
+    → step s (call.Report n run c) ≡ (reported n found standing next s, standing_reply n standing next s)
+report_answers n run c s o r found standing next e f i j k =
     taken_then
-    ∙ ap (λ t. answered t (next_after s.setup n t r.start o.next)) (sym j)
-    ∙ ap (λ x. answered standing x) (sym k)
+    ∙ ap (λ u. answered u (judged_in s n u) (next_after s.setup n (judged_in s n u) r.start o.next)) (sym i)
+    ∙ ap (λ t. answered found t (next_after s.setup n t r.start o.next)) (sym j)
+    ∙ ap (λ x. answered found standing x) (sym k)
   where
-    answered : Standing → Option ℕ → State × Reply
-    answered t x = (reported n t x s, standing_reply n t x s)
+    answered : rules.State → Standing → Option ℕ → State × Reply
+    answered u t x = (reported n u t x s, standing_reply n t x s)
 
     taken_then : step s (call.Report n run c) ≡ report_taken n r.start c o s
     taken_then = rw (e, f) refl
@@ -287,20 +180,3 @@ standing_index standings n d h = ap (λ found. unwrap_or found (pending_standing
 pub is_time_holds : (next : Option ℕ) → IfSome next (λ time. time ≤ 2 ^ 61) → is_time next ≡ true
 is_time_holds None h = refl
 is_time_holds (Some time) h = grind (arith, nat_tests, h)
-
--- ---- the standing that the code makes
-
-pub judged_when_host : (setup : Configuration) (standings : List Standing) (n : ℕ) (c : Code) (before : Standing) (max : ℕ) (found : rules.State)
-    (made : Standing)
-    → host_of setup n ≡ None → standing_at standings n ≡ before
-    → max ≡ max_attempts_of setup n → found ≡ host_state_of setup standings n c → made ≡ verdict_on before found max true → made ≡ judged setup standings n c
-judged_when_host setup standings n c before max found made e b m f v =
-    v ∙ (λ i. verdict_on (sym b i) (f i) (m i) true) ∙ sym (ap (λ h. judged_by h setup standings n c) e)
-
-pub judged_when_service : (setup : Configuration) (standings : List Standing) (n host : ℕ) (c : Code) (before : Standing) (max : ℕ)
-    (found : rules.State) (up : Bool) (made : Standing)
-    → host_of setup n ≡ Some host → standing_at standings n ≡ before
-    → max ≡ max_attempts_of setup n → found ≡ service_state_of c → up ≡ not (is_down (standing_at standings host))
-    → made ≡ verdict_on before found max up → made ≡ judged setup standings n c
-judged_when_service setup standings n host c before max found up made e b m f u v =
-    v ∙ (λ i. verdict_on (sym b i) (f i) (m i) (u i)) ∙ sym (ap (λ h. judged_by h setup standings n c) e)

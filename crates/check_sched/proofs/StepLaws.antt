@@ -1,22 +1,19 @@
--- Laws of the step: what stays, and what is true of every state and reply.
+-- Laws of the step: what stays, and that no call passes the limit.
 use Rattle.std.proofs.Common.{◌≡◌, List, [], ◌∷◌, refl, ◌∙◌, Some}
-use Rattle.check_spread.specs.declared.limits.TheConstants.{LAST_TIME}
 use Rattle.check_sched.specs.declared.call.Call.{Call}
 use Rattle.check_sched.specs.declared.call.Call.TheVariants as call
 use Rattle.check_sched.specs.declared.call.Refusal.{Refusal}
 use Rattle.check_sched.specs.declared.call.Reply.{Reply}
 use Rattle.check_sched.specs.declared.call.Reply.TheVariants as reply
 use Rattle.check_sched.specs.Scheduling.{ended, enabled_as, freed_time, rescheduled}
-use Rattle.check_sched.specs.State.{State, IsState, IsWithinLimit}
+use Rattle.check_sched.specs.State.{State, IsWithinLimit}
 use Rattle.check_sched.proofs.LimitLaws.{limit_kept, limit_taken}
-use Rattle.check_sched.specs.Report.{put_off_until}
-use Rattle.check_sched.specs.Reply.{OnRefused, NamesObjectOf, TellsTimesUpTo}
+use Rattle.check_sched.specs.Reply.{OnRefused}
 use Rattle.check_sched.specs.Step.{step, after}
 use Rattle.check_sched.proofs.EligibleLaws.{eligible_open, waiting_cases}
-use Rattle.check_sched.proofs.OperatorLaws.{abandon_cases, ended_in_time, enable_cases, freed_in_time, reschedule_cases, rescheduled_in_time, status_cases}
-use Rattle.check_sched.proofs.OperatorLaws.{with_object_is_state}
-use Rattle.check_sched.proofs.TakeLaws.{take_cases, eligible_within, least_time, put_off_is_state, taken_is_state}
-use Rattle.check_sched.proofs.ReportLaws.{next_of_state, put_off_in_time, report_cases, report_next, report_standing, reported_is_state, is_time_reads}
+use Rattle.check_sched.proofs.OperatorLaws.{abandon_cases, enable_cases, reschedule_cases, status_cases}
+use Rattle.check_sched.proofs.TakeLaws.{take_cases}
+use Rattle.check_sched.proofs.ReportLaws.{report_cases}
 
 -- ---- what stays
 
@@ -41,55 +38,7 @@ step_keeps s (call.Reschedule n time forced) =
 step_keeps s (call.Enable n on) = enable_cases (Keeps s) n on s (refusal_keeps s) (record { setup = refl; start = refl; refused = tt })
 step_keeps s (call.Status n) = status_cases (Keeps s) n s (refusal_keeps s) (λ o e. record { setup = refl; start = refl; refused = tt })
 
--- ---- what is true of what a call leaves and answers
-
--- the objects that the reply names are those of the setup, each time that it tells is at most 2^61,
--- and a scheduler can be in the state that is left
-pub record IsAnswer (s : State) (a : State × Reply) : Type 0 where
-  pub named : NamesObjectOf s.setup a.1
-  pub times : TellsTimesUpTo (LAST_TIME) a.1
-  pub is_state : IsState a.0
-
-refusal_is_answer : (s : State) → IsState s → (why : Refusal) → IsAnswer s (s, reply.Refused why)
-refusal_is_answer s is_state why = record { named = tt; times = tt; is_state = is_state }
-
-pub step_is_answer : (s : State) (c : Call) → IsState s → IsAnswer s (step s c)
-step_is_answer s (call.Take now) is_state =
-    take_cases (IsAnswer s) now s (refusal_is_answer s is_state)
-    (λ c m e. record {
-      named = eligible_within now s c is_state e;
-      times = is_time_reads (put_off_until s.setup c.1 now) (put_off_in_time s.setup c.1 now is_state.valid_setup m);
-      is_state = put_off_is_state now c.1 s is_state m;
-    })
-    (λ c m r e. record { named = eligible_within now s c is_state e; times = tt; is_state = taken_is_state now c.1 s is_state m r (eligible_open now s c e) })
-    (λ e. record {
-      named = waiting_cases (NamesObjectOf s.setup) now s tt tt;
-      times = waiting_cases (TellsTimesUpTo (LAST_TIME)) now s tt (least_time s is_state);
-      is_state = is_state;
-    })
-step_is_answer s (call.Report n run c) is_state =
-    report_cases (IsAnswer s) n run c s (refusal_is_answer s is_state)
-    (λ o r e f. let next = report_next n c o r s is_state e f in record {
-      named = tt;
-      times = is_time_reads _ next;
-      is_state = reported_is_state n _ _ s is_state next (report_standing n c o s is_state e);
-    })
-step_is_answer s (call.Abandon n run now) is_state =
-    abandon_cases (IsAnswer s) n run now s (refusal_is_answer s is_state)
-    (λ o e m. let next = freed_in_time now n o s is_state e m in record {
-      named = tt;
-      times = is_time_reads (Some (freed_time now o)) next;
-      is_state = with_object_is_state n _ s is_state (λ x t. ended_in_time (Some (freed_time now o)) x next) (λ x b. cc);
-    })
-step_is_answer s (call.Reschedule n time forced) is_state =
-    reschedule_cases (IsAnswer s) n time forced s (refusal_is_answer s is_state)
-    (λ m. record { named = tt; times = tt; is_state = with_object_is_state n _ s is_state (λ x t. rescheduled_in_time time forced x m t) (λ x b. b) })
-step_is_answer s (call.Enable n on) is_state =
-    enable_cases (IsAnswer s) n on s (refusal_is_answer s is_state)
-    (record { named = tt; times = tt; is_state = with_object_is_state n _ s is_state (λ x t. t) (λ x b. b) })
-step_is_answer s (call.Status n) is_state =
-    status_cases (IsAnswer s) n s (refusal_is_answer s is_state)
-    (λ o e. record { named = tt; times = is_time_reads o.next (next_of_state s n o is_state e); is_state = is_state })
+-- ---- the limit
 
 -- no call passes the limit
 pub step_limit : (s : State) (c : Call) → IsWithinLimit s → IsWithinLimit (step s c).0

@@ -1,20 +1,17 @@
 -- Laws of Take: its answers, and the state that it leaves.
-use Rattle.std.proofs.Common.{◌≡◌, ℕ, ◌+◌, ◌<◌, ◌≤◌, ◌^◌, Bool, true, false, cond, length, set, Option, Some, None, option_map, refl, sym, ◌∙◌}
+use Rattle.std.proofs.Common.{◌≡◌, ℕ, ◌+◌, ◌<◌, ◌≤◌, ◌^◌, Bool, true, false, cond, length, Option, Some, None, option_map, refl, sym, ◌∙◌}
 use Rattle.std.proofs.Common.{arith, IfSome}
-use Rattle.std.specs.Prelude.{nat_lt, nat_le, slice_get}
+use Rattle.std.specs.Prelude.{nat_lt, nat_le}
 use Rattle.std.proofs.lemmas.Bool.Decides.{nat_tests}
-use Rattle.std.proofs.lemmas.Bool.{and_parts, and_from}
 use Rattle.check_objects.specs.Configuration.{object_count}
-use Rattle.check_sched.specs.Scheduling.{Scheduling, put_off_to, running_from}
+use Rattle.check_sched.specs.Scheduling.{running_from}
 use Rattle.check_sched.specs.Candidate.{Candidate}
 use Rattle.check_queue.specs.Order.{least}
 use Rattle.check_sched.specs.declared.call.Reply.{Reply}
 use Rattle.check_sched.specs.declared.call.Reply.TheVariants as reply
 use Rattle.check_sched.specs.declared.call.Refusal.{Refusal}
 use Rattle.check_sched.specs.declared.call.Call.TheVariants as call
-use Rattle.check_sched.specs.State.{State, IsState, is_in_time, is_moment, is_time}
-use Rattle.check_sched.proofs.OperatorLaws.{with_object_is_state}
-use Rattle.check_sched.proofs.ReportLaws.{put_off_in_time}
+use Rattle.check_sched.specs.State.{State, IsState, is_in_time}
 use Rattle.check_sched.specs.Report.{put_off_until}
 use Rattle.check_sched.specs.Step.{candidates, due, eligible, is_held_back, is_open, put_off, run_left, step, taken, take_least, waiting_reply, within_range}
 use Rattle.check_sched.proofs.EligibleLaws.{eligible_open}
@@ -22,7 +19,7 @@ use Rattle.check_sched.proofs.LimitLaws.{limit_taken}
 use Rattle.check_sched.proofs.AnswerLaws.{by_test, left_is, range_is}
 use Rattle.check_queue.proofs.LeastLaws.{all_at_least, all_filtered}
 use Rattle.check_sched.proofs.CandidateLaws.{candidates_within, candidates_times}
-use Rattle.check_sched.proofs.UpdateLaws.{length-update_at, all-update_at, set_is_update_of}
+use Rattle.check_sched.proofs.UpdateLaws.{length-update_at, all-update_at}
 
 -- ---- Take, by its answers
 
@@ -93,32 +90,9 @@ taken_is_state now n s is_state m r may =
       valid_setup = is_state.valid_setup;
       one_each = length-update_at n _ s.objects ∙ is_state.one_each;
       one_standing_each = is_state.one_standing_each;
+      results_each = is_state.results_each;
       runs = omega arith;
       times = all-update_at is_in_time n (running_from (record { number = s.runs + 1; start = now })) s.objects is_state.times (λ o e. moment);
       limit = limit_taken now n s may is_state.limit;
       standings = is_state.standings;
     }
-
--- an object that is put off leaves the state one that a scheduler can be in
-pub put_off_is_state : (now n : ℕ) (s : State) → IsState s → now ≤ 2 ^ 60 → IsState (put_off now n s)
-put_off_is_state now n s is_state m =
-    with_object_is_state n (put_off_to (put_off_until s.setup n now)) s is_state
-    (λ o e. and_from (is_time (put_off_until s.setup n now)) (is_moment o.run)
-    (put_off_in_time s.setup n now is_state.valid_setup m) (and_parts (is_time o.next) (is_moment o.run) e).1)
-    (λ o e. e)
-
--- ---- what the code leaves
-
--- the state that the write to an object leaves whose check begins
-pub taken_left : (now n : ℕ) (s : State) (o new : Scheduling) → slice_get s.objects n ≡ Some o
-    → new ≡ running_from (record { number = s.runs + 1; start = now }) o
-    → let left : State =
-    record { setup = s.setup; start = s.start; objects = set s.objects n new; standings = s.standings; runs = s.runs + 1 } in left ≡ taken now n s
-taken_left now n s o new e g i = record {
-  setup = s.setup;
-  start = s.start;
-  objects =
-      set_is_update_of n (running_from (record { number = s.runs + 1; start = now })) s.objects o new e g i;
-  standings = s.standings;
-  runs = s.runs + 1;
-}

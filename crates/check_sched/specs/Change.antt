@@ -1,5 +1,5 @@
 -- What is done to one object.
-use Rattle.std.specs.Prelude.{ℕ, Bool, true, false, Some}
+use Rattle.std.specs.Prelude.{Bool, true, false, Some}
 use Rattle.check_sched.specs.declared.object_state.Change.{Change}
 use Rattle.check_sched.specs.declared.object_state.Change.TheVariants as change
 use Rattle.check_sched.specs.Scheduling.{Scheduling, running_from, ended, put_off_to, rescheduled, enabled_as}

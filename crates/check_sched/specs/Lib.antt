@@ -10,3 +10,5 @@ pub mod Sched
 pub mod BookState
 pub mod Books
 pub mod Runs
+pub mod Results
+pub mod Flapping

@@ -1,27 +1,46 @@
 -- What the result of a check makes of an object, and to when one is put off.
-use Rattle.std.specs.Prelude.{ℕ, ◌+◌, ◌*◌, ◌==◌, true, not, List, Option, Some, None, option_and_then, slice_get, if◌then◌else◌}
+use Rattle.std.specs.Prelude.{ℕ, ◌+◌, ◌*◌, ◌==◌, Bool, true, not, List, Option, Some, None, option_and_then, slice_get, if◌then◌else◌}
 use Rattle.std.specs.Option.{option_or}
 use Rattle.check_drafts.specs.declared.object.Object.{Object}
 use Rattle.check_objects.specs.Configuration.{Configuration, objects_of, host_of}
 use Rattle.check_rules.specs.declared.state.Code.{Code}
+use Rattle.check_rules.specs.declared.state.State.{State}
 use Rattle.check_rules.specs.declared.standing.Standing.{Standing}
 use Rattle.check_rules.specs.State.{service_state_of}
+use Rattle.check_rules.specs.Flapping.{is_flapping, kept_after}
 use Rattle.check_rules.specs.Standing.{is_down, is_soft_problem}
 use Rattle.check_rules.specs.Reachability.{host_state_of}
 use Rattle.check_rules.specs.Verdict.{verdict_on}
-use Rattle.check_sched.specs.State.{standing_at, max_attempts_of}
+use Rattle.check_sched.specs.State.{flap_thresholds_of, max_attempts_of, results_at, standing_at}
 
--- The standing of an object after the result of its check, by its host, if it is a service. The
--- state of a host goes by its parents, and the verdict on a service by whether its host isn't down now.
--- ("Host Checks", "State Types"; that the host's current state counts is our own profile.)
-abbrev pub judged_by : Option ℕ → Configuration → List Standing → ℕ → Code → Standing
-judged_by None setup standings number code =
-    verdict_on (standing_at standings number) (host_state_of setup standings number code) (max_attempts_of setup number) true
-judged_by (Some host) setup standings number code =
-    verdict_on (standing_at standings number) (service_state_of code) (max_attempts_of setup number) (not (is_down (standing_at standings host)))
+-- The state that the code of an object's check means, by its host, if it is a service: that of a host
+-- goes by its parents. ("Host Checks", "Plugin API".)
+abbrev pub state_found_by : Option ℕ → Configuration → List Standing → ℕ → Code → State
+state_found_by None setup standings number code = host_state_of setup standings number code
+state_found_by (Some host) setup standings number code = service_state_of code
 
-abbrev pub judged : Configuration → List Standing → ℕ → Code → Standing
-judged setup standings number code = judged_by (host_of setup number) setup standings number code
+abbrev pub state_found : Configuration → List Standing → ℕ → Code → State
+state_found setup standings number code = state_found_by (host_of setup number) setup standings number code
+
+-- Whether the host, if there is one, isn't down now. ("State Types"; that the host's current state
+-- counts is our own profile.)
+abbrev pub is_host_up : Option ℕ → List Standing → Bool
+is_host_up None standings = true
+is_host_up (Some host) standings = not (is_down (standing_at standings host))
+
+-- The standing of an object after a check that found this state, flapping or not: the verdict on a
+-- service goes by whether its host isn't down.
+abbrev pub judged : Configuration → List Standing → ℕ → State → Bool → Standing
+judged setup standings number found flapping =
+    verdict_on (standing_at standings number) found (max_attempts_of setup number) (is_host_up (host_of setup number) standings) flapping
+
+-- Whether an object flaps after a check that found this state: by the results that are kept with this
+-- one, by whether it flapped before, and by the thresholds of hosts or of services. ("Detection and
+-- Handling of State Flapping".)
+abbrev pub flaps_with : Configuration → List Standing → List (List State) → ℕ → State → Bool
+flaps_with setup standings results number found =
+    is_flapping (kept_after (results_at results number) found) (standing_at standings number).flapping
+    (flap_thresholds_of setup number).0 (flap_thresholds_of setup number).1
 
 -- The interval to the next check, in units of interval_length: the retry interval while the object
 -- is a soft problem, else the check interval. ("Service and Host Check Scheduling", "State Types".)

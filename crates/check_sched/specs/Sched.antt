@@ -6,7 +6,14 @@ use Rattle.check_sched.specs.declared.sched.Sched.TheInside.{Inside}
 
 -- the state that the fields hold; the marks are scratch, and no part of it
 abbrev pub state_of : Inside → State
-state_of s = record { setup = s.setup; start = s.start; objects = s.roster.objects; standings = s.standings.items; runs = s.runs }
+state_of s = record {
+  setup = s.setup;
+  start = s.start;
+  objects = s.roster.objects;
+  standings = s.standings.items;
+  results = s.results;
+  runs = s.runs;
+}
 
 -- what is true of the fields of every scheduler
 pub record IsKept (s : Inside) : Type 0 where

@@ -1,10 +1,11 @@
 -- The state of a scheduler as contracts see it, and the state that it opens with.
-use Rattle.std.specs.Prelude.{ℕ, ◌<◌, ◌≤◌, ◌≡◌, ◌&&◌, ◌||◌, ◌==◌, Bool, true, false, List, length, map, zip, drop, count_by, Option, Some, None}
-use Rattle.std.specs.Prelude.{is_some, option_map, option_and_then, slice_get, nat_le, nat_lt, unwrap_or}
+use Rattle.std.specs.Prelude.{ℕ, ◌<◌, ◌≤◌, ◌≡◌, ◌&&◌, ◌||◌, ◌==◌, Bool, true, false, List, [], length, map, zip, drop, replicate, count_by, Option, Some}
+use Rattle.std.specs.Prelude.{None, is_some, option_map, option_and_then, slice_get, nat_le, nat_lt, unwrap_or, if◌then◌else◌}
 use Rattle.std.specs.List.{list_all, enumerate_from}
 use Rattle.std.specs.Option.{option_map_or}
 use Rattle.check_objects.specs.Configuration.{Configuration, objects_of, object_count, host_count, IsSetup}
 use Rattle.check_rules.specs.declared.standing.Standing.{Standing}
+use Rattle.check_rules.specs.declared.state.State as rules
 use Rattle.check_rules.specs.State.{is_host_state}
 use Rattle.check_rules.specs.Standing.{pending_standing, is_lawful}
 use Rattle.check_sched.specs.Scheduling.{OpenRun, Scheduling, opening_object}
@@ -20,6 +21,8 @@ pub record State : Type 0 where
   pub objects : List Scheduling
   -- what is known of each object, by number
   pub standings : List Standing
+  -- the results that are kept of each object, by number: the states that its last checks found, the oldest first
+  pub results : List (List rules.State)
   -- how many runs were handed out
   pub runs : ℕ
 
@@ -35,6 +38,10 @@ run_number_of number s = option_map (λ r. r.number) (option_and_then (λ o. o.r
 abbrev pub standing_at : List Standing → ℕ → Standing
 standing_at standings number = unwrap_or (slice_get standings number) (pending_standing true)
 
+-- the results that are kept of the object with this number
+abbrev pub results_at : List (List rules.State) → ℕ → List rules.State
+results_at results number = unwrap_or (slice_get results number) []
+
 -- whether the object with this number is a host: hosts have the first numbers
 abbrev pub is_host : Configuration → ℕ → Bool
 is_host setup number = nat_lt number (host_count setup)
@@ -42,6 +49,14 @@ is_host setup number = nat_lt number (host_count setup)
 -- the maximum of check attempts of the object with this number
 abbrev pub max_attempts_of : Configuration → ℕ → ℕ
 max_attempts_of setup number = option_map_or (λ o. o.object.max_check_attempts) (slice_get (objects_of setup) number) 1
+
+-- The percents between which it is decided whether the object with this number flaps, the low one and the high one: those of hosts for a
+-- host, those of services for a service. ("Detection and Handling of State Flapping".)
+abbrev pub flap_thresholds_of : Configuration → ℕ → ℕ × ℕ
+flap_thresholds_of setup number =
+    if is_host setup number
+    then (setup.options.low_host_flap_threshold, setup.options.high_host_flap_threshold)
+    else (setup.options.low_service_flap_threshold, setup.options.high_service_flap_threshold)
 
 -- ---- the limit of checks that run
 
@@ -80,10 +95,20 @@ opening_objects setup start = objects_at setup (initial_times setup start)
 abbrev pub opening_standings : Configuration → List Standing
 opening_standings setup = map (λ p. pending_standing (is_host setup p.0)) (enumerate_from 0 (objects_of setup))
 
+-- no result of any object is kept
+abbrev pub opening_results : Configuration → List (List rules.State)
+opening_results setup = replicate (object_count setup) []
+
 -- the state that a scheduler opens with: no run was handed out
 abbrev pub opening : Configuration → ℕ → State
-opening setup start =
-    record { setup = setup; start = start; objects = opening_objects setup start; standings = opening_standings setup; runs = 0 }
+opening setup start = record {
+  setup = setup;
+  start = start;
+  objects = opening_objects setup start;
+  standings = opening_standings setup;
+  results = opening_results setup;
+  runs = 0;
+}
 
 -- ---- what is true of every scheduler
 
@@ -117,6 +142,7 @@ pub record IsState (s : State) : Type 0 where
   pub valid_setup : IsSetup s.setup
   pub one_each : length s.objects ≡ object_count s.setup
   pub one_standing_each : length s.standings ≡ object_count s.setup
+  pub results_each : length s.results ≡ object_count s.setup
   pub runs : s.runs ≤ MAX_RUNS
   pub times : list_all is_in_time s.objects ≡ true
   pub limit : IsWithinLimit s

@@ -16,9 +16,11 @@ use Rattle.check_sched.specs.Candidate.{Candidate, candidates_among, due_among}
 use Rattle.check_queue.specs.Order.{least}
 use Rattle.check_rules.specs.declared.state.Code.{Code}
 use Rattle.check_rules.specs.declared.standing.Standing.{Standing}
+use Rattle.check_rules.specs.declared.state.State as rules
+use Rattle.check_rules.specs.Flapping.{kept_after}
 use Rattle.check_rules.specs.State.{is_another_state}
 use Rattle.check_sched.specs.State.{State, has_room, is_host, standing_at}
-use Rattle.check_sched.specs.Report.{judged, next_after, put_off_until}
+use Rattle.check_sched.specs.Report.{flaps_with, judged, next_after, put_off_until, state_found}
 use Rattle.check_rules.specs.Dependencies.{is_blocked}
 
 -- what is kept of each object, with that of this number changed by f and every other as it was
@@ -29,7 +31,14 @@ update_at (suc number) f (x ∷ xs) = x ∷ update_at number f xs
 
 -- the state with the object of this number changed by f, and all else as it was
 abbrev pub with_object : ℕ → (Scheduling → Scheduling) → State → State
-with_object number f s = record { setup = s.setup; start = s.start; objects = update_at number f s.objects; standings = s.standings; runs = s.runs }
+with_object number f s = record {
+  setup = s.setup;
+  start = s.start;
+  objects = update_at number f s.objects;
+  standings = s.standings;
+  results = s.results;
+  runs = s.runs;
+}
 
 -- ---- refusals, in the order in which they are tested
 
@@ -79,6 +88,7 @@ taken now number s = record {
   start = s.start;
   objects = update_at number (running_from (record { number = s.runs + 1; start = now })) s.objects;
   standings = s.standings;
+  results = s.results;
   runs = s.runs + 1;
 }
 
@@ -118,13 +128,15 @@ take_answer now s = within_range now >>= λ _. (run_left s >>= λ _. Ok (take_le
 
 -- ---- Report
 
--- the state after a report: the object's run has ended, and its standing and next time are these
-abbrev pub reported : ℕ → Standing → Option ℕ → State → State
-reported number standing next s = record {
+-- The state after a report: the object's run has ended, its standing and next time are these, and the
+-- state that was found is the last of its results.
+abbrev pub reported : ℕ → rules.State → Standing → Option ℕ → State → State
+reported number found standing next s = record {
   setup = s.setup;
   start = s.start;
   objects = update_at number (ended next) s.objects;
   standings = update_at number (λ before. standing) s.standings;
+  results = update_at number (λ results. kept_after results found) s.results;
   runs = s.runs;
 }
 
@@ -133,12 +145,21 @@ reported number standing next s = record {
 abbrev pub standing_reply : ℕ → Standing → Option ℕ → State → Reply
 standing_reply number standing next s = reply.Standing standing (is_another_state standing.state (standing_at s.standings number).state) next
 
+-- the state that this code of the object's check means
+abbrev pub found_in : State → ℕ → Code → rules.State
+found_in s number code = state_found s.setup s.standings number code
+
+-- the object's standing after a check that found this state
+abbrev pub judged_in : State → ℕ → rules.State → Standing
+judged_in s number found = judged s.setup s.standings number found (flaps_with s.setup s.standings s.results number found)
+
 -- the answer to the result of a run that began at start
 abbrev pub report_taken : ℕ → ℕ → Code → Scheduling → State → State × Reply
 report_taken number start code o s =
-    let standing = judged s.setup s.standings number code in
+    let found = found_in s number code in
+    let standing = judged_in s number found in
     let next = next_after s.setup number standing start o.next in
-    (reported number standing next s, standing_reply number standing next s)
+    (reported number found standing next s, standing_reply number standing next s)
 
 abbrev pub report_answer : ℕ → ℕ → Code → State → Result (State × Reply) Refusal
 report_answer number run code s = known number s >>= λ o. (run_under run o.run >>= λ r. Ok (report_taken number r.start code o s))

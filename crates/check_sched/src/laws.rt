@@ -2,19 +2,22 @@
 
 ghost use Rattle.std.specs.Prelude.{ℕ, ◌≡◌, ◌+◌, true, false, List, ◌∷◌, ◌++◌, [], Some, slice_get};
 ghost use Rattle.ticket_steps.specs.declared.kept.Entry.{Entry};
-ghost use Rattle.ticket_steps.specs.History.{entry, IsLegal};
+ghost use Rattle.ticket_steps.specs.History.{entry, replay, IsLegal};
+ghost use Rattle.circular_buffer.specs.Buffer.{keep_last};
 ghost use Rattle.check_objects.specs.Configuration.{Configuration};
+ghost use Rattle.check_rules.specs.declared.flapping.TheConstants.{KEPT_RESULTS};
 ghost use Rattle.check_rules.specs.declared.standing.Standing.{Standing};
 ghost use Rattle.check_rules.specs.Standing.{pending_standing};
 ghost use Rattle.check_rules.specs.declared.state.Code.{Code};
 ghost use Rattle.check_sched.specs.declared.call.Call.{Call};
 ghost use Rattle.check_sched.specs.declared.call.Call.TheVariants as call;
 ghost use Rattle.check_sched.specs.declared.call.Reply.TheVariants as reply;
-ghost use Rattle.check_sched.specs.State.{IsWithinLimit, is_host, opening};
+ghost use Rattle.check_sched.specs.State.{IsWithinLimit, flap_thresholds_of, is_host, opening, results_at};
 ghost use Rattle.check_sched.specs.Step.{after, step};
 ghost use Rattle.check_sched.specs.BookState.{BookState, book_opening, book_step};
 ghost use Rattle.check_sched.specs.Reply.{IsReportReply, IsTakeReply};
 ghost use Rattle.check_sched.specs.Runs.{begins, runs_begun, runs_under};
+ghost use Rattle.check_sched.specs.Flapping.{flapping_in, never_checked, states_told, with_results};
 ghost use Rattle.check_sched.specs.declared.call.Reply.{Reply};
 
 /// Whatever calls are made, one after another, of a scheduler that was opened: no more services are
@@ -50,6 +53,24 @@ pub fn runs_once()
         → (history : List (Entry Call Reply))
         → IsLegal book_step (book_opening setup start room) history
         → IsLegal step (opening setup start) history }
+{}
+
+/// In every legal history of a scheduler that was opened, whatever it has of an object's results is
+/// what the history tells: of the states that the object's reports were answered with, in their order.
+/// The results that are kept, and whether the object flaps, are what comes of these states one after
+/// another, under the object's thresholds (`fold`): each pushes the oldest out where there are 21
+/// already, and the object begins to flap or stops by the results with it. So the results that are kept
+/// are the last 21 of all (`last`). That the history of a book is such a history,
+/// [`runs_once`] says.
+pub fn flaps_by_history()
+    ensures fold { (setup : Configuration) → (start : ℕ) → (history : List (Entry Call Reply))
+        → (object : ℕ) → IsLegal step (opening setup start) history
+        → flapping_in (replay step (opening setup start) history) object
+        ≡ with_results (flap_thresholds_of setup object) never_checked (states_told object history) }
+    ensures last { (setup : Configuration) → (start : ℕ) → (history : List (Entry Call Reply))
+        → (object : ℕ) → IsLegal step (opening setup start) history
+        → results_at (replay step (opening setup start) history).results object
+        ≡ keep_last KEPT_RESULTS (states_told object history) }
 {}
 
 /// Which replies come in the history of a book, whatever it was opened with. A take is answered with an

@@ -2,38 +2,84 @@
 //! object is put off.
 
 ghost use Rattle.std.specs.Prelude.{◌≡◌, ◌<◌, ◌≤◌, ◌*◌, IfSome, length, Some};
-ghost use Rattle.check_objects.specs.Configuration.{IsSetup, object_count};
-ghost use Rattle.check_rules.specs.State.{is_another_state};
-ghost use Rattle.check_sched.specs.State.{IsStandingOf, max_attempts_of, standing_at};
-ghost use Rattle.check_sched.specs.Report.{interval_after, judged, next_after};
-ghost use Rattle.check_sched.specs.Report.{milliseconds, put_off_until, time_after};
+ghost use Rattle.check_objects.specs.Configuration.{IsSetup, host_of, object_count};
+ghost use Rattle.check_rules.specs.State.{is_another_state, is_host_state};
+ghost use Rattle.check_sched.specs.State.{IsStandingOf, flap_thresholds_of, is_host, max_attempts_of, standing_at};
+ghost use Rattle.check_sched.specs.Report.{interval_after, is_host_up, judged, next_after};
+ghost use Rattle.check_sched.specs.Report.{milliseconds, put_off_until, state_found, time_after};
 
 use check_objects::{MAX_INTERVAL, MAX_INTERVAL_LENGTH, Object, Setup};
-use check_rules::{Code, Standing, host_state, service_state, verdict};
+use check_rules::{Code, Standing, State, host_state, service_state, verdict};
 use check_spread::{LAST_MOMENT, LAST_TIME};
 
-/// The standing of the object with this number after its check returned this code, beside the
-/// standings of all objects, by number.
-pub(crate) fn judged(setup: &Setup, standings: &[Standing], number: u32, code: Code) -> Standing
+/// The state of the object with this number after its check returned this code, beside the standings
+/// of all objects, by number.
+pub(crate) fn state_found(setup: &Setup, standings: &[Standing], number: u32, code: Code) -> State
+    requires there { number < object_count setup.now }
+    requires one_each { length standings.now ≡ object_count setup.now }
+    requires valid_setup { IsSetup setup.now }
+    ensures value { result ≡ state_found setup.now standings.now number code }
+    ensures sort { is_host_state result ≡ is_host setup.now number }
+{
+    match setup.host_of(number) {
+        None => host_state(setup, standings, number, code),
+        Some(_host) => service_state(code),
+    }
+}
+
+/// The low and the high threshold of the object with this number, in percents: those of hosts for a
+/// host, those of services for a service. (Manual: "Detection and Handling of State Flapping".)
+pub(crate) fn flap_thresholds(setup: &Setup, number: u32) -> (u8, u8)
+    requires valid_setup { IsSetup setup.now }
+    ensures { result ≡ flap_thresholds_of setup.now number }
+{
+    let options = setup.options();
+    let (low, high) = if (number as usize) < setup.hosts() {
+        (
+            options.low_host_flap_threshold,
+            options.high_host_flap_threshold,
+        )
+    } else {
+        (
+            options.low_service_flap_threshold,
+            options.high_service_flap_threshold,
+        )
+    };
+    (low as u8, high as u8)
+}
+
+/// The standing of the object with this number after a check that found this state, beside the
+/// standings of all objects, by number; `flapping` says whether it flaps with it.
+pub(crate) fn judged(
+    setup: &Setup,
+    standings: &[Standing],
+    number: u32,
+    found: State,
+    flapping: bool,
+) -> Standing
     requires there { number < object_count setup.now }
     requires one_each { length standings.now ≡ object_count setup.now }
     requires valid_setup { IsSetup setup.now }
     requires before { IsStandingOf setup.now number (standing_at standings.now number) }
-    ensures { result ≡ judged setup.now standings.now number code }
+    requires same_sort { is_host_state found ≡ is_host setup.now number }
+    ensures { result ≡ judged setup.now standings.now number found flapping }
 {
     let before = standing_at(standings, number);
     let max = max_attempts(setup, number);
+    let host_up = is_host_up(setup, standings, number);
+    verdict(before, found, max, host_up, flapping)
+}
+
+/// Whether the host of the object with this number isn't down; true of an object without one.
+fn is_host_up(setup: &Setup, standings: &[Standing], number: u32) -> bool
+    requires there { number < object_count setup.now }
+    requires one_each { length standings.now ≡ object_count setup.now }
+    requires valid_setup { IsSetup setup.now }
+    ensures { result ≡ is_host_up (host_of setup.now number) standings.now }
+{
     match setup.host_of(number) {
-        None => verdict(
-            before,
-            host_state(setup, standings, number, code),
-            max,
-            true,
-        ),
-        Some(host) => {
-            let host_down = standing_at(standings, host).is_down();
-            verdict(before, service_state(code), max, !host_down)
-        }
+        None => true,
+        Some(host) => !standing_at(standings, host).is_down(),
     }
 }
 

@@ -33,7 +33,8 @@ ghost use Rattle.check_sched.specs.Reply.{OnRefused, NamesObjectOf, TellsTimesUp
 use crate::call::{Call, Refusal, Reply};
 use crate::candidate::{Candidate, if_due};
 use crate::object_state::{Change, ObjectState, Run};
-use crate::report::{is_changed, judged, next_after, put_off_until};
+use crate::report::{flap_thresholds, is_changed, judged, next_after, put_off_until, state_found};
+use crate::results::Results;
 use crate::roster::Roster;
 use check_objects::Setup;
 use check_rules::{Code, Standing, blocked, pending};
@@ -47,14 +48,15 @@ mod tests;
 /// How many runs are handed out at most.
 pub const MAX_RUNS: u64 = 1 << 60;
 
-/// A scheduler over a setup. Contracts see it as a record `State`: the setup, the start, the state
-/// of each object by number, and how many runs were handed out.
+/// A scheduler over a setup. Contracts see it as a record `State`: the setup, the start, the state,
+/// the standing and the last results of each object by number, and how many runs were handed out.
 #[derive(Drop)]
 pub struct Sched {
     setup: Setup,
     start: u64,
     roster: Roster,
     standings: Vec<Standing>,
+    results: Results,
     runs: u64,
     /// Scratch of the search through dependencies: a mark for each object.
     marks: Vec<bool>,
@@ -97,6 +99,9 @@ impl Sched {
         let Ok(standings) = opening_standings(alloc, &setup) else {
             return Err(setup);
         };
+        let Ok(results) = Results::none(alloc, setup.len()) else {
+            return Err(setup);
+        };
         let Ok(marks) = vec![in alloc; false; setup.len()] else {
             return Err(setup);
         };
@@ -105,6 +110,7 @@ impl Sched {
             start,
             roster,
             standings,
+            results,
             runs: 0,
             marks,
         })
@@ -256,7 +262,10 @@ impl Sched {
         let running = state.run_under(run)?;
         let index = object as usize;
         let before = self.standings[index];
-        let standing = judged(&self.setup, &self.standings, object, code);
+        let found = state_found(&self.setup, &self.standings, object, code);
+        let thresholds = flap_thresholds(&self.setup, object);
+        let flapping = self.results.add(object, found, before.flapping, thresholds);
+        let standing = judged(&self.setup, &self.standings, object, found, flapping);
         let changed = is_changed(before, standing);
         let next = next_after(&self.setup, object, standing, running.start(), state.next());
         self.roster.change(object, Change::End(next));

@@ -6,6 +6,7 @@ ghost use Rattle.std.specs.Prelude.{◌≤◌};
 
 mod dependencies;
 mod first_checks;
+mod flapping;
 mod operators;
 mod results;
 mod takes;
@@ -44,6 +45,17 @@ const ONE_SERVICE_EACH_MINUTE: &[u8] =
 /// The same, with a single attempt of the service.
 const ONE_ATTEMPT: &[u8] =
     br#"{"options":{"service_inter_check_delay_method":"n","host_inter_check_delay_method":"n"},"hosts":[{"name":"h","check_interval":0,"max_check_attempts":3}],"services":[{"host":"h","description":"s","max_check_attempts":1}]}"#;
+
+/// The same, with a check interval of 1 minute.
+const ONE_ATTEMPT_EACH_MINUTE: &[u8] =
+    br#"{"options":{"service_inter_check_delay_method":"n","host_inter_check_delay_method":"n"},"hosts":[{"name":"h","check_interval":0,"max_check_attempts":3}],"services":[{"host":"h","description":"s","max_check_attempts":1,"check_interval":1}]}"#;
+
+/// A host and its service, where hosts flap from their first result on, or services.
+const HOSTS_FLAP_AT_ONCE: &[u8] =
+    br#"{"options":{"low_host_flap_threshold":0,"high_host_flap_threshold":0,"service_inter_check_delay_method":"n","host_inter_check_delay_method":"n"},"hosts":[{"name":"h","check_interval":5,"max_check_attempts":4}],"services":[{"host":"h","description":"s","max_check_attempts":4}]}"#;
+
+const SERVICES_FLAP_AT_ONCE: &[u8] =
+    br#"{"options":{"low_service_flap_threshold":0,"high_service_flap_threshold":0,"service_inter_check_delay_method":"n","host_inter_check_delay_method":"n"},"hosts":[{"name":"h","check_interval":5,"max_check_attempts":4}],"services":[{"host":"h","description":"s","max_check_attempts":4}]}"#;
 
 /// A host that is checked and its service, with 4 attempts each.
 const HOST_AND_SERVICE: &[u8] =
@@ -204,8 +216,28 @@ fn standing(
             kind,
             attempt,
             last_hard,
+            flapping: false,
         },
         changed,
         next,
+    }
+}
+
+/// The same reply of an object that flaps.
+fn that_flaps(reply: Reply) -> Reply {
+    match reply {
+        Reply::Standing {
+            standing,
+            changed,
+            next,
+        } => Reply::Standing {
+            standing: Standing {
+                flapping: true,
+                ..standing
+            },
+            changed,
+            next,
+        },
+        other => other,
     }
 }

@@ -7,7 +7,7 @@
 ghost use Rattle.std.specs.Prelude.{◌≡◌, [], IfOk};
 ghost use Rattle.check_sched.specs.Books.{entries_of, refused_of};
 
-use crate::laws::{limit, never_checked, replies, runs_once};
+use crate::laws::{flaps_by_history, limit, never_checked, replies, runs_once};
 use crate::{Book, Call, Reply};
 use check_objects::{LoadError, Setup};
 use std::alloc::Global;
@@ -115,4 +115,5 @@ fn the_laws_can_be_called(_rt: HostRuntime) {
     never_checked();
     replies();
     runs_once();
+    flaps_by_history();
 }

@@ -9,7 +9,8 @@ invariant_of-result c = record {
       c.in_ok-waiting_hosts.ensures ∙ ap (waiting_times (between 0 c.args.hosts)) c.deref.ensures.value ∙ between_hosts c.args.hosts c.args.objects.items;
   waiting_services =
       c.in_ok-waiting_services.ensures ∙ ap (waiting_times (between c.args.hosts c.len.result)) c.deref-2.ensures.value
-      ∙ ap (λ to. waiting_times (between c.args.hosts to) c.args.objects.items) (c.len.ensures ∙ c.args.objects.ok.0) ∙ between_services c.args.hosts c.args.objects.items;
+      ∙ ap (λ to. waiting_times (between c.args.hosts to) c.args.objects.items) (c.len.ensures ∙ c.args.objects.ok.0)
+      ∙ between_services c.args.hosts c.args.objects.items;
   running_services = sym c.requires.idle;
   few = c.requires.few;
 }

@@ -1,4 +1,4 @@
-use Rattle.std.proofs.Common.{length, ap, arith, ◌∙◌}
+use Rattle.std.proofs.Common.{[], length, replicate, ap, arith, ◌∙◌}
 use Rattle.check_sched.specs.Roster.{RosterState}
 use Rattle.check_sched.proofs.OpeningLaws.{opened_few, opened_hosts, opened_idle, opened_is_state}
 use Rattle.check_sched.proofs.sched.Sched.new.Goals as goal
@@ -6,7 +6,8 @@ use Rattle.check_sched.proofs.sched.Sched.new.Goals as goal
 pub new-requires-clause-few : goal.new-requires-clause-few
 new-requires-clause-few c =
     let made = c.in-Ok-opening_objects.ensures in
-    opened_few c.args.setup c.deref.result.now c.in-Ok-opening_objects.objects.items made.valid_setup (ap length c.deref.ensures.value ∙ c.in-Ok.ensures.one_each)
+    opened_few c.args.setup c.deref.result.now c.in-Ok-opening_objects.objects.items made.valid_setup
+    (ap length c.deref.ensures.value ∙ c.in-Ok.ensures.one_each)
     made.items
 
 pub new-requires-clause-hosts : goal.new-requires-clause-hosts
@@ -26,9 +27,10 @@ invariant_of-result c =
     record {
       state =
           rw c.in-Ok-new.ensures (opened_is_state c.args.setup c.args.start c.in-Ok.times.items c.deref.result.now c.in-Ok-opening_objects.objects.items
-          c.in-Ok-opening_standings.standings.items
+          c.in-Ok-opening_standings.standings.items c.in-Ok-none.results
           made.valid_setup c.in-Ok.ensures.times c.in-Ok.ensures.one_each c.in-Ok.ensures.within
-          c.deref.ensures.value made.items c.in-Ok-opening_standings.ensures);
-      marks = let l = c.in-Ok-vec.ensures.len in let m = c.len.ensures.count in omega (arith, l, m);
+          c.deref.ensures.value made.items c.in-Ok-opening_standings.ensures
+          (c.in-Ok-none.ensures ∙ ap (λ count. replicate count []) c.len.ensures.count));
+      marks = let l = c.in-Ok-vec.ensures.len in let m = c.len-2.ensures.count in omega (arith, l, m);
       hosts = ap (λ (r : RosterState). r.hosts) c.in-Ok-new.ensures ∙ c.hosts.ensures.count;
     }

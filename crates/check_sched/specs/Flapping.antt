@@ -1,0 +1,50 @@
+-- The results that are kept of an object, and whether it flaps, by a history alone.
+use Rattle.std.specs.Prelude.{ℕ, ◌==◌, Bool, false, List, [], ◌∷◌, Option, Some, None, if◌then◌else◌}
+use Rattle.std.specs.List.{filter_map}
+use Rattle.ticket_steps.specs.declared.kept.Entry.{Entry}
+use Rattle.check_rules.specs.declared.state.State.{State}
+use Rattle.check_rules.specs.Flapping.{is_flapping, kept_after}
+use Rattle.check_sched.specs.declared.call.Call.{Call}
+use Rattle.check_sched.specs.declared.call.Call.TheVariants as call
+use Rattle.check_sched.specs.declared.call.Reply.{Reply}
+use Rattle.check_sched.specs.declared.call.Reply.TheVariants as reply
+use Rattle.check_sched.specs.State as sched
+use Rattle.check_sched.specs.State.{results_at, standing_at}
+
+-- ---- what a history tells
+
+-- the state that an answer tells, where it is the standing that a report of the object was answered with
+abbrev pub told_by : ℕ → Call → Reply → Option State
+told_by object (call.Report o run code) (reply.Standing standing changed next) = if o == object then Some standing.state else None
+told_by object c r = None
+
+-- the states that the reports of an object were answered with, in their order
+abbrev pub states_told : ℕ → List (Entry Call Reply) → List State
+states_told object history = filter_map (λ e. told_by object e.call e.reply) history
+
+-- ---- what comes of it, one result after another
+
+-- the results that are kept of an object, and whether it flaps
+pub record Flapping : Type 0 where
+  pub results : List State
+  pub flapping : Bool
+
+-- what a state has of the object with this number
+abbrev pub flapping_in : sched.State → ℕ → Flapping
+flapping_in s object = record { results = results_at s.results object; flapping = (standing_at s.standings object).flapping }
+
+-- of an object that was never checked: none, and it doesn't
+abbrev pub never_checked : Flapping
+never_checked = record { results = []; flapping = false }
+
+-- both after one more result, under these thresholds
+abbrev pub with_result : ℕ × ℕ → Flapping → State → Flapping
+with_result thresholds was found = record {
+  results = kept_after was.results found;
+  flapping = is_flapping (kept_after was.results found) was.flapping thresholds.0 thresholds.1;
+}
+
+-- both after these results, one after another
+abbrev pub with_results : ℕ × ℕ → Flapping → List State → Flapping
+with_results thresholds was [] = was
+with_results thresholds was (found ∷ later) = with_results thresholds (with_result thresholds was found) later
