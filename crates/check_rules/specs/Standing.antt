@@ -10,7 +10,14 @@ use Rattle.check_rules.specs.State.{is_problem, is_host_state, is_down_state, fi
 
 -- a host or a service that was never checked (our own profile)
 abbrev pub pending_standing : Bool → Standing
-pending_standing is_host = record { checked = false; state = fine_state is_host; kind = kind.Hard; attempt = 1; last_hard = fine_state is_host; flapping = false }
+pending_standing is_host = record {
+  checked = false;
+  state = fine_state is_host;
+  kind = kind.Hard;
+  attempt = 1;
+  last_hard = fine_state is_host;
+  flapping = false;
+}
 
 -- an object that was never checked stands as pending
 abbrev pub as_checked : Standing → Standing

@@ -13,7 +13,10 @@ is_master_blocked-is_any_master_blocked-requires t c =
     let some = behind.0 in
     let falls = c.decreases in
     let within = c.dependencies-dependencies.ensures.within in
-    (omega (arith, some, falls), (c.requires.valid, (within, (rw c.dependencies-dependencies.ensures.dependencies behind.1, (c.requires.scratch, c.requires.asked)))))
+    (
+      omega (arith, some, falls),
+      (c.requires.valid, (within, (rw c.dependencies-dependencies.ensures.dependencies behind.1, (c.requires.scratch, c.requires.asked)))),
+    )
 
 pub is_master_blocked-returns-then-is_any_master_blocked-clause-value :
     goal.is_master_blocked-returns-then-is_any_master_blocked-clause-value
