@@ -1,4 +1,5 @@
 pub mod TreeLemmas
+pub mod CriteriaLemmas
 pub mod ReadingLemmas
 pub mod VerificationLemmas
 pub mod FaultlessLemmas

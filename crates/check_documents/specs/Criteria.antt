@@ -1,7 +1,8 @@
 -- The criteria of a dependency, by the letters of their text.
-use Rattle.std.specs.Prelude.{ℕ, ◌==◌, Bool, List, Option, Some, None, codes, bytes_eq, if◌then◌else◌}
+use Rattle.std.specs.Prelude.{ℕ, ◌==◌, ◌&&◌, ◌||◌, Bool, List, Option, Some, None, codes, bytes_eq, if◌then◌else◌}
 use Rattle.std.specs.List.{list_any, list_all, slice_split}
 use Rattle.check_drafts.specs.declared.dependency.Criteria.{Criteria}
+use Rattle.check_documents.specs.declared.criteria.Found.{Found}
 use Rattle.check_documents.specs.Tree.{is_among}
 
 -- what stands before, between and behind the commas
@@ -15,6 +16,36 @@ are_letters letters text = list_all (is_among letters) (pieces text)
 -- whether a piece is this letter
 abbrev pub has_letter : List ℕ → List ℕ → Bool
 has_letter letter text = list_any (λ piece. bytes_eq piece letter) (pieces text)
+
+-- what a text says, whether it has these letters alone or not
+abbrev pub found_in : List (List ℕ) → List ℕ → Found
+found_in letters text = record {
+  known = are_letters letters text;
+  criteria = record {
+    ok = has_letter (codes "o") text;
+    warning = has_letter (codes "w") text;
+    unknown = has_letter (codes "u") text;
+    critical = has_letter (codes "c") text;
+    down = has_letter (codes "d") text;
+    pending = has_letter (codes "p") text;
+    none = has_letter (codes "n") text;
+  };
+}
+
+-- what is said with one more piece
+abbrev pub with_piece : List (List ℕ) → Found → List ℕ → Found
+with_piece letters found piece = record {
+  known = found.known && is_among letters piece;
+  criteria = record {
+    ok = found.criteria.ok || bytes_eq piece (codes "o");
+    warning = found.criteria.warning || bytes_eq piece (codes "w");
+    unknown = found.criteria.unknown || bytes_eq piece (codes "u");
+    critical = found.criteria.critical || bytes_eq piece (codes "c");
+    down = found.criteria.down || bytes_eq piece (codes "d");
+    pending = found.criteria.pending || bytes_eq piece (codes "p");
+    none = found.criteria.none || bytes_eq piece (codes "n");
+  };
+}
 
 -- the criteria of a text that has these letters alone
 unfoldable pub criteria_of : List (List ℕ) → List ℕ → Option Criteria

@@ -1,6 +1,7 @@
 //! The criteria of a dependency, by the letters of their text.
-ghost use Rattle.std.specs.Prelude.{◌≡◌, map};
-ghost use Rattle.check_documents.specs.Criteria.{are_letters, has_letter, criteria_of};
+ghost use Rattle.std.specs.Prelude.{◌≡◌, ◌&&◌, ◌||◌, map, bytes_eq};
+ghost use Rattle.check_documents.specs.Tree.{is_among};
+ghost use Rattle.check_documents.specs.Criteria.{criteria_of, found_in, with_piece};
 
 use crate::tree::is_known;
 use check_drafts::Criteria;
@@ -11,33 +12,79 @@ pub(crate) const SERVICE_LETTERS: [&str; 6] = ["o", "w", "u", "c", "p", "n"];
 /// The letters that the criteria of a dependency between hosts may have.
 pub(crate) const HOST_LETTERS: [&str; 5] = ["o", "u", "d", "p", "n"];
 
-/// The criteria of a text: some of these letters, with one comma between two of them.
+/// What the pieces of a text say, piece by piece.
+#[derive(Clone, Copy)]
+struct Found {
+    /// Whether each piece so far is one of the letters.
+    known: bool,
+    /// The letters so far.
+    criteria: Criteria,
+}
+
+/// Before the first piece.
+const NOTHING: Found = Found {
+    known: true,
+    criteria: Criteria {
+        ok: false,
+        warning: false,
+        unknown: false,
+        critical: false,
+        down: false,
+        pending: false,
+        none: false,
+    },
+};
+
+/// The criteria of a text: some of these letters, with one comma between two of them. The text is
+/// gone through once.
 #[tactic(auto, unfolding(crate::specs::Criteria::criteria_of))]
 pub(crate) fn read_criteria(text: &str, letters: &[&str]) -> Option<Criteria>
     ensures { result ≡ criteria_of (map (λ letter. letter.now) letters.now) text.now }
 {
-    if !are_letters(text, letters) {
-        return None;
+    let found = find_letters(text, letters);
+    if found.known {
+        Some(found.criteria)
+    } else {
+        None
     }
-    Some(Criteria {
-        ok: has_letter(text, "o"),
-        warning: has_letter(text, "w"),
-        unknown: has_letter(text, "u"),
-        critical: has_letter(text, "c"),
-        down: has_letter(text, "d"),
-        pending: has_letter(text, "p"),
-        none: has_letter(text, "n"),
-    })
 }
 
-fn are_letters(text: &str, letters: &[&str]) -> bool
-    ensures { result ≡ are_letters (map (λ letter. letter.now) letters.now) text.now }
+fn find_letters(text: &str, letters: &[&str]) -> Found
+    ensures { result ≡ found_in (map (λ letter. letter.now) letters.now) text.now }
 {
-    text.split(',').all(|piece| is_known(piece, letters))
+    text.split(',')
+        .fold(NOTHING, |found, piece| with_piece(found, piece, letters))
 }
 
-fn has_letter(text: &str, letter: &str) -> bool
-    ensures { result ≡ has_letter letter.now text.now }
+/// What is said with one more piece.
+fn with_piece(found: Found, piece: &str, letters: &[&str]) -> Found
+    ensures { result ≡ with_piece (map (λ letter. letter.now) letters.now) found piece.now }
 {
-    text.split(',').any(|piece| piece == letter)
+    let criteria = found.criteria;
+    Found {
+        known: are_known(found.known, piece, letters),
+        criteria: Criteria {
+            ok: is_found(criteria.ok, piece, "o"),
+            warning: is_found(criteria.warning, piece, "w"),
+            unknown: is_found(criteria.unknown, piece, "u"),
+            critical: is_found(criteria.critical, piece, "c"),
+            down: is_found(criteria.down, piece, "d"),
+            pending: is_found(criteria.pending, piece, "p"),
+            none: is_found(criteria.none, piece, "n"),
+        },
+    }
+}
+
+/// Whether the pieces before were letters, and this one is.
+fn are_known(before: bool, piece: &str, letters: &[&str]) -> bool
+    ensures { result ≡ (before && is_among (map (λ letter. letter.now) letters.now) piece.now) }
+{
+    before && is_known(piece, letters)
+}
+
+/// Whether a letter was there before, or is this piece.
+fn is_found(before: bool, piece: &str, letter: &str) -> bool
+    ensures { result ≡ (before || bytes_eq piece.now letter.now) }
+{
+    before || piece == letter
 }

@@ -61,7 +61,7 @@ fn flapping_begins_and_stops(rt: HostRuntime) -> Result<(), Fail> {
 fn a_low_threshold_above_its_high_one_is_refused(rt: HostRuntime) -> Result<(), Fail> {
     let setup = "{\"options\":{\"high_service_flap_threshold\":10}}";
     let (written, outcome) = run_script(rt.alloc(), setup, "")?;
-    assert!(rt; written.as_slice() == b"refused L8 Range options\n");
+    assert!(rt; written.as_slice() == b"refused L8 Range options\n".as_slice());
     assert_eq!(rt; outcome, Outcome::Refused);
     Ok(())
 }
