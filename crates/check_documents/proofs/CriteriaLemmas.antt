@@ -1,5 +1,5 @@
 -- The criteria of a text, piece by piece.
-use Rattle.std.proofs.Common.{◌≡◌, ℕ, ◌&&◌, ◌||◌, Bool, true, false, List, [], ◌∷◌, refl, sym, ap, ◌∙◌, bytes_eq}
+use Rattle.std.proofs.Common.{◌≡◌, ℕ, ◌&&◌, ◌||◌, Bool, true, false, List, [], ◌∷◌, refl, sym, ◌∙◌, bytes_eq}
 use Rattle.std.specs.Prelude.{codes, fold}
 use Rattle.std.specs.List.{list_any, list_all}
 use Rattle.check_documents.specs.declared.criteria.Found.{Found}
