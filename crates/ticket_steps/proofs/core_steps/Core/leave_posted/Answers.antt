@@ -71,7 +71,8 @@ leaves g c =
     )
 
 pub invariant_of-self-clause-lawful : goal.invariant_of-self-clause-lawful
-invariant_of-self-clause-lawful g c = shows_lawful g.K.Kept.step _ _ _ _ _ _ c.args.self.now.lawful (leaves g c)
+invariant_of-self-clause-lawful g c =
+    shows_lawful g.K.Kept.step _ _ _ _ _ _ c.args.self.now.lawful (leaves g (goal.at.invariant_of-self-clause-lawful g c).After-leave)
 
 pub returns-clause-step : goal.returns-clause-step
 returns-clause-step g c = steps_shown g.K.Kept.step _ _ _ _ _ (leaves g (goal.at.returns-clause-step g c).After-leave)
