@@ -17,7 +17,7 @@ refused_of book = book.refused
 
 -- its scheduler
 abbrev pub sched_of : Book → State
-sched_of book = book.sched
+sched_of book = book.sched.value
 
 -- for how many entries there was room from the start
 abbrev pub room_of : Book → ℕ
@@ -29,8 +29,8 @@ capacity_of book = vec_capacity book.entries
 
 -- the state that it was opened with
 abbrev pub opening_of : Book → BookState
-opening_of book = book_opening book.sched.setup book.sched.start book.room
+opening_of book = book_opening book.sched.value.setup book.sched.value.start book.room
 
 -- its present state
 abbrev pub state_of : Book → BookState
-state_of book = record { sched = book.sched; room = book.room }
+state_of book = record { sched = book.sched.value; room = book.room }

@@ -26,14 +26,16 @@ mod tests;
 /// whose entry there is no memory isn't made, but counted.
 #[derive(Drop)]
 pub struct Book {
-    sched: Sched,
+    /// Behind a box, so that a book that is handed over moves a pointer in its place.
+    sched: Box<Sched>,
     entries: Vec<Entry<Call, Reply>>,
     refused: u64,
     room: usize,
     ghost reserved: { room ≤ vec_capacity entries },
-    ghost legal: { IsLegal book_step (book_opening sched.setup sched.start room) entries.items } by { IsLegal-prop book_step (λ a b. Prim.hlevel props)
-        (book_opening sched.setup sched.start room) entries.items },
-    ghost replayed: { record { sched = sched; room = room } ≡ replay book_step (book_opening sched.setup sched.start room) entries.items },
+    ghost legal: { IsLegal book_step (book_opening sched.value.setup sched.value.start room) entries.items } by { IsLegal-prop book_step (λ a b. Prim.hlevel props)
+        (book_opening sched.value.setup sched.value.start room) entries.items },
+    ghost replayed: { record { sched = sched.value; room = room }
+        ≡ replay book_step (book_opening sched.value.setup sched.value.start room) entries.items },
 }
 
 impl Book {
@@ -55,6 +57,10 @@ impl Book {
             return Err(setup);
         };
         let sched = Sched::new(alloc, setup, start)?;
+        let sched = match Box::new(alloc, sched) {
+            Ok(sched) => sched,
+            Err(refused) => return Err(refused.value.into_setup()),
+        };
         Ok(Book {
             sched,
             entries,

@@ -354,6 +354,13 @@ impl Sched {
         &self.setup
     }
 
+    /// Gives the setup back, and ends the scheduler.
+    pub(crate) fn into_setup(self) -> Setup
+        ensures { result ≡ self.setup }
+    {
+        self.setup
+    }
+
     /// The moment at which scheduling started, in milliseconds.
     pub fn start(&self) -> u64
         ensures { result ≡ self.now.start }

@@ -1,14 +1,12 @@
-use Rattle.std.proofs.Common.{arith}
-use Rattle.check_sched.specs.BookState.{book_opening}
+use Rattle.std.proofs.Common.{arith, ◌∙◌}
 use Rattle.check_sched.proofs.BookLemmas.{book_opened}
 use Rattle.check_sched.proofs.book.Book.open.Goals as goal
 
 pub invariant_of-result : goal.invariant_of-result
 invariant_of-result c =
-    let s = c.in_ok-sched.sched in
-    let o = book_opening s.setup s.start c.args.room in
+    let s = c.in-Ok-new.sched.value in
     record {
       reserved = omega (arith, c.in-Ok.ensures.capacity);
       legal = rw c.in-Ok.ensures.items tt;
-      replayed = rw c.in-Ok.ensures.items (book_opened s c.args.setup c.args.start c.args.room c.in_ok-sched.ensures.ok);
+      replayed = rw c.in-Ok.ensures.items (book_opened s c.args.setup c.args.start c.args.room (c.in-Ok-new.ensures.ok ∙ c.in_ok-sched.ensures.ok));
     }
