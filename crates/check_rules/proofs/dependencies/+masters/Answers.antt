@@ -12,8 +12,7 @@ is_master_blocked-is_any_master_blocked-requires t c =
     let behind = deeper c.args.setup.now c.args.master c.args.depth c.requires.shallow in
     let some = behind.0 in
     let falls = c.decreases in
-    let within = c.dependencies-dependencies.ensures.within in
-    (
+    let within = c.dependencies-dependencies.ensures.within in (
       omega (arith, some, falls),
       (c.requires.valid, (within, (rw c.dependencies-dependencies.ensures.dependencies behind.1, (c.requires.scratch, c.requires.asked)))),
     )
