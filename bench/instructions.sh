@@ -7,6 +7,8 @@
 #   calls    a check of one of n objects is taken and reported, by the scheduler alone
 #   run      the same by the whole program: two lines read, two written
 set -eu
+# Valgrind counts a string store byte by byte; the C library is told to store by words.
+export GLIBC_TUNABLES=glibc.cpu.x86_rep_stosb_threshold=100000000:glibc.cpu.x86_rep_movsb_threshold=100000000
 crates=$(cd "$(dirname "$0")/../crates" && pwd)
 work=$(mktemp -d)
 trap 'rm -rf "$work"' EXIT
