@@ -57,7 +57,7 @@ Exit status:
   4  out of memory
 
 Example:
-  printf '%s\n' '{\"hosts\":[{\"name\":\"gateway\",\"max_check_attempts\":3}]}' \\
+  printf '%s\\n' '{\"hosts\":[{\"name\":\"gateway\",\"max_check_attempts\":3}]}' \\
     '[\"take\",0]' '[\"report\",\"gateway\",1,2]' | nagsched run";
 
 /// What stands at the end of the help of `run`.
@@ -75,11 +75,13 @@ Output, a line for each call:
   standing STATE KIND ATTEMPT CHANGED FLAP TIME NAME
   freed TIME NAME       done NAME               refused CODE WHY
 
+docs/FORMATS.md has every line, member and refusal, each with an example.
+
 Exit status:
   0 ran   1 input refused   2 words refused   3 device failed   4 out of memory
 
 Example:
-  printf '%s\n' '{\"hosts\":[{\"name\":\"gateway\",\"max_check_attempts\":3}]}' \\
+  printf '%s\\n' '{\"hosts\":[{\"name\":\"gateway\",\"max_check_attempts\":3}]}' \\
     '[\"take\",0]' '[\"report\",\"gateway\",1,2]' | nagsched run --start 0";
 
 /// What stands at the end of the help of `drill`.
@@ -93,11 +95,13 @@ Output:
   PASS LINE              the worker's pass and the line of `run`, for each call
   total ENTRIES REFUSED  calls recorded, and refused out of memory
 
+docs/FORMATS.md has every line, member and refusal, each with an example.
+
 Exit status:
   0 ran   1 input refused   2 words refused   3 device failed   4 out of memory
 
 Example:
-  printf '%s\n' '{\"hosts\":[{\"name\":\"gateway\",\"max_check_attempts\":3}]}' \\
+  printf '%s\\n' '{\"hosts\":[{\"name\":\"gateway\",\"max_check_attempts\":3}]}' \\
     '[\"plugin\",\"gateway\",2]' '[\"moment\",0]' | nagsched drill --workers 1";
 
 /// The latest moment at which a scheduler may start, in milliseconds.
