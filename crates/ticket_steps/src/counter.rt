@@ -1,7 +1,7 @@
 //! The smallest book: a call is a number, and the reply is the sum of all calls so far, modulo 2^64.
 ghost use Rattle.std.specs.Prelude.{◌≡◌, ℕ, ◌+◌, ◌^◌, ◌<◌, ◌≤◌, [], ◌∷◌, ◌++◌, length, IfOk, OnErr, vec_capacity};
 ghost use Rattle.std.specs.Coded.{Coded-set, coded_ℕ};
-ghost use Rattle.ticket_steps.specs.Counting.{counts};
+ghost use Rattle.ticket_steps.specs.Counting.{counts, sum_board, sum_place, sum_within, sum_unposted, sum_posted};
 ghost use Rattle.ticket_steps.specs.History.{entry, replay, IsLegal, IsLegal-prop};
 
 use crate::kept::{Entry, Kept, NoMemory};
@@ -57,6 +57,10 @@ impl Kept for CounterBook {
 
     ghost step = { counts };
 
+    ghost board = { sum_board };
+
+    ghost posts_at = { sum_place };
+
     ghost opening = { λ _. 0 };
 
     ghost state = { sum_of };
@@ -68,6 +72,12 @@ impl Kept for CounterBook {
     ghost legal = { λ book. book.legal };
 
     ghost replayed = { λ book. book.summed };
+
+    ghost within = { sum_within };
+
+    ghost unposted = { sum_unposted };
+
+    ghost posted = { sum_posted };
 
     /// Adds the call to the sum. `NoMemory` comes only where the entries have reached the room, and
     /// fill all that was reserved since.
@@ -99,5 +109,18 @@ impl Kept for CounterBook {
 
     fn refused(&self) -> u64 {
         self.refused
+    }
+
+    fn words(&self) -> u32 {
+        1
+    }
+
+    /// The sum.
+    fn word(&self, _place: u32) -> u64 {
+        self.sum
+    }
+
+    fn posts(&self, call: u8) -> Option<u32> {
+        if call == 0 { None } else { Some(0) }
     }
 }

@@ -1,5 +1,6 @@
 //! Books: sequential objects that keep the history of their calls.
-ghost use Rattle.std.specs.Prelude.{◌≡◌, ℕ, ◌+◌, ◌^◌, ◌<◌, List, [], ◌∷◌, ◌++◌, IfOk, OnErr};
+ghost use Rattle.std.specs.Prelude.{◌≡◌, ℕ, ◌+◌, ◌^◌, ◌<◌, List, [], ◌∷◌, ◌++◌, length, slice_index, slice_set};
+ghost use Rattle.std.specs.Prelude.{Option, Some, None, IfOk, OnErr};
 ghost use Rattle.ticket_steps.specs.declared.kept.Entry.{Entry as EntryOf};
 ghost use Rattle.ticket_steps.specs.History.{entry, replay, IsLegal};
 
@@ -18,13 +19,21 @@ pub struct NoMemory;
 /// A sequential object that keeps the history of its calls, each under the number of its caller.
 ///
 /// An implementation names its states, its sequential step and, for each value, the state that it
-/// was opened in, its present state, its history and its count of refusals. Four laws hold:
+/// was opened in, its present state, its history and its count of refusals. It also names what a
+/// state shows on a board that is read without the lock: its words, by place, and the place at which
+/// a call is posted, if it is. Seven laws hold:
 ///
 /// 1. `legal`: each reply of the history is the step's at its point, from the opening state on.
 /// 2. `replayed`: the present state is what the calls of the history leave.
 /// 3. A `record` that answers a reply adds exactly that entry (`replied`) and changes neither the
 ///    opening state (`same`) nor the count of refusals.
 /// 4. A `record` that answers `NoMemory` adds one to the refusals and changes nothing else.
+/// 5. The words, and the place of a call, are functions of the state, so of the opening state and the
+///    entries alone (by `replayed`), and a place is one of a word (`within`).
+/// 6. A call that is posted nowhere changes no word (`unposted`).
+/// 7. One that is posted changes at most the word at its place (`posted`).
+///
+/// By the last two no call changes how many words there are.
 pub trait Kept {
     type Call: Copy;
 
@@ -33,6 +42,10 @@ pub trait Kept {
     ghost State: { Type 0 };
 
     ghost step: { State → Self.Call → State × Self.Reply };
+
+    ghost board: { State → List ℕ };
+
+    ghost posts_at: { State → Self.Call → Option ℕ };
 
     ghost opening: { Self → State };
 
@@ -63,9 +76,32 @@ pub trait Kept {
     fn refused(&self) -> u64
         ensures { result ≡ refusals self.now };
 
+    /// How many words its board has.
+    fn words(&self) -> u32
+        ensures { result ≡ length (board (state self.now)) };
+
+    /// The word at this place.
+    fn word(&self, place: u32) -> u64
+        requires { place < length (board (state self.now)) }
+        ensures { result ≡ slice_index (board (state self.now)) place };
+
+    /// At which place the call is posted, if it is made now; None where no word tells of it.
+    fn posts(&self, call: Self::Call) -> Option<u32>
+        ensures { result ≡ posts_at (state self.now) call };
+
     /// Each reply is the step's at its point.
     ghost legal: { (book : Self) → IsLegal step (opening book) (history book) };
 
     /// The state is what the calls leave.
     ghost replayed: { (book : Self) → state book ≡ replay step (opening book) (history book) };
+
+    /// A call is posted at the place of a word.
+    ghost within: { (s : State) (call : Self.Call) (at : ℕ) → posts_at s call ≡ Some at → at < length (board s) };
+
+    /// A call that is posted nowhere changes no word.
+    ghost unposted: { (s : State) (call : Self.Call) → posts_at s call ≡ None → board (step s call).0 ≡ board s };
+
+    /// A call that is posted changes no word but the one at its place.
+    ghost posted: { (s : State) (call : Self.Call) (at : ℕ) → posts_at s call ≡ Some at
+        → board (step s call).0 ≡ slice_set (board s) at (slice_index (board (step s call).0) at) };
 }
