@@ -17,12 +17,12 @@ start_coded {K} book =
     (λ p. record { book = p.0; numbers = p.1.0; draws = p.1.1 }) (λ _. refl)
 
 module _ {K C R : Type 0} {G : Ghosts K C R} (book : Coded K) where
-  pub IsSeatOf-prop : (lock : TicketLock K C R) (seat : Seat K C R G) → IsProp (IsSeatOf lock seat)
+  pub IsSeatOf-prop : (lock : TicketLock K C R G) (seat : Seat K C R G) → IsProp (IsSeatOf lock seat)
   IsSeatOf-prop lock seat =
       ×_prop (Coded-set table_id_coded seat.table_seat.table_id lock.table.shared.table_id)
       (Coded-set (coded_option (start_coded book)) seat.table_seat.me.0.start (Some (start_of lock)))
 
-  pub IsTurnOf-prop : (lock : TicketLock K C R) (turn : Turn K C R G) → IsProp (IsTurnOf lock turn)
+  pub IsTurnOf-prop : (lock : TicketLock K C R G) (turn : Turn K C R G) → IsProp (IsTurnOf lock turn)
   IsTurnOf-prop lock turn =
       ×_prop (Coded-set table_id_coded turn.table_seat.table_id lock.table.shared.table_id)
       (Coded-set (coded_option (start_coded book)) turn.table_seat.me.0.start (Some (start_of lock)))

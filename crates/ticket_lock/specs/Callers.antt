@@ -1,9 +1,12 @@
 -- What is seen of a seat, a turn or a hold: the caller behind it.
-use Rattle.std.specs.Prelude.{◌≡◌, ℕ, ◌+◌, ◌-◌, ◌*◌, ◌<◌, ◌^◌, List, [], ◌++◌, length, take, drop, Bool, true, false}
+use Rattle.std.specs.Prelude.{◌≡◌, ℕ, ◌+◌, ◌-◌, ◌*◌, ◌<◌, ◌^◌, List, [], ◌++◌, length, take, drop, Bool, true, false, slice_index}
 use Rattle.ticket_steps.specs.declared.kept.Entry.{Entry}
 use Rattle.ticket_steps.specs.declared.kept.Kept.{Ghosts}
+use Rattle.ticket_steps.specs.History.{IsLegal}
 use Rattle.ticket_steps.specs.Sums.{counted}
 use Rattle.ticket_lock.specs.declared.views.Start.{Start}
+use Rattle.ticket_lock.specs.Boards.{board_after}
+use Rattle.ticket_lock.specs.Layout.{board_word}
 use Rattle.ticket_lock.specs.Views.{Follows, longer}
 
 pub record Caller (C R : Type 0) : Type 0 where
@@ -62,3 +65,12 @@ module _ {K C R : Type 0} (k : Ghosts K C R) where
     -- its entries and refusals are the ticket: calls end in the order of their draws
     pub counted : length (k.history book) + k.refusals book ≡ ticket
     pub few : ticket < 2 ^ 42
+
+  -- what a caller with these numbers sees at a glance, by which it has seen these entries: this word of the table with this number in it
+  pub record IsGlanced (start : Start K) (numbers : List ℕ) (seen entries : List (Entry C R)) (word found : ℕ) : Type 0 where
+    -- the entries begin with all that the caller has seen, and have nothing new of the caller's numbers
+    pub follows : Follows numbers seen entries
+    -- they are a legal history from the book of the lock's opening
+    pub legal : IsLegal k.step (k.opening start.book) entries
+    -- the number found is the word at its place on the board of the state that they leave
+    pub shown : (place : ℕ) → word ≡ board_word place → found ≡ slice_index (board_after k start.book entries) place

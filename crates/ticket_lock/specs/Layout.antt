@@ -1,5 +1,5 @@
 -- The layout of the table: at which place each of its words stands, and the list of them all. No other definition says it.
-use Rattle.std.specs.Prelude.{ℕ, ◌+◌, List, [], ◌∷◌}
+use Rattle.std.specs.Prelude.{ℕ, ◌+◌, List, [], ◌∷◌, ◌++◌}
 use Rattle.ticket_steps.specs.Grants.{watched}
 
 -- the place of the next ticket
@@ -10,14 +10,18 @@ next_word = 0
 abbrev pub grant_word : ℕ → ℕ
 grant_word ticket = watched ticket + 1
 
--- the words of the table: the next ticket, and the grant words
-abbrev pub table_words : ℕ → List ℕ → List ℕ
-table_words next grants = next ∷ grants
+-- the place of a word of the board
+abbrev pub board_word : ℕ → ℕ
+board_word place = place + 5
 
--- how many they are
-abbrev pub word_count : ℕ
-word_count = 5
+-- the words of the table: the next ticket, the grant words, and the board
+abbrev pub table_words : ℕ → List ℕ → List ℕ → List ℕ
+table_words next grants board = next ∷ (grants ++ board)
 
--- the words of the table as it is made: no ticket is drawn, and ticket 0 is served
-abbrev pub first_words : List ℕ
-first_words = table_words 0 (0 ∷ 0 ∷ 0 ∷ 0 ∷ [])
+-- how many they are, where the board has so many words
+abbrev pub word_count : ℕ → ℕ
+word_count words = words + 5
+
+-- the words of the table as it is made: no ticket is drawn, ticket 0 is served, and this is the board
+abbrev pub first_words : List ℕ → List ℕ
+first_words board = table_words 0 (0 ∷ 0 ∷ 0 ∷ 0 ∷ []) board

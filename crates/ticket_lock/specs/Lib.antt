@@ -1,5 +1,6 @@
 pub mod Views
 pub mod Layout
+pub mod Boards
 pub mod Words
 pub mod Slots
 pub mod Histories

@@ -1,12 +1,13 @@
 -- What each step tells the seat that steps.
-use Rattle.std.specs.Prelude.{◌≡◌, ◌≢◌, ℕ, ◌<◌, ◌≤◌, [], ◌∷◌, length, Option, Some}
+use Rattle.std.specs.Prelude.{◌≡◌, ◌≢◌, ℕ, ◌<◌, ◌≤◌, List, [], ◌∷◌, length, Option, Some}
 use Rattle.atomic_table.specs.Table.{Me, Step}
+use Rattle.ticket_steps.specs.declared.kept.Entry.{Entry}
 use Rattle.ticket_steps.specs.declared.kept.Kept.{Ghosts}
-use Rattle.ticket_steps.specs.declared.seats.Phase.TheVariants.{Waiting}
+use Rattle.ticket_steps.specs.declared.seats.Phase.TheVariants.{Waiting, Holding}
 use Rattle.ticket_lock.specs.declared.views.Start.{Start}
 use Rattle.ticket_lock.specs.declared.views.View.{View}
-use Rattle.ticket_lock.specs.Callers.{IsHanded}
-use Rattle.ticket_lock.specs.Views.{Follows, longer, drawn_view, reloaded_view, held_view, left_view}
+use Rattle.ticket_lock.specs.Callers.{IsHanded, IsGlanced}
+use Rattle.ticket_lock.specs.Views.{Follows, longer, drawn_view, reloaded_view, held_view, posted_view, glanced_view, left_view}
 
 module _ {K C R : Type 0} where
   -- a draw: the number found is the ticket
@@ -20,6 +21,11 @@ module _ {K C R : Type 0} where
       × Follows before.0.two.numbers before.0.two.seen before.0.seen
       × (length before.0.seat.numbers ≤ 1024) × (before.0.seat.calls ≤ 4398046510080)
 
+  -- a post: the holder holds on, and knows the history and the refusals of the book after its call
+  abbrev pub PostTells : List (Entry C R) → ℕ → Step (Option K) → Me (Option K) (View K C R) → ℕ → Me (Option K) (View K C R) → Type 0
+  PostTells entries refused step before found after =
+      (ticket : ℕ) → before.0.seat.phase ≡ Holding ticket → after ≡ (posted_view ticket entries refused before.0, before.1)
+
 module _ {K C R : Type 0} (k : Ghosts K C R) where
   -- a look: where the number found is the ticket the book was taken out of its slot, and else nothing changed
   abbrev pub LookTells : Step (Option K) → Me (Option K) (View K C R) → ℕ → Me (Option K) (View K C R) → Type 0
@@ -32,3 +38,8 @@ module _ {K C R : Type 0} (k : Ghosts K C R) where
   abbrev pub LeaveTells : Step (Option K) → Me (Option K) (View K C R) → ℕ → Me (Option K) (View K C R) → Type 0
   LeaveTells step before found after =
       (book : K) → before.1 ≡ (0, Some book) ∷ [] → (after ≡ (left_view k before.0 book, [])) × (before.0.seat.calls < 4398046510080)
+
+  -- a glance: there is a history that the seat has seen by it, and the number found is the word of the board after it
+  abbrev pub GlanceTells : Step (Option K) → Me (Option K) (View K C R) → ℕ → Me (Option K) (View K C R) → Type 0
+  GlanceTells step before found after = (entries : List (Entry C R)) × (after ≡ (glanced_view entries before.0, before.1)) ×
+      ((start : Start K) → before.0.start ≡ Some start → IsGlanced k start before.0.seat.numbers before.0.seen entries step.word found)

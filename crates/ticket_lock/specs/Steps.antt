@@ -7,11 +7,13 @@ use Rattle.ticket_steps.specs.declared.kept.Entry.{Entry}
 use Rattle.ticket_steps.specs.declared.kept.Kept.{Ghosts}
 use Rattle.ticket_steps.specs.CoreStates.{CoreState}
 use Rattle.ticket_steps.specs.Happenings.{Happening, Moves}
+use Rattle.ticket_steps.specs.History.{replay}
 use Rattle.ticket_lock.specs.declared.views.Start.{Start}
 use Rattle.ticket_lock.specs.declared.views.View.{View}
-use Rattle.ticket_lock.specs.Layout.{first_words, grant_word, next_word}
+use Rattle.ticket_lock.specs.Layout.{first_words, grant_word, board_word, next_word}
 use Rattle.ticket_lock.specs.Rule.{IsTableOf}
-use Rattle.ticket_lock.specs.Views.{first_view, spent_view, keeping_view, given_view, drawn_view, joined_view, reloaded_view, held_view, posted_view, left_view}
+use Rattle.ticket_lock.specs.Views.{first_view, spent_view, keeping_view, given_view, drawn_view, joined_view, reloaded_view, glanced_view, held_view}
+use Rattle.ticket_lock.specs.Views.{posted_view, left_view}
 
 -- what an operation makes of the number that it finds: an add of one, a load, and a store of a number
 abbrev pub one_more : ℕ → ℕ
@@ -24,10 +26,6 @@ abbrev pub stored : ℕ → ℕ → ℕ
 stored number n = number
 
 module _ {K C R : Type 0} where
-  -- the table as it is made: no ticket is drawn, none is served, the book is in its slot, and one seat stands for all numbers
-  abbrev pub first_table : Start K → State (Option K) (View K C R)
-  first_table start = opening first_words (Some start.book ∷ []) (first_view start)
-
   -- split, a load of the next ticket: the seat id keeps its first numbers, a new seat has the last
   abbrev pub after_split : State (Option K) (View K C R) → ℕ → ℕ → View K C R → State (Option K) (View K C R)
   after_split s id count v = record { words = s.words; homes = s.homes; views = slice_set s.views id (keeping_view count v) ++ given_view count v ∷ [] }
@@ -45,28 +43,49 @@ module _ {K C R : Type 0} where
   abbrev pub after_gather : State (Option K) (View K C R) → ℕ → View K C R → ℕ → View K C R → State (Option K) (View K C R)
   after_gather s id v other w = record { words = s.words; homes = s.homes; views = slice_set (slice_set s.views id (joined_view v w)) other spent_view }
 
+  -- glance, a load of a word of the board, by a seat that has seen these entries by it
+  abbrev pub after_glance : State (Option K) (View K C R) → ℕ → ℕ → List (Entry C R) → Me (Option K) (View K C R) → State (Option K) (View K C R)
+  after_glance s id place entries me =
+      stepped s (board_word place) (slice_index s.words (board_word place)) id me.1 (glanced_view entries me.0) keeps
+
   -- the second load of a gather, at which the seat learns what the rule says of it
   abbrev pub after_second_load : State (Option K) (View K C R) → ℕ → Me (Option K) (View K C R) → State (Option K) (View K C R)
   after_second_load s id me = stepped s next_word (slice_index s.words next_word) id me.1 (reloaded_view me.0) keeps
 
 module _ {K C R : Type 0} (k : Ghosts K C R) where
+  -- the table as it is made: no ticket is drawn, ticket 0 is served, the board shows the state that the book was opened in, the book
+  -- is in its slot, and one seat stands for all numbers
+  abbrev pub first_table : Start K → State (Option K) (View K C R)
+  first_table start = opening (first_words (k.board (k.opening start.book))) (Some start.book ∷ []) (first_view start)
+
   -- look, a load of the word that the ticket watches, by the seat that is served, which takes the book
   abbrev pub after_holding : State (Option K) (View K C R) → ℕ → ℕ → Me (Option K) (View K C R) → K → State (Option K) (View K C R)
   after_holding s id ticket me book =
       stepped s (grant_word ticket) (slice_index s.words (grant_word ticket)) id me.1 (held_view k ticket me.0 book) (takes 0 (Some book))
 
-  -- post: the holder has recorded its call in the book that it has, and holds on; no word and no slot changes
-  abbrev pub after_posting : State (Option K) (View K C R) → ℕ → ℕ → View K C R → K → State (Option K) (View K C R)
-  after_posting s id ticket v book = record { words = s.words; homes = s.homes; views = slice_set s.views id (posted_view k ticket v book) }
+  -- the word at this place of the board of this book
+  abbrev pub word_in : K → ℕ → ℕ
+  word_in book place = slice_index (k.board (k.state book)) place
+
+  -- post, a store of the word at the place of the call, by the holder that has recorded its call in the book that it has, and holds on
+  abbrev pub after_posting : State (Option K) (View K C R) → ℕ → ℕ → ℕ → Me (Option K) (View K C R) → K → State (Option K) (View K C R)
+  after_posting s id ticket place me book =
+      stepped s (board_word place) (word_in book place) id me.1 (posted_view ticket (k.history book) (k.refusals book) me.0) keeps
 
   -- leave, a store of the next number in the word that it watches, by the holder of this ticket, whose book is back in its slot
   abbrev pub after_leaving : State (Option K) (View K C R) → ℕ → ℕ → Me (Option K) (View K C R) → K → State (Option K) (View K C R)
   after_leaving s id ticket me book = stepped s (grant_word (ticket + 1)) (ticket + 1) id me.1 (left_view k me.0 book) gives
 
-  -- the book is the one that was taken out with these entries and refusals, with one more entry of this number or one more refusal
-  pub record Returns (start : Start K) (own : ℕ) (seen : List (Entry C R)) (refused : ℕ) (book : K) : Type 0 where
+  -- at which place this call is posted, if it is made after these entries; None where it is posted nowhere
+  abbrev pub place_after : Start K → List (Entry C R) → C → Option ℕ
+  place_after start entries call = k.posts_at (replay k.step (k.opening start.book) entries) call
+
+  -- the book is the one that was taken out with these entries and refusals, with one more entry of this number or one more refusal;
+  -- the call of that entry is posted at this place
+  pub record Returns (start : Start K) (own : ℕ) (seen : List (Entry C R)) (refused : ℕ) (place : Option ℕ) (book : K) : Type 0 where
     pub opening : k.opening book ≡ k.opening start.book
-    pub more : ((e : Entry C R) × (e.pass ≡ own) × (k.history book ≡ seen ++ e ∷ []) × (k.refusals book ≡ refused)) ⊎
+    pub more : ((e : Entry C R) × (e.pass ≡ own) × (k.history book ≡ seen ++ e ∷ []) × (k.refusals book ≡ refused)
+        × (place_after start seen e.call ≡ place)) ⊎
         ((k.history book ≡ seen) × (k.refusals book ≡ refused + 1))
 
   -- the book is the one that was posted, with these entries and refusals

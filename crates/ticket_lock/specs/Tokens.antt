@@ -1,5 +1,5 @@
 -- What clauses see of the lock, its seats, turns and holds.
-use Rattle.std.specs.Prelude.{◌≡◌, ℕ, Some}
+use Rattle.std.specs.Prelude.{◌≡◌, ℕ, Some, Bool}
 use Rattle.ticket_steps.specs.declared.kept.Kept.{Ghosts}
 use Rattle.ticket_lock.specs.declared.lock.Look.{Look}
 use Rattle.ticket_lock.specs.declared.lock.Look.TheVariants.{Held, Waiting}
@@ -9,18 +9,22 @@ use Rattle.ticket_lock.specs.declared.tokens.Seat.{Seat}
 use Rattle.ticket_lock.specs.declared.tokens.Turn.{Turn}
 use Rattle.ticket_lock.specs.declared.views.Start.{Start}
 use Rattle.ticket_lock.specs.declared.views.View.{View}
+use Rattle.ticket_lock.specs.Boards.{board_length}
 use Rattle.ticket_lock.specs.Callers.{Caller, caller}
 
 -- the caller in a view
 abbrev pub caller_in : {K C R : Type 0} → View K C R → Caller C R
 caller_in v = caller v.seat.own v.seat.numbers v.seat.left v.seat.calls v.seat.fresh v.seen
 
-module _ {K C R : Type 0} where
+module _ {K C R : Type 0} {G : Ghosts K C R} where
   -- how this lock was opened
-  abbrev pub start_of : TicketLock K C R → Start K
+  abbrev pub start_of : TicketLock K C R G → Start K
   start_of lock = record { book = lock.table.shared.key.book.value; numbers = lock.numbers; draws = lock.draws }
 
-module _ {K C R : Type 0} {G : Ghosts K C R} where
+  -- how many words its board has: as many as that of the state that its book was opened in
+  abbrev pub words_of : TicketLock K C R G → ℕ
+  words_of lock = board_length G (start_of lock).book
+
   -- the caller behind a seat, a turn, a hold
   abbrev pub seat_of : Seat K C R G → Caller C R
   seat_of seat = caller_in seat.table_seat.me.0
@@ -38,18 +42,22 @@ module _ {K C R : Type 0} {G : Ghosts K C R} where
   abbrev pub held_ticket_of : Hold K C R G → ℕ
   held_ticket_of hold = hold.ticket
 
-  -- how many calls were refused when the holder took the book out
+  -- whether the holder has posted its call
+  abbrev pub has_posted : Hold K C R G → Bool
+  has_posted hold = hold.posted
+
+  -- how many calls were refused when the holder took the book out, or when it posted
   abbrev pub refused_before : Hold K C R G → ℕ
   refused_before hold = hold.table_seat.me.0.refused
 
   -- it is of this lock
-  abbrev pub IsSeatOf : TicketLock K C R → Seat K C R G → Type 0
+  abbrev pub IsSeatOf : TicketLock K C R G → Seat K C R G → Type 0
   IsSeatOf lock seat = (seat.table_seat.table_id ≡ lock.table.shared.table_id) × (seat.table_seat.me.0.start ≡ Some (start_of lock))
 
-  abbrev pub IsTurnOf : TicketLock K C R → Turn K C R G → Type 0
+  abbrev pub IsTurnOf : TicketLock K C R G → Turn K C R G → Type 0
   IsTurnOf lock turn = (turn.table_seat.table_id ≡ lock.table.shared.table_id) × (turn.table_seat.me.0.start ≡ Some (start_of lock))
 
-  abbrev pub IsHoldOf : TicketLock K C R → Hold K C R G → Type 0
+  abbrev pub IsHoldOf : TicketLock K C R G → Hold K C R G → Type 0
   IsHoldOf lock hold = (hold.table_seat.table_id ≡ lock.table.shared.table_id) × (hold.table_seat.me.0.start ≡ Some (start_of lock))
 
   -- the two answers of a look

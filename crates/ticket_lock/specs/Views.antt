@@ -67,14 +67,18 @@ module _ {K C R : Type 0} where
   abbrev pub reloaded_view : View K C R → View K C R
   reloaded_view v = view v.start v.seat v.seen 0
 
+  -- the view of a seat that has glanced at the board, and so seen this history
+  abbrev pub glanced_view : List (Entry C R) → View K C R → View K C R
+  glanced_view entries v = view v.start v.seat entries 0
+
+  -- the view of a holder that has posted its call, by which the book came to these entries and refusals
+  abbrev pub posted_view : ℕ → List (Entry C R) → ℕ → View K C R → View K C R
+  posted_view ticket entries refused v = view v.start (posting ticket v.seat) entries refused
+
   module _ (k : Ghosts K C R) where
     -- the view of a holder that has taken this book
     abbrev pub held_view : ℕ → View K C R → K → View K C R
     held_view ticket v book = view v.start (holding ticket v.seat) (k.history book) (k.refusals book)
-
-    -- the view of a holder that has posted its call, by which the book became this one
-    abbrev pub posted_view : ℕ → View K C R → K → View K C R
-    posted_view ticket v book = view v.start (posting ticket v.seat) (k.history book) (k.refusals book)
 
     -- the view of a holder that has put this book back and left
     abbrev pub left_view : View K C R → K → View K C R

@@ -10,10 +10,10 @@ use Rattle.ticket_lock.specs.declared.views.View.{View}
 use Rattle.ticket_lock.specs.Layout.{table_words}
 use Rattle.ticket_lock.specs.Views.{seat_in}
 
--- the words where this is the next ticket, and this number is served
-pub record AreWordsOf (next served : ℕ) (ws : List ℕ) : Type 0 where
+-- the words where this is the next ticket, this number is served, and this is the board
+pub record AreWordsOf (next served : ℕ) (board ws : List ℕ) : Type 0 where
   pub grants : List ℕ
-  pub words : ws ≡ table_words next grants
+  pub words : ws ≡ table_words next grants board
   -- the greatest of the grant words is the number served, and the word that a ticket watches which isn't left yet equals it
   -- exactly where it is served
   pub keep : AreGrantsOf served grants
@@ -21,6 +21,7 @@ pub record AreWordsOf (next served : ℕ) (ws : List ℕ) : Type 0 where
 module _ {K C R : Type 0} (k : Ghosts K C R) (start : Start K) where
   -- what happened since the opening led to the core state that is read off words and views
   pub record IsCoreOf (happened : List (Happening C R)) (c : CoreState k.State C R) (s : State (Option K) (View K C R)) : Type 0 where
-    pub words : AreWordsOf c.next c.served s.words
+    -- the board shows the state of the book that is at home, or with its holder
+    pub words : AreWordsOf c.next c.served (k.board c.book.state) s.words
     pub seats : c.seats ≡ map seat_in s.views
     pub leads : Leads k.step start.draws (opened start.numbers start.draws (k.opening start.book)) happened c

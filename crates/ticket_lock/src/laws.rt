@@ -19,7 +19,7 @@ pub fn every_seat<K: Kept>()
     ensures some { (seat : SeatOf K K.Call K.Reply K.Kept) → 0 < length (seat_of seat).numbers }
     ensures few { (seat : SeatOf K K.Call K.Reply K.Kept) → length (seat_of seat).numbers ≤ 1024 }
     ensures few_calls { (seat : SeatOf K K.Call K.Reply K.Kept) → (seat_of seat).calls < 2 ^ 42 }
-    ensures legal { (lock : LockOf K K.Call K.Reply) → (seat : SeatOf K K.Call K.Reply K.Kept)
+    ensures legal { (lock : LockOf K K.Call K.Reply K.Kept) → (seat : SeatOf K K.Call K.Reply K.Kept)
         → IsSeatOf lock seat
         → IsLegal K.step (K.opening (start_of lock).book) (seat_of seat).seen }
 {}

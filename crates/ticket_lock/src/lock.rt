@@ -1,15 +1,18 @@
 //! The lock and its calls.
-ghost use Rattle.std.specs.Prelude.{⊤, ◌≡◌, ◌↔◌, ℕ, ◌+◌, ◌*◌, ◌<◌, ◌≤◌, true, false, [], ◌∷◌, length, Some, None, IsErr, IfOk, IfErr};
+ghost use Rattle.std.specs.Prelude.{⊤, ◌≡◌, ◌↔◌, ℕ, ◌+◌, ◌*◌, ◌<◌, ◌≤◌, true, false, [], ◌∷◌, length, slice_index, Some, None, IsErr, IfOk, IfErr};
 ghost use Rattle.ticket_steps.specs.Books.{book_state, IsLawfulBook};
-ghost use Rattle.ticket_steps.specs.History.{of};
+ghost use Rattle.ticket_steps.specs.History.{of, IsLegal};
+ghost use Rattle.ticket_lock.specs.Boards.{board_after, board_length};
 ghost use Rattle.ticket_lock.specs.Callers.{first_caller, keeping, given, drawn, having_seen, ended, joined, IsHanded};
 ghost use Rattle.ticket_lock.specs.Layout.{word_count};
-ghost use Rattle.ticket_lock.specs.Steps.{Returns};
+ghost use Rattle.ticket_lock.specs.Steps.{Returns, IsPosted};
 ghost use Rattle.ticket_lock.specs.Views.{Follows};
 
 use crate::counts::SeatCounts;
-use crate::layout::{FIRST_WORDS, NEXT, grant_word};
-use crate::plays::{Count, Draws, Gathers, Leaves, Looks, SecondLoad, Splits};
+use crate::layout::{NEXT, board_word, first_words, grant_word};
+use crate::plays::{
+    After, Count, Draws, Gathers, Glances, Leaves, Looks, Posts, SecondLoad, Splits,
+};
 use crate::tokens::{Hold, Seat, TableSeat, Turn};
 use crate::views::{LockRule, Opening, View};
 use atomic_table::{Refused, Table};
@@ -29,9 +32,13 @@ type LockTable<K> = Table<
 /// A ticket lock round a book, for any number of threads.
 ///
 /// Each call of a caller takes a ticket (`draw`), looks until its ticket is served (`look`),
-/// records in the book that it is handed, and leaves (`leave`). Calls end in the order of their
-/// draws. No call waits: a caller that isn't served yet is told so, and may look again when it
-/// likes. Each call asks that its seat, turn or hold is of this lock.
+/// records in the book that it is handed, posts it where the book's board is to tell of it (`post`),
+/// and leaves (`leave`). Calls end in the order of their draws. No call waits: a caller that isn't
+/// served yet is told so, and may look again when it likes. Each call asks that its seat, turn or hold
+/// is of this lock.
+///
+/// The lock shows the book's board: a caller reads one of its words, without a ticket, by one load
+/// (`glance`).
 ///
 /// Whatever the threads do, the history of the book is that of one thread: each call is answered by
 /// the book's sequential step at its place.
@@ -40,7 +47,7 @@ pub struct TicketLock<K: Kept> {
     pub(crate) table: LockTable<K>,
     pub(crate) numbers: u32,
     pub(crate) draws: u32,
-    ghost sized: { (table.shared.table_id.words ≡ word_count) × (table.shared.table_id.slots ≡ 1) },
+    ghost sized: { (table.shared.table_id.words ≡ word_count table.shared.key.words) × (table.shared.table_id.slots ≡ 1) },
     ghost told: { (table.shared.key.numbers ≡ numbers) × (table.shared.key.draws ≡ draws) },
 }
 
@@ -53,15 +60,16 @@ pub enum Look<K: Kept> {
 }
 
 impl<K: Kept> TicketLock<K> {
-    ghost use Rattle.ticket_lock.specs.Tokens.{start_of, seat_of, turn_of, hold_of, ticket_of, held_ticket_of, refused_before};
+    ghost use Rattle.ticket_lock.specs.Tokens.{start_of, words_of, seat_of, turn_of, hold_of, ticket_of, held_ticket_of, has_posted, refused_before};
     ghost use Rattle.ticket_lock.specs.Tokens.{IsSeatOf, IsTurnOf, IsHoldOf, MatchLook};
 
     /// A lock with the book in it, and a seat for all of `numbers`, each of which brings 2^32 - 1
-    /// draws, the most that [`TicketLock::open_with`] gives. Where there is no memory for the lock
-    /// the book comes back as it was.
+    /// draws, the most that [`TicketLock::open_with`] gives. Its board shows the book's, which has at
+    /// most 4,096 words. Where there is no memory for the lock the book comes back as it was.
     pub fn open(alloc: Global, book: K, numbers: u32) -> Result<(TicketLock<K>, Seat<K>), K>
         requires numbers { (0 < numbers) × (numbers ≤ 1024) }
         requires empty { (K.history book ≡ []) × (K.refusals book ≡ 0) }
+        requires words { length (K.board (K.state book)) ≤ 4096 }
         ensures start { IfOk result (λ made. ((start_of made.0).book ≡ book)
             × ((start_of made.0).numbers ≡ numbers) × ((start_of made.0).draws ≡ DRAWS)) }
         ensures lock { IfOk result (λ made. IsSeatOf made.0 made.1) }
@@ -82,6 +90,7 @@ impl<K: Kept> TicketLock<K> {
         requires numbers { (0 < numbers) × (numbers ≤ 1024) }
         requires draws { 0 < draws }
         requires empty { (K.history book ≡ []) × (K.refusals book ≡ 0) }
+        requires words { length (K.board (K.state book)) ≤ 4096 }
         ensures start { IfOk result (λ made. ((start_of made.0).book ≡ book)
             × ((start_of made.0).numbers ≡ numbers) × ((start_of made.0).draws ≡ draws)) }
         ensures lock { IfOk result (λ made. IsSeatOf made.0 made.1) }
@@ -92,12 +101,16 @@ impl<K: Kept> TicketLock<K> {
             book: Snapshot::of(&book),
             numbers,
             draws,
+            words: book.words(),
+        };
+        let Ok(words) = first_words(alloc, &book) else {
+            return Err(book);
         };
         let Ok(mut slots) = Vec::with_capacity(alloc, 1) else {
             return Err(book);
         };
         slots.push_reserved(Some(book));
-        match Table::new(alloc, &FIRST_WORDS, slots, &opening) {
+        match Table::new(alloc, words.as_slice(), slots, &opening) {
             Ok((table, table_seat)) => {
                 let seat = Seat {
                     table_seat,
@@ -221,7 +234,8 @@ impl<K: Kept> TicketLock<K> {
             (λ back. IsTurnOf self.now back) }
         ensures caller { MatchLook result
             (λ hold book. (hold_of hold ≡ having_seen (K.history book) (turn_of turn))
-            × (held_ticket_of hold ≡ ticket_of turn) × (refused_before hold ≡ K.refusals book))
+            × (held_ticket_of hold ≡ ticket_of turn) × (has_posted hold ≡ false)
+            × (refused_before hold ≡ K.refusals book))
             (λ back. (turn_of back ≡ turn_of turn) × (ticket_of back ≡ ticket_of turn)) }
         ensures book { MatchLook result
             (λ hold book. IsHanded K.Kept (start_of self.now) (turn_of turn).numbers
@@ -247,6 +261,7 @@ impl<K: Kept> TicketLock<K> {
                 table_seat,
                 counts,
                 ticket,
+                posted: false,
             };
             return Look::Held(hold, book);
         }
@@ -257,12 +272,66 @@ impl<K: Kept> TicketLock<K> {
         })
     }
 
-    /// Puts the book back and ends the turn. The book must be the one that was handed out, with one
-    /// more entry of the hold's own number or one more refusal.
+    /// Posts the hold's call: stores the book's word at the place of the call on the board, so that who
+    /// glances there from now on has seen it. The book must be the one that was handed out, with one
+    /// more entry of the hold's own number, whose call is posted at this place, or one more refusal:
+    /// then the word stays as it was. The hold holds on, and has seen the book's history.
+    pub fn post(&self, hold: Hold<K>, book: &K, place: u32) -> Hold<K>
+        requires lock { IsHoldOf self.now hold }
+        requires unposted { has_posted hold ≡ false }
+        requires book { Returns K.Kept (start_of self.now) (hold_of hold).own (hold_of hold).seen
+            (refused_before hold) (Some place) book.now }
+        requires place { place < words_of self.now }
+        ensures lock { IsHoldOf self.now result }
+        ensures posted { has_posted result ≡ true }
+        ensures caller { (hold_of result ≡ having_seen (K.history book.now) (hold_of hold))
+            × (held_ticket_of result ≡ held_ticket_of hold) }
+        ensures refused { refused_before result ≡ K.refusals book.now }
+    {
+        self.post_by::<Brand>(hold, book, place)
+    }
+
+    /// The same, for entries and refusals of the book that proofs can name in a type.
+    fn post_by<A: After<K::Call, K::Reply>>(&self, hold: Hold<K>, book: &K, place: u32) -> Hold<K>
+        requires after { (A.entries ≡ K.history book.now) × (A.refused ≡ K.refusals book.now) }
+        requires lock { IsHoldOf self.now hold }
+        requires unposted { has_posted hold ≡ false }
+        requires book { Returns K.Kept (start_of self.now) (hold_of hold).own (hold_of hold).seen
+            (refused_before hold) (Some place) book.now }
+        requires place { place < words_of self.now }
+        ensures lock { IsHoldOf self.now result }
+        ensures posted { has_posted result ≡ true }
+        ensures caller { (hold_of result ≡ having_seen (K.history book.now) (hold_of hold))
+            × (held_ticket_of result ≡ held_ticket_of hold) }
+        ensures refused { refused_before result ≡ K.refusals book.now }
+    {
+        let word = book.word(place);
+        let Hold {
+            mut table_seat,
+            counts,
+            ticket,
+            posted: _,
+        } = hold;
+        self.table
+            .shared
+            .store::<Posts<K, A>>(&mut table_seat, board_word(place), word);
+        Hold {
+            table_seat,
+            counts,
+            ticket,
+            posted: true,
+        }
+    }
+
+    /// Puts the book back and ends the turn. Where the hold has posted, the book must be the one that
+    /// it posted. Else it is the one that was handed out, with one more entry of the hold's own number,
+    /// whose call is posted nowhere, or one more refusal.
     pub fn leave(&self, hold: Hold<K>, book: K) -> Seat<K>
         requires lock { IsHoldOf self.now hold }
-        requires book { Returns K.Kept (start_of self.now) (hold_of hold).own (hold_of hold).seen
-            (refused_before hold) book }
+        requires recorded { has_posted hold ≡ false → Returns K.Kept (start_of self.now)
+            (hold_of hold).own (hold_of hold).seen (refused_before hold) None book }
+        requires posted { has_posted hold ≡ true → IsPosted K.Kept (start_of self.now)
+            (hold_of hold).seen (refused_before hold) book }
         ensures lock { IsSeatOf self.now result }
         ensures ended { seat_of result ≡ ended (K.history book) (hold_of hold) }
     {
@@ -270,6 +339,7 @@ impl<K: Kept> TicketLock<K> {
             mut table_seat,
             counts,
             ticket,
+            posted: _,
         } = hold;
         let next = ticket + 1;
         self.put_book(&mut table_seat, book);
@@ -327,6 +397,35 @@ impl<K: Kept> TicketLock<K> {
             counts,
             fresh: false,
         }
+    }
+
+    /// Reads the word at this place of the board, by one load and without a ticket. It is the word
+    /// after a legal history that goes on from what the seat had seen, and the seat has seen it now.
+    pub fn glance(&self, seat: Seat<K>, place: u32) -> (Seat<K>, u64)
+        requires lock { IsSeatOf self.now seat }
+        requires place { place < words_of self.now }
+        ensures lock { IsSeatOf self.now result.0 }
+        ensures caller { seat_of result.0 ≡ having_seen (seat_of result.0).seen (seat_of seat) }
+        ensures seen { Follows (seat_of seat).numbers (seat_of seat).seen (seat_of result.0).seen }
+        ensures legal { IsLegal K.step (K.opening (start_of self.now).book) (seat_of result.0).seen }
+        ensures word { result.1 ≡ slice_index
+            (board_after K.Kept (start_of self.now).book (seat_of result.0).seen) place }
+    {
+        let Seat {
+            mut table_seat,
+            counts,
+            fresh,
+        } = seat;
+        let word = self
+            .table
+            .shared
+            .load::<Glances<K>>(&mut table_seat, board_word(place));
+        let seat = Seat {
+            table_seat,
+            counts,
+            fresh,
+        };
+        (seat, word)
     }
 
     /// Takes the book out for good, where the seat stands for all numbers. It has seen the whole

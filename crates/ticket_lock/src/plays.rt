@@ -1,6 +1,7 @@
 //! The kinds of step, and what each tells the seat that steps.
-ghost use Rattle.std.specs.Prelude.{ℕ};
-ghost use Rattle.ticket_lock.specs.Plays.{DrawTells, LookTells, LeaveTells, SecondLoadTells};
+ghost use Rattle.std.specs.Prelude.{ℕ, List, []};
+ghost use Rattle.ticket_steps.specs.declared.kept.Entry.{Entry as EntryOf};
+ghost use Rattle.ticket_lock.specs.Plays.{DrawTells, LookTells, PostTells, LeaveTells, SecondLoadTells, GlanceTells};
 ghost use Rattle.ticket_lock.specs.Views.{keeping_view, given_view, joined_view, spent_view};
 
 use crate::views::View;
@@ -24,6 +25,30 @@ pub(crate) struct Looks<K> {
 
 impl<K: Kept> Play<Option<K>, View<K, K::Call, K::Reply>> for Looks<K> {
     ghost then = { LookTells K.Kept };
+}
+
+/// What the book has after a call that is posted: its entries and its refusals. While the book is out
+/// no step sees it, so each call picks what it has.
+pub trait After<C, R> {
+    ghost entries: { List (EntryOf C R) };
+
+    ghost refused: { ℕ };
+}
+
+impl<C, R> After<C, R> for Brand {
+    ghost entries = { [] };
+
+    ghost refused = { 0 };
+}
+
+/// The step of a post.
+pub(crate) struct Posts<K, A> {
+    marker: PhantomData<(K, A)>,
+}
+
+impl<K: Kept, A: After<K::Call, K::Reply>> Play<Option<K>, View<K, K::Call, K::Reply>>
+    for Posts<K, A> {
+    ghost then = { PostTells A.entries A.refused };
 }
 
 /// The step of a leave.
@@ -72,4 +97,13 @@ pub(crate) struct SecondLoad<K> {
 
 impl<K: Kept> Play<Option<K>, View<K, K::Call, K::Reply>> for SecondLoad<K> {
     ghost then = { SecondLoadTells };
+}
+
+/// The step of a glance.
+pub(crate) struct Glances<K> {
+    marker: PhantomData<K>,
+}
+
+impl<K: Kept> Play<Option<K>, View<K, K::Call, K::Reply>> for Glances<K> {
+    ghost then = { GlanceTells K.Kept };
 }

@@ -1,5 +1,5 @@
 //! Each kind of step of the lock is one event of the core.
-ghost use Rattle.std.specs.Prelude.{◌≡◌, ◌≢◌, ◌⊎◌, ℕ, ◌+◌, ◌<◌, ◌≤◌, true, [], ◌∷◌, length, Option, Some};
+ghost use Rattle.std.specs.Prelude.{◌≡◌, ◌≢◌, ◌⊎◌, ℕ, ◌+◌, ◌<◌, ◌≤◌, true, [], ◌∷◌, length, Option, Some, None};
 ghost use mathlib.Core.Option.{some};
 ghost use lib.ListN.{get_elem?};
 ghost use Rattle.ticket_steps.specs.Happenings.{Happening, split, drew, waited, held, posted, post_refused, left_posted, recorded, refused, gathered};
@@ -9,12 +9,12 @@ ghost use Rattle.ticket_steps.specs.Seats.{Holds};
 ghost use Rattle.atomic_table.specs.Table.{Step};
 ghost use Rattle.ticket_lock.specs.declared.views.Start.{Start};
 ghost use Rattle.ticket_lock.specs.declared.views.View.{View as ViewOf};
-ghost use Rattle.ticket_lock.specs.Plays.{DrawTells, LookTells, LeaveTells, SecondLoadTells};
+ghost use Rattle.ticket_lock.specs.Plays.{DrawTells, LookTells, PostTells, LeaveTells, SecondLoadTells};
 ghost use Rattle.ticket_lock.specs.Rule.{IsTableOf};
-ghost use Rattle.ticket_lock.specs.Steps.{TableMoment, IsTableMoment, IsOneEvent, IsNoEvent, IsTold, IsPosted, LeavesOnly, Returns, one_more, as_found, stored};
+ghost use Rattle.ticket_lock.specs.Steps.{TableMoment, IsTableMoment, IsOneEvent, IsNoEvent, IsTold, IsPosted, LeavesOnly, Returns, one_more, as_found, stored, word_in};
 ghost use Rattle.ticket_lock.specs.Steps.{first_table, after_split, after_draw, after_waiting, after_holding, after_posting, after_leaving, after_gather, after_second_load};
-ghost use Rattle.ticket_lock.specs.Views.{drawn_view, held_view, left_view, reloaded_view, longer};
-ghost use Rattle.ticket_lock.specs.Layout.{grant_word, next_word};
+ghost use Rattle.ticket_lock.specs.Views.{drawn_view, held_view, posted_view, left_view, reloaded_view, longer};
+ghost use Rattle.ticket_lock.specs.Layout.{grant_word, board_word, next_word};
 
 use ticket_steps::Kept;
 
@@ -44,7 +44,7 @@ pub fn every_step<K: Kept>()
     ensures opening { (start : Start K) → K.history start.book ≡ [] → K.refusals start.book ≡ 0
         → 0 < start.numbers → start.numbers ≤ 1024 → start.draws ≤ 4294967295
         → IsTableOf K.Kept start [] (opened start.numbers start.draws (K.opening start.book))
-        (first_table start) }
+        (first_table K.Kept start) }
     ensures split { (m : TableMoment K K.State K.Call K.Reply) (count : ℕ)
         → IsTableMoment K.Kept m → m.me.0.start ≡ Some m.start
         → m.me.0.seat.phase ≡ Idle → m.me.0.seat.fresh ≡ true
@@ -95,13 +95,25 @@ pub fn every_step<K: Kept>()
         → m.me.0.seat.phase ≡ Waiting ticket → ticket ≢ m.core.served → m.me.1 ≡ []
         → LeavesOnly K.Kept m (grant_word ticket) as_found (LookTells K.Kept step m.me)
         (after_waiting m.table m.id ticket m.me) }
-    ensures post { (m : TableMoment K K.State K.Call K.Reply) (ticket : ℕ) (book : K)
+    ensures post { (m : TableMoment K K.State K.Call K.Reply) (ticket place : ℕ) (book : K)
         → IsTableMoment K.Kept m → m.me.0.seat.phase ≡ Holding ticket
-        → Returns K.Kept m.start m.me.0.seat.own m.me.0.seen m.me.0.refused book
+        → Returns K.Kept m.start m.me.0.seat.own m.me.0.seen m.me.0.refused (Some place) book
         → (h : Happening K.Call K.Reply)
         × (((call : K.Call) × (reply : K.Reply) × (h ≡ posted m.me.0.seat.own call reply))
         ⊎ (h ≡ post_refused m.me.0.seat.own))
-        × IsOneEvent K.Kept m h (after_posting K.Kept m.table m.id ticket m.me.0 book) }
+        × IsOneEvent K.Kept m h (after_posting K.Kept m.table m.id ticket place m.me book) }
+    ensures post_tells { (m : TableMoment K K.State K.Call K.Reply) (ticket place : ℕ) (book : K)
+        (step : Step (Option K)) → IsTableMoment K.Kept m → m.me.0.seat.phase ≡ Holding ticket
+        → IsTold K.Kept m (board_word place)
+        (λ _. PostTells (K.history book) (K.refusals book) step m.me (word_in K.Kept book place))
+        (posted_view ticket (K.history book) (K.refusals book) m.me.0, m.me.1)
+        (after_posting K.Kept m.table m.id ticket place m.me book) }
+    ensures post_only { (m : TableMoment K K.State K.Call K.Reply) (ticket place : ℕ) (book : K)
+        (step : Step (Option K)) → IsTableMoment K.Kept m
+        → m.me.0.seat.phase ≡ Holding ticket → m.me.1 ≡ (0, None) ∷ []
+        → LeavesOnly K.Kept m (board_word place) (stored (word_in K.Kept book place))
+        (λ _. PostTells (K.history book) (K.refusals book) step m.me (word_in K.Kept book place))
+        (after_posting K.Kept m.table m.id ticket place m.me book) }
     ensures leave_posted { (m : TableMoment K K.State K.Call K.Reply) (ticket : ℕ) (book : K)
         → IsTableMoment K.Kept m
         → m.me.0.seat.phase ≡ Posted ticket → m.me.1 ≡ (0, Some book) ∷ []
@@ -111,7 +123,7 @@ pub fn every_step<K: Kept>()
     ensures leave { (m : TableMoment K K.State K.Call K.Reply) (ticket : ℕ) (book : K)
         → IsTableMoment K.Kept m
         → m.me.0.seat.phase ≡ Holding ticket → m.me.1 ≡ (0, Some book) ∷ []
-        → Returns K.Kept m.start m.me.0.seat.own m.me.0.seen m.me.0.refused book
+        → Returns K.Kept m.start m.me.0.seat.own m.me.0.seen m.me.0.refused None book
         → (h : Happening K.Call K.Reply)
         × (((call : K.Call) × (reply : K.Reply) × (h ≡ recorded m.me.0.seat.own call reply))
         ⊎ (h ≡ refused m.me.0.seat.own))

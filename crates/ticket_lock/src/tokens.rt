@@ -2,9 +2,9 @@
 //!
 //! A token has no bytes that threads share. It carries what its caller knows, in proofs alone: the
 //! history that it has seen, which is always a beginning of the one history of the book.
-ghost use Rattle.std.specs.Prelude.{◌≡◌, ◌+◌, ◌^◌, ◌<◌, ◌≤◌, true, false, [], ◌∷◌, length, None};
+ghost use Rattle.std.specs.Prelude.{◌≡◌, ◌+◌, ◌^◌, ◌<◌, ◌≤◌, true, false, cond, [], ◌∷◌, length, None};
 ghost use Rattle.std.specs.Coded.{Coded-set};
-ghost use Rattle.ticket_steps.specs.declared.seats.Phase.TheVariants.{Idle, Waiting, Holding};
+ghost use Rattle.ticket_steps.specs.declared.seats.Phase.TheVariants.{Idle, Waiting, Holding, Posted};
 ghost use Rattle.ticket_steps.specs.Sums.{counted, times};
 ghost use Rattle.ticket_lock.specs.Counts.{AreCountsOf};
 ghost use Rattle.ticket_lock.specs.Legal.{IsLegalFrom, IsLegalFrom-prop};
@@ -51,7 +51,8 @@ pub struct Turn<K: Kept> {
     ghost stale: { table_seat.me.0.seat.fresh ≡ false },
 }
 
-/// A caller whose turn it is: it has the book in hand.
+/// A caller whose turn it is: it has the book in hand. It posts its call (`TicketLock::post`), where
+/// the board is to tell of it, and leaves.
 ///
 /// It is not `Drop`, so one that isn't spent by `TicketLock::leave` doesn't compile: the book has
 /// to come back.
@@ -59,10 +60,11 @@ pub struct Hold<K: Kept> {
     pub(crate) table_seat: TableSeat<K>,
     pub(crate) counts: SeatCounts,
     pub(crate) ticket: u64,
+    pub(crate) posted: bool,
     ghost few: { ticket < 2 ^ 42 },
     ghost out: { table_seat.me.1 ≡ (0, None) ∷ [] },
     ghost legal: { IsLegalFrom K.Kept table_seat.me.0.start table_seat.me.0.seen } by { IsLegalFrom-prop K.Kept (Coded-set K.Reply.code) table_seat.me.0.start table_seat.me.0.seen },
-    ghost holds: { table_seat.me.0.seat.phase ≡ Holding ticket },
+    ghost holds: { table_seat.me.0.seat.phase ≡ cond posted (Posted ticket) (Holding ticket) },
     ghost told: { AreCountsOf counts table_seat.me.0.seat },
     ghost stale: { table_seat.me.0.seat.fresh ≡ false },
 }
@@ -123,7 +125,7 @@ impl<K: Kept> Turn<K> {
 }
 
 impl<K: Kept> Hold<K> {
-    ghost use Rattle.ticket_lock.specs.Tokens.{hold_of, held_ticket_of};
+    ghost use Rattle.ticket_lock.specs.Tokens.{hold_of, held_ticket_of, has_posted};
 
     /// The own number of its seat, under which its call is to be recorded.
     pub fn number(&self) -> u32
@@ -137,5 +139,12 @@ impl<K: Kept> Hold<K> {
         ensures { result ≡ held_ticket_of self.now }
     {
         self.ticket
+    }
+
+    /// Whether it has posted its call.
+    pub fn posted(&self) -> bool
+        ensures { result ≡ has_posted self.now }
+    {
+        self.posted
     }
 }

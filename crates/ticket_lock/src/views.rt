@@ -1,6 +1,8 @@
 //! What the seats of the table know, and the rule of the table.
 //!
 //! No value of these types is made but of `Opening`: views are the data that the rule speaks of.
+ghost use Rattle.std.specs.Prelude.{◌≡◌};
+ghost use Rattle.ticket_lock.specs.Boards.{board_length};
 ghost use Rattle.ticket_lock.specs.Rule.{IsRuled};
 ghost use Rattle.ticket_lock.specs.Views.{first_view};
 
@@ -31,7 +33,7 @@ pub struct View<K, C, R> {
     pub seat: CoreSeat,
     /// The history that it has seen.
     pub seen: LinkedList<Entry<C, R>>,
-    /// Of a holder, the refusals of the book as it was handed out.
+    /// Of a holder, the refusals of the book as it was handed out, or as the holder posted it.
     pub refused: u64,
     /// The two seats of which it was made, until it has looked at the table.
     pub one: Part<C, R>,
@@ -40,10 +42,13 @@ pub struct View<K, C, R> {
 
 /// What the table is told when it is made.
 #[derive(Drop)]
-pub struct Opening<K> {
+pub struct Opening<K: Kept> {
     pub book: Snapshot<K>,
     pub numbers: u32,
     pub draws: u32,
+    /// How many words the board has.
+    pub words: u32,
+    ghost counted: { words ≡ board_length K.Kept book.value },
 }
 
 /// The rule of the lock's table.
