@@ -32,35 +32,35 @@ use crate::kept::Kept;
 ///   (`numbered`);
 /// - the tickets drawn and the draws left are together no more than all numbers brought (`supply`).
 pub fn every_schedule<K: Kept>()
-    ensures one_holder { (s : Schedule K.State K.Call K.Reply) → IsSchedule K.step s
+    ensures one_holder { (s : Schedule K.State K.Call K.Reply) → IsSchedule K.Kept s
         → holders s.end.seats ≤ 1 }
-    ensures holder { (s : Schedule K.State K.Call K.Reply) → IsSchedule K.step s
+    ensures holder { (s : Schedule K.State K.Call K.Reply) → IsSchedule K.Kept s
         → (i ticket : ℕ) (p : CoreSeat) → get_elem? s.end.seats i ≡ some p
         → Holds ticket p.phase → ticket ≡ s.end.served }
-    ensures line { (s : Schedule K.State K.Call K.Reply) → IsSchedule K.step s → IsLine s.end }
-    ensures counted { (s : Schedule K.State K.Call K.Reply) → IsSchedule K.step s
+    ensures line { (s : Schedule K.State K.Call K.Reply) → IsSchedule K.Kept s → IsLine s.end }
+    ensures counted { (s : Schedule K.State K.Call K.Reply) → IsSchedule K.Kept s
         → IsCounted s.end }
-    ensures made { (s : Schedule K.State K.Call K.Reply) → IsSchedule K.step s
+    ensures made { (s : Schedule K.State K.Call K.Reply) → IsSchedule K.Kept s
         → calls_made s.happened ≡ calls_taken s.end.book }
-    ensures ended { (s : Schedule K.State K.Call K.Reply) → IsSchedule K.step s
+    ensures ended { (s : Schedule K.State K.Call K.Reply) → IsSchedule K.Kept s
         → turns_ended s.happened ≡ s.end.served }
-    ensures calls { (s : Schedule K.State K.Call K.Reply) → IsSchedule K.step s
+    ensures calls { (s : Schedule K.State K.Call K.Reply) → IsSchedule K.Kept s
         → total (λ (p : CoreSeat). p.calls) s.end.seats ≡ s.end.served }
-    ensures alone { (s : Schedule K.State K.Call K.Reply) → IsSchedule K.step s
+    ensures alone { (s : Schedule K.State K.Call K.Reply) → IsSchedule K.Kept s
         → (i : ℕ) (p : CoreSeat) → get_elem? s.end.seats i ≡ some p
         → length p.numbers ≡ s.numbers → p.calls ≡ s.end.served }
-    ensures lawful { (s : Schedule K.State K.Call K.Reply) → IsSchedule K.step s
+    ensures lawful { (s : Schedule K.State K.Call K.Reply) → IsSchedule K.Kept s
         → IsLawfulBook K.step s.opening s.end.book }
-    ensures entries { (s : Schedule K.State K.Call K.Reply) → IsSchedule K.step s
+    ensures entries { (s : Schedule K.State K.Call K.Reply) → IsSchedule K.Kept s
         → (number : ℕ) → of number s.end.book.entries ≡ recorded_by number s.happened }
-    ensures strangers { (s : Schedule K.State K.Call K.Reply) → IsSchedule K.step s
+    ensures strangers { (s : Schedule K.State K.Call K.Reply) → IsSchedule K.Kept s
         → (number : ℕ) → s.numbers ≤ number → of number s.end.book.entries ≡ [] }
-    ensures named { (s : Schedule K.State K.Call K.Reply) → IsSchedule K.step s
+    ensures named { (s : Schedule K.State K.Call K.Reply) → IsSchedule K.Kept s
         → (i k : ℕ) (p q : CoreSeat)
         → get_elem? s.end.seats i ≡ some p → is_there p.phase ≡ true
         → get_elem? s.end.seats k ≡ some q → is_there q.phase ≡ true → p.own ≡ q.own → k ≡ i }
-    ensures numbered { (s : Schedule K.State K.Call K.Reply) → IsSchedule K.step s
+    ensures numbered { (s : Schedule K.State K.Call K.Reply) → IsSchedule K.Kept s
         → (number : ℕ) → answering number s.end.seats ≡ once_below number s.numbers }
-    ensures supply { (s : Schedule K.State K.Call K.Reply) → IsSchedule K.step s
+    ensures supply { (s : Schedule K.State K.Call K.Reply) → IsSchedule K.Kept s
         → s.end.next + total (λ (p : CoreSeat). p.left) s.end.seats ≤ s.numbers * s.draws }
 {}
