@@ -3,6 +3,7 @@ use Rattle.std.proofs.Common.{◌≡◌, ℕ, ◌+◌, ◌<◌, ◌≤◌, List,
 use Rattle.std.proofs.Common.{Bool, true, false, cond, eqb, ne_eqb, ◌≢◌}
 use Rattle.std.proofs.Math.Seq.{take-suc}
 use Rattle.std.proofs.lemmas.List.{append-nil}
+use mathlib.Core.List.{IsPrefix}
 use Rattle.ticket_steps.specs.declared.kept.Entry.{Entry}
 use Rattle.ticket_steps.specs.declared.kept.Kept.{Ghosts}
 use Rattle.ticket_steps.specs.declared.events.Event.{Event}
@@ -18,7 +19,7 @@ use Rattle.ticket_steps.specs.Happenings.{IsOf, AreOf, calls_made, turns_ended, 
 use Rattle.ticket_steps.specs.History.{entry, of}
 use Rattle.ticket_steps.specs.Lawful.{IsLawful}
 use Rattle.ticket_steps.specs.Seats.{Stands, is_there}
-use Rattle.ticket_steps.specs.Schedules.{Schedule, IsSchedule, IsLine}
+use Rattle.ticket_steps.specs.Schedules.{Schedule, IsSchedule, IsLine, ShowsAt}
 use Rattle.ticket_steps.proofs.Histories.{lawful_empty, lawful_entry, lawful_refusal}
 use Rattle.ticket_steps.proofs.LawfulSteps.{lawful_opened, moves_lawful, taken_entry, taken_refusal}
 use Rattle.ticket_steps.proofs.Ofs.{of-append}
@@ -59,6 +60,33 @@ module _ {K C R : Type 0} (k : Ghosts K C R) where
     leads_lawful_book opening b c [] l t = subst (λ (z : CoreState k.State C R). IsLawfulBook k.step opening z.book) (sym t) l
     leads_lawful_book opening b c (h ∷ hs) l t =
         leads_lawful_book opening t.0 c hs (book_stays (IsLawfulBook k.step opening)
+        (λ own call book was. lawful_entry k.step opening own call book was) (λ book was. lawful_refusal k.step opening book was) b t.0 h t.1 l) t.2
+
+    -- what the book has of entries, it keeps
+    leads_grow : (es : List (Entry C R)) (b c : CoreState k.State C R) (hs : List (Happening C R)) → IsPrefix es b.book.entries
+        → Leads k draws b hs c → IsPrefix es c.book.entries
+    leads_grow es b c [] pre t = subst (λ (z : CoreState k.State C R). IsPrefix es z.book.entries) (sym t) pre
+    leads_grow es b c (h ∷ hs) pre t = leads_grow es t.0 c hs (book_stays (λ (book : BookState k.State C R). IsPrefix es book.entries)
+        (λ own call book was. (
+          was.0 ++ entry own call (k.step book.state call).1 ∷ [],
+          sym (append_assoc es was.0 _) ∙
+              ap (λ (l : List (Entry C R)). l ++ entry own call (k.step book.state call).1 ∷ []) was.1,
+        )) (λ book was. was) b t.0 h t.1 pre) t.2
+
+    -- a glance reads the word that the entries so far leave
+    pub leads_glanced : (opening : k.State) (own place word : ℕ) (b c : CoreState k.State C R) (before after : List (Happening C R))
+        → IsLawfulBook k.step opening b.book → Leads k draws b (before ++ glanced own place word ∷ after) c
+        → ShowsAt k opening place word c.book.entries
+    leads_glanced opening own place word b c [] after l t = record {
+      entries = b.book.entries;
+      prefix = leads_grow b.book.entries t.0 c after
+          (subst (λ (z : CoreState k.State C R). IsPrefix b.book.entries z.book.entries) (sym t.1.5) ([], append-nil b.book.entries)) t.2;
+      legal = l.legal;
+      within = subst (λ (s : k.State). place < length (k.board s)) l.replayed t.1.3;
+      word_is = t.1.4 ∙ ap (λ (s : k.State). get_or (k.board s) place 0) l.replayed;
+    }
+    leads_glanced opening own place word b c (h ∷ hs) after l t =
+        leads_glanced opening own place word t.0 c hs after (book_stays (IsLawfulBook k.step opening)
         (λ own call book was. lawful_entry k.step opening own call book was) (λ book was. lawful_refusal k.step opening book was) b t.0 h t.1 l) t.2
 
     -- one happening adds to the entries of a number what it has recorded
@@ -236,6 +264,12 @@ module _ {K C R : Type 0} (k : Ghosts K C R) where
 
   pub schedule_of : (s : Schedule k.State C R) → IsSchedule k s → (n : ℕ) → of n s.end.book.entries ≡ recorded_by n s.happened
   schedule_of s is n = leads_of s.draws n (opened s.numbers s.draws s.opening) s.end s.happened is.leads
+
+  pub schedule_glanced : (s : Schedule k.State C R) → IsSchedule k s → (own place word : ℕ) (before after : List (Happening C R))
+      → s.happened ≡ before ++ glanced own place word ∷ after → ShowsAt k s.opening place word s.end.book.entries
+  schedule_glanced s is own place word before after happened =
+      leads_glanced s.draws s.opening own place word (opened s.numbers s.draws s.opening) s.end before after (lawful_empty k.step s.opening)
+      (subst (λ (hs : List (Happening C R)). Leads k s.draws (opened s.numbers s.draws s.opening) hs s.end) happened is.leads)
 
   pub schedule_made : (s : Schedule k.State C R) → IsSchedule k s → calls_made s.happened ≡ calls_taken s.end.book
   schedule_made s is = omega (arith, leads_made s.draws (opened s.numbers s.draws s.opening) s.end s.happened is.leads)

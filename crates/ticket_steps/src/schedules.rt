@@ -1,13 +1,13 @@
 //! What is so after every schedule.
-ghost use Rattle.std.specs.Prelude.{◌≡◌, ℕ, ◌+◌, ◌<◌, ◌≤◌, ◌*◌, [], length, true};
+ghost use Rattle.std.specs.Prelude.{◌≡◌, ℕ, ◌+◌, ◌<◌, ◌≤◌, ◌*◌, List, [], ◌∷◌, ◌++◌, length, true};
 ghost use mathlib.Core.Option.{some};
 ghost use lib.ListN.{get_elem?};
 ghost use Rattle.ticket_steps.specs.declared.seats.CoreSeat.{CoreSeat};
 ghost use Rattle.ticket_steps.specs.Books.{IsLawfulBook, calls_taken};
 ghost use Rattle.ticket_steps.specs.CoreStates.{IsCounted};
-ghost use Rattle.ticket_steps.specs.Happenings.{calls_made, recorded_by, turns_ended};
+ghost use Rattle.ticket_steps.specs.Happenings.{Happening, calls_made, glanced, recorded_by, turns_ended};
 ghost use Rattle.ticket_steps.specs.History.{of};
-ghost use Rattle.ticket_steps.specs.Schedules.{Schedule, IsSchedule, IsLine};
+ghost use Rattle.ticket_steps.specs.Schedules.{Schedule, IsSchedule, IsLine, ShowsAt};
 ghost use Rattle.ticket_steps.specs.Seats.{Holds, answering, holders, is_there};
 ghost use Rattle.ticket_steps.specs.Sums.{total, once_below};
 
@@ -28,6 +28,8 @@ use crate::kept::Kept;
 /// - the book is lawful: its entries are legal, and its state is their replay (`lawful`);
 /// - the entries of each number are the calls that it recorded, by a post or when it left, in their
 ///   order (`entries`), and there are none of numbers that weren't given out (`strangers`);
+/// - each word that a seat has read is the one that a beginning of the entries leaves, from the
+///   opening on (`glanced`);
 /// - no two seats have the same own number (`named`), and each number is one seat's to answer for
 ///   (`numbered`);
 /// - the tickets drawn and the draws left are together no more than all numbers brought (`supply`).
@@ -53,6 +55,10 @@ pub fn every_schedule<K: Kept>()
         → IsLawfulBook K.step s.opening s.end.book }
     ensures entries { (s : Schedule K.State K.Call K.Reply) → IsSchedule K.Kept s
         → (number : ℕ) → of number s.end.book.entries ≡ recorded_by number s.happened }
+    ensures glanced { (s : Schedule K.State K.Call K.Reply) → IsSchedule K.Kept s
+        → (own place word : ℕ) (before after : List (Happening K.Call K.Reply))
+        → s.happened ≡ before ++ glanced own place word ∷ after
+        → ShowsAt K.Kept s.opening place word s.end.book.entries }
     ensures strangers { (s : Schedule K.State K.Call K.Reply) → IsSchedule K.Kept s
         → (number : ℕ) → s.numbers ≤ number → of number s.end.book.entries ≡ [] }
     ensures named { (s : Schedule K.State K.Call K.Reply) → IsSchedule K.Kept s
