@@ -9,6 +9,7 @@ use Rattle.check_objects.specs.Configuration.{Configuration}
 use Rattle.check_sched.specs.declared.call.Call.{Call}
 use Rattle.check_sched.specs.declared.call.Reply.{Reply}
 use Rattle.check_sched.specs.BookState.{BookState, book_opening, book_step}
+use Rattle.check_sched.specs.contracts.book.BookKept.TheImpl.{ghosts as kept_book}
 use Rattle.check_sched.specs.State.{State, opening}
 use Rattle.check_sched.specs.Step.{step}
 use Rattle.check_sched.proofs.RunLaws.{book_is_legal}
@@ -21,7 +22,7 @@ sched_replayed s room (e ∷ es) = sched_replayed (step s e.call).0 room es
 
 module _ (setup : Configuration) (start room : ℕ) (s : Schedule BookState Call Reply) (is : IsScheduleOver setup start room s) where
   lawful : IsLawfulBook book_step (book_opening setup start room) s.end.book
-  lawful = subst (λ (o : BookState). IsLawfulBook book_step o s.end.book) is.opening (schedule_book book_step s is.schedule)
+  lawful = subst (λ (o : BookState). IsLawfulBook book_step o s.end.book) is.opening (schedule_book kept_book s is.schedule)
 
   pub legal_here : IsLegal step (opening setup start) s.end.book.entries
   legal_here = book_is_legal (opening setup start) room s.end.book.entries lawful.legal

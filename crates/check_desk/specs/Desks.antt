@@ -1,14 +1,17 @@
 -- What clauses see of a desk: how it was opened, which passes, turns and holds are its own, and what a call adds.
 use Rattle.std.specs.Prelude.{◌≡◌, ℕ, ◌+◌, ◌<◌, ◌≤◌, ⊤, List, [], ◌∷◌, ◌++◌, length}
 use Rattle.ticket_steps.specs.declared.kept.Entry.{Entry}
-use Rattle.ticket_steps.specs.History.{entry, IsLegal}
+use Rattle.ticket_steps.specs.History.{entry, replay, IsLegal}
 use Rattle.ticket_lock.specs.Callers.{Caller, drawn, ended}
 use Rattle.ticket_lock.specs.Views.{Follows}
 use Rattle.ticket_lock.specs.Tokens.{start_of, IsSeatOf, IsTurnOf, IsHoldOf}
+use Rattle.check_objects.specs.Configuration.{object_count}
+use Rattle.check_rules.specs.declared.standing.Standing.{Standing}
 use Rattle.check_sched.specs.declared.call.Call.{Call}
 use Rattle.check_sched.specs.declared.call.Reply.{Reply}
 use Rattle.check_sched.specs.BookState.{BookState, book_step}
 use Rattle.check_sched.specs.Books.{opening_of}
+use Rattle.check_sched.specs.State.{standing_at}
 use Rattle.check_desk.specs.declared.desk.Answer.{Answer}
 use Rattle.check_desk.specs.declared.desk.Answer.TheVariants as answer
 use Rattle.check_desk.specs.declared.desk.Desk.{Desk}
@@ -30,6 +33,14 @@ passes_of desk = (start_of desk.lock).numbers
 -- how many calls each of them brought
 abbrev pub calls_of : Desk → ℕ
 calls_of desk = (start_of desk.lock).draws
+
+-- how many objects its setup has
+abbrev pub objects_of : Desk → ℕ
+objects_of desk = object_count (opened_with desk).sched.setup
+
+-- what is known of the object with this number once these calls are made, one after another, from the opening on
+abbrev pub standing_after : Desk → List (Entry Call Reply) → ℕ → Standing
+standing_after desk history number = standing_at (replay book_step (opened_with desk) history).sched.standings number
 
 -- it is of this desk
 abbrev pub IsPassOf : Desk → Pass → Type 0

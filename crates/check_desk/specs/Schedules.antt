@@ -4,10 +4,11 @@ use Rattle.ticket_steps.specs.Schedules.{Schedule, IsSchedule}
 use Rattle.check_objects.specs.Configuration.{Configuration}
 use Rattle.check_sched.specs.declared.call.Call.{Call}
 use Rattle.check_sched.specs.declared.call.Reply.{Reply}
-use Rattle.check_sched.specs.BookState.{BookState, book_opening, book_step}
+use Rattle.check_sched.specs.BookState.{BookState, book_opening}
+use Rattle.check_sched.specs.contracts.book.BookKept.TheImpl.{ghosts as kept_book}
 
 -- A schedule of the core, with 1 to 1,024 numbers, over a book that opens empty on this setup, at this start and with this
 -- room: any steps of any seats, one after another.
 pub record IsScheduleOver (setup : Configuration) (start room : ℕ) (s : Schedule BookState Call Reply) : Type 0 where
-  pub schedule : IsSchedule book_step s
+  pub schedule : IsSchedule kept_book s
   pub opening : s.opening ≡ book_opening setup start room

@@ -1,16 +1,18 @@
 //! The desk and its calls.
 
-ghost use Rattle.std.specs.Prelude.{⊤, ◌≡◌, ◌↔◌, ℕ, ◌+◌, ◌<◌, ◌≤◌, [], length, IsErr, IfOk, IfErr, vec_capacity};
+ghost use Rattle.std.specs.Prelude.{⊤, ◌≡◌, ◌↔◌, ℕ, ◌+◌, ◌<◌, ◌≤◌, [], length, Some, None, IsErr, IfOk, IfErr, vec_capacity};
 ghost use Rattle.std.specs.List.{All};
 ghost use Rattle.ticket_steps.specs.History.{of};
 ghost use Rattle.ticket_steps.specs.Books.{book_state, IsLawfulBook};
 ghost use Rattle.ticket_lock.specs.Callers.{Caller, drawn, ended, first_caller, having_seen, joined};
 ghost use Rattle.ticket_lock.specs.Tokens.{seat_of, start_of, IsSeatOf};
 ghost use Rattle.ticket_lock.specs.Views.{Follows};
+ghost use Rattle.check_objects.specs.Configuration.{object_count};
 ghost use Rattle.check_sched.specs.BookState.{book_step};
 ghost use Rattle.check_sched.specs.Books.{entries_of, opening_of, refused_of, room_of, state_of};
 
 use crate::passes::{Hold, Pass, Turn};
+use check_rules::{Standing, decode};
 use check_sched::{Book, Call, Reply};
 use crossbeam_utils::Backoff;
 use std::alloc::Global;
@@ -25,7 +27,9 @@ use ticket_steps::{DRAWS, Kept};
 pub struct Desk {
     pub(crate) lock: TicketLock<Book>,
     pub(crate) passes: u32,
+    pub(crate) objects: u32,
     ghost passes_are: { (start_of lock).numbers ≡ passes },
+    ghost objects_are: { object_count (opening_of (start_of lock).book).sched.setup ≡ objects },
 }
 
 /// What a poll finds.
@@ -49,7 +53,7 @@ pub enum Answer {
 
 impl Desk {
     ghost use Rattle.check_desk.specs.Desks.{AreNewPasses, HasNoMemory, HasRecorded, IsHistoryOf, IsHolderAt, IsPassOf, IsWaitingAt, MatchAnswer};
-    ghost use Rattle.check_desk.specs.Desks.{AreNewPassesWith, MatchPoll, calls_of, opened_with, passes_of, recorded};
+    ghost use Rattle.check_desk.specs.Desks.{AreNewPassesWith, MatchPoll, calls_of, objects_of, opened_with, passes_of, recorded, standing_after};
     ghost use Rattle.check_desk.specs.Passes.{book_in_hand, drawn_ticket, holder_of, pass_of, waiting_of};
 
     /// A desk over the book, and its passes in the order of their numbers, from 0. Each has 2^32 - 1
@@ -96,9 +100,14 @@ impl Desk {
         let Ok(mut list) = Vec::with_capacity(alloc, passes as usize) else {
             return Err(book);
         };
+        let objects = book.words();
         match TicketLock::open_with(alloc, book, passes, calls) {
             Ok((lock, seat)) => {
-                let desk = Desk { lock, passes };
+                let desk = Desk {
+                    lock,
+                    passes,
+                    objects,
+                };
                 desk.hand_out(seat, &mut list);
                 Ok((desk, list))
             }
@@ -173,9 +182,10 @@ impl Desk {
         }
     }
 
-    /// Makes the call, records it under the pass's own number, and ends the turn. Where there is no
-    /// memory for the entry the call isn't made, but counted; that comes only where the history has
-    /// reached the book's room.
+    /// Makes the call, records it under the pass's own number, and ends the turn. A report that is
+    /// answered by its object's standing is posted before, so that whoever glances at the object from
+    /// then on has seen it. Where there is no memory for the entry the call isn't made, but counted;
+    /// that comes only where the history has reached the book's room.
     pub fn finish(&self, hold: Hold, call: Call) -> (Pass, Answer)
         requires { IsHolderAt self.now hold }
         ensures desk { IsPassOf self.now result.0 }
@@ -187,7 +197,12 @@ impl Desk {
             ((opened_with self.now).room ≤ length (holder_of hold).seen) ⊤ }
     {
         let Hold { hold, mut book } = hold;
+        let place = book.posts(call);
         let recorded = book.record(hold.number(), call);
+        let hold = match place {
+            Some(place) => self.lock.post(hold, &book, place),
+            None => hold,
+        };
         let seat = self.lock.leave(hold, book);
         let answer = match recorded {
             Ok(reply) => Answer::Reply(reply),
@@ -240,6 +255,31 @@ impl Desk {
         unreachable!()
     }
 
+    /// Reads what is known of an object, by one load: without a ticket, without waiting, and without a
+    /// call of the pass. None, with no load and the pass as it was, exactly where the setup has no
+    /// object of this number.
+    ///
+    /// The standing is the object's after a history of the desk that begins with all that the pass had
+    /// seen, and has nothing new of the numbers that it answers for. The pass has seen that history
+    /// now, so later glances never go back.
+    pub fn glance(&self, pass: Pass, object: u32) -> (Pass, Option<Standing>)
+        requires { IsPassOf self.now pass }
+        ensures desk { IsPassOf self.now result.0 }
+        ensures missing { (result.1 ≡ None) ↔ (objects_of self.now ≤ object) }
+        ensures same { objects_of self.now ≤ object → result.0 ≡ pass }
+        ensures caller { pass_of result.0 ≡ having_seen (pass_of result.0).seen (pass_of pass) }
+        ensures seen { Follows (pass_of pass).numbers (pass_of pass).seen (pass_of result.0).seen }
+        ensures legal { IsHistoryOf self.now (pass_of result.0).seen }
+        ensures standing { object < objects_of self.now
+            → result.1 ≡ Some (standing_after self.now (pass_of result.0).seen object) }
+    {
+        if self.objects <= object {
+            return (pass, None);
+        }
+        let (seat, word) = self.lock.glance(pass.seat, object);
+        (Pass { seat }, decode(word))
+    }
+
     /// Puts two passes together: the first goes on, answers for the numbers of both and has made the
     /// calls of both. It has seen the longer history, to which neither's numbers added anything. The
     /// second's calls that are left are given up.
@@ -278,10 +318,21 @@ impl Desk {
         ensures lawful { IfOk result (λ book. IsLawfulBook book_step (opening_of book)
             (book_state (state_of book) (entries_of book) (refused_of book))) }
     {
-        let Desk { lock, passes } = self;
+        let Desk {
+            lock,
+            passes,
+            objects,
+        } = self;
         match lock.close(pass.seat) {
             Ok(book) => Ok(book),
-            Err((lock, seat)) => Err((Desk { lock, passes }, Pass { seat })),
+            Err((lock, seat)) => Err((
+                Desk {
+                    lock,
+                    passes,
+                    objects,
+                },
+                Pass { seat },
+            )),
         }
     }
 }

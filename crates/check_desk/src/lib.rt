@@ -3,8 +3,9 @@
 //!
 //! A [`Desk`] keeps a book behind a ticket lock, and hands out its [`Pass`]es, one for each caller. A
 //! caller asks by its pass: [`Desk::begin`] takes a ticket, [`Desk::poll`] looks whether its turn has
-//! come, and [`Desk::finish`] makes the call; [`Desk::ask`] does the three and waits in between. When
-//! all passes are gathered again, [`Desk::close`] gives the book back.
+//! come, and [`Desk::finish`] makes the call; [`Desk::ask`] does the three and waits in between.
+//! [`Desk::glance`] reads what is known of an object without a turn. When all passes are gathered
+//! again, [`Desk::close`] gives the book back.
 //!
 //! Whatever the threads do, the history of the book is that of one thread: each reply is the
 //! scheduler's at its place, and each caller's calls stand there once, in its order. All of it is our

@@ -3,10 +3,10 @@
 //! They have no bytes of their own beyond their counts. What a caller has seen, which is always a
 //! beginning of the one history, exists in contracts alone.
 
-ghost use Rattle.std.specs.Prelude.{◌≡◌, ◌+◌, ◌<◌, ◌≤◌, ◌^◌, length};
+ghost use Rattle.std.specs.Prelude.{◌≡◌, ◌+◌, ◌<◌, ◌≤◌, ◌^◌, false, length};
 ghost use Rattle.ticket_steps.specs.Sums.{times};
 ghost use Rattle.check_sched.specs.Books.{entries_of, refused_of};
-ghost use Rattle.ticket_lock.specs.Tokens.{held_ticket_of, hold_of, refused_before};
+ghost use Rattle.ticket_lock.specs.Tokens.{has_posted, held_ticket_of, hold_of, refused_before};
 
 use check_sched::Book;
 use ticket_lock::Seat;
@@ -38,6 +38,7 @@ pub struct Hold {
     ghost refused: { refused_before hold ≡ refused_of book },
     ghost counted: { length (entries_of book) + refused_of book ≡ held_ticket_of hold },
     ghost few: { held_ticket_of hold < 2 ^ 42 },
+    ghost unposted: { has_posted hold ≡ false },
 }
 
 impl Pass {

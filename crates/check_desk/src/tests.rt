@@ -9,7 +9,7 @@ ghost use Rattle.check_desk.specs.Desks.{AreNewPasses, AreNewPassesWith, IsHolde
 
 use crate::{Answer, Desk, Hold, Pass, Poll, Turn};
 use check_objects::{LoadError, Setup};
-use check_rules::{Code, Kind, State};
+use check_rules::{Code, Kind, Standing, State, code};
 use check_sched::{Book, Call, Reply};
 use std::alloc::Global;
 use std::process::Abort;
@@ -234,6 +234,51 @@ fn rounds_of_one_thread_and_then_two_threads(rt: HostRuntime) -> Result<(), Fail
     let book = closed(&rt, desk, pass);
     assert_eq!(rt; book.entries().len(), 302);
     assert_eq!(rt; book.refused(), 0);
+    Ok(())
+}
+
+/// A glance by a pass with no call left to make, of an object that is there.
+fn glanced(rt: &impl Abort, desk: &Desk, pass: Pass, object: u32) -> (Pass, Standing)
+    requires { IsPassOf desk.now pass }
+    ensures { IsPassOf desk.now result.0 }
+{
+    match desk.glance(pass, object) {
+        (pass, Some(standing)) => (pass, standing),
+        (_pass, None) => panic!(rt; "no such object"),
+    }
+}
+
+/// The second pass glances while the first takes, holds and reports: it reads what was posted, and
+/// that is no call.
+#[test]
+fn glances_without_a_turn(rt: HostRuntime) -> Result<(), Fail> {
+    let (desk, first, second) = two_passes(rt.alloc())?;
+    let (second, standing) = glanced(&rt, &desk, second, 1);
+    assert_eq!(rt; code(standing), 48, "unchecked OK HARD 1");
+    let (first, taken) = desk.ask(&rt, first, Call::Take { now: 0 });
+    assert_eq!(rt; taken, Answer::Reply(Reply::Taken { object: 1, run: 1 }));
+    let turn = begun(&rt, &desk, first);
+    let hold = mine(&rt, &desk, turn);
+    let (second, standing) = glanced(&rt, &desk, second, 0);
+    assert_eq!(rt; code(standing), 32_824, "unchecked UP HARD 1");
+    let report = Call::Report {
+        object: 1,
+        run: 1,
+        code: Code::Critical,
+    };
+    let (first, reported) = desk.finish(hold, report);
+    assert!(rt; matches!(reported, Answer::Reply(_)));
+    let (second, standing) = glanced(&rt, &desk, second, 1);
+    assert_eq!(rt; code(standing), 37, "CRITICAL SOFT 1");
+    assert_eq!(rt; (standing.state, standing.kind), (State::Critical, Kind::Soft));
+    assert_eq!(rt; (standing.attempt, standing.flapping), (1, false));
+    assert_eq!(rt; second.calls(), 0);
+    let (second, standing) = desk.glance(second, 2);
+    assert!(rt; standing.is_none());
+    let pass = desk.gather(first, second);
+    assert_eq!(rt; pass.calls(), 2);
+    let book = closed(&rt, desk, pass);
+    assert_eq!(rt; (book.entries().len(), book.refused()), (2, 0));
     Ok(())
 }
 

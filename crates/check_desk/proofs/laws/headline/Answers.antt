@@ -2,7 +2,7 @@ use Rattle.std.proofs.Common.{refl, sym, arith, ◌∙◌}
 use Rattle.ticket_steps.specs.declared.seats.CoreSeat.{CoreSeat}
 use Rattle.ticket_steps.proofs.ScheduleLemmas.{schedule_lawful, schedule_made, schedule_of, schedule_strangers}
 use Rattle.ticket_steps.proofs.SeatLemmas.{alone, posts, unnumbered_calls, unnumbered_posts}
-use Rattle.check_sched.specs.BookState.{book_step}
+use Rattle.check_sched.specs.contracts.book.BookKept.TheImpl.{ghosts as kept_book}
 use Rattle.check_sched.specs.State.{opening}
 use Rattle.check_sched.proofs.RunLaws.{taken_next, taken_once}
 use Rattle.check_desk.proofs.ScheduleLemmas.{legal_here, legal_parts, sched_here}
@@ -18,11 +18,11 @@ returns c = record {
   runs =
       λ setup start room s is front back e object run parts begun.
       taken_next (opening setup start) front back e object run refl (legal_parts setup start room s is front back e parts) begun;
-  entries = λ setup start room s is number. schedule_of book_step s is.schedule number;
-  strangers = λ setup start room s is number past. schedule_strangers book_step s is.schedule number past;
-  made = λ setup start room s is. sym (schedule_made book_step s is.schedule);
+  entries = λ setup start room s is number. schedule_of kept_book s is.schedule number;
+  strangers = λ setup start room s is number past. schedule_strangers kept_book s is.schedule number past;
+  made = λ setup start room s is. sym (schedule_made kept_book s is.schedule);
   all = λ setup start room s is i p at stands_for_all.
-      let l = schedule_lawful book_step s is.schedule in
+      let l = schedule_lawful kept_book s is.schedule in
       omega (
         arith,
         l.counted,
