@@ -11,7 +11,7 @@ use crate::{Answer, Desk, Hold, Pass, Poll, Turn};
 use check_objects::{LoadError, Setup};
 use check_rules::{Code, Kind, Standing, State, code};
 use check_sched::{Book, Call, Reply};
-use std::alloc::Global;
+use std::alloc::{AllocError, Global};
 use std::process::Abort;
 use std::sync::Wait;
 use std::test::Fail;
@@ -270,7 +270,10 @@ fn glances_without_a_turn(rt: HostRuntime) -> Result<(), Fail> {
     assert!(rt; matches!(reported, Answer::Reply(_)));
     let (second, standing) = glanced(&rt, &desk, second, 1);
     assert_eq!(rt; code(standing), 37, "CRITICAL SOFT 1");
-    assert_eq!(rt; (standing.state, standing.kind), (State::Critical, Kind::Soft));
+    assert_eq!(rt;
+        (standing.state, standing.kind),
+        (State::Critical, Kind::Soft)
+    );
     assert_eq!(rt; (standing.attempt, standing.flapping), (1, false));
     assert_eq!(rt; second.calls(), 0);
     let (second, standing) = desk.glance(second, 2);
@@ -279,6 +282,109 @@ fn glances_without_a_turn(rt: HostRuntime) -> Result<(), Fail> {
     assert_eq!(rt; pass.calls(), 2);
     let book = closed(&rt, desk, pass);
     assert_eq!(rt; (book.entries().len(), book.refused()), (2, 0));
+    Ok(())
+}
+
+/// So many checks of the service, each taken and reported by one pass; each leaves another standing
+/// than the one before.
+fn report_often(rt: &(impl Wait + Abort), desk: &Desk, mut pass: Pass, checks: u64) -> Pass
+    requires { IsPassOf desk.now pass × (checks ≤ 200) }
+    ensures { IsPassOf desk.now result }
+{
+    for check in 0..checks {
+        let now = check * 600_000;
+        let run = check + 1;
+        let (taking, taken) = desk.ask(rt, pass, Call::Take { now });
+        assert_eq!(rt; taken, Answer::Reply(Reply::Taken { object: 1, run }));
+        let code = match check % 3 {
+            0 => Code::Critical,
+            1 => Code::Warning,
+            _ => Code::Ok,
+        };
+        let report = Call::Report {
+            object: 1,
+            run,
+            code,
+        };
+        let (back, reported) = desk.ask(rt, taking, report);
+        assert!(rt; matches!(reported, Answer::Reply(_)));
+        pass = back;
+    }
+    pass
+}
+
+/// The words of the standings that so many glances at the service read, but for those that are as the
+/// one before.
+fn glance_often(
+    alloc: Global,
+    rt: &impl Abort,
+    desk: &Desk,
+    mut pass: Pass,
+    glances: u32,
+) -> Result<(Pass, Vec<u64>), AllocError>
+    requires { IsPassOf desk.now pass }
+    ensures { IfOk result (λ read. IsPassOf desk.now read.0) }
+{
+    let mut words = Vec::new(alloc);
+    let mut last = 0;
+    for _made in 0..glances {
+        let (back, standing) = glanced(rt, desk, pass, 1);
+        pass = back;
+        let word = code(standing);
+        if word != last {
+            words.push(word)?;
+            last = word;
+        }
+    }
+    Ok((pass, words))
+}
+
+/// The words of the service's standings by the history: before any check, and after each.
+fn words_of(alloc: Global, book: &Book) -> Result<Vec<u64>, AllocError> {
+    let mut words = Vec::new(alloc);
+    words.push(48)?;
+    for entry in book.entries() {
+        if let Reply::Standing {
+            standing,
+            changed: _,
+            next: _,
+        } = entry.reply
+        {
+            words.push(code(standing))?;
+        }
+    }
+    Ok(words)
+}
+
+/// One thread reports, another glances: each standing that it reads is one of the history's, and they
+/// come in the history's order.
+#[test]
+fn glances_beside_reports(rt: HostRuntime) -> Result<(), Fail> {
+    let (desk, first, second) = two_passes(rt.alloc())?;
+    let (first, read) = join(
+        &rt,
+        || -> Pass
+            requires { IsPassOf desk first }
+            ensures { IsPassOf desk result }
+        { report_often(&rt, &desk, first, 190) },
+        || -> Result<(Pass, Vec<u64>), AllocError>
+            requires { IsPassOf desk second }
+            ensures { IfOk result (λ read. IsPassOf desk read.0) }
+        { glance_often(rt.alloc(), &rt, &desk, second, 10_000) },
+    );
+    let (second, read) = read?;
+    let pass = desk.gather(first, second);
+    assert_eq!(rt; pass.calls(), 380);
+    let book = closed(&rt, desk, pass);
+    let shown = words_of(rt.alloc(), &book)?;
+    assert_eq!(rt; shown.len(), 191);
+    let mut later = shown.iter();
+    for word in read.iter() {
+        assert!(rt;
+            later.any(|shown| shown == word),
+            "not the history's, or out of its order"
+        );
+    }
     Ok(())
 }
 
