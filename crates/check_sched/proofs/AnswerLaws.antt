@@ -1,31 +1,15 @@
 -- Laws of refusals: what is true of every refusal, and of the answer where nothing is refused, is true
 -- of the step.
-use Rattle.std.proofs.Common.{◌≡◌, ℕ, ◌<◌, ◌≤◌, ◌^◌, Bool, true, false, ◌==◌, cond, Option, Some, None, Result, Ok, Err, refl, ap, arith}
-use Rattle.std.specs.Prelude.{nat_lt, ok_or, slice_get}
+use Rattle.std.proofs.Common.{◌≡◌, ℕ, ◌<◌, ◌≤◌, ◌^◌, Bool, true, false, ◌==◌, cond, Option, Some, None, Ok, Err, refl, ap, arith}
+use Rattle.std.specs.Prelude.{nat_lt}
 use Rattle.std.proofs.lemmas.Bool.Decides.{nat_tests}
-use Rattle.check_sched.specs.Scheduling.{Scheduling, OpenRun, run_under}
-use Rattle.check_sched.specs.declared.call.Reply.{Reply}
-use Rattle.check_sched.specs.declared.call.Reply.TheVariants as reply
-use Rattle.check_sched.specs.declared.call.Refusal.{Refusal}
+use Rattle.check_sched.specs.Scheduling.{OpenRun, run_under}
 use Rattle.check_sched.specs.declared.call.Refusal.TheVariants as refusal
 use Rattle.check_sched.specs.State.{State}
-use Rattle.check_sched.specs.Step.{◌>>=◌, known, run_left, settled, within_range}
-
--- one test after another
-pub by_test : {A : Type 0} (P : State × Reply → Type 0) (s : State) (test : Result A Refusal) (more : A → Result (State × Reply) Refusal)
-    → ((why : Refusal) → P (s, reply.Refused why)) → ((x : A) → test ≡ Ok x → P (settled s (more x))) → P (settled s (test >>= more))
-by_test P s (Ok x) more refused passed = passed x refl
-by_test P s (Err why) more refused passed = refused why
+pub use Rattle.check_sched.specs.BoardLaws.{by_test, known_is}
+use Rattle.check_sched.specs.Step.{run_left, within_range}
 
 -- ---- what a passed test tells
-
-known_by : (found : Option Scheduling) (o : Scheduling) → ok_or found refusal.UnknownObject ≡ Ok o → found ≡ Some o
-known_by None o e = cc
-known_by (Some x) o e = let same : x ≡ o = cc in ap Some same
-
--- the object is there
-pub known_is : (n : ℕ) (s : State) (o : Scheduling) → known n s ≡ Ok o → slice_get s.objects n ≡ Some o
-known_is n s o e = known_by (slice_get s.objects n) o e
 
 range_by : (moment : ℕ) (u : Unit {0}) (late : Bool) → nat_lt (2 ^ 60) moment ≡ late
     → cond late (Err refusal.TimeRange) (Ok tt) ≡ Ok u → moment ≤ 2 ^ 60

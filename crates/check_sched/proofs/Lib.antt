@@ -1,3 +1,4 @@
+pub mod BoardLaws
 pub mod BookLemmas
 pub mod AnswerLaws
 pub mod CandidateLaws

@@ -103,7 +103,8 @@ opened_is_state setup start times seen objects standings results valid made coun
 
 -- ---- the roster that the code opens with
 
-count_is : (setup : Configuration) → object_count setup ≡ host_count setup + length setup.services
+-- the objects are the hosts and the services
+pub count_is : (setup : Configuration) → object_count setup ≡ host_count setup + length setup.services
 count_is setup = simp (length-append, length-map) refl
 
 -- the objects are few enough

@@ -1,15 +1,11 @@
 -- Laws of one place changed in a list, and of what is true at each place.
-use Rattle.std.proofs.Common.{◌≡◌, ◌≢◌, ℕ, zero, suc, ◌<◌, ◌≤◌, Bool, true, List, [], ◌∷◌, length, get_or, set, Some, None, refl, ap}
+use Rattle.std.proofs.Common.{◌≡◌, ℕ, zero, suc, ◌<◌, ◌≤◌, Bool, true, List, [], ◌∷◌, length, get_or, set, Some, None, refl, ap}
 use Rattle.std.proofs.Common.{subst, arith}
 use Rattle.std.specs.Prelude.{slice_get}
 use Rattle.std.specs.List.{list_all}
 use Rattle.std.proofs.lemmas.Bool.{and_parts, and_from}
 use Rattle.check_sched.specs.Step.{update_at}
-
-pub length-update_at : {X : Type 0} (n : ℕ) (f : X → X) (xs : List X) → length (update_at n f xs) ≡ length xs
-length-update_at n f [] = refl
-length-update_at zero f (x ∷ xs) = refl
-length-update_at (suc n) f (x ∷ xs) = ap suc (length-update_at n f xs)
+pub use Rattle.check_sched.specs.BoardLaws.{length-update_at, update_at_apart}
 
 pub set_is_update : {X : Type 0} (n : ℕ) (f : X → X) (xs : List X) (d y : X) → n < length xs → y ≡ f (get_or xs n d) → set xs n y ≡ update_at n f xs
 set_is_update n f [] d y h e = absurd (omega arith)
@@ -31,14 +27,6 @@ each-update_at P zero y (z ∷ xs) each new zero x e = let same : y ≡ x = cc i
 each-update_at P zero y (z ∷ xs) each new (suc k) x e = each (suc k) x e
 each-update_at P (suc n) y (z ∷ xs) each new zero x e = each zero x e
 each-update_at P (suc n) y (z ∷ xs) each new (suc k) x e = each-update_at (λ j w. P (suc j) w) n y xs (λ j w f. each (suc j) w f) new k x e
-
--- what is read at another place than the one that changed
-pub update_at_apart : {X : Type 0} (n k : ℕ) (f : X → X) (xs : List X) → n ≢ k → slice_get (update_at n f xs) k ≡ slice_get xs k
-update_at_apart n k f [] h = refl
-update_at_apart zero zero f (x ∷ xs) h = absurd (h refl)
-update_at_apart zero (suc k) f (x ∷ xs) h = refl
-update_at_apart (suc n) zero f (x ∷ xs) h = refl
-update_at_apart (suc n) (suc k) f (x ∷ xs) h = update_at_apart n k f xs (λ e. h (ap suc e))
 
 -- ---- places
 

@@ -12,3 +12,6 @@ pub mod Books
 pub mod Runs
 pub mod Results
 pub mod Flapping
+pub mod Board
+pub mod BoardLaws
+pub mod SetupLaws

@@ -2,7 +2,11 @@
 
 ghost use Rattle.std.specs.Prelude.{◌≡◌, ◌+◌, ◌^◌, ◌<◌, ◌≤◌, [], ◌∷◌, ◌++◌, length};
 ghost use Rattle.std.specs.Prelude.{IfOk, IfErr, OnOk, OnErr, vec_capacity, vec_len};
+ghost use Rattle.check_objects.specs.Configuration.{IsSetup};
 ghost use Rattle.check_sched.specs.BookState.{BookState, book_opening, book_step};
+ghost use Rattle.check_sched.specs.Board.{book_board, book_place};
+ghost use Rattle.check_sched.specs.BoardLaws.{board_within, board_unposted, board_posted};
+ghost use Rattle.check_sched.specs.SetupLaws.{IsSetup-prop};
 ghost use Rattle.check_sched.specs.State.{opening};
 ghost use Rattle.check_sched.specs.Step.{step};
 ghost use Rattle.std.proofs.Props.{props};
@@ -32,6 +36,7 @@ pub struct Book {
     refused: u64,
     room: usize,
     ghost reserved: { room ≤ vec_capacity entries },
+    ghost valid_setup: { IsSetup sched.value.setup } by { IsSetup-prop sched.value.setup },
     ghost legal: { IsLegal book_step (book_opening sched.value.setup sched.value.start room) entries.items } by { IsLegal-prop book_step (λ a b. Prim.hlevel props)
         (book_opening sched.value.setup sched.value.start room) entries.items },
     ghost replayed: { record { sched = sched.value; room = room }
@@ -95,6 +100,10 @@ impl Kept for Book {
 
     ghost step = { book_step };
 
+    ghost board = { book_board };
+
+    ghost posts_at = { book_place };
+
     ghost opening = { opening_of };
 
     ghost state = { state_of };
@@ -106,6 +115,12 @@ impl Kept for Book {
     ghost legal = { λ book. book.legal };
 
     ghost replayed = { λ book. book.replayed };
+
+    ghost within = { board_within };
+
+    ghost unposted = { board_unposted };
+
+    ghost posted = { board_posted };
 
     /// Makes one call on the scheduler, and keeps it with its reply. Room for the entry is made
     /// first; where there is no memory for it, the call isn't made, but counted. `NoMemory` comes
@@ -140,6 +155,24 @@ impl Kept for Book {
 
     fn refused(&self) -> u64 {
         self.refused
+    }
+
+    /// The number of the setup's objects, at most 4,096.
+    fn words(&self) -> u32 {
+        self.sched.words()
+    }
+
+    /// The [`code`](check_rules::code) of the standing of the object with this number, which
+    /// [`decode`](check_rules::decode) reads: see
+    /// [`board_shows_standings`](crate::laws::board_shows_standings).
+    fn word(&self, place: u32) -> u64 {
+        self.sched.word(place)
+    }
+
+    /// The object's number for a report of the run under which the object is being checked. No other
+    /// call is posted: neither a report that will be refused, nor what changes no standing.
+    fn posts(&self, call: Call) -> Option<u32> {
+        self.sched.place_of(call)
     }
 }
 

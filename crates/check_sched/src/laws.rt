@@ -1,10 +1,11 @@
 //! Laws of the definitions, each the contract of a function without parameters and code.
 
-ghost use Rattle.std.specs.Prelude.{ℕ, ◌≡◌, ◌+◌, true, false, List, ◌∷◌, ◌++◌, [], Some, slice_get};
+ghost use Rattle.std.specs.Prelude.{ℕ, ◌≡◌, ◌+◌, ◌<◌, ◌≤◌, true, false, List, ◌∷◌, ◌++◌, [], Some, length, slice_get, slice_index};
 ghost use Rattle.ticket_steps.specs.declared.kept.Entry.{Entry};
 ghost use Rattle.ticket_steps.specs.History.{entry, replay, IsLegal};
 ghost use Rattle.circular_buffer.specs.Buffer.{keep_last};
-ghost use Rattle.check_objects.specs.Configuration.{Configuration};
+ghost use Rattle.check_objects.specs.Configuration.{Configuration, IsSetup, object_count};
+ghost use Rattle.check_rules.specs.Board.{standing_coded};
 ghost use Rattle.check_rules.specs.declared.flapping.TheConstants.{KEPT_RESULTS};
 ghost use Rattle.check_rules.specs.declared.standing.Standing.{Standing};
 ghost use Rattle.check_rules.specs.Standing.{pending_standing};
@@ -12,7 +13,10 @@ ghost use Rattle.check_rules.specs.declared.state.Code.{Code};
 ghost use Rattle.check_sched.specs.declared.call.Call.{Call};
 ghost use Rattle.check_sched.specs.declared.call.Call.TheVariants as call;
 ghost use Rattle.check_sched.specs.declared.call.Reply.TheVariants as reply;
-ghost use Rattle.check_sched.specs.State.{IsWithinLimit, flap_thresholds_of, is_host, opening, results_at};
+ghost use Rattle.check_sched.specs.Board.{book_board};
+ghost use Rattle.check_sched.specs.Books.{sched_of, state_of};
+ghost use Rattle.check_sched.specs.declared.book.Book.{Book};
+ghost use Rattle.check_sched.specs.State.{IsWithinLimit, flap_thresholds_of, is_host, opening, results_at, standing_at};
 ghost use Rattle.check_sched.specs.Step.{after, step};
 ghost use Rattle.check_sched.specs.BookState.{BookState, book_opening, book_step};
 ghost use Rattle.check_sched.specs.Reply.{IsReportReply, IsTakeReply};
@@ -88,4 +92,22 @@ pub fn replies()
         (((front ++ entry taker (call.Take now) (reply.Taken object run) ∷ []) ++ between)
         ++ entry pass (call.Report object run code) answer ∷ [])
         → IsReportReply answer }
+{}
+
+/// What the board of a book shows, whatever calls were made since it was opened, one after another: a
+/// word for each object of the setup (`words`), which [`decode`](check_rules::decode) reads as the
+/// standing of the object with that number (`read`). Each book was opened over a setup as
+/// [`Setup`](check_objects::Setup) has it (`books`), and so its board has at most 4,096 words (`few`).
+pub fn board_shows_standings()
+    ensures words { (setup : Configuration) → (start room : ℕ)
+        → (history : List (Entry Call Reply))
+        → length (book_board (replay book_step (book_opening setup start room) history))
+        ≡ object_count setup }
+    ensures read { (setup : Configuration) → (start room : ℕ)
+        → (history : List (Entry Call Reply)) → (object : ℕ)
+        → IsSetup setup → object < object_count setup
+        → standing_coded (slice_index (book_board (replay book_step (book_opening setup start room) history)) object)
+        ≡ Some (standing_at (replay book_step (book_opening setup start room) history).sched.standings object) }
+    ensures books { (book : Book) → IsSetup (sched_of book).setup }
+    ensures few { (book : Book) → length (book_board (state_of book)) ≤ 4096 }
 {}

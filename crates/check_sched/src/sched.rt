@@ -1,6 +1,6 @@
 //! The scheduler: its calls, and what can be read of it between them.
 
-ghost use Rattle.std.specs.Prelude.{◌≡◌, ◌+◌, ◌<◌, ◌≤◌, IfSome, IfOk, IfErr, IsTrue, OnOk, None, length};
+ghost use Rattle.std.specs.Prelude.{◌≡◌, ◌+◌, ◌<◌, ◌≤◌, IfSome, IfOk, IfErr, IsTrue, Ok, OnOk, None, length, slice_index};
 ghost use Rattle.check_objects.specs.Configuration.{IsSetup, object_count};
 ghost use Rattle.check_sched.specs.State.{
   IsStandingOf,
@@ -28,6 +28,8 @@ ghost use Rattle.check_sched.specs.Step.{
 };
 ghost use Rattle.check_sched.specs.Change.{changed, is_quiet};
 ghost use Rattle.check_sched.specs.Report.{put_off_until};
+ghost use Rattle.check_sched.specs.Board.{board_of, place_of};
+ghost use Rattle.check_sched.specs.Scheduling.{run_under};
 ghost use Rattle.check_sched.specs.Reply.{OnRefused, NamesObjectOf, TellsTimesUpTo, reply_of};
 
 use crate::call::{Call, Refusal, Reply};
@@ -37,7 +39,7 @@ use crate::report::{flap_thresholds, is_changed, judged, next_after, put_off_unt
 use crate::results::Results;
 use crate::roster::Roster;
 use check_objects::Setup;
-use check_rules::{Code, Standing, blocked, pending};
+use check_rules::{Code, Standing, blocked, code, pending};
 use check_spread::{LAST_MOMENT, LAST_TIME, initial_times};
 use std::alloc::{AllocError, Global};
 use std::marker::Model;
@@ -85,6 +87,7 @@ impl Sched {
     pub fn new(alloc: Global, setup: Setup, start: u64) -> Result<Sched, Setup>
         requires { start ≤ LAST_MOMENT }
         ensures ok { IfOk result (λ scheduler. scheduler ≡ opening setup start) }
+        ensures valid_setup { OnOk result (IsSetup setup) }
         ensures err { IfErr result (λ handed_back. handed_back ≡ setup) }
     {
         let Ok(times) = initial_times(alloc, &setup, start) else {
@@ -258,8 +261,7 @@ impl Sched {
         ensures reply { reply_of result ≡ (step self.old (Call.Report object run code)).1 }
         ensures times { TellsTimesUpTo LAST_TIME (reply_of result) }
     {
-        let state = self.object(object)?;
-        let running = state.run_under(run)?;
+        let (state, running) = self.awaited(object, run)?;
         let index = object as usize;
         let before = self.standings[index];
         let found = state_found(&self.setup, &self.standings, object, code);
@@ -275,6 +277,20 @@ impl Sched {
             changed,
             next,
         })
+    }
+
+    /// The object with this number with its run of this number, whose result is awaited; or why a
+    /// report of it is refused.
+    fn awaited(&self, object: u32, run: u64) -> Result<(ObjectState, Run), Refusal>
+        ensures found { IfOk result (λ pair. (known object self.now ≡ Ok pair.0)
+            × (run_under run pair.0.run ≡ Ok pair.1)) }
+        ensures times { IfOk result (λ pair. IsTrue (is_time pair.0.next)) }
+        ensures refused { IfErr result (λ why. (code : Code)
+            → step self.now (Call.Report object run code) ≡ (self.now, Reply.Refused why)) }
+    {
+        let state = self.object(object)?;
+        let running = state.run_under(run)?;
+        Ok((state, running))
     }
 
     /// Ends a run without a result.
@@ -344,6 +360,36 @@ impl Sched {
         match self.roster.get(number) {
             Some(object) => Ok(object),
             None => Err(Refusal::UnknownObject),
+        }
+    }
+
+    /// How many words its board has: one for each object.
+    pub(crate) fn words(&self) -> u32
+        ensures { result ≡ length (board_of self.now) }
+    {
+        self.setup.len() as u32
+    }
+
+    /// The word of the standing of the object with this number.
+    pub(crate) fn word(&self, number: u32) -> u64
+        requires { number < length (board_of self.now) }
+        ensures { result ≡ slice_index (board_of self.now) number }
+    {
+        code(self.standings[number as usize])
+    }
+
+    /// At which place of the board the call is posted, if it is made now: a report that will be
+    /// answered by a standing at its object's number, and no other call at any.
+    pub(crate) fn place_of(&self, call: Call) -> Option<u32>
+        ensures { result ≡ place_of self.now call }
+    {
+        match call {
+            Call::Report {
+                object,
+                run,
+                code: _,
+            } if self.awaited(object, run).is_ok() => Some(object),
+            _ => None,
         }
     }
 

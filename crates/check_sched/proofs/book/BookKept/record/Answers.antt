@@ -1,4 +1,5 @@
-use Rattle.std.proofs.Common.{◌≡◌, ◌∷◌, ◌++◌, [], ap, ◌∙◌, arith}
+use Rattle.std.proofs.Common.{◌≡◌, ◌∷◌, ◌++◌, [], ap, sym, subst, ◌∙◌, arith}
+use Rattle.check_objects.specs.Configuration.{IsSetup}
 use Rattle.ticket_steps.specs.History.{entry}
 use Rattle.check_sched.specs.State.{State}
 use Rattle.check_sched.specs.Step.{step}
@@ -17,6 +18,7 @@ invariant_of-self-2 c =
     ∷ [] = c.push_reserved.ensures.items ∙ ap (λ es. es ++ entry c.args.pass c.args.call c.apply-reply.result ∷ []) c.grow.ensures.same in
     record {
       reserved = omega (arith, c.push_reserved.ensures.capacity, c.grow.ensures.capacity, b.reserved);
+      valid_setup = subst IsSetup (sym setup) b.valid_setup;
       legal =
           book_legal b.sched.value c.apply-reply.new.self b.room c.args.pass c.args.call c.apply-reply.result b.entries.items
           c.push_reserved.new.self.items state reply setup start more b.replayed b.legal;

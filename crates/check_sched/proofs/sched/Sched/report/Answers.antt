@@ -26,7 +26,7 @@ standing_there inside n o h e = let l = count_there inside n o h e in let m = h.
 
 pub add-flapping-requires : goal.add-flapping-requires
 add-flapping-requires c =
-    let found = ap (known c.args.object) c.self.view_is ∙ sym c.object.ensures.value ∙ c.in_ok-state.was in
+    let found = ap (known c.args.object) c.self.view_is ∙ c.in_ok-state.ensures.found.0 in
     let there = count_there c.self.inside c.args.object c.in_ok-state.state c.self.invariant.state found in
     let each = c.self.invariant.state.results_each in
     omega (arith, there, each)
@@ -34,32 +34,32 @@ add-flapping-requires c =
 pub judged-standing-requires-clause-before : goal.judged-standing-requires-clause-before
 judged-standing-requires-clause-before c =
     let s = state_of c.self.inside in
-    let found = ap (known c.args.object) c.self.view_is ∙ sym c.object.ensures.value ∙ c.in_ok-state.was in
+    let found = ap (known c.args.object) c.self.view_is ∙ c.in_ok-state.ensures.found.0 in
     rw c.deref-2.ensures.value (standing_of_state s c.args.object c.self.invariant.state
     (count_there c.self.inside c.args.object c.in_ok-state.state c.self.invariant.state found))
 
 pub next_after-next-requires-clause-there : goal.next_after-next-requires-clause-there
 next_after-next-requires-clause-there c =
-    let found = ap (known c.args.object) c.self.view_is ∙ sym c.object.ensures.value ∙ c.in_ok-state.was in
+    let found = ap (known c.args.object) c.self.view_is ∙ c.in_ok-state.ensures.found.0 in
     count_there c.self.inside c.args.object c.in_ok-state.state c.self.invariant.state found
 
 pub next_after-next-requires-clause-moment : goal.next_after-next-requires-clause-moment
 next_after-next-requires-clause-moment c =
     let s = state_of c.self.inside in
-    let found = ap (known c.args.object) c.self.view_is ∙ sym c.object.ensures.value ∙ c.in_ok-state.was in
-    rw c.start.ensures (start_of_state s c.args.object c.in_ok-state.state c.in_ok-running.running c.self.invariant.state
+    let found = ap (known c.args.object) c.self.view_is ∙ c.in_ok-state.ensures.found.0 in
+    rw c.start.ensures (start_of_state s c.args.object c.in_ok-state.state c.in_ok-state.running c.self.invariant.state
     (known_is c.args.object s c.in_ok-state.state found)
-    (under_is c.args.run c.in_ok-state.state.run c.in_ok-running.running (sym c.run_under.ensures ∙ c.in_ok-running.was)))
+    (under_is c.args.run c.in_ok-state.state.run c.in_ok-state.running c.in_ok-state.ensures.found.1))
 
 pub index_mut-requires : goal.index_mut-requires
 index_mut-requires c =
-    let found = ap (known c.args.object) c.self.view_is ∙ sym c.object.ensures.value ∙ c.in_ok-state.was in
+    let found = ap (known c.args.object) c.self.view_is ∙ c.in_ok-state.ensures.found.0 in
     let there = standing_there c.self.inside c.args.object c.in_ok-state.state c.self.invariant.state found in
     omega (arith, there)
 
 -- the object that was found, and its standing
 found : (c : goal.After-self-1) → known c.args.object (state_of c.self.inside) ≡ Ok c.in_ok-state.state
-found c = ap (known c.args.object) c.self.view_is ∙ sym c.object.ensures.value ∙ c.in_ok-state.was
+found c = ap (known c.args.object) c.self.view_is ∙ c.in_ok-state.ensures.found.0
 
 there : (c : goal.After-self-1) → c.args.object < length c.self.inside.standings.items
 there c = standing_there c.self.inside c.args.object c.in_ok-state.state c.self.invariant.state (found c)
@@ -93,9 +93,9 @@ answer : (c : goal.After-self-1) → step (state_of c.self.inside) (call.Report 
       standing_reply c.args.object c.judged-standing.result c.next_after-next.result (state_of c.self.inside),
     )
 answer c =
-    report_answers c.args.object c.args.run c.args.code (state_of c.self.inside) c.in_ok-state.state c.in_ok-running.running
+    report_answers c.args.object c.args.run c.args.code (state_of c.self.inside) c.in_ok-state.state c.in_ok-state.running
     c.state_found-found.result c.judged-standing.result c.next_after-next.result
-    (found c) (sym c.run_under.ensures ∙ c.in_ok-running.was) (meant c) (made c)
+    (found c) c.in_ok-state.ensures.found.1 (meant c) (made c)
     (c.next_after-next.ensures.value ∙ (λ i. next_after c.self.inside.setup c.args.object c.judged-standing.result (c.start.ensures i) (c.next.ensures i)))
 
 -- the standings that the write leaves

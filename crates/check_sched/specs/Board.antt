@@ -1,0 +1,33 @@
+-- The board: what a state shows to those who read it without the lock, a word for each object.
+use Rattle.std.specs.Prelude.{ℕ, List, length, map, Option, Some, None}
+use Rattle.std.specs.List.{range_with_len}
+use Rattle.check_rules.specs.Board.{code_of}
+use Rattle.check_sched.specs.declared.call.Call.{Call}
+use Rattle.check_sched.specs.declared.call.Call.TheVariants as call
+use Rattle.check_sched.specs.declared.call.Reply.{Reply}
+use Rattle.check_sched.specs.declared.call.Reply.TheVariants as reply
+use Rattle.check_sched.specs.State.{State, standing_at}
+use Rattle.check_sched.specs.Step.{step}
+use Rattle.check_sched.specs.BookState.{BookState, book_step}
+
+-- the words of the standings of all objects, in the order of their numbers
+abbrev pub board_of : State → List ℕ
+board_of s = map (λ number. code_of (standing_at s.standings number)) (range_with_len 0 (length s.objects))
+
+-- The place at which an answered call is posted: the object's number for a report that was answered by the object's standing. No other call
+-- is posted.
+abbrev pub place_by : Call → Reply → Option ℕ
+place_by (call.Report object run code) (reply.Standing standing changed next) = Some object
+place_by c r = None
+
+-- the place at which a call is posted that is made now
+abbrev pub place_of : State → Call → Option ℕ
+place_of s c = place_by c (step s c).1
+
+-- ---- of a book
+
+abbrev pub book_board : BookState → List ℕ
+book_board s = board_of s.sched
+
+abbrev pub book_place : BookState → Call → Option ℕ
+book_place s c = place_by c (book_step s c).1

@@ -1,0 +1,21 @@
+-- That a configuration is a setup in at most one way.
+use Rattle.std.proofs.Props.{props}
+use Rattle.std.specs.List.Sorted.{IsStrictlySortedBy-prop}
+use Rattle.check_drafts.specs.declared.options.DelayMethod.{DelayMethod}
+use Rattle.check_drafts.specs.declared.options.DelayMethod.TheVariants as method
+use Rattle.check_drafts.specs.declared.options.InterleaveFactor.{InterleaveFactor}
+use Rattle.check_drafts.specs.declared.options.InterleaveFactor.TheVariants as factor
+use Rattle.check_objects.specs.Configuration.{Configuration, IsDelayInRange, IsFactorInRange, IsSetup}
+
+delay_prop : (m : DelayMethod) → IsProp (IsDelayInRange m)
+delay_prop method.NoDelay = hlevel props
+delay_prop method.Dumb = hlevel props
+delay_prop method.Smart = hlevel props
+delay_prop (method.Fixed delay) = hlevel props
+
+factor_prop : (f : InterleaveFactor) → IsProp (IsFactorInRange f)
+factor_prop factor.Smart = hlevel props
+factor_prop (factor.Fixed n) = hlevel props
+
+pub IsSetup-prop : (setup : Configuration) → IsProp (IsSetup setup)
+IsSetup-prop setup = hlevel (props, IsStrictlySortedBy-prop, delay_prop, factor_prop)
