@@ -1,2 +1,3 @@
 pub mod PassLemmas
 pub mod ScheduleLemmas
+pub mod BoardLemmas

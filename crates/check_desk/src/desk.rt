@@ -1,14 +1,16 @@
 //! The desk and its calls.
 
-ghost use Rattle.std.specs.Prelude.{⊤, ◌≡◌, ◌↔◌, ℕ, ◌+◌, ◌<◌, ◌≤◌, [], length, Some, None, IsErr, IfOk, IfErr, vec_capacity};
+ghost use Rattle.std.specs.Prelude.{⊤, ◌≡◌, ◌↔◌, ℕ, ◌+◌, ◌<◌, ◌≤◌, [], length, false, Some, None, IsErr, IfSome, IfOk, IfErr, vec_capacity};
 ghost use Rattle.std.specs.List.{All};
 ghost use Rattle.ticket_steps.specs.History.{of};
 ghost use Rattle.ticket_steps.specs.Books.{book_state, IsLawfulBook};
 ghost use Rattle.ticket_lock.specs.Callers.{Caller, drawn, ended, first_caller, having_seen, joined};
-ghost use Rattle.ticket_lock.specs.Tokens.{seat_of, start_of, IsSeatOf};
+ghost use Rattle.ticket_lock.specs.Steps.{Returns};
+ghost use Rattle.ticket_lock.specs.Tokens.{has_posted, hold_of, refused_before, seat_of, start_of, IsHoldOf, IsSeatOf};
 ghost use Rattle.ticket_lock.specs.Views.{Follows};
 ghost use Rattle.check_objects.specs.Configuration.{object_count};
 ghost use Rattle.check_sched.specs.BookState.{book_step};
+ghost use Rattle.check_sched.specs.contracts.book.BookKept.TheImpl.{ghosts as kept_book};
 ghost use Rattle.check_sched.specs.Books.{entries_of, opening_of, refused_of, room_of, state_of};
 
 use crate::passes::{Hold, Pass, Turn};
@@ -199,16 +201,32 @@ impl Desk {
         let Hold { hold, mut book } = hold;
         let place = book.posts(call);
         let recorded = book.record(hold.number(), call);
-        let hold = match place {
-            Some(place) => self.lock.post(hold, &book, place),
-            None => hold,
-        };
-        let seat = self.lock.leave(hold, book);
+        let seat = self.leave(hold, book, place);
         let answer = match recorded {
             Ok(reply) => Answer::Reply(reply),
             Err(_refused) => Answer::NoMemory,
         };
         (Pass { seat }, answer)
+    }
+
+    /// Ends the turn of a holder whose call is recorded in the book, or refused. A call that has a place
+    /// on the board is posted before.
+    fn leave(&self, hold: ticket_lock::Hold<Book>, book: Book, place: Option<u32>) -> Seat<Book>
+        requires desk { IsHoldOf self.now.lock hold }
+        requires unposted { has_posted hold ≡ false }
+        requires book { Returns kept_book (start_of self.now.lock) (hold_of hold).own
+            (hold_of hold).seen (refused_before hold) place book }
+        requires place { IfSome place (λ at. at < objects_of self.now) }
+        ensures desk { IsSeatOf self.now.lock result }
+        ensures ended { seat_of result ≡ ended (entries_of book) (hold_of hold) }
+    {
+        match place {
+            Some(place) => {
+                let hold = self.lock.post(hold, &book, place);
+                self.lock.leave(hold, book)
+            }
+            None => self.lock.leave(hold, book),
+        }
     }
 
     /// A whole call: takes a ticket, waits until its turn comes, and makes the call. It answers

@@ -13,15 +13,20 @@
 //! | `remove` | removes a random entry of n, and puts it back at a random time; at the end all are taken out |
 //! | `xremove` | the same without the end |
 //! | `cycle` | takes a check of one of n objects, and reports that it is OK |
+//! | `glance` | glances at one of n objects of a desk |
+//! | `glance1`, `glance2`, `glance4` | the same by 1, 2 or 4 threads, each so many times, while another thread reports; the time is the slowest thread's |
 //!
-//! `queue_work` has the workloads of the queue, `sched_work` that of the scheduler, `random` the numbers.
+//! `queue_work` has the workloads of the queue, `sched_work` that of the scheduler, `glance_work` those
+//! of the desk's board, `random` the numbers.
 #![tactic(auto)]
 
+mod glance_work;
 mod queue_work;
 mod random;
 mod sched_work;
 
 use check_sched::Sched;
+use glance_work::glances;
 use queue_work::{QueueWork, QueueWorkload};
 use sched_work::{cycle, scheduler};
 use std::alloc::Global;
@@ -32,11 +37,19 @@ use std::time::Instant;
 /// The most numbers of a workload.
 const MAX_NUMBERS: u32 = 1_000_000;
 
+/// What a workload works on.
+#[derive(Clone, Copy)]
+enum Workload {
+    Queue(QueueWorkload),
+    Scheduler,
+    /// So many threads glance while another reports; with 0 the only one glances.
+    Board(u32),
+}
+
 /// What the words ask for.
 #[derive(Drop)]
 struct Job {
-    /// The workload of the queue; None is that of the scheduler.
-    workload: Option<QueueWorkload>,
+    workload: Workload,
     numbers: u32,
     cycles: u64,
     timed: bool,
@@ -59,6 +72,12 @@ fn main(rt: HostRuntime) -> ExitCode {
     let Some(job) = job_of(&words) else {
         return ExitCode::from(2);
     };
+    if let Workload::Board(threads) = job.workload {
+        return match glances(&rt, rt.alloc(), threads, job.numbers, job.cycles) {
+            Some(glanced) => tell(&rt, &job, glanced.nanos, job.cycles, glanced.sum),
+            None => ExitCode::from(2),
+        };
+    }
     let Some(mut work) = prepare(rt.alloc(), &job) else {
         return ExitCode::from(2);
     };
@@ -72,8 +91,13 @@ fn main(rt: HostRuntime) -> ExitCode {
     if let Work::Queue(queue) = &mut work {
         sum = queue.sum();
     }
+    tell(&rt, &job, took.as_nanos(), made, sum)
+}
+
+/// Writes the line.
+fn tell(rt: &HostRuntime, job: &Job, nanos: u128, made: u64, sum: u64) -> ExitCode {
     let written = if job.timed {
-        println!(rt; "ns={} ops={made} sum={sum:016x}", took.as_nanos())
+        println!(rt; "ns={nanos} ops={made} sum={sum:016x}")
     } else {
         println!(rt; "ops={made} sum={sum:016x}")
     };
@@ -101,15 +125,19 @@ fn job_of(words: &[String]) -> Option<Job> {
     })
 }
 
-/// The workload of the queue that a word names, or that of the scheduler; None where it names none.
-fn workload_of(word: &str) -> Option<Option<QueueWorkload>> {
+/// The workload that a word names.
+fn workload_of(word: &str) -> Option<Workload> {
     match word {
-        "drain" => Some(Some(QueueWorkload::Drain)),
-        "steady" => Some(Some(QueueWorkload::Steady)),
-        "mixed" => Some(Some(QueueWorkload::Mixed)),
-        "remove" => Some(Some(QueueWorkload::Remove)),
-        "xremove" => Some(Some(QueueWorkload::RemoveAlone)),
-        "cycle" => Some(None),
+        "drain" => Some(Workload::Queue(QueueWorkload::Drain)),
+        "steady" => Some(Workload::Queue(QueueWorkload::Steady)),
+        "mixed" => Some(Workload::Queue(QueueWorkload::Mixed)),
+        "remove" => Some(Workload::Queue(QueueWorkload::Remove)),
+        "xremove" => Some(Workload::Queue(QueueWorkload::RemoveAlone)),
+        "cycle" => Some(Workload::Scheduler),
+        "glance" => Some(Workload::Board(0)),
+        "glance1" => Some(Workload::Board(1)),
+        "glance2" => Some(Workload::Board(2)),
+        "glance4" => Some(Workload::Board(4)),
         _ => None,
     }
 }
@@ -120,8 +148,12 @@ fn prepare(alloc: Global, job: &Job) -> Option<Work> {
         return None;
     }
     match job.workload {
-        Some(workload) => Some(Work::Queue(QueueWork::new(alloc, workload, job.numbers).ok()?)),
-        None => Some(Work::Cycle(scheduler(alloc, job.numbers)?)),
+        Workload::Queue(workload) => {
+            Some(Work::Queue(QueueWork::new(alloc, workload, job.numbers).ok()?))
+        }
+        Workload::Scheduler | Workload::Board(_) => {
+            Some(Work::Cycle(scheduler(alloc, job.numbers)?))
+        }
     }
 }
 

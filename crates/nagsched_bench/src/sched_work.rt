@@ -9,7 +9,7 @@ use check_sched::{Call, Reply, Sched};
 use std::alloc::{AllocError, Global};
 
 /// The time between two checks of an object, in milliseconds.
-const INTERVAL: u64 = 300_000;
+pub(crate) const INTERVAL: u64 = 300_000;
 
 /// A scheduler over so many objects, one of them a host that is never due and the others its
 /// services, all due at 0. None where there is no memory, or there can't be so many objects.
@@ -20,7 +20,7 @@ pub(crate) fn scheduler(alloc: Global, objects: u32) -> Option<Sched> {
 }
 
 /// A document of so many objects.
-fn document(alloc: Global, objects: u32) -> Result<String, AllocError> {
+pub(crate) fn document(alloc: Global, objects: u32) -> Result<String, AllocError> {
     let mut document = String::new(alloc);
     document.push_str("{\"options\":{\"service_inter_check_delay_method\":\"n\"},")?;
     document.push_str(
