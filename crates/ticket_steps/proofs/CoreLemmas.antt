@@ -1,8 +1,9 @@
 -- Facts that the core's functions cite.
-use Rattle.std.proofs.Common.{mul-le-mul_right, ◌≡◌, ℕ, ◌+◌, ◌*◌, ◌<◌, ◌≤◌, ◌≢◌, List, [], ◌∷◌, ◌++◌, length, set, sym, refl, ap, ◌∙◌, subst, arith, true}
+use Rattle.std.proofs.Common.{mul-le-mul_right, ◌≡◌, ℕ, ◌+◌, ◌*◌, ◌<◌, ◌≤◌, ◌≢◌, List, [], ◌∷◌, ◌++◌, length, set, sym, refl, ap, ◌∙◌, subst, arith, true, Some, None}
 use mathlib.Core.Option.{some}
 use lib.ListN.{get_elem?}
 use Rattle.ticket_steps.specs.declared.kept.Entry.{Entry}
+use Rattle.ticket_steps.specs.declared.kept.Kept.{Ghosts}
 use Rattle.ticket_steps.specs.declared.seats.CoreSeat.{CoreSeat}
 use Rattle.ticket_steps.specs.declared.seats.Phase.TheVariants.{Idle, Waiting, Holding, Posted}
 use Rattle.ticket_steps.specs.Books.{BookState, book_state, with_entry, with_refusal}
@@ -41,64 +42,64 @@ pub few_refused : {S C R : Type 0} (numbers draws : ℕ) (c : CoreState S C R) �
     → c.book.refused ≤ 4398046510081
 few_refused numbers draws c l few small = omega (arith, taken_le numbers draws c l, few_served numbers draws c l few small)
 
-module _ {S C R : Type 0} (step : S → C → S × R) (draws : ℕ) (b : CoreState S C R) (i own : ℕ) (p : CoreSeat)
+module _ {K C R : Type 0} (k : Ghosts K C R) (draws : ℕ) (b : CoreState k.State C R) (i own : ℕ) (p : CoreSeat)
     (at : get_elem? b.seats i ≡ some p) (called : p.own ≡ own) where
   pub split_moves : (count : ℕ) (w x : CoreSeat) (seats : List CoreSeat) → p.phase ≡ Idle → p.fresh ≡ true → 0 < count → count < length p.numbers
       → w ≡ keeping draws count p → x ≡ given draws count p → seats ≡ set b.seats i w ++ x ∷ []
-      → Moves step draws b (split own count) (with_seats b seats)
+      → Moves k draws b (split own count) (with_seats b seats)
   split_moves count w x seats idle fresh some_count less kept given_is seats_are =
       (i, p, (at, called, idle), fresh, some_count, less, λ j. with_seats b ((seats_are ∙ (λ k. set b.seats i (kept k) ++ given_is k ∷ [])) j))
 
   pub draw_moves : (w : CoreSeat) → p.phase ≡ Idle → 0 < p.left → w ≡ waiting b.next p
-      → Moves step draws b (drew own b.next) (core_state (b.next + 1) b.served (set b.seats i w) b.book)
+      → Moves k draws b (drew own b.next) (core_state (b.next + 1) b.served (set b.seats i w) b.book)
   draw_moves w idle some_left is = (i, p, (at, called, idle), some_left, refl, λ j. core_state (b.next + 1) b.served (set b.seats i (is j)) b.book)
 
   pub look_moves : (ticket : ℕ) (w : CoreSeat) → p.phase ≡ Waiting ticket → ticket ≡ b.served → w ≡ holding ticket p
-      → Moves step draws b (held own) (with_seats b (set b.seats i w))
+      → Moves k draws b (held own) (with_seats b (set b.seats i w))
   look_moves ticket w waits first is =
       (i, p, (at, called, waits ∙ ap Waiting first), λ j. with_seats b (set b.seats i ((is ∙ ap (λ (t : ℕ). holding t p) first) j)))
 
-  pub wait_moves : (ticket : ℕ) → p.phase ≡ Waiting ticket → ticket ≢ b.served → Moves step draws b (waited own) b
+  pub wait_moves : (ticket : ℕ) → p.phase ≡ Waiting ticket → ticket ≢ b.served → Moves k draws b (waited own) b
   wait_moves ticket waits later = (i, p, ticket, (at, called, waits), later, refl)
 
-  pub posted_moves : (ticket : ℕ) (w : CoreSeat) (call : C) (reply : R) (book : BookState S C R) → p.phase ≡ Holding ticket → w ≡ posting ticket p
-      → reply ≡ (step b.book.state call).1 → book ≡ with_entry step own call b.book
-      → Moves step draws b (posted own call reply) (core_state b.next b.served (set b.seats i w) book)
-  posted_moves ticket w call reply book holds is answer book_is =
-      (i, p, ticket, (at, called, holds), answer, λ j. core_state b.next b.served (set b.seats i (is j)) (book_is j))
+  pub posted_moves : (ticket : ℕ) (w : CoreSeat) (call : C) (reply : R) (book : BookState k.State C R) → p.phase ≡ Holding ticket → w ≡ posting ticket p
+      → reply ≡ (k.step b.book.state call).1 → book ≡ with_entry k.step own call b.book
+      → (place : ℕ) → k.posts_at b.book.state call ≡ Some place → Moves k draws b (posted own call reply) (core_state b.next b.served (set b.seats i w) book)
+  posted_moves ticket w call reply book holds is answer book_is place placed =
+      (i, p, ticket, (at, called, holds), answer, (λ j. core_state b.next b.served (set b.seats i (is j)) (book_is j)), (place, placed))
 
-  pub post_refused_moves : (ticket : ℕ) (w : CoreSeat) (book : BookState S C R) → p.phase ≡ Holding ticket → w ≡ posting ticket p
-      → book ≡ with_refusal b.book → Moves step draws b (post_refused own) (core_state b.next b.served (set b.seats i w) book)
+  pub post_refused_moves : (ticket : ℕ) (w : CoreSeat) (book : BookState k.State C R) → p.phase ≡ Holding ticket → w ≡ posting ticket p
+      → book ≡ with_refusal b.book → Moves k draws b (post_refused own) (core_state b.next b.served (set b.seats i w) book)
   post_refused_moves ticket w book holds is book_is =
       (i, p, ticket, (at, called, holds), λ j. core_state b.next b.served (set b.seats i (is j)) (book_is j))
 
   pub left_posted_moves : (ticket : ℕ) (w : CoreSeat) → p.phase ≡ Posted ticket → w ≡ ended p
-      → Moves step draws b (left_posted own) (core_state b.next (b.served + 1) (set b.seats i w) b.book)
+      → Moves k draws b (left_posted own) (core_state b.next (b.served + 1) (set b.seats i w) b.book)
   left_posted_moves ticket w posts is =
       (i, p, ticket, (at, called, posts), λ j. core_state b.next (b.served + 1) (set b.seats i (is j)) b.book)
 
-  pub recorded_moves : (ticket : ℕ) (w : CoreSeat) (call : C) (reply : R) (book : BookState S C R) → p.phase ≡ Holding ticket → w ≡ ended p
-      → reply ≡ (step b.book.state call).1 → book ≡ with_entry step own call b.book
-      → Moves step draws b (recorded own call reply) (core_state b.next (b.served + 1) (set b.seats i w) book)
-  recorded_moves ticket w call reply book holds is answer book_is =
-      (i, p, ticket, (at, called, holds), answer, λ j. core_state b.next (b.served + 1) (set b.seats i (is j)) (book_is j))
+  pub recorded_moves : (ticket : ℕ) (w : CoreSeat) (call : C) (reply : R) (book : BookState k.State C R) → p.phase ≡ Holding ticket → w ≡ ended p
+      → reply ≡ (k.step b.book.state call).1 → book ≡ with_entry k.step own call b.book
+      → k.posts_at b.book.state call ≡ None → Moves k draws b (recorded own call reply) (core_state b.next (b.served + 1) (set b.seats i w) book)
+  recorded_moves ticket w call reply book holds is answer book_is unplaced =
+      (i, p, ticket, (at, called, holds), answer, (λ j. core_state b.next (b.served + 1) (set b.seats i (is j)) (book_is j)), unplaced)
 
-  pub refused_moves : (ticket : ℕ) (w : CoreSeat) (book : BookState S C R) → p.phase ≡ Holding ticket → w ≡ ended p → book ≡ with_refusal b.book
-      → Moves step draws b (refused own) (core_state b.next (b.served + 1) (set b.seats i w) book)
+  pub refused_moves : (ticket : ℕ) (w : CoreSeat) (book : BookState k.State C R) → p.phase ≡ Holding ticket → w ≡ ended p → book ≡ with_refusal b.book
+      → Moves k draws b (refused own) (core_state b.next (b.served + 1) (set b.seats i w) book)
   refused_moves ticket w book holds is book_is = (i, p, ticket, (at, called, holds), λ j. core_state b.next (b.served + 1) (set b.seats i (is j)) (book_is j))
 
-  pub gather_moves : (k other : ℕ) (q w x : CoreSeat) → get_elem? b.seats k ≡ some q → q.own ≡ other → p.phase ≡ Idle → q.phase ≡ Idle → own ≢ other
+  pub gather_moves : (m other : ℕ) (q w x : CoreSeat) → get_elem? b.seats m ≡ some q → q.own ≡ other → p.phase ≡ Idle → q.phase ≡ Idle → own ≢ other
       → w ≡ gone → x ≡ joined p q
-      → Moves step draws b (gathered own other) (with_seats b (set (set b.seats k w) i x))
-  gather_moves k other q w x at' called' idle idle' apart gone_is joined_is =
-      let here = λ (e : k ≡ i). at_same b.seats i p q at (subst (λ (n : ℕ). get_elem? b.seats n ≡ some q) e at') in
-      let ne : k ≢ i = λ e. apart (sym called ∙ (ap (λ (s : CoreSeat). s.own) (here e) ∙ called')) in (
+      → Moves k draws b (gathered own other) (with_seats b (set (set b.seats m w) i x))
+  gather_moves m other q w x at' called' idle idle' apart gone_is joined_is =
+      let here = λ (e : m ≡ i). at_same b.seats i p q at (subst (λ (n : ℕ). get_elem? b.seats n ≡ some q) e at') in
+      let ne : m ≢ i = λ e. apart (sym called ∙ (ap (λ (s : CoreSeat). s.own) (here e) ∙ called')) in (
         i,
         p,
-        k,
+        m,
         q,
         (at, called, idle),
         (at', called', idle'),
         apart,
-        λ j. with_seats b (((λ n. set (set b.seats k (gone_is n)) i (joined_is n)) ∙ set_swap b.seats k i gone (joined p q) ne) j),
+        λ j. with_seats b (((λ n. set (set b.seats m (gone_is n)) i (joined_is n)) ∙ set_swap b.seats m i gone (joined p q) ne) j),
       )

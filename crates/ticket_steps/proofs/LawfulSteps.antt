@@ -3,11 +3,12 @@ use Rattle.std.proofs.Common.{◌≡◌, ℕ, ◌+◌, ◌-◌, ◌*◌, ◌<◌
 use Rattle.std.proofs.Common.{length-append, length-set, zero-add, Bool, true, cond}
 use mathlib.Core.Option.{some, some-ne-none}
 use lib.ListN.{get_elem?}
+use Rattle.ticket_steps.specs.declared.kept.Kept.{Ghosts}
 use Rattle.ticket_steps.specs.declared.seats.CoreSeat.{CoreSeat}
 use Rattle.ticket_steps.specs.declared.seats.Phase.TheVariants.{Idle, Waiting, Holding}
 use Rattle.ticket_steps.specs.Books.{BookState, calls_taken, with_entry, with_refusal}
 use Rattle.ticket_steps.specs.CoreStates.{CoreState, core_state, opened}
-use Rattle.ticket_steps.specs.Happenings.{Happening, split, drew, waited, held, posted, post_refused, left_posted, recorded, refused, gathered}
+use Rattle.ticket_steps.specs.Happenings.{Happening, split, drew, waited, held, posted, post_refused, left_posted, recorded, refused, glanced, gathered}
 use Rattle.ticket_steps.specs.Happenings.{with_seats, after_post, after_leave, Moves}
 use Rattle.ticket_steps.specs.History.{entry}
 use Rattle.ticket_steps.specs.Lawful.{IsSeat, IsLawful, spare}
@@ -221,32 +222,33 @@ module _ {S C R : Type 0} (numbers draws : ℕ) where
         places = omega (arith, l.places, sums spare, length-set (set b.seats i w) k gone, length-set b.seats i w);
       }
 
-  module _ (step : S → C → S × R) where
-    -- a book takes in one call by an entry, and one by a refusal
-    pub taken_entry : (book : BookState S C R) (own : ℕ) (call : C) → calls_taken (with_entry step own call book) ≡ calls_taken book + 1
-    taken_entry book own call = omega (arith, length-append book.entries (entry own call (step book.state call).1 ∷ []))
+module _ {K C R : Type 0} (numbers draws : ℕ) (k : Ghosts K C R) where
+  -- a book takes in one call by an entry, and one by a refusal
+  pub taken_entry : (book : BookState k.State C R) (own : ℕ) (call : C) → calls_taken (with_entry k.step own call book) ≡ calls_taken book + 1
+  taken_entry book own call = omega (arith, length-append book.entries (entry own call (k.step book.state call).1 ∷ []))
 
-    pub taken_refusal : (book : BookState S C R) → calls_taken (with_refusal book) ≡ calls_taken book + 1
-    taken_refusal book = omega arith
+  pub taken_refusal : (book : BookState k.State C R) → calls_taken (with_refusal book) ≡ calls_taken book + 1
+  taken_refusal book = omega arith
 
-    pub moves_lawful : (b c : CoreState S C R) (h : Happening C R) → IsLawful numbers draws b → Moves step draws b h c → IsLawful numbers draws c
-    moves_lawful b c (split own count) l t = subst (IsLawful numbers draws) (sym t.6) (lawful_split b own count t.0 t.1 l t.2 t.3 t.4 t.5)
-    moves_lawful b c (drew own ticket) l t = subst (IsLawful numbers draws) (sym t.5) (lawful_draw b own t.0 t.1 l t.2 t.3)
-    moves_lawful b c (waited own) l t = subst (IsLawful numbers draws) (sym t.5) l
-    moves_lawful b c (held own) l t = subst (IsLawful numbers draws) (sym t.3) (lawful_look b own t.0 t.1 l t.2)
-    moves_lawful b c (posted own call reply) l t =
-        subst (IsLawful numbers draws) (sym t.5) (lawful_post b own t.0 t.2 t.1 (with_entry step own call b.book) l t.3 (taken_entry b.book own call))
-    moves_lawful b c (post_refused own) l t =
-        subst (IsLawful numbers draws) (sym t.4) (lawful_post b own t.0 t.2 t.1 (with_refusal b.book) l t.3 (taken_refusal b.book))
-    moves_lawful b c (left_posted own) l t =
-        subst (IsLawful numbers draws) (sym t.4)
-        (lawful_leave b t.0 t.2 t.1 b.book l t.3.0 (posted_holds t.2 t.1.phase t.3.2) (omega (arith, ap posted_one t.3.2)))
-    moves_lawful b c (recorded own call reply) l t =
-        subst (IsLawful numbers draws) (sym t.5)
-        (lawful_leave b t.0 t.2 t.1 (with_entry step own call b.book) l t.3.0 (holding_holds t.2 t.1.phase t.3.2)
-        (omega (arith, taken_entry b.book own call, ap posted_one t.3.2)))
-    moves_lawful b c (refused own) l t =
-        subst (IsLawful numbers draws) (sym t.4)
-        (lawful_leave b t.0 t.2 t.1 (with_refusal b.book) l t.3.0 (holding_holds t.2 t.1.phase t.3.2)
-        (omega (arith, taken_refusal b.book, ap posted_one t.3.2)))
-    moves_lawful b c (gathered own other) l t = subst (IsLawful numbers draws) (sym t.7) (lawful_gather b own other t.0 t.2 t.1 t.3 l t.4 t.5 t.6)
+  pub moves_lawful : (b c : CoreState k.State C R) (h : Happening C R) → IsLawful numbers draws b → Moves k draws b h c → IsLawful numbers draws c
+  moves_lawful b c (split own count) l t = subst (IsLawful numbers draws) (sym t.6) (lawful_split numbers draws b own count t.0 t.1 l t.2 t.3 t.4 t.5)
+  moves_lawful b c (drew own ticket) l t = subst (IsLawful numbers draws) (sym t.5) (lawful_draw numbers draws b own t.0 t.1 l t.2 t.3)
+  moves_lawful b c (waited own) l t = subst (IsLawful numbers draws) (sym t.5) l
+  moves_lawful b c (held own) l t = subst (IsLawful numbers draws) (sym t.3) (lawful_look numbers draws b own t.0 t.1 l t.2)
+  moves_lawful b c (posted own call reply) l t =
+      subst (IsLawful numbers draws) (sym t.5) (lawful_post numbers draws b own t.0 t.2 t.1 (with_entry k.step own call b.book) l t.3 (taken_entry b.book own call))
+  moves_lawful b c (post_refused own) l t =
+      subst (IsLawful numbers draws) (sym t.4) (lawful_post numbers draws b own t.0 t.2 t.1 (with_refusal b.book) l t.3 (taken_refusal b.book))
+  moves_lawful b c (left_posted own) l t =
+      subst (IsLawful numbers draws) (sym t.4)
+      (lawful_leave numbers draws b t.0 t.2 t.1 b.book l t.3.0 (posted_holds t.2 t.1.phase t.3.2) (omega (arith, ap posted_one t.3.2)))
+  moves_lawful b c (recorded own call reply) l t =
+      subst (IsLawful numbers draws) (sym t.5)
+      (lawful_leave numbers draws b t.0 t.2 t.1 (with_entry k.step own call b.book) l t.3.0 (holding_holds t.2 t.1.phase t.3.2)
+      (omega (arith, taken_entry b.book own call, ap posted_one t.3.2)))
+  moves_lawful b c (refused own) l t =
+      subst (IsLawful numbers draws) (sym t.4)
+      (lawful_leave numbers draws b t.0 t.2 t.1 (with_refusal b.book) l t.3.0 (holding_holds t.2 t.1.phase t.3.2)
+      (omega (arith, taken_refusal b.book, ap posted_one t.3.2)))
+  moves_lawful b c (glanced own place word) l t = subst (IsLawful numbers draws) (sym t.5) l
+  moves_lawful b c (gathered own other) l t = subst (IsLawful numbers draws) (sym t.7) (lawful_gather numbers draws b own other t.0 t.2 t.1 t.3 l t.4 t.5 t.6)

@@ -3,6 +3,7 @@ pub mod Lists
 pub mod Totals
 pub mod Ofs
 pub mod GrantLemmas
+pub mod BoardLemmas
 pub mod CoreLemmas
 pub mod SeatLemmas
 pub mod FaultLemmas

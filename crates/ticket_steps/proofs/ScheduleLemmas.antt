@@ -3,7 +3,9 @@ use Rattle.std.proofs.Common.{◌≡◌, ℕ, ◌+◌, ◌<◌, ◌≤◌, List,
 use Rattle.std.proofs.Common.{Bool, true, false, cond, eqb, ne_eqb, ◌≢◌}
 use Rattle.std.proofs.Math.Seq.{take-suc}
 use Rattle.std.proofs.lemmas.List.{append-nil}
+use mathlib.Core.List.{IsPrefix}
 use Rattle.ticket_steps.specs.declared.kept.Entry.{Entry}
+use Rattle.ticket_steps.specs.declared.kept.Kept.{Ghosts}
 use Rattle.ticket_steps.specs.declared.events.Event.{Event}
 use Rattle.ticket_steps.specs.declared.seats.CoreSeat.{CoreSeat}
 use Rattle.ticket_steps.specs.declared.seats.Phase.{Phase}
@@ -12,70 +14,99 @@ use Rattle.ticket_steps.specs.Books.{BookState, IsLawfulBook, calls_taken, with_
 use Rattle.ticket_steps.specs.declared.events.Seen.{Seen}
 use Rattle.ticket_steps.specs.CoreStates.{CoreState, opened}
 use Rattle.ticket_steps.specs.Faults.{Shows, LeadsBy}
-use Rattle.ticket_steps.specs.Happenings.{Happening, split, drew, waited, held, posted, post_refused, left_posted, recorded, refused, gathered}
+use Rattle.ticket_steps.specs.Happenings.{Happening, split, drew, waited, held, posted, post_refused, left_posted, recorded, refused, glanced, gathered}
 use Rattle.ticket_steps.specs.Happenings.{IsOf, AreOf, calls_made, turns_ended, recorded_by, Moves, Leads}
 use Rattle.ticket_steps.specs.History.{entry, of}
 use Rattle.ticket_steps.specs.Lawful.{IsLawful}
 use Rattle.ticket_steps.specs.Seats.{Stands, is_there}
-use Rattle.ticket_steps.specs.Schedules.{Schedule, IsSchedule, IsLine}
+use Rattle.ticket_steps.specs.Schedules.{Schedule, IsSchedule, IsLine, ShowsAt}
 use Rattle.ticket_steps.proofs.Histories.{lawful_empty, lawful_entry, lawful_refusal}
 use Rattle.ticket_steps.proofs.LawfulSteps.{lawful_opened, moves_lawful, taken_entry, taken_refusal}
 use Rattle.ticket_steps.proofs.Ofs.{of-append}
 use Rattle.ticket_steps.proofs.SeatLemmas.{own_below}
 use Rattle.ticket_steps.proofs.Totals.{below_yes, below_no}
 
-module _ {S C R : Type 0} (step : S → C → S × R) where
+module _ {K C R : Type 0} (k : Ghosts K C R) where
   module _ (draws : ℕ) where
     -- one happening more
-    pub leads_more : (b c d : CoreState S C R) (hs : List (Happening C R)) (h : Happening C R) → Leads step draws b hs c → Moves step draws c h d
-        → Leads step draws b (hs ++ h ∷ []) d
-    leads_more b c d [] h t m = (d, subst (λ (z : CoreState S C R). Moves step draws z h d) t m, refl)
+    pub leads_more : (b c d : CoreState k.State C R) (hs : List (Happening C R)) (h : Happening C R) → Leads k draws b hs c → Moves k draws c h d
+        → Leads k draws b (hs ++ h ∷ []) d
+    leads_more b c d [] h t m = (d, subst (λ (z : CoreState k.State C R). Moves k draws z h d) t m, refl)
     leads_more b c d (x ∷ xs) h t m = (t.0, t.1, leads_more t.0 c d xs h t.2 m)
 
-    pub leads_lawful : (numbers : ℕ) (b c : CoreState S C R) (hs : List (Happening C R)) → IsLawful numbers draws b → Leads step draws b hs c
+    pub leads_lawful : (numbers : ℕ) (b c : CoreState k.State C R) (hs : List (Happening C R)) → IsLawful numbers draws b → Leads k draws b hs c
         → IsLawful numbers draws c
     leads_lawful numbers b c [] l t = subst (IsLawful numbers draws) (sym t) l
-    leads_lawful numbers b c (h ∷ hs) l t = leads_lawful numbers t.0 c hs (moves_lawful numbers draws step b t.0 h l t.1) t.2
+    leads_lawful numbers b c (h ∷ hs) l t = leads_lawful numbers t.0 c hs (moves_lawful numbers draws k b t.0 h l t.1) t.2
 
     -- what is so of a book stays so, where entries and refusals keep it
-    book_stays : (P : BookState S C R → Type 0) → ((own : ℕ) (call : C) (book : BookState S C R) → P book → P (with_entry step own call book))
-        → ((book : BookState S C R) → P book → P (with_refusal book))
-        → (b c : CoreState S C R) (h : Happening C R) → Moves step draws b h c → P b.book → P c.book
-    book_stays P e r b c (split own count) t l = subst (λ (z : CoreState S C R). P z.book) (sym t.6) l
-    book_stays P e r b c (drew own ticket) t l = subst (λ (z : CoreState S C R). P z.book) (sym t.5) l
-    book_stays P e r b c (waited own) t l = subst (λ (z : CoreState S C R). P z.book) (sym t.5) l
-    book_stays P e r b c (held own) t l = subst (λ (z : CoreState S C R). P z.book) (sym t.3) l
-    book_stays P e r b c (posted own call reply) t l = subst (λ (z : CoreState S C R). P z.book) (sym t.5) (e own call b.book l)
-    book_stays P e r b c (post_refused own) t l = subst (λ (z : CoreState S C R). P z.book) (sym t.4) (r b.book l)
-    book_stays P e r b c (left_posted own) t l = subst (λ (z : CoreState S C R). P z.book) (sym t.4) l
-    book_stays P e r b c (recorded own call reply) t l = subst (λ (z : CoreState S C R). P z.book) (sym t.5) (e own call b.book l)
-    book_stays P e r b c (refused own) t l = subst (λ (z : CoreState S C R). P z.book) (sym t.4) (r b.book l)
-    book_stays P e r b c (gathered own other) t l = subst (λ (z : CoreState S C R). P z.book) (sym t.7) l
+    book_stays : (P : BookState k.State C R → Type 0) → ((own : ℕ) (call : C) (book : BookState k.State C R) → P book → P (with_entry k.step own call book))
+        → ((book : BookState k.State C R) → P book → P (with_refusal book))
+        → (b c : CoreState k.State C R) (h : Happening C R) → Moves k draws b h c → P b.book → P c.book
+    book_stays P e r b c (split own count) t l = subst (λ (z : CoreState k.State C R). P z.book) (sym t.6) l
+    book_stays P e r b c (drew own ticket) t l = subst (λ (z : CoreState k.State C R). P z.book) (sym t.5) l
+    book_stays P e r b c (waited own) t l = subst (λ (z : CoreState k.State C R). P z.book) (sym t.5) l
+    book_stays P e r b c (held own) t l = subst (λ (z : CoreState k.State C R). P z.book) (sym t.3) l
+    book_stays P e r b c (posted own call reply) t l = subst (λ (z : CoreState k.State C R). P z.book) (sym t.5) (e own call b.book l)
+    book_stays P e r b c (post_refused own) t l = subst (λ (z : CoreState k.State C R). P z.book) (sym t.4) (r b.book l)
+    book_stays P e r b c (left_posted own) t l = subst (λ (z : CoreState k.State C R). P z.book) (sym t.4) l
+    book_stays P e r b c (recorded own call reply) t l = subst (λ (z : CoreState k.State C R). P z.book) (sym t.5) (e own call b.book l)
+    book_stays P e r b c (refused own) t l = subst (λ (z : CoreState k.State C R). P z.book) (sym t.4) (r b.book l)
+    book_stays P e r b c (glanced own place word) t l = subst (λ (z : CoreState k.State C R). P z.book) (sym t.5) l
+    book_stays P e r b c (gathered own other) t l = subst (λ (z : CoreState k.State C R). P z.book) (sym t.7) l
 
-    pub leads_lawful_book : (opening : S) (b c : CoreState S C R) (hs : List (Happening C R)) → IsLawfulBook step opening b.book
-        → Leads step draws b hs c → IsLawfulBook step opening c.book
-    leads_lawful_book opening b c [] l t = subst (λ (z : CoreState S C R). IsLawfulBook step opening z.book) (sym t) l
+    pub leads_lawful_book : (opening : k.State) (b c : CoreState k.State C R) (hs : List (Happening C R)) → IsLawfulBook k.step opening b.book
+        → Leads k draws b hs c → IsLawfulBook k.step opening c.book
+    leads_lawful_book opening b c [] l t = subst (λ (z : CoreState k.State C R). IsLawfulBook k.step opening z.book) (sym t) l
     leads_lawful_book opening b c (h ∷ hs) l t =
-        leads_lawful_book opening t.0 c hs (book_stays (IsLawfulBook step opening)
-        (λ own call book k. lawful_entry step opening own call book k) (λ book k. lawful_refusal step opening book k) b t.0 h t.1 l) t.2
+        leads_lawful_book opening t.0 c hs (book_stays (IsLawfulBook k.step opening)
+        (λ own call book was. lawful_entry k.step opening own call book was) (λ book was. lawful_refusal k.step opening book was) b t.0 h t.1 l) t.2
+
+    -- what the book has of entries, it keeps
+    leads_grow : (es : List (Entry C R)) (b c : CoreState k.State C R) (hs : List (Happening C R)) → IsPrefix es b.book.entries
+        → Leads k draws b hs c → IsPrefix es c.book.entries
+    leads_grow es b c [] pre t = subst (λ (z : CoreState k.State C R). IsPrefix es z.book.entries) (sym t) pre
+    leads_grow es b c (h ∷ hs) pre t = leads_grow es t.0 c hs (book_stays (λ (book : BookState k.State C R). IsPrefix es book.entries)
+        (λ own call book was. (
+          was.0 ++ entry own call (k.step book.state call).1 ∷ [],
+          sym (append_assoc es was.0 _) ∙
+              ap (λ (l : List (Entry C R)). l ++ entry own call (k.step book.state call).1 ∷ []) was.1,
+        )) (λ book was. was) b t.0 h t.1 pre) t.2
+
+    -- a glance reads the word that the entries so far leave
+    pub leads_glanced : (opening : k.State) (own place word : ℕ) (b c : CoreState k.State C R) (before after : List (Happening C R))
+        → IsLawfulBook k.step opening b.book → Leads k draws b (before ++ glanced own place word ∷ after) c
+        → ShowsAt k opening place word c.book.entries
+    leads_glanced opening own place word b c [] after l t = record {
+      entries = b.book.entries;
+      prefix = leads_grow b.book.entries t.0 c after
+          (subst (λ (z : CoreState k.State C R). IsPrefix b.book.entries z.book.entries) (sym t.1.5) ([], append-nil b.book.entries)) t.2;
+      legal = l.legal;
+      within = subst (λ (s : k.State). place < length (k.board s)) l.replayed t.1.3;
+      word_is = t.1.4 ∙ ap (λ (s : k.State). get_or (k.board s) place 0) l.replayed;
+    }
+    leads_glanced opening own place word b c (h ∷ hs) after l t =
+        leads_glanced opening own place word t.0 c hs after (book_stays (IsLawfulBook k.step opening)
+        (λ own call book was. lawful_entry k.step opening own call book was) (λ book was. lawful_refusal k.step opening book was) b t.0 h t.1 l) t.2
 
     -- one happening adds to the entries of a number what it has recorded
-    moves_of : (n : ℕ) (b c : CoreState S C R) (h : Happening C R) → Moves step draws b h c
+    moves_of : (n : ℕ) (b c : CoreState k.State C R) (h : Happening C R) → Moves k draws b h c
         → of n c.book.entries ≡ of n b.book.entries ++ recorded_by n (h ∷ [])
-    moves_of n b c (split own count) t = ap (λ (z : CoreState S C R). of n z.book.entries) t.6 ∙ sym (append-nil (of n b.book.entries))
-    moves_of n b c (drew own ticket) t = ap (λ (z : CoreState S C R). of n z.book.entries) t.5 ∙ sym (append-nil (of n b.book.entries))
-    moves_of n b c (waited own) t = ap (λ (z : CoreState S C R). of n z.book.entries) t.5 ∙ sym (append-nil (of n b.book.entries))
-    moves_of n b c (held own) t = ap (λ (z : CoreState S C R). of n z.book.entries) t.3 ∙ sym (append-nil (of n b.book.entries))
-    moves_of n b c (posted own call reply) t = ap (λ (z : CoreState S C R). of n z.book.entries) t.5
-        ∙ (of-append n b.book.entries (entry own call (step b.book.state call).1 ∷ [])
+    moves_of n b c (split own count) t = ap (λ (z : CoreState k.State C R). of n z.book.entries) t.6 ∙ sym (append-nil (of n b.book.entries))
+    moves_of n b c (drew own ticket) t = ap (λ (z : CoreState k.State C R). of n z.book.entries) t.5 ∙ sym (append-nil (of n b.book.entries))
+    moves_of n b c (waited own) t = ap (λ (z : CoreState k.State C R). of n z.book.entries) t.5 ∙ sym (append-nil (of n b.book.entries))
+    moves_of n b c (held own) t = ap (λ (z : CoreState k.State C R). of n z.book.entries) t.3 ∙ sym (append-nil (of n b.book.entries))
+    moves_of n b c (posted own call reply) t = ap (λ (z : CoreState k.State C R). of n z.book.entries) t.5
+        ∙ (of-append n b.book.entries (entry own call (k.step b.book.state call).1 ∷ [])
         ∙ ap (λ (r : R). of n b.book.entries ++ recorded_by n (posted own call r ∷ [])) (sym t.4))
-    moves_of n b c (post_refused own) t = ap (λ (z : CoreState S C R). of n z.book.entries) t.4 ∙ sym (append-nil (of n b.book.entries))
-    moves_of n b c (left_posted own) t = ap (λ (z : CoreState S C R). of n z.book.entries) t.4 ∙ sym (append-nil (of n b.book.entries))
-    moves_of n b c (recorded own call reply) t = ap (λ (z : CoreState S C R). of n z.book.entries) t.5
-        ∙ (of-append n b.book.entries (entry own call (step b.book.state call).1 ∷ [])
+    moves_of n b c (post_refused own) t = ap (λ (z : CoreState k.State C R). of n z.book.entries) t.4 ∙ sym (append-nil (of n b.book.entries))
+    moves_of n b c (left_posted own) t = ap (λ (z : CoreState k.State C R). of n z.book.entries) t.4 ∙ sym (append-nil (of n b.book.entries))
+    moves_of n b c (recorded own call reply) t = ap (λ (z : CoreState k.State C R). of n z.book.entries) t.5
+        ∙ (of-append n b.book.entries (entry own call (k.step b.book.state call).1 ∷ [])
         ∙ ap (λ (r : R). of n b.book.entries ++ recorded_by n (recorded own call r ∷ [])) (sym t.4))
-    moves_of n b c (refused own) t = ap (λ (z : CoreState S C R). of n z.book.entries) t.4 ∙ sym (append-nil (of n b.book.entries))
-    moves_of n b c (gathered own other) t = ap (λ (z : CoreState S C R). of n z.book.entries) t.7 ∙ sym (append-nil (of n b.book.entries))
+    moves_of n b c (refused own) t = ap (λ (z : CoreState k.State C R). of n z.book.entries) t.4 ∙ sym (append-nil (of n b.book.entries))
+    moves_of n b c (glanced own place word) t = ap (λ (z : CoreState k.State C R). of n z.book.entries) t.5 ∙ sym (append-nil (of n b.book.entries))
+    moves_of n b c (gathered own other) t = ap (λ (z : CoreState k.State C R). of n z.book.entries) t.7 ∙ sym (append-nil (of n b.book.entries))
 
     entry-cons : (n own : ℕ) (mine : Entry C R) (es : List (Entry C R)) → cond (eqb own n) (mine ∷ es) es ≡ cond (eqb own n) (mine ∷ []) [] ++ es
     entry-cons n own mine es =
@@ -91,30 +122,32 @@ module _ {S C R : Type 0} (step : S → C → S × R) where
     recorded-cons n (left_posted own) hs = refl
     recorded-cons n (recorded own call reply) hs = entry-cons n own (entry own call reply) (recorded_by n hs)
     recorded-cons n (refused own) hs = refl
+    recorded-cons n (glanced own place word) hs = refl
     recorded-cons n (gathered own other) hs = refl
 
     -- the entries of a number are those it had, and what it has recorded since
-    pub leads_of : (n : ℕ) (b c : CoreState S C R) (hs : List (Happening C R)) → Leads step draws b hs c
+    pub leads_of : (n : ℕ) (b c : CoreState k.State C R) (hs : List (Happening C R)) → Leads k draws b hs c
         → of n c.book.entries ≡ of n b.book.entries ++ recorded_by n hs
-    leads_of n b c [] t = ap (λ (z : CoreState S C R). of n z.book.entries) t ∙ sym (append-nil (of n b.book.entries))
+    leads_of n b c [] t = ap (λ (z : CoreState k.State C R). of n z.book.entries) t ∙ sym (append-nil (of n b.book.entries))
     leads_of n b c (h ∷ hs) t = leads_of n t.0 c hs t.2 ∙ (ap (λ (l : List (Entry C R)). l ++ recorded_by n hs) (moves_of n b t.0 h t.1)
         ∙ (append_assoc (of n b.book.entries) (recorded_by n (h ∷ [])) (recorded_by n hs) ∙ ap
         (λ (l : List (Entry C R)). of n b.book.entries ++ l) (sym (recorded-cons n h hs))))
 
     -- each happening that makes a call adds one to those that the book has taken in
-    abbrev taken : CoreState S C R → ℕ
+    abbrev taken : CoreState k.State C R → ℕ
     taken c = calls_taken c.book
 
-    moves_made : (b c : CoreState S C R) (h : Happening C R) → Moves step draws b h c → taken c ≡ taken b + calls_made (h ∷ [])
+    moves_made : (b c : CoreState k.State C R) (h : Happening C R) → Moves k draws b h c → taken c ≡ taken b + calls_made (h ∷ [])
     moves_made b c (split own count) t = omega (arith, ap taken t.6)
     moves_made b c (drew own ticket) t = omega (arith, ap taken t.5)
     moves_made b c (waited own) t = omega (arith, ap taken t.5)
     moves_made b c (held own) t = omega (arith, ap taken t.3)
-    moves_made b c (posted own call reply) t = omega (arith, ap taken t.5, taken_entry 0 draws step b.book own call)
-    moves_made b c (post_refused own) t = omega (arith, ap taken t.4, taken_refusal 0 draws step b.book)
+    moves_made b c (posted own call reply) t = omega (arith, ap taken t.5, taken_entry 0 draws k b.book own call)
+    moves_made b c (post_refused own) t = omega (arith, ap taken t.4, taken_refusal 0 draws k b.book)
     moves_made b c (left_posted own) t = omega (arith, ap taken t.4)
-    moves_made b c (recorded own call reply) t = omega (arith, ap taken t.5, taken_entry 0 draws step b.book own call)
-    moves_made b c (refused own) t = omega (arith, ap taken t.4, taken_refusal 0 draws step b.book)
+    moves_made b c (recorded own call reply) t = omega (arith, ap taken t.5, taken_entry 0 draws k b.book own call)
+    moves_made b c (refused own) t = omega (arith, ap taken t.4, taken_refusal 0 draws k b.book)
+    moves_made b c (glanced own place word) t = omega (arith, ap taken t.5)
     moves_made b c (gathered own other) t = omega (arith, ap taken t.7)
 
     made-cons : (h : Happening C R) (hs : List (Happening C R)) → calls_made (h ∷ hs) ≡ calls_made (h ∷ []) + calls_made hs
@@ -127,17 +160,18 @@ module _ {S C R : Type 0} (step : S → C → S × R) where
     made-cons (left_posted own) hs = omega arith
     made-cons (recorded own call reply) hs = omega arith
     made-cons (refused own) hs = omega arith
+    made-cons (glanced own place word) hs = omega arith
     made-cons (gathered own other) hs = omega arith
 
-    pub leads_made : (b c : CoreState S C R) (hs : List (Happening C R)) → Leads step draws b hs c → taken c ≡ taken b + calls_made hs
+    pub leads_made : (b c : CoreState k.State C R) (hs : List (Happening C R)) → Leads k draws b hs c → taken c ≡ taken b + calls_made hs
     leads_made b c [] t = omega (arith, ap taken t)
     leads_made b c (h ∷ hs) t = omega (arith, moves_made b t.0 h t.1, leads_made t.0 c hs t.2, made-cons h hs)
 
     -- each happening that ends a turn raises the number served by one
-    abbrev served : CoreState S C R → ℕ
+    abbrev served : CoreState k.State C R → ℕ
     served c = c.served
 
-    moves_ended : (b c : CoreState S C R) (h : Happening C R) → Moves step draws b h c → served c ≡ served b + turns_ended (h ∷ [])
+    moves_ended : (b c : CoreState k.State C R) (h : Happening C R) → Moves k draws b h c → served c ≡ served b + turns_ended (h ∷ [])
     moves_ended b c (split own count) t = omega (arith, ap served t.6)
     moves_ended b c (drew own ticket) t = omega (arith, ap served t.5)
     moves_ended b c (waited own) t = omega (arith, ap served t.5)
@@ -147,6 +181,7 @@ module _ {S C R : Type 0} (step : S → C → S × R) where
     moves_ended b c (left_posted own) t = omega (arith, ap served t.4)
     moves_ended b c (recorded own call reply) t = omega (arith, ap served t.5)
     moves_ended b c (refused own) t = omega (arith, ap served t.4)
+    moves_ended b c (glanced own place word) t = omega (arith, ap served t.5)
     moves_ended b c (gathered own other) t = omega (arith, ap served t.7)
 
     ended-cons : (h : Happening C R) (hs : List (Happening C R)) → turns_ended (h ∷ hs) ≡ turns_ended (h ∷ []) + turns_ended hs
@@ -159,9 +194,10 @@ module _ {S C R : Type 0} (step : S → C → S × R) where
     ended-cons (left_posted own) hs = omega arith
     ended-cons (recorded own call reply) hs = omega arith
     ended-cons (refused own) hs = omega arith
+    ended-cons (glanced own place word) hs = omega arith
     ended-cons (gathered own other) hs = omega arith
 
-    pub leads_ended : (b c : CoreState S C R) (hs : List (Happening C R)) → Leads step draws b hs c → served c ≡ served b + turns_ended hs
+    pub leads_ended : (b c : CoreState k.State C R) (hs : List (Happening C R)) → Leads k draws b hs c → served c ≡ served b + turns_ended hs
     leads_ended b c [] t = omega (arith, ap served t)
     leads_ended b c (h ∷ hs) t = omega (arith, moves_ended b t.0 h t.1, leads_ended t.0 c hs t.2, ended-cons h hs)
 
@@ -173,16 +209,16 @@ module _ {S C R : Type 0} (step : S → C → S × R) where
     are_more (x ∷ xs) (y ∷ ys) e h t is = (t.0, are_more xs ys e h t.1 is)
 
     -- one event more, where it is shown
-    pub leads_by_more : (b c d : CoreState S C R) (es : List (Event C)) (k : ℕ) (e : Event C) (seen : Seen R) → LeadsBy step draws b (take k es) c
-        → k < length es → e ≡ get_or es k e → Shows step draws c e seen d
-        → LeadsBy step draws b (take (k + 1) es) d
-    leads_by_more b c d es k e seen t lt read m =
-        let more : take (k + 1) es ≡ take k es ++ e ∷ [] = rw add-one (take-suc es k e lt ∙ ap (λ (x : Event C). take k es ++ x ∷ []) (sym read)) in
-        let of_all = subst (λ (l : List (Event C)). AreOf l (t.0 ++ m.0 ∷ [])) (sym more) (are_more (take k es) t.0 e m.0 t.1 m.1) in
+    pub leads_by_more : (b c d : CoreState k.State C R) (es : List (Event C)) (n : ℕ) (e : Event C) (seen : Seen R) → LeadsBy k draws b (take n es) c
+        → n < length es → e ≡ get_or es n e → Shows k draws c e seen d
+        → LeadsBy k draws b (take (n + 1) es) d
+    leads_by_more b c d es n e seen t lt read m =
+        let more : take (n + 1) es ≡ take n es ++ e ∷ [] = rw add-one (take-suc es n e lt ∙ ap (λ (x : Event C). take n es ++ x ∷ []) (sym read)) in
+        let of_all = subst (λ (l : List (Event C)). AreOf l (t.0 ++ m.0 ∷ [])) (sym more) (are_more (take n es) t.0 e m.0 t.1 m.1) in
         (t.0 ++ m.0 ∷ [], of_all, leads_more b c d t.0 m.0 t.2 m.3)
 
     -- a seat that is there has no number from all of them on, so what it records is nothing to such a number
-    nothing : (numbers n : ℕ) (b : CoreState S C R) (own : ℕ) (call : C) (reply : R) (phase : Phase) → IsLawful numbers draws b → numbers ≤ n
+    nothing : (numbers n : ℕ) (b : CoreState k.State C R) (own : ℕ) (call : C) (reply : R) (phase : Phase) → IsLawful numbers draws b → numbers ≤ n
         → (i : ℕ) (p : CoreSeat) → is_there phase ≡ true → Stands b.seats i own phase p → cond (eqb own n) (entry own call reply ∷ []) [] ≡ []
     nothing numbers n b own call reply phase l le i p there st =
         let below = own_below numbers draws b l i p st.0 (ap is_there st.2 ∙ there) in
@@ -190,8 +226,8 @@ module _ {S C R : Type 0} (step : S → C → S × R) where
         ap (λ (x : Bool). cond x (entry own call reply ∷ []) []) (ne_eqb own n apart)
 
     -- only seats that are there record, and their own numbers are among the numbers
-    moves_strangers : (numbers n : ℕ) (b c : CoreState S C R) (h : Happening C R) → IsLawful numbers draws b → numbers ≤ n
-        → of n b.book.entries ≡ [] → Moves step draws b h c → of n c.book.entries ≡ []
+    moves_strangers : (numbers n : ℕ) (b c : CoreState k.State C R) (h : Happening C R) → IsLawful numbers draws b → numbers ≤ n
+        → of n b.book.entries ≡ [] → Moves k draws b h c → of n c.book.entries ≡ []
     moves_strangers numbers n b c (split own count) l le none t = moves_of n b c (split own count) t ∙ (append-nil (of n b.book.entries) ∙ none)
     moves_strangers numbers n b c (drew own ticket) l le none t = moves_of n b c (drew own ticket) t ∙ (append-nil (of n b.book.entries) ∙ none)
     moves_strangers numbers n b c (waited own) l le none t = moves_of n b c (waited own) t ∙ (append-nil (of n b.book.entries) ∙ none)
@@ -209,31 +245,39 @@ module _ {S C R : Type 0} (step : S → C → S × R) where
         ∙ (ap (λ (l : List (Entry C R)). of n b.book.entries ++ l) (nothing numbers n b own call reply (Holding t.2) l le t.0 t.1 refl t.3)
         ∙ (append-nil (of n b.book.entries) ∙ none))
     moves_strangers numbers n b c (refused own) l le none t = moves_of n b c (refused own) t ∙ (append-nil (of n b.book.entries) ∙ none)
+    moves_strangers numbers n b c (glanced own place word) l le none t =
+        moves_of n b c (glanced own place word) t ∙ (append-nil (of n b.book.entries) ∙ none)
     moves_strangers numbers n b c (gathered own other) l le none t = moves_of n b c (gathered own other) t ∙ (append-nil (of n b.book.entries) ∙ none)
 
-    pub leads_strangers : (numbers n : ℕ) (b c : CoreState S C R) (hs : List (Happening C R)) → IsLawful numbers draws b → numbers ≤ n
-        → of n b.book.entries ≡ [] → Leads step draws b hs c → of n c.book.entries ≡ []
-    leads_strangers numbers n b c [] l le none t = ap (λ (z : CoreState S C R). of n z.book.entries) t ∙ none
+    pub leads_strangers : (numbers n : ℕ) (b c : CoreState k.State C R) (hs : List (Happening C R)) → IsLawful numbers draws b → numbers ≤ n
+        → of n b.book.entries ≡ [] → Leads k draws b hs c → of n c.book.entries ≡ []
+    leads_strangers numbers n b c [] l le none t = ap (λ (z : CoreState k.State C R). of n z.book.entries) t ∙ none
     leads_strangers numbers n b c (h ∷ hs) l le none t =
-        leads_strangers numbers n t.0 c hs (moves_lawful numbers draws step b t.0 h l t.1) le (moves_strangers numbers n b t.0 h l le none t.1) t.2
+        leads_strangers numbers n t.0 c hs (moves_lawful numbers draws k b t.0 h l t.1) le (moves_strangers numbers n b t.0 h l le none t.1) t.2
 
-  pub schedule_lawful : (s : Schedule S C R) → IsSchedule step s → IsLawful s.numbers s.draws s.end
+  pub schedule_lawful : (s : Schedule k.State C R) → IsSchedule k s → IsLawful s.numbers s.draws s.end
   schedule_lawful s is =
       leads_lawful s.draws s.numbers (opened s.numbers s.draws s.opening) s.end s.happened (lawful_opened s.numbers s.draws s.opening is.some_number) is.leads
 
-  pub schedule_book : (s : Schedule S C R) → IsSchedule step s → IsLawfulBook step s.opening s.end.book
-  schedule_book s is = leads_lawful_book s.draws s.opening (opened s.numbers s.draws s.opening) s.end s.happened (lawful_empty step s.opening) is.leads
+  pub schedule_book : (s : Schedule k.State C R) → IsSchedule k s → IsLawfulBook k.step s.opening s.end.book
+  schedule_book s is = leads_lawful_book s.draws s.opening (opened s.numbers s.draws s.opening) s.end s.happened (lawful_empty k.step s.opening) is.leads
 
-  pub schedule_of : (s : Schedule S C R) → IsSchedule step s → (n : ℕ) → of n s.end.book.entries ≡ recorded_by n s.happened
+  pub schedule_of : (s : Schedule k.State C R) → IsSchedule k s → (n : ℕ) → of n s.end.book.entries ≡ recorded_by n s.happened
   schedule_of s is n = leads_of s.draws n (opened s.numbers s.draws s.opening) s.end s.happened is.leads
 
-  pub schedule_made : (s : Schedule S C R) → IsSchedule step s → calls_made s.happened ≡ calls_taken s.end.book
+  pub schedule_glanced : (s : Schedule k.State C R) → IsSchedule k s → (own place word : ℕ) (before after : List (Happening C R))
+      → s.happened ≡ before ++ glanced own place word ∷ after → ShowsAt k s.opening place word s.end.book.entries
+  schedule_glanced s is own place word before after happened =
+      leads_glanced s.draws s.opening own place word (opened s.numbers s.draws s.opening) s.end before after (lawful_empty k.step s.opening)
+      (subst (λ (hs : List (Happening C R)). Leads k s.draws (opened s.numbers s.draws s.opening) hs s.end) happened is.leads)
+
+  pub schedule_made : (s : Schedule k.State C R) → IsSchedule k s → calls_made s.happened ≡ calls_taken s.end.book
   schedule_made s is = omega (arith, leads_made s.draws (opened s.numbers s.draws s.opening) s.end s.happened is.leads)
 
-  pub schedule_ended : (s : Schedule S C R) → IsSchedule step s → turns_ended s.happened ≡ s.end.served
+  pub schedule_ended : (s : Schedule k.State C R) → IsSchedule k s → turns_ended s.happened ≡ s.end.served
   schedule_ended s is = omega (arith, leads_ended s.draws (opened s.numbers s.draws s.opening) s.end s.happened is.leads)
 
-  pub schedule_strangers : (s : Schedule S C R) → IsSchedule step s → (n : ℕ) → s.numbers ≤ n → of n s.end.book.entries ≡ []
+  pub schedule_strangers : (s : Schedule k.State C R) → IsSchedule k s → (n : ℕ) → s.numbers ≤ n → of n s.end.book.entries ≡ []
   schedule_strangers s is n le =
       leads_strangers s.draws s.numbers n (opened s.numbers s.draws s.opening) s.end s.happened
       (lawful_opened s.numbers s.draws s.opening is.some_number) le refl is.leads

@@ -1,9 +1,10 @@
 -- The faults of an event in a core state, and what one step of the core does.
 use Rattle.std.specs.Prelude.{◌≡◌, ◌≢◌, ◌↔◌, ℕ, ◌<◌, List, length, true, IfOk, OnErr, Result, Err, Some, None}
+use Rattle.ticket_steps.specs.declared.kept.Kept.{Ghosts}
 use Rattle.ticket_steps.specs.declared.seats.CoreSeat.{CoreSeat}
 use Rattle.ticket_steps.specs.declared.seats.Phase.TheVariants.{Idle, Waiting, Holding, Posted}
 use Rattle.ticket_steps.specs.declared.events.Event.{Event}
-use Rattle.ticket_steps.specs.declared.events.Event.TheVariants.{Split, Draw, Look, Post, Leave, Gather}
+use Rattle.ticket_steps.specs.declared.events.Event.TheVariants.{Split, Draw, Look, Post, Leave, Glance, Gather}
 use Rattle.ticket_steps.specs.declared.events.Seen.{Seen}
 use Rattle.ticket_steps.specs.declared.events.Fault.{Fault}
 use Rattle.ticket_steps.specs.declared.events.Fault.TheVariants.{NoSeat, Phase, Spent}
@@ -19,18 +20,20 @@ module _ {C : Type 0} where
   NamesSeats seats (Look own) = IsThere seats own
   NamesSeats seats (Post own call) = IsThere seats own
   NamesSeats seats (Leave own call) = IsThere seats own
+  NamesSeats seats (Glance own place) = IsThere seats own
   NamesSeats seats (Gather own other) = IsThere seats own × IsThere seats other
 
-  -- an event fits the phases of its seats; a split also asks for a fresh seat and a count in range. A leave brings a call
+  -- an event is for the phases of its seats; a split also asks for a fresh seat and a count in range. A leave brings a call
   -- exactly where its seat has posted none
-  abbrev pub Fits : List CoreSeat → Event C → Type 0
-  Fits seats (Split own count) = (i : ℕ) × (p : CoreSeat) × Stands seats i own Idle p × (p.fresh ≡ true) × (0 < count) × (count < length p.numbers)
-  Fits seats (Draw own) = (i : ℕ) × (p : CoreSeat) × Stands seats i own Idle p
-  Fits seats (Look own) = (i : ℕ) × (p : CoreSeat) × (ticket : ℕ) × Stands seats i own (Waiting ticket) p
-  Fits seats (Post own call) = (i : ℕ) × (p : CoreSeat) × (ticket : ℕ) × Stands seats i own (Holding ticket) p
-  Fits seats (Leave own (Some call)) = (i : ℕ) × (p : CoreSeat) × (ticket : ℕ) × Stands seats i own (Holding ticket) p
-  Fits seats (Leave own None) = (i : ℕ) × (p : CoreSeat) × (ticket : ℕ) × Stands seats i own (Posted ticket) p
-  Fits seats (Gather own other) = (i : ℕ) × (p : CoreSeat) × (k : ℕ) × (q : CoreSeat) × Stands seats i own Idle p × Stands seats k other Idle q × (own ≢ other)
+  abbrev pub FitsPhases : List CoreSeat → Event C → Type 0
+  FitsPhases seats (Split own count) = (i : ℕ) × (p : CoreSeat) × Stands seats i own Idle p × (p.fresh ≡ true) × (0 < count) × (count < length p.numbers)
+  FitsPhases seats (Draw own) = (i : ℕ) × (p : CoreSeat) × Stands seats i own Idle p
+  FitsPhases seats (Look own) = (i : ℕ) × (p : CoreSeat) × (ticket : ℕ) × Stands seats i own (Waiting ticket) p
+  FitsPhases seats (Post own call) = (i : ℕ) × (p : CoreSeat) × (ticket : ℕ) × Stands seats i own (Holding ticket) p
+  FitsPhases seats (Leave own (Some call)) = (i : ℕ) × (p : CoreSeat) × (ticket : ℕ) × Stands seats i own (Holding ticket) p
+  FitsPhases seats (Leave own None) = (i : ℕ) × (p : CoreSeat) × (ticket : ℕ) × Stands seats i own (Posted ticket) p
+  FitsPhases seats (Glance own place) = (i : ℕ) × (p : CoreSeat) × Stands seats i own Idle p
+  FitsPhases seats (Gather own other) = (i : ℕ) × (p : CoreSeat) × (k : ℕ) × (q : CoreSeat) × Stands seats i own Idle p × Stands seats k other Idle q × (own ≢ other)
 
   -- a draw has a draw left
   abbrev pub HasDraw : List CoreSeat → Event C → Type 0
@@ -39,25 +42,42 @@ module _ {C : Type 0} where
   HasDraw seats (Look own) = Unit {0}
   HasDraw seats (Post own call) = Unit {0}
   HasDraw seats (Leave own call) = Unit {0}
+  HasDraw seats (Glance own place) = Unit {0}
   HasDraw seats (Gather own other) = Unit {0}
 
+module _ {K C R : Type 0} (k : Ghosts K C R) where
+  -- a call that is posted has a place on the board, one that a leave brings has none, and a glance is at the place of a word
+  abbrev pub IsPlaced : k.State → Event C → Type 0
+  IsPlaced state (Split own count) = Unit {0}
+  IsPlaced state (Draw own) = Unit {0}
+  IsPlaced state (Look own) = Unit {0}
+  IsPlaced state (Post own call) = (place : ℕ) × (k.posts_at state call ≡ Some place)
+  IsPlaced state (Leave own (Some call)) = k.posts_at state call ≡ None
+  IsPlaced state (Leave own None) = Unit {0}
+  IsPlaced state (Glance own place) = place < length (k.board state)
+  IsPlaced state (Gather own other) = Unit {0}
+
+  -- an event fits the phases of its seats, and the board
+  abbrev pub Fits : CoreState k.State C R → Event C → Type 0
+  Fits b event = FitsPhases b.seats event × IsPlaced b.book.state event
+
   -- the fault of an event: the first that applies, in the order in which they stand here
-  abbrev pub IsFault : List CoreSeat → Event C → Fault → Type 0
-  IsFault seats event NoSeat = NamesSeats seats event → ⊥
-  IsFault seats event Phase = NamesSeats seats event × (Fits seats event → ⊥)
-  IsFault seats event Spent = Fits seats event × (HasDraw seats event → ⊥)
+  abbrev pub IsFault : CoreState k.State C R → Event C → Fault → Type 0
+  IsFault b event NoSeat = NamesSeats b.seats event → ⊥
+  IsFault b event Phase = NamesSeats b.seats event × (Fits b event → ⊥)
+  IsFault b event Spent = Fits b event × (HasDraw b.seats event → ⊥)
 
-module _ {S C R : Type 0} (step : S → C → S × R) (draws : ℕ) where
-  -- an event leads from one core state to another, and shows this
-  abbrev pub Shows : CoreState S C R → Event C → Seen R → CoreState S C R → Type 0
-  Shows b event seen c = (h : Happening C R) × IsOf event h × (seen ≡ shown h) × Moves step draws b h c
+  module _ (draws : ℕ) where
+    -- an event that fits the board leads from one core state to another, and shows this
+    abbrev pub Shows : CoreState k.State C R → Event C → Seen R → CoreState k.State C R → Type 0
+    Shows b event seen c = (h : Happening C R) × IsOf event h × (seen ≡ shown h) × Moves k draws b h c × IsPlaced b.book.state event
 
-  -- events lead from one core state to another, whatever came of each of them
-  abbrev pub LeadsBy : CoreState S C R → List (Event C) → CoreState S C R → Type 0
-  LeadsBy b events c = (hs : List (Happening C R)) × AreOf events hs × Leads step draws b hs c
+    -- events lead from one core state to another, whatever came of each of them
+    abbrev pub LeadsBy : CoreState k.State C R → List (Event C) → CoreState k.State C R → Type 0
+    LeadsBy b events c = (hs : List (Happening C R)) × AreOf events hs × Leads k draws b hs c
 
-  -- one step: an event is shown, or it has a fault and nothing changes
-  pub record Steps (b : CoreState S C R) (event : Event C) (result : Result (Seen R) Fault) (c : CoreState S C R) : Type 0 where
-    pub shown : IfOk result (λ seen. Shows b event seen c)
-    pub fault : (f : Fault) → (result ≡ Err f) ↔ IsFault b.seats event f
-    pub same : OnErr result (c ≡ b)
+    -- one step: an event is shown, or it has a fault and nothing changes
+    pub record Steps (b : CoreState k.State C R) (event : Event C) (result : Result (Seen R) Fault) (c : CoreState k.State C R) : Type 0 where
+      pub shown : IfOk result (λ seen. Shows b event seen c)
+      pub fault : (f : Fault) → (result ≡ Err f) ↔ IsFault b event f
+      pub same : OnErr result (c ≡ b)

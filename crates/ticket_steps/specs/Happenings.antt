@@ -1,10 +1,11 @@
 -- What happens in the core: each event with what came of it, and the states that it leads to.
-use Rattle.std.specs.Prelude.{◌≡◌, ◌≢◌, ℕ, ◌+◌, ◌<◌, List, [], ◌∷◌, ◌++◌, length, slice_set, true, cond, ◌==◌, Ok, Err, Some, None}
+use Rattle.std.specs.Prelude.{◌≡◌, ◌≢◌, ℕ, ◌+◌, ◌<◌, List, [], ◌∷◌, ◌++◌, length, slice_index, slice_set, true, cond, ◌==◌, Ok, Err, Some, None}
 use Rattle.ticket_steps.specs.declared.kept.Entry.{Entry}
+use Rattle.ticket_steps.specs.declared.kept.Kept.{Ghosts}
 use Rattle.ticket_steps.specs.declared.seats.CoreSeat.{CoreSeat}
 use Rattle.ticket_steps.specs.declared.seats.Phase.TheVariants.{Idle, Waiting, Holding, Posted}
 use Rattle.ticket_steps.specs.declared.events.Event.{Event}
-use Rattle.ticket_steps.specs.declared.events.Event.TheVariants.{Split, Draw, Look, Post, Leave, Gather}
+use Rattle.ticket_steps.specs.declared.events.Event.TheVariants.{Split, Draw, Look, Post, Leave, Glance, Gather}
 use Rattle.ticket_steps.specs.declared.events.Seen.{Seen}
 use Rattle.ticket_steps.specs.declared.events.Seen.TheVariants as shows
 use Rattle.ticket_steps.specs.Books.{BookState, with_entry, with_refusal}
@@ -32,6 +33,8 @@ pub data Happening (C R : Type 0) : Type 0 where
   recorded : ℕ → C → R → Happening C R
   -- the holder left, and its call was refused, out of memory
   refused : ℕ → Happening C R
+  -- a seat read this word at this place of the board
+  glanced : ℕ → ℕ → ℕ → Happening C R
   -- a seat took over the second one
   gathered : ℕ → ℕ → Happening C R
 
@@ -47,6 +50,7 @@ module _ {C R : Type 0} where
   shown (left_posted own) = shows.Left None
   shown (recorded own call reply) = shows.Left (Some (Ok reply))
   shown (refused own) = shows.Left (Some (Err (record {})))
+  shown (glanced own place word) = shows.Glanced word
   shown (gathered own other) = shows.Gathered
 
   -- what happened is this event
@@ -60,6 +64,7 @@ module _ {C R : Type 0} where
   IsOf event (left_posted own) = event ≡ Leave own None
   IsOf event (recorded own call reply) = event ≡ Leave own (Some call)
   IsOf event (refused own) = (call : C) × (event ≡ Leave own (Some call))
+  IsOf event (glanced own place word) = event ≡ Glance own place
   IsOf event (gathered own other) = event ≡ Gather own other
 
   -- what happened are these events, one after another
@@ -106,40 +111,44 @@ module _ {S C R : Type 0} where
   abbrev pub after_leave : CoreState S C R → ℕ → CoreSeat → BookState S C R → CoreState S C R
   after_leave b i p book = core_state b.next (b.served + 1) (slice_set b.seats i (ended p)) book
 
-  module _ (step : S → C → S × R) (draws : ℕ) where
-    -- what happened leads from one core state to another; each number brings so many draws
-    abbrev pub Moves : CoreState S C R → Happening C R → CoreState S C R → Type 0
-    -- a fresh idle seat gives its last numbers, at least one and not all, with all their draws, to a new seat
-    Moves b (split own count) c = (i : ℕ) × (p : CoreSeat) × Stands b.seats i own Idle p × (p.fresh ≡ true) × (0 < count) × (count < length p.numbers)
-        × (c ≡ with_seats b (slice_set b.seats i (keeping draws count p) ++ given draws count p ∷ []))
-    -- an idle seat with a draw left gets the next ticket
-    Moves b (drew own ticket) c = (i : ℕ) × (p : CoreSeat) × Stands b.seats i own Idle p × (0 < p.left) × (ticket ≡ b.next)
-        × (c ≡ core_state (b.next + 1) b.served (slice_set b.seats i (waiting b.next p)) b.book)
-    -- a seat whose ticket isn't the number served goes on waiting
-    Moves b (waited own) c = (i : ℕ) × (p : CoreSeat) × (ticket : ℕ) × Stands b.seats i own (Waiting ticket) p × (ticket ≢ b.served) × (c ≡ b)
-    -- a seat whose ticket is the number served becomes the holder
-    Moves b (held own) c = (i : ℕ) × (p : CoreSeat) × Stands b.seats i own (Waiting b.served) p × (c ≡ with_seats b (slice_set b.seats i (holding b.served p)))
-    -- the holder posts its call: it is recorded under its own number, answered by the sequential step
-    Moves b (posted own call reply) c =
-        (i : ℕ) × (p : CoreSeat) × (ticket : ℕ) × Stands b.seats i own (Holding ticket) p × (reply ≡ (step b.book.state call).1)
-        × (c ≡ after_post b i ticket p (with_entry step own call b.book))
-    -- the holder posts its call, and it is refused for memory
-    Moves b (post_refused own) c =
-        (i : ℕ) × (p : CoreSeat) × (ticket : ℕ) × Stands b.seats i own (Holding ticket) p × (c ≡ after_post b i ticket p (with_refusal b.book))
-    -- the holder leaves that has posted its call: nothing more is recorded
-    Moves b (left_posted own) c = (i : ℕ) × (p : CoreSeat) × (ticket : ℕ) × Stands b.seats i own (Posted ticket) p × (c ≡ after_leave b i p b.book)
-    -- the holder leaves with its call recorded under its own number, answered by the sequential step
-    Moves b (recorded own call reply) c =
-        (i : ℕ) × (p : CoreSeat) × (ticket : ℕ) × Stands b.seats i own (Holding ticket) p × (reply ≡ (step b.book.state call).1)
-        × (c ≡ after_leave b i p (with_entry step own call b.book))
-    -- the holder leaves with its call refused for memory
-    Moves b (refused own) c = (i : ℕ) × (p : CoreSeat) × (ticket : ℕ) × Stands b.seats i own (Holding ticket) p × (c ≡ after_leave b i p (with_refusal b.book))
-    -- of two idle seats the first takes over the other's numbers and calls
-    Moves b (gathered own other) c =
-        (i : ℕ) × (p : CoreSeat) × (k : ℕ) × (q : CoreSeat) × Stands b.seats i own Idle p × Stands b.seats k other Idle q × (own ≢ other)
-        × (c ≡ with_seats b (slice_set (slice_set b.seats i (joined p q)) k gone))
+module _ {K C R : Type 0} (k : Ghosts K C R) (draws : ℕ) where
+  -- what happened leads from one core state to another; each number brings so many draws
+  abbrev pub Moves : CoreState k.State C R → Happening C R → CoreState k.State C R → Type 0
+  -- a fresh idle seat gives its last numbers, at least one and not all, with all their draws, to a new seat
+  Moves b (split own count) c = (i : ℕ) × (p : CoreSeat) × Stands b.seats i own Idle p × (p.fresh ≡ true) × (0 < count) × (count < length p.numbers)
+      × (c ≡ with_seats b (slice_set b.seats i (keeping draws count p) ++ given draws count p ∷ []))
+  -- an idle seat with a draw left gets the next ticket
+  Moves b (drew own ticket) c = (i : ℕ) × (p : CoreSeat) × Stands b.seats i own Idle p × (0 < p.left) × (ticket ≡ b.next)
+      × (c ≡ core_state (b.next + 1) b.served (slice_set b.seats i (waiting b.next p)) b.book)
+  -- a seat whose ticket isn't the number served goes on waiting
+  Moves b (waited own) c = (i : ℕ) × (p : CoreSeat) × (ticket : ℕ) × Stands b.seats i own (Waiting ticket) p × (ticket ≢ b.served) × (c ≡ b)
+  -- a seat whose ticket is the number served becomes the holder
+  Moves b (held own) c = (i : ℕ) × (p : CoreSeat) × Stands b.seats i own (Waiting b.served) p × (c ≡ with_seats b (slice_set b.seats i (holding b.served p)))
+  -- the holder posts its call, which has a place on the board: it is recorded under its own number, answered by the sequential step
+  Moves b (posted own call reply) c =
+      (i : ℕ) × (p : CoreSeat) × (ticket : ℕ) × Stands b.seats i own (Holding ticket) p × (reply ≡ (k.step b.book.state call).1)
+      × (c ≡ after_post b i ticket p (with_entry k.step own call b.book)) × ((place : ℕ) × (k.posts_at b.book.state call ≡ Some place))
+  -- the holder posts its call, and it is refused for memory
+  Moves b (post_refused own) c =
+      (i : ℕ) × (p : CoreSeat) × (ticket : ℕ) × Stands b.seats i own (Holding ticket) p × (c ≡ after_post b i ticket p (with_refusal b.book))
+  -- the holder leaves that has posted its call: nothing more is recorded
+  Moves b (left_posted own) c = (i : ℕ) × (p : CoreSeat) × (ticket : ℕ) × Stands b.seats i own (Posted ticket) p × (c ≡ after_leave b i p b.book)
+  -- the holder leaves with its call, which has no place on the board, recorded under its own number, answered by the sequential step
+  Moves b (recorded own call reply) c =
+      (i : ℕ) × (p : CoreSeat) × (ticket : ℕ) × Stands b.seats i own (Holding ticket) p × (reply ≡ (k.step b.book.state call).1)
+      × (c ≡ after_leave b i p (with_entry k.step own call b.book)) × (k.posts_at b.book.state call ≡ None)
+  -- the holder leaves with its call refused for memory
+  Moves b (refused own) c = (i : ℕ) × (p : CoreSeat) × (ticket : ℕ) × Stands b.seats i own (Holding ticket) p × (c ≡ after_leave b i p (with_refusal b.book))
+  -- an idle seat reads a word of the board, which shows the state of the book
+  Moves b (glanced own place word) c =
+      (i : ℕ) × (p : CoreSeat) × Stands b.seats i own Idle p × (place < length (k.board b.book.state))
+      × (word ≡ slice_index (k.board b.book.state) place) × (c ≡ b)
+  -- of two idle seats the first takes over the other's numbers and calls
+  Moves b (gathered own other) c =
+      (i : ℕ) × (p : CoreSeat) × (k : ℕ) × (q : CoreSeat) × Stands b.seats i own Idle p × Stands b.seats k other Idle q × (own ≢ other)
+      × (c ≡ with_seats b (slice_set (slice_set b.seats i (joined p q)) k gone))
 
-    -- what happened, one after another, leads from one core state to another
-    abbrev pub Leads : CoreState S C R → List (Happening C R) → CoreState S C R → Type 0
-    Leads b [] c = c ≡ b
-    Leads b (h ∷ hs) c = (d : CoreState S C R) × Moves b h d × Leads d hs c
+  -- what happened, one after another, leads from one core state to another
+  abbrev pub Leads : CoreState k.State C R → List (Happening C R) → CoreState k.State C R → Type 0
+  Leads b [] c = c ≡ b
+  Leads b (h ∷ hs) c = (d : CoreState k.State C R) × Moves b h d × Leads d hs c

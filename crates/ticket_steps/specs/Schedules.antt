@@ -1,7 +1,11 @@
 -- Schedules: what happened from an opening on, in whatever order the seats stepped, and the core state at the end.
-use Rattle.std.specs.Prelude.{◌≡◌, ℕ, ◌<◌, ◌≤◌, List}
+use Rattle.std.specs.Prelude.{◌≡◌, ℕ, ◌<◌, ◌≤◌, List, length, slice_index}
+use mathlib.Core.List.{IsPrefix}
+use Rattle.ticket_steps.specs.declared.kept.Entry.{Entry}
+use Rattle.ticket_steps.specs.declared.kept.Kept.{Ghosts}
 use Rattle.ticket_steps.specs.CoreStates.{CoreState, opened}
 use Rattle.ticket_steps.specs.Happenings.{Happening, Leads}
+use Rattle.ticket_steps.specs.History.{IsLegal, replay}
 use Rattle.ticket_steps.specs.Seats.{tickets_at}
 
 pub record Schedule (S C R : Type 0) : Type 0 where
@@ -14,13 +18,21 @@ pub record Schedule (S C R : Type 0) : Type 0 where
   pub happened : List (Happening C R)
   pub end : CoreState S C R
 
-module _ {S C R : Type 0} where
-  -- what happened leads from the opening to the end
-  pub record IsSchedule (step : S → C → S × R) (s : Schedule S C R) : Type 0 where
-    pub some_number : 0 < s.numbers
-    pub few_numbers : s.numbers ≤ 1024
-    pub leads : Leads step s.draws (opened s.numbers s.draws s.opening) s.happened s.end
+-- what happened leads from the opening to the end
+pub record IsSchedule {K C R : Type 0} (k : Ghosts K C R) (s : Schedule k.State C R) : Type 0 where
+  pub some_number : 0 < s.numbers
+  pub few_numbers : s.numbers ≤ 1024
+  pub leads : Leads k s.draws (opened s.numbers s.draws s.opening) s.happened s.end
 
+-- the word at this place is the one that a beginning of these entries leaves, which is a legal history from the opening state
+pub record ShowsAt {K C R : Type 0} (k : Ghosts K C R) (opening : k.State) (place word : ℕ) (later : List (Entry C R)) : Type 0 where
+  pub entries : List (Entry C R)
+  pub prefix : IsPrefix entries later
+  pub legal : IsLegal k.step opening entries
+  pub within : place < length (k.board (replay k.step opening entries))
+  pub word_is : word ≡ slice_index (k.board (replay k.step opening entries)) place
+
+module _ {S C R : Type 0} where
   -- the tickets from the number served to the last drawn are with one seat each, and no other ticket is with a seat
   pub record IsLine (c : CoreState S C R) : Type 0 where
     pub past : (ticket : ℕ) → ticket < c.served → tickets_at ticket c.seats ≡ 0

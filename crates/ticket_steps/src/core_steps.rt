@@ -16,7 +16,8 @@ use crate::seats::{CoreSeat, DRAWS, Phase};
 use std::alloc::{AllocError, Global};
 use std::collections::LinkedList;
 
-/// The core of the lock: its next ticket, the number served, its seats and its book.
+/// The core of the lock: its next ticket, the number served, its seats, its book, and the board that
+/// shows the book's words.
 ///
 /// Each event is one step of one seat. Whatever events come, in whatever order, the core stays one
 /// of those of which `every_schedule` speaks.
@@ -28,9 +29,11 @@ pub struct Core<K: Kept> {
     numbers: u32,
     draws: u32,
     book: K,
+    board: Vec<u64>,
     ghost few: { numbers ≤ 1024 },
     ghost few_draws: { draws ≤ 4294967295 },
     ghost roomy: { numbers ≤ vec_capacity seats },
+    ghost shown: { board.items ≡ K.board (K.state book) },
     ghost lawful: { IsLawful numbers draws (core_state next grants seats.items
         (book_state (K.state book) (K.history book) (K.refusals book))) },
 }
@@ -40,11 +43,13 @@ impl<K: Kept> Core<K> {
 
     /// A core with one seat, whose own number is 0, for all of `numbers`, each of which brings
     /// 2^32 - 1 draws, the most that [`Core::open_with`] gives, and with the book at home.
-    /// It makes places for all seats that can come to be, so that later only a `Post` or a `Leave` can
-    /// run out of memory. Where there is no memory for the places the book comes back as it was.
+    /// It makes places for all seats that can come to be, and a board of the book's words, so that
+    /// later only a `Post` or a `Leave` can run out of memory. Where there is no memory for these the
+    /// book comes back as it was.
     pub fn open(alloc: Global, book: K, numbers: u32) -> Result<Core<K>, K>
         requires numbers { (0 < numbers) × (numbers ≤ 1024) }
         requires empty { (K.history book ≡ []) × (K.refusals book ≡ 0) }
+        requires words { length (K.board (K.state book)) ≤ 4096 }
         ensures opened { IfOk result (λ core.
             state_of core ≡ opened numbers DRAWS (K.opening book)) }
         ensures alike { IfOk result (λ core. (opening_of core ≡ K.opening book)
@@ -55,12 +60,13 @@ impl<K: Kept> Core<K> {
     }
 
     /// A core as `open` makes it, whose numbers bring so many draws each: for callers that are to
-    /// make few calls, and for schedules that spend their seats. Where there is no memory for the
-    /// places the book comes back as it was.
+    /// make few calls, and for schedules that spend their seats. Where there is no memory the book
+    /// comes back as it was.
     pub fn open_with(alloc: Global, book: K, numbers: u32, draws: u32) -> Result<Core<K>, K>
         requires numbers { (0 < numbers) × (numbers ≤ 1024) }
         requires draws { 0 < draws }
         requires empty { (K.history book ≡ []) × (K.refusals book ≡ 0) }
+        requires words { length (K.board (K.state book)) ≤ 4096 }
         ensures opened { IfOk result (λ core.
             state_of core ≡ opened numbers draws (K.opening book)) }
         ensures alike { IfOk result (λ core. (opening_of core ≡ K.opening book)
@@ -71,6 +77,9 @@ impl<K: Kept> Core<K> {
             return Err(book);
         };
         let Ok(mut seats) = Vec::with_capacity(alloc, numbers as usize) else {
+            return Err(book);
+        };
+        let Ok(board) = first_words(alloc, &book) else {
             return Err(book);
         };
         seats.push_reserved(CoreSeat {
@@ -88,6 +97,7 @@ impl<K: Kept> Core<K> {
             numbers,
             draws,
             book,
+            board,
         })
     }
 
@@ -96,9 +106,9 @@ impl<K: Kept> Core<K> {
     /// is no fault: the seat has posted or left, and is shown the refusal.
     pub fn step(&mut self, event: Event<K::Call>) -> Result<Seen<K::Reply>, Fault>
         ensures shown { IfOk result (λ seen.
-            Shows K.step (draws_of self.old) (state_of self.old) event seen (state_of self.new)) }
+            Shows K.Kept (draws_of self.old) (state_of self.old) event seen (state_of self.new)) }
         ensures fault { (f : Fault)
-            → (result ≡ Err f) ↔ IsFault (state_of self.old).seats event f }
+            → (result ≡ Err f) ↔ IsFault K.Kept (state_of self.old) event f }
         ensures same { OnErr result (state_of self.new ≡ state_of self.old) }
         ensures alike { IsOpenedAlike self.old self.new }
         ensures lawful { IsLawful (numbers_of self.new) (draws_of self.new) (state_of self.new) }
@@ -113,6 +123,7 @@ impl<K: Kept> Core<K> {
                 Some(call) => self.leave(seat, call),
                 None => self.leave_posted(seat),
             },
+            Event::Glance { seat, place } => self.glance(seat, place),
             Event::Gather { seat, other } => self.gather(seat, other),
         }
     }
@@ -121,13 +132,13 @@ impl<K: Kept> Core<K> {
     /// are told. The events before it have happened.
     pub fn run(&mut self, events: &[Event<K::Call>]) -> Result<(), (usize, Fault)>
         ensures all { OnOk result (
-            LeadsBy K.step (draws_of self.old) (state_of self.old) events.now (state_of self.new)) }
+            LeadsBy K.Kept (draws_of self.old) (state_of self.old) events.now (state_of self.new)) }
         ensures place { IfErr result (λ stop. stop.0 < length events.now) }
-        ensures before { IfErr result (λ stop. LeadsBy K.step (draws_of self.old)
+        ensures before { IfErr result (λ stop. LeadsBy K.Kept (draws_of self.old)
             (state_of self.old) (take stop.0 events.now) (state_of self.new)) }
         ensures fault { IfErr result (λ stop. (event : Event K.Call)
             → slice_get events.now stop.0 ≡ Some event
-            → IsFault (state_of self.new).seats event stop.1) }
+            → IsFault K.Kept (state_of self.new) event stop.1) }
         ensures alike { IsOpenedAlike self.old self.new }
         ensures lawful { IsLawful (numbers_of self.new) (draws_of self.new) (state_of self.new) }
         ensures book { IsLawfulBook K.step (opening_of self.new) (state_of self.new).book }
@@ -149,7 +160,7 @@ impl<K: Kept> Core<K> {
     }
 
     fn split(&mut self, seat: u32, count: u32) -> Result<Seen<K::Reply>, Fault>
-        ensures step { Steps K.step (draws_of self.old) (state_of self.old) (Event.Split seat count)
+        ensures step { Steps K.Kept (draws_of self.old) (state_of self.old) (Event.Split seat count)
             result (state_of self.new) }
         ensures alike { IsOpenedAlike self.old self.new }
     {
@@ -163,7 +174,7 @@ impl<K: Kept> Core<K> {
     }
 
     fn draw(&mut self, seat: u32) -> Result<Seen<K::Reply>, Fault>
-        ensures step { Steps K.step (draws_of self.old) (state_of self.old) (Event.Draw seat)
+        ensures step { Steps K.Kept (draws_of self.old) (state_of self.old) (Event.Draw seat)
             result (state_of self.new) }
         ensures alike { IsOpenedAlike self.old self.new }
     {
@@ -182,7 +193,7 @@ impl<K: Kept> Core<K> {
     }
 
     fn look(&mut self, seat: u32) -> Result<Seen<K::Reply>, Fault>
-        ensures step { Steps K.step (draws_of self.old) (state_of self.old) (Event.Look seat)
+        ensures step { Steps K.Kept (draws_of self.old) (state_of self.old) (Event.Look seat)
             result (state_of self.new) }
         ensures alike { IsOpenedAlike self.old self.new }
     {
@@ -197,9 +208,9 @@ impl<K: Kept> Core<K> {
         Ok(Seen::Held)
     }
 
-    /// The holder's call is recorded, and it holds on.
+    /// The holder's call is recorded, the board shows what came of it, and the seat holds on.
     fn post(&mut self, seat: u32, call: K::Call) -> Result<Seen<K::Reply>, Fault>
-        ensures step { Steps K.step (draws_of self.old) (state_of self.old) (Event.Post seat call)
+        ensures step { Steps K.Kept (draws_of self.old) (state_of self.old) (Event.Post seat call)
             result (state_of self.new) }
         ensures alike { IsOpenedAlike self.old self.new }
     {
@@ -207,14 +218,18 @@ impl<K: Kept> Core<K> {
         let Phase::Holding(ticket) = self.seats[at].phase else {
             return Err(Fault::Phase);
         };
+        let Some(place) = self.book.posts(call) else {
+            return Err(Fault::Phase);
+        };
         let recorded = self.book.record(seat, call);
         self.seats[at].post(ticket);
+        self.board[place as usize] = self.book.word(place);
         Ok(Seen::Posted(recorded))
     }
 
     /// The holder leaves that has posted its call: nothing more is recorded.
     fn leave_posted(&mut self, seat: u32) -> Result<Seen<K::Reply>, Fault>
-        ensures step { Steps K.step (draws_of self.old) (state_of self.old) (Event.Leave seat None)
+        ensures step { Steps K.Kept (draws_of self.old) (state_of self.old) (Event.Leave seat None)
             result (state_of self.new) }
         ensures alike { IsOpenedAlike self.old self.new }
     {
@@ -227,14 +242,17 @@ impl<K: Kept> Core<K> {
         Ok(Seen::Left(None))
     }
 
-    /// The holder's call is recorded, and it leaves.
+    /// The holder's call, of which the board tells nothing, is recorded, and the seat leaves.
     fn leave(&mut self, seat: u32, call: K::Call) -> Result<Seen<K::Reply>, Fault>
-        ensures step { Steps K.step (draws_of self.old) (state_of self.old)
+        ensures step { Steps K.Kept (draws_of self.old) (state_of self.old)
             (Event.Leave seat (Some call)) result (state_of self.new) }
         ensures alike { IsOpenedAlike self.old self.new }
     {
         let at = self.place_of(seat)?;
         let Phase::Holding(ticket) = self.seats[at].phase else {
+            return Err(Fault::Phase);
+        };
+        let None = self.book.posts(call) else {
             return Err(Fault::Phase);
         };
         let reply = self.book.record(seat, call);
@@ -243,8 +261,22 @@ impl<K: Kept> Core<K> {
         Ok(Seen::Left(Some(reply)))
     }
 
+    fn glance(&self, seat: u32, place: u32) -> Result<Seen<K::Reply>, Fault>
+        ensures step { Steps K.Kept (draws_of self.now) (state_of self.now)
+            (Event.Glance seat place) result (state_of self.now) }
+    {
+        let at = self.place_of(seat)?;
+        if !self.seats[at].is_idle() {
+            return Err(Fault::Phase);
+        }
+        let Some(word) = self.board.get(place as usize) else {
+            return Err(Fault::Phase);
+        };
+        Ok(Seen::Glanced(*word))
+    }
+
     fn gather(&mut self, seat: u32, other: u32) -> Result<Seen<K::Reply>, Fault>
-        ensures step { Steps K.step (draws_of self.old) (state_of self.old)
+        ensures step { Steps K.Kept (draws_of self.old) (state_of self.old)
             (Event.Gather seat other) result (state_of self.new) }
         ensures alike { IsOpenedAlike self.old self.new }
     {
@@ -285,4 +317,16 @@ fn first_numbers(alloc: Global, count: u32) -> Result<LinkedList<u32>, AllocErro
         numbers.push_back(number)?;
     }
     Ok(numbers)
+}
+
+/// The words that the book shows, by place.
+fn first_words<K: Kept>(alloc: Global, book: &K) -> Result<Vec<u64>, AllocError>
+    ensures { IfOk result (λ board. board.items ≡ K.board (K.state book.now)) }
+{
+    let count = book.words();
+    let mut board = Vec::with_capacity(alloc, count as usize)?;
+    for place in 0..count {
+        board.push_reserved(book.word(place));
+    }
+    Ok(board)
 }

@@ -11,11 +11,14 @@ pub enum Event<C> {
     Draw { seat: u32 },
     /// The waiting seat looks whether its ticket is served, and holds the book if it is.
     Look { seat: u32 },
-    /// The holder records the call in the book under its own number, and holds on until it leaves.
+    /// The holder records a call that has a place on the board in the book, under its own number, and
+    /// shows there what came of it. It holds on until it leaves.
     Post { seat: u32, call: C },
-    /// The holder leaves. One that hasn't posted brings its call, which is recorded in the book under
-    /// its own number; one that has posted brings none.
+    /// The holder leaves. One that hasn't posted brings its call, which has no place on the board and
+    /// is recorded in the book under its own number; one that has posted brings none.
     Leave { seat: u32, call: Option<C> },
+    /// The idle seat reads a word of the board, without a ticket.
+    Glance { seat: u32, place: u32 },
     /// The first idle seat takes over the numbers and calls of another idle seat.
     Gather { seat: u32, other: u32 },
 }
@@ -33,6 +36,8 @@ pub enum Seen<R> {
     Posted(Result<R, NoMemory>),
     /// What `record` answered; nothing where the call was posted before.
     Left(Option<Result<R, NoMemory>>),
+    /// The word that was read.
+    Glanced(u64),
     Gathered,
 }
 
@@ -42,8 +47,9 @@ pub enum Fault {
     /// No seat has this own number, or it was gathered into another.
     NoSeat,
     /// The event doesn't fit the seat's phase, the seat to be split isn't fresh or the count is out
-    /// of range, a leave brings a call though one was posted or brings none though none was, or a seat
-    /// is to be gathered into itself.
+    /// of range, a leave brings a call though one was posted or brings none though none was, a call is
+    /// posted that has no place on the board or left with though it has one, a glance is at a place
+    /// that isn't there, or a seat is to be gathered into itself.
     Phase,
     /// No draw is left.
     Spent,

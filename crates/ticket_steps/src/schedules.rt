@@ -1,13 +1,13 @@
 //! What is so after every schedule.
-ghost use Rattle.std.specs.Prelude.{◌≡◌, ℕ, ◌+◌, ◌<◌, ◌≤◌, ◌*◌, [], length, true};
+ghost use Rattle.std.specs.Prelude.{◌≡◌, ℕ, ◌+◌, ◌<◌, ◌≤◌, ◌*◌, List, [], ◌∷◌, ◌++◌, length, true};
 ghost use mathlib.Core.Option.{some};
 ghost use lib.ListN.{get_elem?};
 ghost use Rattle.ticket_steps.specs.declared.seats.CoreSeat.{CoreSeat};
 ghost use Rattle.ticket_steps.specs.Books.{IsLawfulBook, calls_taken};
 ghost use Rattle.ticket_steps.specs.CoreStates.{IsCounted};
-ghost use Rattle.ticket_steps.specs.Happenings.{calls_made, recorded_by, turns_ended};
+ghost use Rattle.ticket_steps.specs.Happenings.{Happening, calls_made, glanced, recorded_by, turns_ended};
 ghost use Rattle.ticket_steps.specs.History.{of};
-ghost use Rattle.ticket_steps.specs.Schedules.{Schedule, IsSchedule, IsLine};
+ghost use Rattle.ticket_steps.specs.Schedules.{Schedule, IsSchedule, IsLine, ShowsAt};
 ghost use Rattle.ticket_steps.specs.Seats.{Holds, answering, holders, is_there};
 ghost use Rattle.ticket_steps.specs.Sums.{total, once_below};
 
@@ -28,39 +28,45 @@ use crate::kept::Kept;
 /// - the book is lawful: its entries are legal, and its state is their replay (`lawful`);
 /// - the entries of each number are the calls that it recorded, by a post or when it left, in their
 ///   order (`entries`), and there are none of numbers that weren't given out (`strangers`);
+/// - each word that a seat has read is the one that a beginning of the entries leaves, from the
+///   opening on (`glanced`);
 /// - no two seats have the same own number (`named`), and each number is one seat's to answer for
 ///   (`numbered`);
 /// - the tickets drawn and the draws left are together no more than all numbers brought (`supply`).
 pub fn every_schedule<K: Kept>()
-    ensures one_holder { (s : Schedule K.State K.Call K.Reply) → IsSchedule K.step s
+    ensures one_holder { (s : Schedule K.State K.Call K.Reply) → IsSchedule K.Kept s
         → holders s.end.seats ≤ 1 }
-    ensures holder { (s : Schedule K.State K.Call K.Reply) → IsSchedule K.step s
+    ensures holder { (s : Schedule K.State K.Call K.Reply) → IsSchedule K.Kept s
         → (i ticket : ℕ) (p : CoreSeat) → get_elem? s.end.seats i ≡ some p
         → Holds ticket p.phase → ticket ≡ s.end.served }
-    ensures line { (s : Schedule K.State K.Call K.Reply) → IsSchedule K.step s → IsLine s.end }
-    ensures counted { (s : Schedule K.State K.Call K.Reply) → IsSchedule K.step s
+    ensures line { (s : Schedule K.State K.Call K.Reply) → IsSchedule K.Kept s → IsLine s.end }
+    ensures counted { (s : Schedule K.State K.Call K.Reply) → IsSchedule K.Kept s
         → IsCounted s.end }
-    ensures made { (s : Schedule K.State K.Call K.Reply) → IsSchedule K.step s
+    ensures made { (s : Schedule K.State K.Call K.Reply) → IsSchedule K.Kept s
         → calls_made s.happened ≡ calls_taken s.end.book }
-    ensures ended { (s : Schedule K.State K.Call K.Reply) → IsSchedule K.step s
+    ensures ended { (s : Schedule K.State K.Call K.Reply) → IsSchedule K.Kept s
         → turns_ended s.happened ≡ s.end.served }
-    ensures calls { (s : Schedule K.State K.Call K.Reply) → IsSchedule K.step s
+    ensures calls { (s : Schedule K.State K.Call K.Reply) → IsSchedule K.Kept s
         → total (λ (p : CoreSeat). p.calls) s.end.seats ≡ s.end.served }
-    ensures alone { (s : Schedule K.State K.Call K.Reply) → IsSchedule K.step s
+    ensures alone { (s : Schedule K.State K.Call K.Reply) → IsSchedule K.Kept s
         → (i : ℕ) (p : CoreSeat) → get_elem? s.end.seats i ≡ some p
         → length p.numbers ≡ s.numbers → p.calls ≡ s.end.served }
-    ensures lawful { (s : Schedule K.State K.Call K.Reply) → IsSchedule K.step s
+    ensures lawful { (s : Schedule K.State K.Call K.Reply) → IsSchedule K.Kept s
         → IsLawfulBook K.step s.opening s.end.book }
-    ensures entries { (s : Schedule K.State K.Call K.Reply) → IsSchedule K.step s
+    ensures entries { (s : Schedule K.State K.Call K.Reply) → IsSchedule K.Kept s
         → (number : ℕ) → of number s.end.book.entries ≡ recorded_by number s.happened }
-    ensures strangers { (s : Schedule K.State K.Call K.Reply) → IsSchedule K.step s
+    ensures glanced { (s : Schedule K.State K.Call K.Reply) → IsSchedule K.Kept s
+        → (own place word : ℕ) (before after : List (Happening K.Call K.Reply))
+        → s.happened ≡ before ++ glanced own place word ∷ after
+        → ShowsAt K.Kept s.opening place word s.end.book.entries }
+    ensures strangers { (s : Schedule K.State K.Call K.Reply) → IsSchedule K.Kept s
         → (number : ℕ) → s.numbers ≤ number → of number s.end.book.entries ≡ [] }
-    ensures named { (s : Schedule K.State K.Call K.Reply) → IsSchedule K.step s
+    ensures named { (s : Schedule K.State K.Call K.Reply) → IsSchedule K.Kept s
         → (i k : ℕ) (p q : CoreSeat)
         → get_elem? s.end.seats i ≡ some p → is_there p.phase ≡ true
         → get_elem? s.end.seats k ≡ some q → is_there q.phase ≡ true → p.own ≡ q.own → k ≡ i }
-    ensures numbered { (s : Schedule K.State K.Call K.Reply) → IsSchedule K.step s
+    ensures numbered { (s : Schedule K.State K.Call K.Reply) → IsSchedule K.Kept s
         → (number : ℕ) → answering number s.end.seats ≡ once_below number s.numbers }
-    ensures supply { (s : Schedule K.State K.Call K.Reply) → IsSchedule K.step s
+    ensures supply { (s : Schedule K.State K.Call K.Reply) → IsSchedule K.Kept s
         → s.end.next + total (λ (p : CoreSeat). p.left) s.end.seats ≤ s.numbers * s.draws }
 {}

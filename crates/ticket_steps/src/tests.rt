@@ -73,6 +73,10 @@ fn leave_posted(seat: u32) -> Event<u8> {
     Event::Leave { seat, call: None }
 }
 
+fn glance(seat: u32, place: u32) -> Event<u8> {
+    Event::Glance { seat, place }
+}
+
 fn gather(seat: u32, other: u32) -> Event<u8> {
     Event::Gather { seat, other }
 }
@@ -85,9 +89,11 @@ fn two_seats_take_turns(rt: HostRuntime) -> Result<(), Fail> {
     assert_eq!(rt; core.step(draw(1)), Ok(Seen::Drew(1)));
     assert_eq!(rt; core.step(look(1)), Ok(Seen::Waiting));
     assert_eq!(rt; core.step(look(0)), Ok(Seen::Held));
-    assert_eq!(rt; core.step(leave(0, 5)), Ok(Seen::Left(Some(Ok(5)))));
+    assert_eq!(rt; core.step(post(0, 5)), Ok(Seen::Posted(Ok(5))));
+    assert_eq!(rt; core.step(leave_posted(0)), Ok(Seen::Left(None)));
     assert_eq!(rt; core.step(look(1)), Ok(Seen::Held));
-    assert_eq!(rt; core.step(leave(1, 7)), Ok(Seen::Left(Some(Ok(12)))));
+    assert_eq!(rt; core.step(post(1, 7)), Ok(Seen::Posted(Ok(12))));
+    assert_eq!(rt; core.step(leave_posted(1)), Ok(Seen::Left(None)));
     assert_eq!(rt; core.step(gather(0, 1)), Ok(Seen::Gathered));
     every_schedule::<CounterBook>();
     Ok(())
@@ -119,6 +125,37 @@ fn a_seat_posts_before_it_leaves(rt: HostRuntime) -> Result<(), Fail> {
     Ok(())
 }
 
+/// A board is read without a ticket: it shows what was posted, before the seat leaves. A call of 0
+/// changes no word, so it is left with and can't be posted.
+#[test]
+fn a_glance_reads_what_was_posted(rt: HostRuntime) -> Result<(), Fail> {
+    let mut core = core_of_two(rt.alloc())?;
+    assert_eq!(rt; core.step(SPLIT), Ok(Seen::Split));
+    assert_eq!(rt; core.step(draw(0)), Ok(Seen::Drew(0)));
+    assert_eq!(rt; core.step(look(0)), Ok(Seen::Held));
+    assert_eq!(rt; core.step(glance(1, 0)), Ok(Seen::Glanced(0)));
+    assert_eq!(rt; core.step(post(0, 0)), Err(Fault::Phase), "it has no place");
+    assert_eq!(rt; core.step(leave(0, 5)), Err(Fault::Phase), "it has a place");
+    assert_eq!(rt; core.step(post(0, 5)), Ok(Seen::Posted(Ok(5))));
+    assert_eq!(rt; core.step(glance(1, 0)), Ok(Seen::Glanced(5)));
+    assert_eq!(rt;
+        core.step(glance(1, 1)),
+        Err(Fault::Phase),
+        "there is one word"
+    );
+    assert_eq!(rt; core.step(glance(0, 0)), Err(Fault::Phase), "it holds");
+    assert_eq!(rt; core.step(leave(0, 5)), Err(Fault::Phase), "one was posted");
+    assert_eq!(rt; core.step(leave_posted(0)), Ok(Seen::Left(None)));
+    assert_eq!(rt; core.step(draw(1)), Ok(Seen::Drew(1)));
+    assert_eq!(rt; core.step(look(1)), Ok(Seen::Held));
+    assert_eq!(rt; core.step(leave(1, 0)), Ok(Seen::Left(Some(Ok(5)))));
+    assert_eq!(rt; core.step(glance(0, 0)), Ok(Seen::Glanced(5)));
+    let book = core.book();
+    assert_eq!(rt; (book.words(), book.word(0)), (1, 5));
+    assert_eq!(rt; (book.posts(0), book.posts(7)), (None, Some(0)));
+    Ok(())
+}
+
 /// A posted seat holds: the next ticket is served when it leaves.
 #[test]
 fn a_posted_seat_is_waited_for(rt: HostRuntime) -> Result<(), Fail> {
@@ -132,14 +169,15 @@ fn a_posted_seat_is_waited_for(rt: HostRuntime) -> Result<(), Fail> {
         look(1),
         leave_posted(0),
         look(1),
-        leave(1, 7),
+        post(1, 7),
+        leave_posted(1),
         gather(0, 1),
         draw(0),
         look(0),
         post(0, 1),
         draw(0),
     ];
-    assert_eq!(rt; core.run(&events), Err((13, Fault::Phase)));
+    assert_eq!(rt; core.run(&events), Err((14, Fault::Phase)));
     let entries = core.book().entries();
     assert_eq!(rt; entries.len(), 3);
     assert_eq!(rt;
@@ -181,13 +219,15 @@ fn a_run_stops_at_the_first_fault(rt: HostRuntime) -> Result<(), Fail> {
         draw(1),
         look(1),
         look(0),
-        leave(0, 5),
+        post(0, 5),
+        leave_posted(0),
         look(1),
-        leave(1, 7),
+        post(1, 7),
+        leave_posted(1),
         gather(0, 1),
         look(0),
     ];
-    assert_eq!(rt; core.run(&events), Err((9, Fault::Phase)));
+    assert_eq!(rt; core.run(&events), Err((11, Fault::Phase)));
     let entries = core.book().entries();
     assert_eq!(rt; entries.len(), 2);
     assert_eq!(rt;
@@ -207,7 +247,8 @@ fn a_seat_without_a_draw_left_is_spent(rt: HostRuntime) -> Result<(), Fail> {
     assert_eq!(rt; core.step(draw(0)), Ok(Seen::Drew(0)));
     assert_eq!(rt; core.step(draw(0)), Err(Fault::Phase), "it waits");
     assert_eq!(rt; core.step(look(0)), Ok(Seen::Held));
-    assert_eq!(rt; core.step(leave(0, 5)), Ok(Seen::Left(Some(Ok(5)))));
+    assert_eq!(rt; core.step(post(0, 5)), Ok(Seen::Posted(Ok(5))));
+    assert_eq!(rt; core.step(leave_posted(0)), Ok(Seen::Left(None)));
     assert_eq!(rt; core.step(draw(0)), Err(Fault::Spent));
     assert_eq!(rt; core.step(look(0)), Err(Fault::Phase), "it has no ticket");
     assert_eq!(rt; core.book().entries().len(), 1);
@@ -260,9 +301,10 @@ fn a_core_of_1024_seats(rt: HostRuntime) -> Result<(), Fail> {
     for seat in 0..1024 {
         assert_eq!(rt; core.step(look(seat)), Ok(Seen::Held));
         assert_eq!(rt;
-            core.step(leave(seat, 1)),
-            Ok(Seen::Left(Some(Ok(seat as u64 + 1))))
+            core.step(post(seat, 1)),
+            Ok(Seen::Posted(Ok(seat as u64 + 1)))
         );
+        assert_eq!(rt; core.step(leave_posted(seat)), Ok(Seen::Left(None)));
     }
     for seat in 1..1024 {
         assert_eq!(rt; core.step(gather(0, seat)), Ok(Seen::Gathered));

@@ -20,8 +20,8 @@ pub returns-then-not-is_idle-clause-step : goal.returns-then-not-is_idle-clause-
 returns-then-not-is_idle-clause-step g c =
     let self = c.args.self.now in let e = c.in_ok-at.ensures.found in
     let is = read_is c.args.self.now.seats.items c.in_ok-at.at c.in_ok-at.ensures.found.1 c.index-place.ensures in
-    steps_fault g.K.Kept.step self.draws (state_of self) (Draw c.args.seat) Phase
-    (unfit_draw self.numbers self.draws (state_of self) self.lawful c.in_ok-at.at c.args.seat e.0 e.1 e.2 e.3
+    steps_fault g.K.Kept self.draws (state_of self) (Draw c.args.seat) Phase
+    (unfit_draw g.K.Kept self.numbers self.draws (state_of self) self.lawful c.in_ok-at.at c.args.seat e.0 e.1 e.2 e.3
     (λ idle. false≢true (sym c.if-not-is_idle.true ∙ c.is_idle.ensures.1 (ap (λ (s : CoreSeat). s.phase) is ∙ idle))))
 
 pub returns-then-place-eq0-clause-step : goal.returns-then-place-eq0-clause-step
@@ -30,8 +30,8 @@ returns-then-place-eq0-clause-step g c =
     let is = read_is c.args.self.now.seats.items c.in_ok-at.at c.in_ok-at.ensures.found.1 c.index-place.ensures in
     let idle : e.0.phase ≡ Idle = ap (λ (s : CoreSeat). s.phase) (sym is) ∙ c.is_idle.ensures.0 c.if-not-is_idle.false in
     let none_left : e.0.left ≡ 0 = ap (λ (s : CoreSeat). s.left) (sym is) ∙ c.if-place-eq0.true in
-    steps_fault g.K.Kept.step self.draws (state_of self) (Draw c.args.seat) Spent
-    (spent_draw self.numbers self.draws (state_of self) self.lawful c.in_ok-at.at c.args.seat e.0 e.1 e.2 e.3 idle none_left)
+    steps_fault g.K.Kept self.draws (state_of self) (Draw c.args.seat) Spent
+    (spent_draw g.K.Kept self.numbers self.draws (state_of self) self.lawful c.in_ok-at.at c.args.seat e.0 e.1 e.2 e.3 idle none_left)
 
 pub wait-requires : goal.wait-requires
 wait-requires g c =
@@ -41,7 +41,7 @@ wait-requires g c =
 
 -- the seat draws
 draws : (g : Over) (c : After-self-1 g) → let self = c.args.self.now in
-    Shows g.K.Kept.step self.draws (state_of self) (Draw c.args.seat) (Drew self.next)
+    Shows g.K.Kept self.draws (state_of self) (Draw c.args.seat) (Drew self.next)
     (core_state (self.next + 1) self.grants (set self.seats.items c.in_ok-at.at c.wait.new.self) (state_of self).book)
 draws g c =
     let self = c.args.self.now in let e = c.in_ok-at.ensures.found in
@@ -49,12 +49,12 @@ draws g c =
     let is' = read_is c.args.self.now.seats.items c.in_ok-at.at c.in_ok-at.ensures.found.1 c.index_mut.ensures.value in
     let idle : e.0.phase ≡ Idle = ap (λ (s : CoreSeat). s.phase) (sym is) ∙ c.is_idle.ensures.0 c.if-not-is_idle.false in
     let some_left : 0 < e.0.left = omega (arith, c.if-place-eq0.false, ap (λ (s : CoreSeat). s.left) is) in
-    let move = draw_moves g.K.Kept.step self.draws (state_of self) c.in_ok-at.at c.args.seat e.0 e.1 e.2 c.wait.new.self idle some_left
+    let move = draw_moves g.K.Kept self.draws (state_of self) c.in_ok-at.at c.args.seat e.0 e.1 e.2 c.wait.new.self idle some_left
     (c.wait.ensures ∙ ap (waiting self.next) is') in
-    (drew c.args.seat self.next, refl, refl, move)
+    (drew c.args.seat self.next, refl, refl, move, tt)
 
 pub invariant_of-self-clause-lawful : goal.invariant_of-self-clause-lawful
-invariant_of-self-clause-lawful g c = shows_lawful g.K.Kept.step _ _ _ _ _ _ c.args.self.now.lawful (draws g c)
+invariant_of-self-clause-lawful g c = shows_lawful g.K.Kept _ _ _ _ _ _ c.args.self.now.lawful (draws g c)
 
 pub returns-clause-step : goal.returns-clause-step
-returns-clause-step g c = steps_shown g.K.Kept.step _ _ _ _ _ (draws g (goal.at.returns-clause-step g c).After-self-1)
+returns-clause-step g c = steps_shown g.K.Kept _ _ _ _ _ (draws g (goal.at.returns-clause-step g c).After-self-1)

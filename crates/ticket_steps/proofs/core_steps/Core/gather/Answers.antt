@@ -34,8 +34,8 @@ returns-then-seat-other-clause-step g c =
           ↦ λ t. let is = read_is self.seats.items c.in_ok-from.from d.1 w.index-else-not-is_idle.ensures in
           false≢true (sym w.if-not-is_idle-2.true ∙ w.is_idle-else-not-is_idle.ensures.1 (ap (λ (s : CoreSeat). s.phase) is ∙ t.2))
     ] in
-    steps_fault g.K.Kept.step self.draws (state_of self) (Gather c.args.seat c.args.other) Phase
-    (unfit_gather self.numbers self.draws (state_of self) self.lawful c.in_ok-at.at c.args.seat e.0 e.1 e.2 e.3 c.in_ok-from.from c.args.other d.0 d.1
+    steps_fault g.K.Kept self.draws (state_of self) (Gather c.args.seat c.args.other) Phase
+    (unfit_gather g.K.Kept self.numbers self.draws (state_of self) self.lawful c.in_ok-at.at c.args.seat e.0 e.1 e.2 e.3 c.in_ok-from.from c.args.other d.0 d.1
     d.2 d.3 bad)
 
 -- the two seats are two
@@ -87,19 +87,19 @@ join-requires-clause-calls g c =
 
 -- the one takes over the other
 gathers : (g : Over) (c : After-self-2-1 g) → let self = c.args.self.now in
-    Shows g.K.Kept.step self.draws (state_of self) (Gather c.args.seat c.args.other) seen.Gathered
+    Shows g.K.Kept self.draws (state_of self) (Gather c.args.seat c.args.other) seen.Gathered
     (with_seats (state_of self) (set (set self.seats.items c.in_ok-from.from c.give_up-given.new.self) c.in_ok-at.at c.join.new.self))
 gathers g c =
     let self = c.args.self.now in let e = c.in_ok-at.ensures.found in
     let d = c.in_ok-from.ensures.found in
     let at = (goal.at.invariant_of-self-clause-lawful g c).After-index_mut-2 in
-    let move = gather_moves g.K.Kept.step self.draws (state_of self) c.in_ok-at.at c.args.seat e.0 e.1 e.2 c.in_ok-from.from c.args.other d.0
+    let move = gather_moves g.K.Kept self.draws (state_of self) c.in_ok-at.at c.args.seat e.0 e.1 e.2 c.in_ok-from.from c.args.other d.0
     c.give_up-given.new.self c.join.new.self d.1 d.2 (idle g at) (other_idle g at) c.if-seat-other.false
     c.give_up-given.ensures.gone (c.join.ensures ∙ (λ i. joined (seat_is g at i) (other_was g at i))) in
-    (gathered c.args.seat c.args.other, refl, refl, move)
+    (gathered c.args.seat c.args.other, refl, refl, move, tt)
 
 pub invariant_of-self-clause-lawful : goal.invariant_of-self-clause-lawful
-invariant_of-self-clause-lawful g c = shows_lawful g.K.Kept.step _ _ _ _ _ _ c.args.self.now.lawful (gathers g c)
+invariant_of-self-clause-lawful g c = shows_lawful g.K.Kept _ _ _ _ _ _ c.args.self.now.lawful (gathers g c)
 
 pub returns-clause-step : goal.returns-clause-step
-returns-clause-step g c = steps_shown g.K.Kept.step _ _ _ _ _ (gathers g (goal.at.returns-clause-step g c).After-self-2-1)
+returns-clause-step g c = steps_shown g.K.Kept _ _ _ _ _ (gathers g (goal.at.returns-clause-step g c).After-self-2-1)

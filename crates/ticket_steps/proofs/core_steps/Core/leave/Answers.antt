@@ -1,7 +1,7 @@
-use Rattle.std.proofs.Common.{◌≡◌, ◌+◌, ◌∷◌, ◌++◌, [], arith, sym, ap, ◌∙◌, refl, subst, List, ℕ, set, Result, Ok, Err, Some, IfOk, OnErr}
+use Rattle.std.proofs.Common.{◌≡◌, ◌+◌, ◌∷◌, ◌++◌, [], arith, sym, ap, ◌∙◌, refl, subst, List, ℕ, set, Result, Ok, Err, Some, None, IfOk, OnErr}
 use mathlib.Core.Option.{some}
 use lib.ListN.{get_elem?}
-use Rattle.ticket_steps.specs.declared.kept.Entry.{Entry}
+use Rattle.ticket_steps.specs.declared.kept.Kept.{Ghosts}
 use Rattle.ticket_steps.specs.Books.{book_state}
 use Rattle.ticket_steps.specs.CoreStates.{core_state}
 use Rattle.ticket_steps.specs.Faults.{Shows}
@@ -15,8 +15,9 @@ use Rattle.ticket_steps.specs.declared.events.Fault.TheVariants.{Phase}
 use Rattle.ticket_steps.specs.Cores.{state_of}
 use Rattle.ticket_steps.specs.Happenings.{recorded, refused, Moves}
 use Rattle.ticket_steps.specs.Seats.{ended}
+use Rattle.ticket_steps.proofs.BoardLemmas.{board_kept}
 use Rattle.ticket_steps.proofs.CoreLemmas.{recorded_moves, refused_moves, few_refused, few_served}
-use Rattle.ticket_steps.proofs.FaultLemmas.{steps_fault, steps_shown, shows_lawful, read_is, unfit_leave}
+use Rattle.ticket_steps.proofs.FaultLemmas.{steps_fault, steps_shown, shows_lawful, read_is, unfit_leave, unplaced}
 use Rattle.ticket_steps.proofs.Histories.{recorded_is}
 use Rattle.ticket_steps.proofs.SeatLemmas.{holding_holds, one_calls}
 use Rattle.ticket_steps.proofs.core_steps.Core.leave.Given.{Over}
@@ -24,44 +25,46 @@ use Rattle.ticket_steps.proofs.core_steps.Core.leave.Goals.{After-leave, In-Hold
 use Rattle.ticket_steps.proofs.core_steps.Core.leave.Goals as goal
 
 -- what the leave of a seat shows, whatever the book answered
-leave_shows : (K S C R : Type 0) (step : S → C → S × R) (opening state : K → S) (history : K → List (Entry C R)) (refusals : K → ℕ)
-    → ((book : K) → IsLegal step (opening book) (history book)) → ((book : K) → state book ≡ replay step (opening book) (history book))
+leave_shows : {K C R : Type 0} (k : Ghosts K C R)
+    → ((book : K) → IsLegal k.step (k.opening book) (k.history book)) → ((book : K) → k.state book ≡ replay k.step (k.opening book) (k.history book))
     → (draws next served after i own ticket : ℕ) (seats : List CoreSeat) (p w : CoreSeat) (call : C) (old new : K) (reply : Result R NoMemory)
-    → after ≡ served + 1 → get_elem? seats i ≡ some p → p.own ≡ own → p.phase ≡ Holding ticket → w ≡ ended p → opening new ≡ opening old
-    → IfOk reply (λ r. (history new ≡ history old ++ entry own call r ∷ []) × (refusals new ≡ refusals old))
-    → OnErr reply ((history new ≡ history old) × (state new ≡ state old) × (refusals new ≡ refusals old + 1))
-    → Shows step draws (core_state next served seats (book_state (state old) (history old) (refusals old))) (Leave own (Some call)) (seen.Left (Some reply))
-    (core_state next after (set seats i w) (book_state (state new) (history new) (refusals new)))
-leave_shows K S C R step opening state history refusals legal replayed draws next served after i own ticket seats p w call old new
-    (Ok r) up at called holds is same replied _ =
-    let t = recorded_is step (opening old) (opening new) (state old) (state new) (history old) (history new) (refusals old) (refusals new) own call r
+    → k.posts_at (k.state old) call ≡ None → after ≡ served + 1 → get_elem? seats i ≡ some p → p.own ≡ own → p.phase ≡ Holding ticket → w ≡ ended p → k.opening new ≡ k.opening old
+    → IfOk reply (λ r. (k.history new ≡ k.history old ++ entry own call r ∷ []) × (k.refusals new ≡ k.refusals old))
+    → OnErr reply ((k.history new ≡ k.history old) × (k.state new ≡ k.state old) × (k.refusals new ≡ k.refusals old + 1))
+    → Shows k draws (core_state next served seats (book_state (k.state old) (k.history old) (k.refusals old))) (Leave own (Some call)) (seen.Left (Some reply))
+    (core_state next after (set seats i w) (book_state (k.state new) (k.history new) (k.refusals new)))
+leave_shows k legal replayed draws next served after i own ticket seats p w call old new
+    (Ok r) unplaced up at called holds is same replied _ =
+    let t = recorded_is k.step (k.opening old) (k.opening new) (k.state old) (k.state new) (k.history old) (k.history new) (k.refusals old) (k.refusals new) own call r
     (replayed old) (replayed new) (legal new) same replied.0 replied.1 in
-    let b = core_state next served seats (book_state (state old) (history old) (refusals old)) in
-    let book = book_state (state new) (history new) (refusals new) in (
+    let b = core_state next served seats (book_state (k.state old) (k.history old) (k.refusals old)) in
+    let book = book_state (k.state new) (k.history new) (k.refusals new) in (
       recorded own call r,
       refl,
       refl,
-      subst (λ (n : ℕ). Moves step draws b (recorded own call r) (core_state next n (set seats i w) book)) (sym up)
-          (recorded_moves step draws b i own p at called ticket w call r book holds is t.0 t.1),
+      subst (λ (n : ℕ). Moves k draws b (recorded own call r) (core_state next n (set seats i w) book)) (sym up)
+          (recorded_moves k draws b i own p at called ticket w call r book holds is t.0 t.1 unplaced),
+      unplaced,
     )
-leave_shows K S C R step opening state history refusals legal replayed draws next served after i own ticket seats p w call old new
-    (Err e) up at called holds is same _ kept =
-    let b = core_state next served seats (book_state (state old) (history old) (refusals old)) in
-    let book = book_state (state new) (history new) (refusals new) in (
+leave_shows k legal replayed draws next served after i own ticket seats p w call old new
+    (Err e) unplaced up at called holds is same _ kept =
+    let b = core_state next served seats (book_state (k.state old) (k.history old) (k.refusals old)) in
+    let book = book_state (k.state new) (k.history new) (k.refusals new) in (
       refused own,
       (call, refl),
       refl,
-      subst (λ (n : ℕ). Moves step draws b (refused own) (core_state next n (set seats i w) book)) (sym up)
-          (refused_moves step draws b i own p at called ticket w book holds is (λ j. book_state (kept.1 j) (kept.0 j) (kept.2 j))),
+      subst (λ (n : ℕ). Moves k draws b (refused own) (core_state next n (set seats i w) book)) (sym up)
+          (refused_moves k draws b i own p at called ticket w book holds is (λ j. book_state (kept.1 j) (kept.0 j) (kept.2 j))),
+      unplaced,
     )
 
 pub returns-in_default-clause-step : goal.returns-in_default-clause-step
 returns-in_default-clause-step g c =
     let self = c.args.self.now in let e = c.in_ok-at.ensures.found in
     let is = read_is self.seats.items c.in_ok-at.at e.1 c.index.ensures in
-    let unfit = unfit_leave self.numbers self.draws (state_of self) self.lawful c.in_ok-at.at c.args.seat e.0 e.1 e.2 e.3 c.args.call
+    let unfit = unfit_leave g.K.Kept self.numbers self.draws (state_of self) self.lawful c.in_ok-at.at c.args.seat e.0 e.1 e.2 e.3 c.args.call
     (λ ticket holds. c.in_default.not-Holding ticket (ap (λ (s : CoreSeat). s.phase) is ∙ holds)) in
-    steps_fault g.K.Kept.step self.draws (state_of self) (Leave c.args.seat (Some c.args.call)) Phase unfit
+    steps_fault g.K.Kept self.draws (state_of self) (Leave c.args.seat (Some c.args.call)) Phase unfit
 
 pub record-reply-requires : goal.record-reply-requires
 record-reply-requires g c =
@@ -95,7 +98,7 @@ leave-requires-clause-small g c =
 
 -- the seat leaves, and its call is recorded or refused
 leaves : (g : Over) (c : After-leave g) → let self = c.args.self.now in let k = g.K.Kept in let book = c.record-reply.new.self in
-    Shows k.step self.draws (state_of self) (Leave c.args.seat (Some c.args.call)) (seen.Left (Some c.record-reply.result))
+    Shows k self.draws (state_of self) (Leave c.args.seat (Some c.args.call)) (seen.Left (Some c.record-reply.result))
     (core_state self.next c.leave.new.self (set self.seats.items c.in_ok-at.at c.end.new.self)
     (book_state (k.state book) (k.history book) (k.refusals book)))
 leaves g c =
@@ -108,13 +111,28 @@ leaves g c =
     let holds = ap (λ (s : CoreSeat). s.phase) (sym is) ∙ c.in-Holding.is in
     let first = (self.lawful.each c.in_ok-at.at e.0 e.1).holder c.in-Holding.ticket (holding_holds c.in-Holding.ticket e.0.phase holds) in
     let up : c.leave.new.self ≡ self.grants + 1 = c.leave.ensures ∙ ap (λ (n : ℕ). n + 1) first in
-    leave_shows _ _ _ _ k.step k.opening k.state k.history k.refusals g.met.K.Kept.legal g.met.K.Kept.replayed self.draws self.next
+    leave_shows k g.met.K.Kept.legal g.met.K.Kept.replayed self.draws self.next
     self.grants c.leave.new.self c.in_ok-at.at c.args.seat c.in-Holding.ticket self.seats.items e.0 c.end.new.self
-    c.args.call self.book c.record-reply.new.self c.record-reply.result up e.1 e.2
+    c.args.call self.book c.record-reply.new.self c.record-reply.result (sym c.posts.ensures ∙ c.in-None.is) up e.1 e.2
     holds (c.end.ensures ∙ ap ended is') r.same r.replied r.refused
 
 pub invariant_of-self-clause-lawful : goal.invariant_of-self-clause-lawful
-invariant_of-self-clause-lawful g c = shows_lawful g.K.Kept.step _ _ _ _ _ _ c.args.self.now.lawful (leaves g c)
+invariant_of-self-clause-lawful g c = shows_lawful g.K.Kept _ _ _ _ _ _ c.args.self.now.lawful (leaves g c)
 
 pub returns-clause-step : goal.returns-clause-step
-returns-clause-step g c = steps_shown g.K.Kept.step _ _ _ _ _ (leaves g (goal.at.returns-clause-step g c).After-leave)
+returns-clause-step g c = steps_shown g.K.Kept _ _ _ _ _ (leaves g (goal.at.returns-clause-step g c).After-leave)
+
+pub returns-in_default-posts-clause-step : goal.returns-in_default-posts-clause-step
+returns-in_default-posts-clause-step g c =
+    let self = c.args.self.now in let e = c.in_ok-at.ensures.found in
+    steps_fault g.K.Kept self.draws (state_of self) (Leave c.args.seat (Some c.args.call)) Phase
+    (unplaced g.K.Kept self.numbers self.draws (state_of self) self.lawful c.in_ok-at.at c.args.seat e.0 e.1 e.2 e.3
+    (Leave c.args.seat (Some c.args.call)) (λ there. there) (λ none. c.in_default-posts.not-None (c.posts.ensures ∙ none)))
+
+pub invariant_of-self-clause-shown : goal.invariant_of-self-clause-shown
+invariant_of-self-clause-shown g c =
+    let self = c.args.self.now in
+    let k = g.K.Kept in
+    let r = c.record-reply.ensures in
+    self.shown ∙ sym (board_kept k g.met.K.Kept.legal g.met.K.Kept.replayed g.met.K.Kept.unposted self.book c.record-reply.new.self c.args.seat
+    c.args.call c.record-reply.result r.same r.replied r.refused (sym c.posts.ensures ∙ c.in-None.is))

@@ -19,9 +19,9 @@ pub returns-in_default-clause-step : goal.returns-in_default-clause-step
 returns-in_default-clause-step g c =
     let self = c.args.self.now in let e = c.in_ok-at.ensures.found in
     let is = read_is self.seats.items c.in_ok-at.at e.1 c.index.ensures in
-    let unfit = unfit_leave_posted self.numbers self.draws (state_of self) self.lawful c.in_ok-at.at c.args.seat e.0 e.1 e.2 e.3
+    let unfit = unfit_leave_posted g.K.Kept self.numbers self.draws (state_of self) self.lawful c.in_ok-at.at c.args.seat e.0 e.1 e.2 e.3
     (λ ticket posts. c.in_default.not-Posted ticket (ap (λ (s : CoreSeat). s.phase) is ∙ posts)) in
-    steps_fault g.K.Kept.step self.draws (state_of self) (Leave c.args.seat None) Phase unfit
+    steps_fault g.K.Kept self.draws (state_of self) (Leave c.args.seat None) Phase unfit
 
 pub end-requires : goal.end-requires
 end-requires g c =
@@ -49,11 +49,11 @@ leave-requires-clause-small g c =
 
 -- the seat leaves, and nothing more is recorded
 leaves : (g : Over) (c : After-leave g) → let self = c.args.self.now in
-    Shows g.K.Kept.step self.draws (state_of self) (Leave c.args.seat None) (seen.Left None)
+    Shows g.K.Kept self.draws (state_of self) (Leave c.args.seat None) (seen.Left None)
     (core_state self.next c.leave.new.self (set self.seats.items c.in_ok-at.at c.end.new.self) (state_of self).book)
 leaves g c =
     let self = c.args.self.now in
-    let step = g.K.Kept.step in
+    let k = g.K.Kept in
     let e = c.in_ok-at.ensures.found in
     let is = read_is c.args.self.now.seats.items c.in_ok-at.at c.in_ok-at.ensures.found.1 c.index.ensures in
     let is' = read_is c.args.self.now.seats.items c.in_ok-at.at c.in_ok-at.ensures.found.1 c.index_mut.ensures.value in
@@ -65,14 +65,15 @@ leaves g c =
       left_posted c.args.seat,
       refl,
       refl,
-      subst (λ (n : ℕ). Moves step self.draws b (left_posted c.args.seat) (core_state self.next n seats b.book)) (sym up)
-          (left_posted_moves step self.draws b c.in_ok-at.at c.args.seat e.0 e.1 e.2 c.in-Posted.ticket c.end.new.self posts
+      subst (λ (n : ℕ). Moves k self.draws b (left_posted c.args.seat) (core_state self.next n seats b.book)) (sym up)
+          (left_posted_moves k self.draws b c.in_ok-at.at c.args.seat e.0 e.1 e.2 c.in-Posted.ticket c.end.new.self posts
           (c.end.ensures ∙ ap ended is')),
+      tt,
     )
 
 pub invariant_of-self-clause-lawful : goal.invariant_of-self-clause-lawful
 invariant_of-self-clause-lawful g c =
-    shows_lawful g.K.Kept.step _ _ _ _ _ _ c.args.self.now.lawful (leaves g (goal.at.invariant_of-self-clause-lawful g c).After-leave)
+    shows_lawful g.K.Kept _ _ _ _ _ _ c.args.self.now.lawful (leaves g (goal.at.invariant_of-self-clause-lawful g c).After-leave)
 
 pub returns-clause-step : goal.returns-clause-step
-returns-clause-step g c = steps_shown g.K.Kept.step _ _ _ _ _ (leaves g (goal.at.returns-clause-step g c).After-leave)
+returns-clause-step g c = steps_shown g.K.Kept _ _ _ _ _ (leaves g (goal.at.returns-clause-step g c).After-leave)

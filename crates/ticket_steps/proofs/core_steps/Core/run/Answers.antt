@@ -9,9 +9,9 @@ loop-place-preserved g c =
     let before = c.loop-place.invariant in
     let now = c.in_default.ensures in
     let event = c.index-events-place.result in
-    let shown = subst (λ (n : ℕ). Shows g.K.Kept.step n (state_of c.loop-place.self) event c.in_default.field-0 (state_of c.step.new.self))
+    let shown = subst (λ (n : ℕ). Shows g.K.Kept n (state_of c.loop-place.self) event c.in_default.field-0 (state_of c.step.new.self))
     before.1.draws now.shown in (
-      leads_by_more g.K.Kept.step (draws_of c.args.self.now) (state_of c.args.self.now) (state_of c.loop-place.self)
+      leads_by_more g.K.Kept (draws_of c.args.self.now) (state_of c.args.self.now) (state_of c.loop-place.self)
           (state_of c.step.new.self) c.args.events.now c.loop-place.place event c.in_default.field-0
           before.0 c.loop-place-test.true c.index-events-place.is shown,
       record { opening = now.alike.opening ∙ before.1.opening; numbers = now.alike.numbers ∙ before.1.numbers; draws = now.alike.draws ∙ before.1.draws },

@@ -5,4 +5,4 @@ use Rattle.ticket_steps.proofs.core_steps.Core.run.Given as goal
 
 abbrev pub invariant-loop-place : goal.invariant-loop-place
 invariant-loop-place g l =
-    LeadsBy g.K.Kept.step (draws_of l.initial.self) (state_of l.initial.self) (take l.place l.events) (state_of l.self) × IsOpenedAlike l.initial.self l.self
+    LeadsBy g.K.Kept (draws_of l.initial.self) (state_of l.initial.self) (take l.place l.events) (state_of l.self) × IsOpenedAlike l.initial.self l.self

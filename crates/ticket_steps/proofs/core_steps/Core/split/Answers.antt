@@ -25,8 +25,8 @@ returns-then-not-can_split-clause-step g c =
     let self = c.args.self.now in let e = c.in_ok-at.ensures.found in
     let may = λ (s : CoreSeat). (s.phase ≡ Idle) × (s.fresh ≡ true) × (0 < c.args.count) × (c.args.count < length s.numbers) in
     let is = read_is c.args.self.now.seats.items c.in_ok-at.at c.in_ok-at.ensures.found.1 c.index.ensures in
-    steps_fault g.K.Kept.step self.draws (state_of self) (Split c.args.seat c.args.count) Phase
-    (unfit_split self.numbers self.draws (state_of self) self.lawful c.in_ok-at.at c.args.seat e.0 e.1 e.2 e.3 c.args.count
+    steps_fault g.K.Kept self.draws (state_of self) (Split c.args.seat c.args.count) Phase
+    (unfit_split g.K.Kept self.numbers self.draws (state_of self) self.lawful c.in_ok-at.at c.args.seat e.0 e.1 e.2 e.3 c.args.count
     (λ t. false≢true (sym c.if-not-can_split.true ∙ c.can_split.ensures.1 (subst may (sym is) t))))
 
 pub split_off-given-requires-clause-idle : goal.split_off-given-requires-clause-idle
@@ -69,22 +69,22 @@ push_reserved-requires g c =
 
 -- the seat splits
 splits : (g : Over) (c : After-push_reserved g) → let self = c.args.self.now in
-    Shows g.K.Kept.step self.draws (state_of self) (Split c.args.seat c.args.count) seen.Split (with_seats (state_of self) c.push_reserved.new.self.items)
+    Shows g.K.Kept self.draws (state_of self) (Split c.args.seat c.args.count) seen.Split (with_seats (state_of self) c.push_reserved.new.self.items)
 splits g c =
     let self = c.args.self.now in let e = c.in_ok-at.ensures.found in
     let is = read_is c.args.self.now.seats.items c.in_ok-at.at c.in_ok-at.ensures.found.1 c.index.ensures in
     let is' = read_is c.args.self.now.seats.items c.in_ok-at.at c.in_ok-at.ensures.found.1 c.index_mut.ensures.value in
     let fits = c.can_split.ensures.0 c.if-not-can_split.false in
     let less : c.args.count < length e.0.numbers = let n = ap (λ (s : CoreSeat). length s.numbers) is in omega (arith, fits.3, n) in
-    let move = split_moves g.K.Kept.step self.draws (state_of self) c.in_ok-at.at c.args.seat e.0 e.1 e.2 c.args.count c.split_off-given.new.self
+    let move = split_moves g.K.Kept self.draws (state_of self) c.in_ok-at.at c.args.seat e.0 e.1 e.2 c.args.count c.split_off-given.new.self
     c.split_off-given.result c.push_reserved.new.self.items
     (ap (λ (s : CoreSeat). s.phase) (sym is) ∙ fits.0) (ap (λ (s : CoreSeat). s.fresh) (sym is) ∙ fits.1) fits.2 less
     (c.split_off-given.ensures.kept ∙ ap (keeping self.draws c.args.count) is')
     (c.split_off-given.ensures.given ∙ ap (given self.draws c.args.count) is') c.push_reserved.ensures.items in
-    (split c.args.seat c.args.count, refl, refl, move)
+    (split c.args.seat c.args.count, refl, refl, move, tt)
 
 pub invariant_of-self-clause-lawful : goal.invariant_of-self-clause-lawful
-invariant_of-self-clause-lawful g c = shows_lawful g.K.Kept.step _ _ _ _ _ _ c.args.self.now.lawful (splits g c)
+invariant_of-self-clause-lawful g c = shows_lawful g.K.Kept _ _ _ _ _ _ c.args.self.now.lawful (splits g c)
 
 pub returns-clause-step : goal.returns-clause-step
-returns-clause-step g c = steps_shown g.K.Kept.step _ _ _ _ _ (splits g (goal.at.returns-clause-step g c).After-push_reserved)
+returns-clause-step g c = steps_shown g.K.Kept _ _ _ _ _ (splits g (goal.at.returns-clause-step g c).After-push_reserved)
