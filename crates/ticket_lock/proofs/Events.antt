@@ -15,7 +15,7 @@ use Rattle.ticket_steps.specs.declared.seats.CoreSeat.{CoreSeat}
 use Rattle.ticket_steps.specs.declared.seats.Phase.TheVariants.{Idle, Waiting, Holding, Posted}
 use Rattle.ticket_steps.specs.Books.{BookState, with_entry, with_refusal, IsLawfulBook}
 use Rattle.ticket_steps.specs.CoreStates.{CoreState, core_state, opened}
-use Rattle.ticket_steps.specs.Happenings.{Happening, split, drew, waited, held, posted, post_refused, left_posted, recorded, refused, gathered}
+use Rattle.ticket_steps.specs.Happenings.{Happening, split, drew, waited, held, posted, post_refused, left_posted, recorded, refused, glanced, gathered}
 use Rattle.ticket_steps.specs.Happenings.{with_seats, after_post, after_leave, Moves, Leads}
 use Rattle.ticket_steps.specs.History.{entry, of, replay, IsLegal}
 use Rattle.ticket_steps.specs.Lawful.{IsLawful}
@@ -41,7 +41,7 @@ use Rattle.ticket_lock.specs.Steps.{Returns, IsPosted, IsEvent, place_after, wor
 use Rattle.ticket_lock.specs.Views.{draws_in, view, seat_in, spent_view, Follows, keeping_view, given_view, drawn_view, joined_view, reloaded_view}
 use Rattle.ticket_lock.specs.Views.{held_view, posted_view, left_view, glanced_view}
 use Rattle.ticket_lock.specs.Words.{AreWordsOf, IsCoreOf}
-use Rattle.ticket_lock.proofs.BoardLemmas.{AreLaws, state_is}
+use Rattle.ticket_lock.proofs.BoardLemmas.{AreLaws, as_many, state_is}
 use Rattle.ticket_lock.proofs.WordLemmas.{next_found, next_raised, next_granted, board_found, board_stored}
 use Rattle.ticket_lock.proofs.Seen.{follows_whole, follows_none, follows_later, follows_fewer, longer_of}
 
@@ -60,18 +60,18 @@ module _ {K C R : Type 0} (k : Ghosts K C R) (start : Start K) where
 
   pub lawful : (hs : List (Happening C R)) (c : Core) (s : Table) → Ruled hs c s → IsLawful start.numbers start.draws c
   lawful hs c s r =
-      leads_lawful k.step start.draws start.numbers (opened start.numbers start.draws (k.opening start.book)) c hs
+      leads_lawful k start.draws start.numbers (opened start.numbers start.draws (k.opening start.book)) c hs
       (lawful_opened start.numbers start.draws (k.opening start.book) r.some_number) r.words.leads
 
   pub lawful_book : (hs : List (Happening C R)) (c : Core) (s : Table) → Ruled hs c s → IsLawfulBook k.step (k.opening start.book) c.book
   lawful_book hs c s r =
-      leads_lawful_book k.step start.draws (k.opening start.book) (opened start.numbers start.draws (k.opening start.book)) c hs
+      leads_lawful_book k start.draws (k.opening start.book) (opened start.numbers start.draws (k.opening start.book)) c hs
       record { legal = tt; replayed = refl } r.words.leads
 
   -- a number that wasn't given out has no entries
   pub strangers_none : (hs : List (Happening C R)) (c : Core) (s : Table) → Ruled hs c s → (n : ℕ) → start.numbers ≤ n → of n c.book.entries ≡ []
   strangers_none hs c s r n le =
-      leads_strangers k.step start.draws start.numbers n (opened start.numbers start.draws (k.opening start.book)) c hs
+      leads_strangers k start.draws start.numbers n (opened start.numbers start.draws (k.opening start.book)) c hs
       (lawful_opened start.numbers start.draws (k.opening start.book) r.some_number) le refl r.words.leads
 
   -- the next ticket is far from wrapping
@@ -127,12 +127,12 @@ module _ {K C R : Type 0} (k : Ghosts K C R) (start : Start K) where
   }
 
   -- the core state that words and views are read off, after one happening more
-  next_core : (hs : List (Happening C R)) (c d : Core) (s s' : Table) (h : Happening C R) → Ruled hs c s → Moves k.step start.draws c h d
+  next_core : (hs : List (Happening C R)) (c d : Core) (s s' : Table) (h : Happening C R) → Ruled hs c s → Moves k start.draws c h d
       → AreWordsOf d.next d.served (k.board d.book.state) s'.words → d.seats ≡ map seat_in s'.views → IsCoreOf k start (hs ++ h ∷ []) d s'
   next_core hs c d s s' h r move words seats = record {
     words = words;
     seats = seats;
-    leads = leads_more k.step start.draws _ c d hs h r.words.leads move;
+    leads = leads_more k start.draws _ c d hs h r.words.leads move;
   }
 
   -- the slot stays as it was where no seat comes to hold and none that held goes on
@@ -161,7 +161,7 @@ module _ {K C R : Type 0} (k : Ghosts K C R) (start : Start K) where
       let p : CoreSeat = waiting c.next v.seat in
       let w : V = drawn_view x v in
       let d : Core = core_state (c.next + 1) c.served (set c.seats id p) c.book in
-      let move : Moves k.step start.draws c (drew v.seat.own c.next) d = (id, v.seat, (at', refl, idle), some_left, refl, refl) in
+      let move : Moves k start.draws c (drew v.seat.own c.next) d = (id, v.seat, (at', refl, idle), some_left, refl, refl) in
       let old = r.known.each id v at in
       let words : AreWordsOf (c.next + 1) c.served (k.board c.book.state) (set s.words next_word ((x + 1) % 18446744073709551616)) =
       subst (λ (n : ℕ). AreWordsOf (c.next + 1) c.served (k.board c.book.state) (set s.words next_word n)) (sym (ap (λ (n : ℕ). (n + 1) % 18446744073709551616) is ∙ up))
@@ -190,7 +190,7 @@ module _ {K C R : Type 0} (k : Ghosts K C R) (start : Start K) where
       let v : V = me.0 in
       let at' = seat_at hs c s r id v at in
       let h : Happening C R = waited v.seat.own in
-      let move : Moves k.step start.draws c h c = (id, v.seat, ticket, (at', refl, waits), later, refl) in (
+      let move : Moves k start.draws c h c = (id, v.seat, ticket, (at', refl, waits), later, refl) in (
         c,
         move,
         subst (λ (z : Table). IsTableOf k start (hs ++ h ∷ []) c z) (sym (waiting_same s id ticket me at))
@@ -210,7 +210,7 @@ module _ {K C R : Type 0} (k : Ghosts K C R) (start : Start K) where
       let p : CoreSeat = holding c.served v.seat in
       let w : V = held_view k c.served v book in
       let d : Core = with_seats c (set c.seats id p) in
-      let move : Moves k.step start.draws c (held v.seat.own) d = (id, v.seat, (at', refl, waits), refl) in
+      let move : Moves k start.draws c (held v.seat.own) d = (id, v.seat, (at', refl, waits), refl) in
       let old = r.known.each id v at in (
         book,
         there.1,
@@ -270,7 +270,7 @@ module _ {K C R : Type 0} (k : Ghosts K C R) (start : Start K) where
   -- the holder posts: the book that it has goes on from the one that it took out, by nothing but entries of its own number
   post_to : (hs : List (Happening C R)) (c : Core) (s : Table) (id ticket place : ℕ) (me : Me (Option K) V) (book : K) (h : Happening C R)
       (b : BookState k.State C R) → Ruled hs c s → get_elem? s.views id ≡ some me.0 → me.0.seat.phase ≡ Holding ticket
-      → Moves k.step start.draws c h (after_post c id ticket me.0.seat b) → IsBook k start b book
+      → Moves k start.draws c h (after_post c id ticket me.0.seat b) → IsBook k start b book
       → k.board b.state ≡ set (k.board c.book.state) place (word_in k book place) → (zs : List (Entry C R))
       → b.entries ≡ c.book.entries ++ zs
       → ((n : ℕ) → me.0.seat.own ≢ n → of n b.entries ≡ of n c.book.entries)
@@ -304,7 +304,7 @@ module _ {K C R : Type 0} (k : Ghosts K C R) (start : Start K) where
   leave_to : (hs : List (Happening C R)) (c : Core) (s : Table) (id ticket : ℕ) (me : Me (Option K) V) (book : K) (h : Happening C R)
       (b : BookState k.State C R)
       → Ruled hs c s → get_elem? s.views id ≡ some me.0 → Holds ticket me.0.seat.phase
-      → me.1 ≡ (0, Some book) ∷ [] → Moves k.step start.draws c h (after_leave c id me.0.seat b) → IsBook k start b book
+      → me.1 ≡ (0, Some book) ∷ [] → Moves k start.draws c h (after_leave c id me.0.seat b) → IsBook k start b book
       → k.board b.state ≡ k.board c.book.state → (zs : List (Entry C R))
       → b.entries ≡ c.book.entries ++ zs
       → ((n : ℕ) → me.0.seat.own ≢ n → of n b.entries ≡ of n c.book.entries)
@@ -393,7 +393,7 @@ module _ {K C R : Type 0} (k : Ghosts K C R) (start : Start K) where
       let own : ℕ = v.seat.own in
       let b : BookState k.State C R = with_entry k.step own t.0 c.book in
       let h : Happening C R = posted own t.0 t.1 in
-      let move : Moves k.step start.draws c h (after_post c id ticket v.seat b) = (id, v.seat, ticket, (at', refl, holder), t.2, refl) in (
+      let move : Moves k start.draws c h (after_post c id ticket v.seat b) = (id, v.seat, ticket, (at', refl, holder), t.2, refl, (place, t.3)) in (
         h,
         inl (t.0, t.1, refl),
         (
@@ -409,7 +409,7 @@ module _ {K C R : Type 0} (k : Ghosts K C R) (start : Start K) where
       (λ (t : IsBook k start (with_refusal c.book) book).
       let b : BookState k.State C R = with_refusal c.book in
       let h : Happening C R = post_refused v.seat.own in
-      let move : Moves k.step start.draws c h (after_post c id ticket v.seat b) = (id, v.seat, ticket, (at', refl, holder), refl) in (
+      let move : Moves k start.draws c h (after_post c id ticket v.seat b) = (id, v.seat, ticket, (at', refl, holder), refl) in (
         h,
         inr refl,
         (
@@ -434,7 +434,7 @@ module _ {K C R : Type 0} (k : Ghosts K C R) (start : Start K) where
       let holder = posted_holds ticket v.seat.phase posts in
       let out = (r.known.each id v at).out ticket holder in
       let h : Happening C R = left_posted v.seat.own in
-      let move : Moves k.step start.draws c h (after_leave c id v.seat c.book) = (id, v.seat, ticket, (at', refl, posts), refl) in
+      let move : Moves k start.draws c h (after_leave c id v.seat c.book) = (id, v.seat, ticket, (at', refl, posts), refl) in
       let is_book : IsBook k start c.book book = record { opening = is.opening; entries = is.entries ∙ out.0; refused = is.refused_is ∙ out.1 } in (
         after_leave c id v.seat c.book,
         move,
@@ -457,7 +457,7 @@ module _ {K C R : Type 0} (k : Ghosts K C R) (start : Start K) where
       let own : ℕ = v.seat.own in
       let b : BookState k.State C R = with_entry k.step own t.0 c.book in
       let h : Happening C R = recorded own t.0 t.1 in
-      let move : Moves k.step start.draws c h (after_leave c id v.seat b) = (id, v.seat, ticket, (at', refl, holder), t.2, refl) in (
+      let move : Moves k start.draws c h (after_leave c id v.seat b) = (id, v.seat, ticket, (at', refl, holder), t.2, refl, t.3) in (
         h,
         inl (t.0, t.1, refl),
         (
@@ -470,7 +470,7 @@ module _ {K C R : Type 0} (k : Ghosts K C R) (start : Start K) where
       (λ (t : IsBook k start (with_refusal c.book) book).
       let b : BookState k.State C R = with_refusal c.book in
       let h : Happening C R = refused v.seat.own in
-      let move : Moves k.step start.draws c h (after_leave c id v.seat b) = (id, v.seat, ticket, (at', refl, holder), refl) in (
+      let move : Moves k start.draws c h (after_leave c id v.seat b) = (id, v.seat, ticket, (at', refl, holder), refl) in (
         h,
         inr refl,
         (
@@ -494,7 +494,7 @@ module _ {K C R : Type 0} (k : Ghosts K C R) (start : Start K) where
       let p : CoreSeat = keeping start.draws count v.seat in
       let q : CoreSeat = given start.draws count v.seat in
       let d : Core = with_seats c (set c.seats id p ++ q ∷ []) in
-      let move : Moves k.step start.draws c (split v.seat.own count) d = (id, v.seat, (at', refl, idle), fresh, some_count, less, refl) in
+      let move : Moves k start.draws c (split v.seat.own count) d = (id, v.seat, (at', refl, idle), fresh, some_count, less, refl) in
       let views : map seat_in (set s.views id a ++ b ∷ []) ≡ set (map seat_in s.views) id p ++ q ∷ [] = map-append seat_in (set s.views id a) (b ∷ [])
       ∙ (ap (λ (l : List CoreSeat). l ++ b.seat ∷ []) (map-set seat_in s.views id a)
       ∙ (λ i. set (map seat_in s.views) id (keeping (draws i) count v.seat) ++ given (draws i) count v.seat ∷ [])) in
@@ -532,7 +532,7 @@ module _ {K C R : Type 0} (k : Ghosts K C R) (start : Start K) where
       let d : Core = with_seats c (set (set c.seats id x.seat) other gone) in
       let names : v.seat.own ≢ w.seat.own =
       λ e. apart (named_once start.numbers start.draws c l id other v.seat w.seat at' there (ap is_there idle) (ap is_there idle') e) in
-      let move : Moves k.step start.draws c (gathered v.seat.own w.seat.own)
+      let move : Moves k start.draws c (gathered v.seat.own w.seat.own)
       d = (id, v.seat, other, w.seat, (at', refl, idle), (there, refl, idle'), names, refl) in (
         d,
         move,
@@ -586,7 +586,7 @@ module _ {K C R : Type 0} (k : Ghosts K C R) (start : Start K) where
   -- a glance leaves the core state as it was
   glance_to : (hs hs' : List (Happening C R)) (c : Core) (s : Table) (id place : ℕ) (me : Me (Option K) V) → Ruled hs c s
       → get_elem? s.views id ≡ some me.0 → me.0.seat.phase ≡ Idle
-      → Leads k.step start.draws (opened start.numbers start.draws (k.opening start.book)) hs' c
+      → Leads k start.draws (opened start.numbers start.draws (k.opening start.book)) hs' c
       → IsTableOf k start hs' c (after_glance s id place c.book.entries me)
   glance_to hs hs' c s id place me r at idle leads =
       let v : V = me.0 in
@@ -610,3 +610,21 @@ module _ {K C R : Type 0} (k : Ghosts K C R) (start : Start K) where
   pub glance_same : (hs : List (Happening C R)) (c : Core) (s : Table) (id place : ℕ) (me : Me (Option K) V) → Ruled hs c s
       → get_elem? s.views id ≡ some me.0 → me.0.seat.phase ≡ Idle → IsTableOf k start hs c (after_glance s id place c.book.entries me)
   glance_same hs c s id place me r at idle = glance_to hs hs c s id place me r at idle r.words.leads
+
+  -- and it is the core's glance at that place
+  pub glance_event : AreLaws k → (hs : List (Happening C R)) (c : Core) (s : Table) (id place : ℕ) (me : Me (Option K) V) → Ruled hs c s
+      → get_elem? s.views id ≡ some me.0 → me.0.seat.phase ≡ Idle → place < length (k.board (k.opening start.book))
+      → IsEvent k start hs c (glanced me.0.seat.own place (get_or s.words (board_word place) 0)) (after_glance s id place c.book.entries me)
+  glance_event laws hs c s id place me r at idle within =
+      let v : V = me.0 in
+      let at' = seat_at hs c s r id v at in
+      let found = board_found c.next c.served (k.board c.book.state) s.words r.words.words place in
+      let h : Happening C R = glanced v.seat.own place (get_or s.words (board_word place) 0) in
+      let many : length (k.board c.book.state) ≡ length (k.board (k.opening start.book)) =
+      ap (λ (z : k.State). length (k.board z)) (lawful_book hs c s r).replayed ∙ as_many k laws (k.opening start.book) c.book.entries in
+      let move : Moves k start.draws c h c = (id, v.seat, (at', refl, idle), omega (arith, within, many), found, refl) in (
+        c,
+        move,
+        glance_to hs (hs ++ h ∷ []) c s id place me r at idle
+            (leads_more k start.draws (opened start.numbers start.draws (k.opening start.book)) c c hs h r.words.leads move),
+      )
