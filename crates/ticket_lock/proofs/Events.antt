@@ -15,14 +15,14 @@ use Rattle.ticket_steps.specs.declared.seats.CoreSeat.{CoreSeat}
 use Rattle.ticket_steps.specs.declared.seats.Phase.TheVariants.{Idle, Waiting, Holding, Posted}
 use Rattle.ticket_steps.specs.Books.{BookState, with_entry, with_refusal, IsLawfulBook}
 use Rattle.ticket_steps.specs.CoreStates.{CoreState, core_state, opened}
-use Rattle.ticket_steps.specs.Happenings.{Happening, split, drew, waited, held, posted, post_refused, left_posted, recorded, refused, gathered}
-use Rattle.ticket_steps.specs.Happenings.{with_seats, after_post, after_leave, Moves}
-use Rattle.ticket_steps.specs.History.{entry, of, IsLegal}
+use Rattle.ticket_steps.specs.Happenings.{Happening, split, drew, waited, held, posted, post_refused, left_posted, recorded, refused, glanced, gathered}
+use Rattle.ticket_steps.specs.Happenings.{with_seats, after_post, after_leave, Moves, Leads}
+use Rattle.ticket_steps.specs.History.{entry, of, replay, IsLegal}
 use Rattle.ticket_steps.specs.Lawful.{IsLawful}
 use Rattle.ticket_steps.specs.Seats.{Holds, holds_one, is_there, tickets_of, holders, keeping, given, waiting, holding, posting, ended, gone}
 use Rattle.ticket_steps.specs.Sums.{times}
 use Rattle.ticket_steps.proofs.CoreLemmas.{few_tickets}
-use Rattle.ticket_steps.proofs.Histories.{legal-last-reply}
+use Rattle.ticket_steps.proofs.Histories.{legal-last-reply, lawful_entry, lawful_refusal}
 use Rattle.ticket_steps.proofs.LawfulSteps.{lawful_opened}
 use Rattle.ticket_steps.proofs.Lists.{at_set, at_snoc, set_else, set_here, set_again}
 use Rattle.ticket_steps.proofs.Ofs.{of-other}
@@ -32,15 +32,17 @@ use Rattle.ticket_steps.proofs.Totals.{times-append, times-same, times-take-drop
 use Rattle.ticket_lock.specs.declared.views.Start.{Start}
 use Rattle.ticket_lock.specs.declared.views.View.{View}
 use Rattle.ticket_lock.specs.Histories.{IsKnown, IsKnownToAll}
-use Rattle.ticket_lock.specs.Layout.{grant_word, next_word}
+use Rattle.ticket_lock.specs.Layout.{grant_word, board_word, next_word}
 use Rattle.ticket_lock.specs.Rule.{IsTableOf}
 use Rattle.ticket_lock.specs.Slots.{IsBook, IsSlotOf}
-use Rattle.ticket_lock.specs.Steps.{after_split, after_draw, after_waiting, after_holding, after_posting, after_leaving, after_gather, after_second_load}
-use Rattle.ticket_lock.specs.Steps.{Returns, IsPosted, IsEvent}
+use Rattle.ticket_lock.specs.Steps.{after_split, after_draw, after_waiting, after_holding, after_posting, after_leaving, after_gather}
+use Rattle.ticket_lock.specs.Steps.{after_second_load, after_glance}
+use Rattle.ticket_lock.specs.Steps.{Returns, IsPosted, IsEvent, place_after, word_in}
 use Rattle.ticket_lock.specs.Views.{draws_in, view, seat_in, spent_view, Follows, keeping_view, given_view, drawn_view, joined_view, reloaded_view}
-use Rattle.ticket_lock.specs.Views.{held_view, posted_view, left_view}
+use Rattle.ticket_lock.specs.Views.{held_view, posted_view, left_view, glanced_view}
 use Rattle.ticket_lock.specs.Words.{AreWordsOf, IsCoreOf}
-use Rattle.ticket_lock.proofs.WordLemmas.{next_found, next_raised, next_granted}
+use Rattle.ticket_lock.proofs.BoardLemmas.{AreLaws, as_many, state_is}
+use Rattle.ticket_lock.proofs.WordLemmas.{next_found, next_raised, next_granted, board_found, board_stored}
 use Rattle.ticket_lock.proofs.Seen.{follows_whole, follows_none, follows_later, follows_fewer, longer_of}
 
 module _ {K C R : Type 0} (k : Ghosts K C R) (start : Start K) where
@@ -58,18 +60,18 @@ module _ {K C R : Type 0} (k : Ghosts K C R) (start : Start K) where
 
   pub lawful : (hs : List (Happening C R)) (c : Core) (s : Table) → Ruled hs c s → IsLawful start.numbers start.draws c
   lawful hs c s r =
-      leads_lawful k.step start.draws start.numbers (opened start.numbers start.draws (k.opening start.book)) c hs
+      leads_lawful k start.draws start.numbers (opened start.numbers start.draws (k.opening start.book)) c hs
       (lawful_opened start.numbers start.draws (k.opening start.book) r.some_number) r.words.leads
 
-  lawful_book : (hs : List (Happening C R)) (c : Core) (s : Table) → Ruled hs c s → IsLawfulBook k.step (k.opening start.book) c.book
+  pub lawful_book : (hs : List (Happening C R)) (c : Core) (s : Table) → Ruled hs c s → IsLawfulBook k.step (k.opening start.book) c.book
   lawful_book hs c s r =
-      leads_lawful_book k.step start.draws (k.opening start.book) (opened start.numbers start.draws (k.opening start.book)) c hs
+      leads_lawful_book k start.draws (k.opening start.book) (opened start.numbers start.draws (k.opening start.book)) c hs
       record { legal = tt; replayed = refl } r.words.leads
 
   -- a number that wasn't given out has no entries
   pub strangers_none : (hs : List (Happening C R)) (c : Core) (s : Table) → Ruled hs c s → (n : ℕ) → start.numbers ≤ n → of n c.book.entries ≡ []
   strangers_none hs c s r n le =
-      leads_strangers k.step start.draws start.numbers n (opened start.numbers start.draws (k.opening start.book)) c hs
+      leads_strangers k start.draws start.numbers n (opened start.numbers start.draws (k.opening start.book)) c hs
       (lawful_opened start.numbers start.draws (k.opening start.book) r.some_number) le refl r.words.leads
 
   -- the next ticket is far from wrapping
@@ -125,12 +127,12 @@ module _ {K C R : Type 0} (k : Ghosts K C R) (start : Start K) where
   }
 
   -- the core state that words and views are read off, after one happening more
-  next_core : (hs : List (Happening C R)) (c d : Core) (s s' : Table) (h : Happening C R) → Ruled hs c s → Moves k.step start.draws c h d
-      → AreWordsOf d.next d.served s'.words → d.seats ≡ map seat_in s'.views → IsCoreOf k start (hs ++ h ∷ []) d s'
+  next_core : (hs : List (Happening C R)) (c d : Core) (s s' : Table) (h : Happening C R) → Ruled hs c s → Moves k start.draws c h d
+      → AreWordsOf d.next d.served (k.board d.book.state) s'.words → d.seats ≡ map seat_in s'.views → IsCoreOf k start (hs ++ h ∷ []) d s'
   next_core hs c d s s' h r move words seats = record {
     words = words;
     seats = seats;
-    leads = leads_more k.step start.draws _ c d hs h r.words.leads move;
+    leads = leads_more k start.draws _ c d hs h r.words.leads move;
   }
 
   -- the slot stays as it was where no seat comes to hold and none that held goes on
@@ -153,17 +155,17 @@ module _ {K C R : Type 0} (k : Ghosts K C R) (start : Start K) where
   draw_event hs c s id me r at idle some_left =
       let v : V = me.0 in
       let x : ℕ = get_or s.words next_word 0 in
-      let is : x ≡ c.next = next_found c.next c.served s.words r.words.words in
+      let is : x ≡ c.next = next_found c.next c.served (k.board c.book.state) s.words r.words.words in
       let up : (c.next + 1) % 18446744073709551616 ≡ c.next + 1 = omega (arith, next_small hs c s r) in
       let at' = seat_at hs c s r id v at in
       let p : CoreSeat = waiting c.next v.seat in
       let w : V = drawn_view x v in
       let d : Core = core_state (c.next + 1) c.served (set c.seats id p) c.book in
-      let move : Moves k.step start.draws c (drew v.seat.own c.next) d = (id, v.seat, (at', refl, idle), some_left, refl, refl) in
+      let move : Moves k start.draws c (drew v.seat.own c.next) d = (id, v.seat, (at', refl, idle), some_left, refl, refl) in
       let old = r.known.each id v at in
-      let words : AreWordsOf (c.next + 1) c.served (set s.words next_word ((x + 1) % 18446744073709551616)) =
-      subst (λ (n : ℕ). AreWordsOf (c.next + 1) c.served (set s.words next_word n)) (sym (ap (λ (n : ℕ). (n + 1) % 18446744073709551616) is ∙ up))
-      (next_raised c.next c.served s.words r.words.words (c.next + 1)) in (
+      let words : AreWordsOf (c.next + 1) c.served (k.board c.book.state) (set s.words next_word ((x + 1) % 18446744073709551616)) =
+      subst (λ (n : ℕ). AreWordsOf (c.next + 1) c.served (k.board c.book.state) (set s.words next_word n)) (sym (ap (λ (n : ℕ). (n + 1) % 18446744073709551616) is ∙ up))
+      (next_raised c.next c.served (k.board c.book.state) s.words r.words.words (c.next + 1)) in (
         d,
         move,
         next_ruled hs _ c d s _ r
@@ -188,7 +190,7 @@ module _ {K C R : Type 0} (k : Ghosts K C R) (start : Start K) where
       let v : V = me.0 in
       let at' = seat_at hs c s r id v at in
       let h : Happening C R = waited v.seat.own in
-      let move : Moves k.step start.draws c h c = (id, v.seat, ticket, (at', refl, waits), later, refl) in (
+      let move : Moves k start.draws c h c = (id, v.seat, ticket, (at', refl, waits), later, refl) in (
         c,
         move,
         subst (λ (z : Table). IsTableOf k start (hs ++ h ∷ []) c z) (sym (waiting_same s id ticket me at))
@@ -208,7 +210,7 @@ module _ {K C R : Type 0} (k : Ghosts K C R) (start : Start K) where
       let p : CoreSeat = holding c.served v.seat in
       let w : V = held_view k c.served v book in
       let d : Core = with_seats c (set c.seats id p) in
-      let move : Moves k.step start.draws c (held v.seat.own) d = (id, v.seat, (at', refl, waits), refl) in
+      let move : Moves k start.draws c (held v.seat.own) d = (id, v.seat, (at', refl, waits), refl) in
       let old = r.known.each id v at in (
         book,
         there.1,
@@ -218,7 +220,7 @@ module _ {K C R : Type 0} (k : Ghosts K C R) (start : Start K) where
           move,
           next_ruled hs _ c d s _ r
               (next_core hs c d s _ (held v.seat.own) r move
-              (subst (AreWordsOf c.next c.served) (sym (set-get_or s.words (grant_word c.served) 0)) r.words.words)
+              (subst (AreWordsOf c.next c.served (k.board c.book.state)) (sym (set-get_or s.words (grant_word c.served) 0)) r.words.words)
               (ap (λ (q : List CoreSeat). set q id p) r.words.seats ∙ sym (map-set seat_in s.views id w)))
               record {
                 one_slot = length-set s.homes 0 none ∙ r.slot.one_slot;
@@ -266,22 +268,26 @@ module _ {K C R : Type 0} (k : Ghosts K C R) (start : Start K) where
       ))
 
   -- the holder posts: the book that it has goes on from the one that it took out, by nothing but entries of its own number
-  post_to : (hs : List (Happening C R)) (c : Core) (s : Table) (id ticket : ℕ) (v : V) (book : K) (h : Happening C R) (b : BookState k.State C R)
-      → Ruled hs c s → get_elem? s.views id ≡ some v → v.seat.phase ≡ Holding ticket
-      → Moves k.step start.draws c h (after_post c id ticket v.seat b) → IsBook k start b book → (zs : List (Entry C R))
+  post_to : (hs : List (Happening C R)) (c : Core) (s : Table) (id ticket place : ℕ) (me : Me (Option K) V) (book : K) (h : Happening C R)
+      (b : BookState k.State C R) → Ruled hs c s → get_elem? s.views id ≡ some me.0 → me.0.seat.phase ≡ Holding ticket
+      → Moves k start.draws c h (after_post c id ticket me.0.seat b) → IsBook k start b book
+      → k.board b.state ≡ set (k.board c.book.state) place (word_in k book place) → (zs : List (Entry C R))
       → b.entries ≡ c.book.entries ++ zs
-      → ((n : ℕ) → v.seat.own ≢ n → of n b.entries ≡ of n c.book.entries)
-      → IsTableOf k start (hs ++ h ∷ []) (after_post c id ticket v.seat b) (after_posting k s id ticket v book)
-  post_to hs c s id ticket v book h b r at holding_is move is_book zs more others =
+      → ((n : ℕ) → me.0.seat.own ≢ n → of n b.entries ≡ of n c.book.entries)
+      → IsTableOf k start (hs ++ h ∷ []) (after_post c id ticket me.0.seat b) (after_posting k s id ticket place me book)
+  post_to hs c s id ticket place me book h b r at holding_is move is_book shows zs more others =
+      let v : V = me.0 in
       let at' = seat_at hs c s r id v at in
       let holder = holding_holds ticket v.seat.phase holding_is in
-      let w : V = posted_view k ticket v book in
+      let w : V = posted_view ticket (k.history book) (k.refusals book) v in
+      let words = board_stored c.next c.served (k.board c.book.state) s.words r.words.words place (word_in k book place) in
       let p : CoreSeat = posting ticket v.seat in
       let d : Core = after_post c id ticket v.seat b in
       let old = r.known.each id v at in
       let as_many : holders (set c.seats id p) ≡ holders c.seats = omega (arith, total-set holds c.seats id v.seat p at', holder.0) in
       next_ruled hs _ c d s _ r
-      (next_core hs c d s _ h r move r.words.words (ap (λ (q : List CoreSeat). set q id p) r.words.seats ∙ sym (map-set seat_in s.views id w)))
+      (next_core hs c d s _ h r move (subst (λ (q : List ℕ). AreWordsOf c.next c.served q (set s.words (board_word place) (word_in k book place)))
+      (sym shows) words) (ap (λ (q : List CoreSeat). set q id p) r.words.seats ∙ sym (map-set seat_in s.views id w)))
       record {
         one_slot = r.slot.one_slot;
         home = λ e. absurd (omega (arith, e, as_many, term_le holds c.seats id v.seat at', holder.0));
@@ -298,18 +304,19 @@ module _ {K C R : Type 0} (k : Ghosts K C R) (start : Start K) where
   leave_to : (hs : List (Happening C R)) (c : Core) (s : Table) (id ticket : ℕ) (me : Me (Option K) V) (book : K) (h : Happening C R)
       (b : BookState k.State C R)
       → Ruled hs c s → get_elem? s.views id ≡ some me.0 → Holds ticket me.0.seat.phase
-      → me.1 ≡ (0, Some book) ∷ [] → Moves k.step start.draws c h (after_leave c id me.0.seat b) → IsBook k start b book → (zs : List (Entry C R))
+      → me.1 ≡ (0, Some book) ∷ [] → Moves k start.draws c h (after_leave c id me.0.seat b) → IsBook k start b book
+      → k.board b.state ≡ k.board c.book.state → (zs : List (Entry C R))
       → b.entries ≡ c.book.entries ++ zs
       → ((n : ℕ) → me.0.seat.own ≢ n → of n b.entries ≡ of n c.book.entries)
       → IsTableOf k start (hs ++ h ∷ []) (after_leave c id me.0.seat b) (after_leaving k s id ticket me book)
-  leave_to hs c s id ticket me book h b r at holder hand move is_book zs more others =
+  leave_to hs c s id ticket me book h b r at holder hand move is_book shows zs more others =
       let v : V = me.0 in
       let l = lawful hs c s r in
       let at' = seat_at hs c s r id v at in
       let served : ticket ≡ c.served = (l.each id v.seat at').holder ticket holder in
-      let words : AreWordsOf c.next (c.served + 1) (set s.words (grant_word (ticket + 1)) (ticket + 1)) =
-      subst (λ (n : ℕ). AreWordsOf c.next (c.served + 1) (set s.words (grant_word (n + 1)) (n + 1))) (sym served)
-      (next_granted c.next c.served s.words r.words.words) in
+      let words : AreWordsOf c.next (c.served + 1) (k.board b.state) (set s.words (grant_word (ticket + 1)) (ticket + 1)) =
+      subst (λ (n : ℕ). AreWordsOf c.next (c.served + 1) (k.board b.state) (set s.words (grant_word (n + 1)) (n + 1))) (sym served)
+      (subst (λ (q : List ℕ). AreWordsOf c.next (c.served + 1) q (set s.words (grant_word (c.served + 1)) (c.served + 1))) (sym shows) (next_granted c.next c.served (k.board c.book.state) s.words r.words.words)) in
       let w : V = left_view k v book in
       let p : CoreSeat = ended v.seat in
       let d : Core = after_leave c id v.seat b in
@@ -336,21 +343,22 @@ module _ {K C R : Type 0} (k : Ghosts K C R) (start : Start K) where
       }
 
   -- a book that comes back from a holder has its call as the core's book has it: recorded with the step's reply, or refused
-  returned : ((b : K) → IsLegal k.step (k.opening b) (k.history b))
-      → (hs : List (Happening C R)) (c : Core) (s : Table) (id ticket : ℕ) (v : V) (book : K) → Ruled hs c s
-      → get_elem? s.views id ≡ some v → Holds ticket v.seat.phase → Returns k start v.seat.own v.seen v.refused book
-      → ((call : C) × (reply : R) × (reply ≡ (k.step c.book.state call).1) × IsBook k start (with_entry k.step v.seat.own call c.book) book)
+  returned : AreLaws k → (hs : List (Happening C R)) (c : Core) (s : Table) (id ticket : ℕ) (v : V) (place : Option ℕ) (book : K) → Ruled hs c s
+      → get_elem? s.views id ≡ some v → Holds ticket v.seat.phase → Returns k start v.seat.own v.seen v.refused place book
+      → ((call : C) × (reply : R) × (reply ≡ (k.step c.book.state call).1) × (k.posts_at c.book.state call ≡ place)
+      × IsBook k start (with_entry k.step v.seat.own call c.book) book)
       ⊎ IsBook k start (with_refusal c.book) book
-  returned legal hs c s id ticket v book r at holder ret =
+  returned laws hs c s id ticket v place book r at holder ret =
       let out = (r.known.each id v at).out ticket holder in
       let lb = lawful_book hs c s r in
       ⊎_elim
-      (λ (t : (e : Entry C R) × (e.pass ≡ v.seat.own) × (k.history book ≡ v.seen ++ e ∷ []) × (k.refusals book ≡ v.refused)).
+      (λ (t : (e : Entry C R) × (e.pass ≡ v.seat.own) × (k.history book ≡ v.seen ++ e ∷ []) × (k.refusals book ≡ v.refused)
+      × (place_after k start v.seen e.call ≡ place)).
       let e : Entry C R = t.0 in
       let own : ℕ = v.seat.own in
       let grown : k.history book ≡ c.book.entries ++ e ∷ [] = t.2 ∙ ap (λ (q : List (Entry C R)). q ++ e ∷ []) out.0 in
       let legal_here : IsLegal k.step (k.opening start.book) (c.book.entries ++ e ∷ []) = subst (IsLegal k.step (k.opening start.book)) grown
-      (subst (λ (z : k.State). IsLegal k.step z (k.history book)) ret.opening (legal book)) in
+      (subst (λ (z : k.State). IsLegal k.step z (k.history book)) ret.opening (laws.legal book)) in
       let answer : e.reply ≡ (k.step c.book.state e.call).1 = legal-last-reply k.step (k.opening start.book) c.book.entries e legal_here ∙ ap
       (λ (z : k.State). (k.step z e.call).1) (sym lb.replayed) in
       let same : e ≡ entry own e.call (k.step c.book.state e.call).1 = λ i. record { pass = t.1 i; call = e.call; reply = answer i } in
@@ -358,6 +366,7 @@ module _ {K C R : Type 0} (k : Ghosts K C R) (start : Start K) where
         e.call,
         e.reply,
         answer,
+        ap (λ (z : k.State). k.posts_at z e.call) (lb.replayed ∙ ap (replay k.step (k.opening start.book)) (sym out.0)) ∙ t.4,
         record {
           opening = ret.opening;
           entries = grown ∙ ap (λ (z : Entry C R). c.book.entries ++ z ∷ []) same;
@@ -369,41 +378,50 @@ module _ {K C R : Type 0} (k : Ghosts K C R) (start : Start K) where
       ret.more
 
   -- it is the holder's own number whose call was posted, or was refused
-  pub post_event : ((b : K) → IsLegal k.step (k.opening b) (k.history b))
-      → (hs : List (Happening C R)) (c : Core) (s : Table) (id ticket : ℕ) (v : V) (book : K) → Ruled hs c s
-      → get_elem? s.views id ≡ some v → v.seat.phase ≡ Holding ticket → Returns k start v.seat.own v.seen v.refused book
-      → (h : Happening C R) × (((call : C) × (reply : R) × (h ≡ posted v.seat.own call reply)) ⊎ (h ≡ post_refused v.seat.own))
-      × IsEvent k start hs c h (after_posting k s id ticket v book)
-  post_event legal hs c s id ticket v book r at holder ret =
+  pub post_event : AreLaws k → (hs : List (Happening C R)) (c : Core) (s : Table) (id ticket place : ℕ) (me : Me (Option K) V) (book : K)
+      → Ruled hs c s → get_elem? s.views id ≡ some me.0 → me.0.seat.phase ≡ Holding ticket
+      → Returns k start me.0.seat.own me.0.seen me.0.refused (Some place) book
+      → (h : Happening C R) × (((call : C) × (reply : R) × (h ≡ posted me.0.seat.own call reply)) ⊎ (h ≡ post_refused me.0.seat.own))
+      × IsEvent k start hs c h (after_posting k s id ticket place me book)
+  post_event laws hs c s id ticket place me book r at holder ret =
+      let v : V = me.0 in
       let at' = seat_at hs c s r id v at in
+      let lb = lawful_book hs c s r in
       ⊎_elim
-      (λ (t : (call : C) × (reply : R) × (reply ≡ (k.step c.book.state call).1) × IsBook k start (with_entry k.step v.seat.own call c.book) book).
+      (λ (t : (call : C) × (reply : R) × (reply ≡ (k.step c.book.state call).1) × (k.posts_at c.book.state call ≡ Some place)
+      × IsBook k start (with_entry k.step v.seat.own call c.book) book).
       let own : ℕ = v.seat.own in
       let b : BookState k.State C R = with_entry k.step own t.0 c.book in
       let h : Happening C R = posted own t.0 t.1 in
-      let move : Moves k.step start.draws c h (after_post c id ticket v.seat b) = (id, v.seat, ticket, (at', refl, holder), t.2, refl) in (
+      let move : Moves k start.draws c h (after_post c id ticket v.seat b) = (id, v.seat, ticket, (at', refl, holder), t.2, refl, (place, t.3)) in (
         h,
         inl (t.0, t.1, refl),
         (
           after_post c id ticket v.seat b,
           move,
-          post_to hs c s id ticket v book h b r at holder move t.3 _ refl
+          post_to hs c s id ticket place me book h b r at holder move t.4
+              (subst (λ (z : k.State). k.board b.state ≡ set (k.board c.book.state) place (get_or (k.board z) place 0))
+              (sym (state_is k laws start b book (lawful_entry k.step (k.opening start.book) own t.0 c.book lb) t.4))
+              (laws.posted c.book.state t.0 place t.3)) _ refl
               (λ n ne. of-other n c.book.entries (entry own t.0 (k.step c.book.state t.0).1) ne),
         ),
       ))
       (λ (t : IsBook k start (with_refusal c.book) book).
       let b : BookState k.State C R = with_refusal c.book in
       let h : Happening C R = post_refused v.seat.own in
-      let move : Moves k.step start.draws c h (after_post c id ticket v.seat b) = (id, v.seat, ticket, (at', refl, holder), refl) in (
+      let move : Moves k start.draws c h (after_post c id ticket v.seat b) = (id, v.seat, ticket, (at', refl, holder), refl) in (
         h,
         inr refl,
         (
           after_post c id ticket v.seat b,
           move,
-          post_to hs c s id ticket v book h b r at holder move t [] (sym (append-nil c.book.entries)) (λ n ne. refl),
+          post_to hs c s id ticket place me book h b r at holder move t
+              (subst (λ (z : k.State). k.board b.state ≡ set (k.board c.book.state) place (get_or (k.board z) place 0))
+              (sym (state_is k laws start b book (lawful_refusal k.step (k.opening start.book) c.book lb) t))
+              (sym (set-get_or (k.board c.book.state) place 0))) [] (sym (append-nil c.book.entries)) (λ n ne. refl),
         ),
       ))
-      (returned legal hs c s id ticket v book r at (holding_holds ticket v.seat.phase holder) ret)
+      (returned laws hs c s id ticket v (Some place) book r at (holding_holds ticket v.seat.phase holder) ret)
 
   -- a holder that has posted leaves, and the book that it posted is home
   pub leave_posted_event : (hs : List (Happening C R)) (c : Core) (s : Table) (id ticket : ℕ) (me : Me (Option K) V) (book : K) → Ruled hs c s
@@ -416,52 +434,52 @@ module _ {K C R : Type 0} (k : Ghosts K C R) (start : Start K) where
       let holder = posted_holds ticket v.seat.phase posts in
       let out = (r.known.each id v at).out ticket holder in
       let h : Happening C R = left_posted v.seat.own in
-      let move : Moves k.step start.draws c h (after_leave c id v.seat c.book) = (id, v.seat, ticket, (at', refl, posts), refl) in
+      let move : Moves k start.draws c h (after_leave c id v.seat c.book) = (id, v.seat, ticket, (at', refl, posts), refl) in
       let is_book : IsBook k start c.book book = record { opening = is.opening; entries = is.entries ∙ out.0; refused = is.refused_is ∙ out.1 } in (
         after_leave c id v.seat c.book,
         move,
-        leave_to hs c s id ticket me book h c.book r at holder hand move is_book [] (sym (append-nil c.book.entries)) (λ n ne. refl),
+        leave_to hs c s id ticket me book h c.book r at holder hand move is_book refl [] (sym (append-nil c.book.entries)) (λ n ne. refl),
       )
 
   -- it is the holder's own number that recorded, or that was refused
-  pub leave_event : ((b : K) → IsLegal k.step (k.opening b) (k.history b))
-      → (hs : List (Happening C R)) (c : Core) (s : Table) (id ticket : ℕ) (me : Me (Option K) V) (book : K) → Ruled hs c s
+  pub leave_event : AreLaws k → (hs : List (Happening C R)) (c : Core) (s : Table) (id ticket : ℕ) (me : Me (Option K) V) (book : K) → Ruled hs c s
       → get_elem? s.views id ≡ some me.0
-      → me.0.seat.phase ≡ Holding ticket → me.1 ≡ (0, Some book) ∷ [] → Returns k start me.0.seat.own me.0.seen me.0.refused book
+      → me.0.seat.phase ≡ Holding ticket → me.1 ≡ (0, Some book) ∷ [] → Returns k start me.0.seat.own me.0.seen me.0.refused None book
       → (h : Happening C R) × (((call : C) × (reply : R) × (h ≡ recorded me.0.seat.own call reply)) ⊎ (h ≡ refused me.0.seat.own))
       × IsEvent k start hs c h (after_leaving k s id ticket me book)
-  leave_event legal hs c s id ticket me book r at holder hand ret =
+  leave_event laws hs c s id ticket me book r at holder hand ret =
       let v : V = me.0 in
       let at' = seat_at hs c s r id v at in
       let holds_it = holding_holds ticket v.seat.phase holder in
       ⊎_elim
-      (λ (t : (call : C) × (reply : R) × (reply ≡ (k.step c.book.state call).1) × IsBook k start (with_entry k.step v.seat.own call c.book) book).
+      (λ (t : (call : C) × (reply : R) × (reply ≡ (k.step c.book.state call).1) × (k.posts_at c.book.state call ≡ None)
+      × IsBook k start (with_entry k.step v.seat.own call c.book) book).
       let own : ℕ = v.seat.own in
       let b : BookState k.State C R = with_entry k.step own t.0 c.book in
       let h : Happening C R = recorded own t.0 t.1 in
-      let move : Moves k.step start.draws c h (after_leave c id v.seat b) = (id, v.seat, ticket, (at', refl, holder), t.2, refl) in (
+      let move : Moves k start.draws c h (after_leave c id v.seat b) = (id, v.seat, ticket, (at', refl, holder), t.2, refl, t.3) in (
         h,
         inl (t.0, t.1, refl),
         (
           after_leave c id v.seat b,
           move,
-          leave_to hs c s id ticket me book h b r at holds_it hand move t.3 _ refl
+          leave_to hs c s id ticket me book h b r at holds_it hand move t.4 (laws.unposted c.book.state t.0 t.3) _ refl
               (λ n ne. of-other n c.book.entries (entry own t.0 (k.step c.book.state t.0).1) ne),
         ),
       ))
       (λ (t : IsBook k start (with_refusal c.book) book).
       let b : BookState k.State C R = with_refusal c.book in
       let h : Happening C R = refused v.seat.own in
-      let move : Moves k.step start.draws c h (after_leave c id v.seat b) = (id, v.seat, ticket, (at', refl, holder), refl) in (
+      let move : Moves k start.draws c h (after_leave c id v.seat b) = (id, v.seat, ticket, (at', refl, holder), refl) in (
         h,
         inr refl,
         (
           after_leave c id v.seat b,
           move,
-          leave_to hs c s id ticket me book h b r at holds_it hand move t [] (sym (append-nil c.book.entries)) (λ n ne. refl),
+          leave_to hs c s id ticket me book h b r at holds_it hand move t refl [] (sym (append-nil c.book.entries)) (λ n ne. refl),
         ),
       ))
-      (returned legal hs c s id ticket v book r at holds_it ret)
+      (returned laws hs c s id ticket v None book r at holds_it ret)
 
   pub split_event : (hs : List (Happening C R)) (c : Core) (s : Table) (id count : ℕ) (v : V) → Ruled hs c s → get_elem? s.views id ≡ some v
       → v.start ≡ Some start → v.seat.phase ≡ Idle → v.seat.fresh ≡ true
@@ -476,7 +494,7 @@ module _ {K C R : Type 0} (k : Ghosts K C R) (start : Start K) where
       let p : CoreSeat = keeping start.draws count v.seat in
       let q : CoreSeat = given start.draws count v.seat in
       let d : Core = with_seats c (set c.seats id p ++ q ∷ []) in
-      let move : Moves k.step start.draws c (split v.seat.own count) d = (id, v.seat, (at', refl, idle), fresh, some_count, less, refl) in
+      let move : Moves k start.draws c (split v.seat.own count) d = (id, v.seat, (at', refl, idle), fresh, some_count, less, refl) in
       let views : map seat_in (set s.views id a ++ b ∷ []) ≡ set (map seat_in s.views) id p ++ q ∷ [] = map-append seat_in (set s.views id a) (b ∷ [])
       ∙ (ap (λ (l : List CoreSeat). l ++ b.seat ∷ []) (map-set seat_in s.views id a)
       ∙ (λ i. set (map seat_in s.views) id (keeping (draws i) count v.seat) ++ given (draws i) count v.seat ∷ [])) in
@@ -514,7 +532,7 @@ module _ {K C R : Type 0} (k : Ghosts K C R) (start : Start K) where
       let d : Core = with_seats c (set (set c.seats id x.seat) other gone) in
       let names : v.seat.own ≢ w.seat.own =
       λ e. apart (named_once start.numbers start.draws c l id other v.seat w.seat at' there (ap is_there idle) (ap is_there idle') e) in
-      let move : Moves k.step start.draws c (gathered v.seat.own w.seat.own)
+      let move : Moves k start.draws c (gathered v.seat.own w.seat.own)
       d = (id, v.seat, other, w.seat, (at', refl, idle), (there, refl, idle'), names, refl) in (
         d,
         move,
@@ -555,7 +573,7 @@ module _ {K C R : Type 0} (k : Ghosts K C R) (start : Start K) where
       let views : map seat_in (set s.views id w) ≡ map seat_in s.views = map-set seat_in s.views id w ∙ set_again (map seat_in s.views) id v.seat at' in
       next_ruled hs hs c c s _ r
       record {
-        words = subst (AreWordsOf c.next c.served) (sym (set-get_or s.words next_word 0)) r.words.words;
+        words = subst (AreWordsOf c.next c.served (k.board c.book.state)) (sym (set-get_or s.words next_word 0)) r.words.words;
         seats = r.words.seats ∙ sym views;
         leads = r.words.leads;
       }
@@ -564,3 +582,49 @@ module _ {K C R : Type 0} (k : Ghosts K C R) (start : Start K) where
         each = known_set c.book s.views id w (known_view c.book v.start v.seat v.seen 0 old.start_is old.seen
             (λ t e. absurd (omega (arith, e.0, ap holds_one idle)))) (λ j u _ e. r.known.each j u e);
       }
+
+  -- a glance leaves the core state as it was
+  glance_to : (hs hs' : List (Happening C R)) (c : Core) (s : Table) (id place : ℕ) (me : Me (Option K) V) → Ruled hs c s
+      → get_elem? s.views id ≡ some me.0 → me.0.seat.phase ≡ Idle
+      → Leads k start.draws (opened start.numbers start.draws (k.opening start.book)) hs' c
+      → IsTableOf k start hs' c (after_glance s id place c.book.entries me)
+  glance_to hs hs' c s id place me r at idle leads =
+      let v : V = me.0 in
+      let w : V = glanced_view c.book.entries v in
+      let at' = at_map seat_in s.views id v at in
+      let old = r.known.each id v at in
+      let views : map seat_in (set s.views id w) ≡ map seat_in s.views = map-set seat_in s.views id w ∙ set_again (map seat_in s.views) id v.seat at' in
+      next_ruled hs hs' c c s _ r
+      record {
+        words = subst (AreWordsOf c.next c.served (k.board c.book.state)) (sym (set-get_or s.words (board_word place) 0)) r.words.words;
+        seats = r.words.seats ∙ sym views;
+        leads = leads;
+      }
+      (slot_stays c c s _ r.slot refl refl refl)
+      record {
+        each = known_set c.book s.views id w (known_view c.book v.start v.seat c.book.entries 0 old.start_is
+            (follows_whole v.seat.numbers c.book.entries c.book.entries refl)
+            (λ t e. absurd (omega (arith, e.0, ap holds_one idle)))) (λ j u _ e. r.known.each j u e);
+      }
+
+  pub glance_same : (hs : List (Happening C R)) (c : Core) (s : Table) (id place : ℕ) (me : Me (Option K) V) → Ruled hs c s
+      → get_elem? s.views id ≡ some me.0 → me.0.seat.phase ≡ Idle → IsTableOf k start hs c (after_glance s id place c.book.entries me)
+  glance_same hs c s id place me r at idle = glance_to hs hs c s id place me r at idle r.words.leads
+
+  -- and it is the core's glance at that place
+  pub glance_event : AreLaws k → (hs : List (Happening C R)) (c : Core) (s : Table) (id place : ℕ) (me : Me (Option K) V) → Ruled hs c s
+      → get_elem? s.views id ≡ some me.0 → me.0.seat.phase ≡ Idle → place < length (k.board (k.opening start.book))
+      → IsEvent k start hs c (glanced me.0.seat.own place (get_or s.words (board_word place) 0)) (after_glance s id place c.book.entries me)
+  glance_event laws hs c s id place me r at idle within =
+      let v : V = me.0 in
+      let at' = seat_at hs c s r id v at in
+      let found = board_found c.next c.served (k.board c.book.state) s.words r.words.words place in
+      let h : Happening C R = glanced v.seat.own place (get_or s.words (board_word place) 0) in
+      let many : length (k.board c.book.state) ≡ length (k.board (k.opening start.book)) =
+      ap (λ (z : k.State). length (k.board z)) (lawful_book hs c s r).replayed ∙ as_many k laws (k.opening start.book) c.book.entries in
+      let move : Moves k start.draws c h c = (id, v.seat, (at', refl, idle), omega (arith, within, many), found, refl) in (
+        c,
+        move,
+        glance_to hs (hs ++ h ∷ []) c s id place me r at idle
+            (leads_more k start.draws (opened start.numbers start.draws (k.opening start.book)) c c hs h r.words.leads move),
+      )

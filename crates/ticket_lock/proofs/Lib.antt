@@ -2,6 +2,7 @@ pub mod Seen
 pub mod Callers
 pub mod FreshSeats
 pub mod WordLemmas
+pub mod BoardLemmas
 pub mod Acts
 pub mod Events
 pub mod Obligations

@@ -1,6 +1,6 @@
 -- What the calls owe the table: each step keeps the rule, and tells what its play says.
-use Rattle.std.proofs.Common.{◌≡◌, ℕ, suc, ◌+◌, ◌%◌, ◌<◌, ◌≤◌, ◌≢◌, List, [], ◌∷◌, ◌++◌, length, get_or, sym, refl, ap, ◌∙◌, subst, ⊎_elim, arith, true}
-use Rattle.std.proofs.Common.{Option, Some}
+use Rattle.std.proofs.Common.{◌≡◌, ℕ, suc, ◌+◌, ◌%◌, ◌<◌, ◌≤◌, ◌≢◌, List, [], ◌∷◌, ◌++◌, length, get_or, sym, refl, ap, ◌∙◌, subst, ⊎_elim, arith, Bool, true, false, cond}
+use Rattle.std.proofs.Common.{Option, Some, None}
 use mathlib.Core.Logic.{dite}
 use native.Mathlib.Decide.{ℕ_discrete, dec_le}
 use mathlib.Core.Option.{some, none, some-ne-none}
@@ -11,29 +11,31 @@ use Rattle.atomic_table.specs.Table.{stepped, carried_after, Valid}
 use Rattle.ticket_steps.specs.declared.kept.Entry.{Entry}
 use Rattle.ticket_steps.specs.declared.kept.Kept.{Ghosts}
 use Rattle.ticket_steps.specs.declared.seats.CoreSeat.{CoreSeat}
-use Rattle.ticket_steps.specs.declared.seats.Phase.TheVariants.{Idle, Waiting, Holding}
+use Rattle.ticket_steps.specs.declared.seats.Phase.TheVariants.{Idle, Waiting, Holding, Posted}
 use Rattle.ticket_steps.specs.Books.{empty_book}
 use Rattle.ticket_steps.specs.CoreStates.{CoreState, opened}
-use Rattle.ticket_steps.specs.Happenings.{Happening, drew, waited, held, split, gathered}
-use Rattle.ticket_steps.specs.History.{of, IsLegal}
+use Rattle.ticket_steps.specs.Happenings.{Happening, drew, waited, held, left_posted, split, gathered}
+use Rattle.ticket_steps.specs.History.{of, replay, IsLegal}
 use Rattle.ticket_steps.specs.Seats.{Holds, holds_one, tickets_of}
 use Rattle.ticket_steps.specs.Sums.{total, times}
 use Rattle.ticket_steps.proofs.Lists.{at_snoc, set_else}
 use Rattle.ticket_steps.proofs.SeatLemmas.{holds, alone_served, alone, in_line, served_le, one_calls, busy, holder_le, unnumbered_calls, tickets_waiting}
-use Rattle.ticket_steps.proofs.SeatLemmas.{tickets_holding, waits_in_line, holding_holds, no_holder, taken_at_home}
+use Rattle.ticket_steps.proofs.SeatLemmas.{tickets_holding, waits_in_line, holding_holds, posted_holds, no_holder, taken_at_home}
 use Rattle.ticket_steps.proofs.Totals.{times_le, times-same, below_yes, term_le}
 use Rattle.ticket_lock.specs.declared.views.Start.{Start}
 use Rattle.ticket_lock.specs.declared.views.View.{View}
 use Rattle.ticket_lock.specs.Histories.{IsKnown}
-use Rattle.ticket_lock.specs.Layout.{first_words, grant_word, next_word}
-use Rattle.ticket_lock.specs.Plays.{DrawTells, LookTells, LeaveTells, SecondLoadTells}
+use Rattle.ticket_lock.specs.Layout.{first_words, grant_word, board_word, next_word}
+use Rattle.ticket_lock.specs.Plays.{DrawTells, LookTells, PostTells, LeaveTells, SecondLoadTells, GlanceTells}
 use Rattle.ticket_lock.specs.Rule.{IsTableOf, IsRuled}
 use Rattle.ticket_lock.specs.Slots.{IsBook}
-use Rattle.ticket_lock.specs.Steps.{Returns}
-use Rattle.ticket_lock.specs.Views.{spent_view, first_view, Follows, keeping_view, given_view, drawn_view, joined_view, reloaded_view, held_view, left_view}
-use Rattle.ticket_lock.proofs.Events.{lawful, next_small, seat_at, draw_event, wait_event, look_event, leave_event, split_event, gather_event}
-use Rattle.ticket_lock.proofs.Events.{second_load_same, strangers_none}
-use Rattle.ticket_lock.proofs.WordLemmas.{watched_found, words_opened}
+use Rattle.ticket_lock.specs.Steps.{Returns, IsPosted, word_in}
+use Rattle.ticket_lock.specs.Views.{spent_view, first_view, Follows, keeping_view, given_view, drawn_view, joined_view, reloaded_view, held_view}
+use Rattle.ticket_lock.specs.Views.{posted_view, glanced_view, left_view}
+use Rattle.ticket_lock.proofs.BoardLemmas.{AreLaws}
+use Rattle.ticket_lock.proofs.Events.{lawful, lawful_book, next_small, seat_at, draw_event, wait_event, look_event, post_event, leave_event, leave_posted_event}
+use Rattle.ticket_lock.proofs.Events.{split_event, gather_event, second_load_same, glance_same, strangers_none}
+use Rattle.ticket_lock.proofs.WordLemmas.{watched_found, board_found, words_opened}
 use Rattle.ticket_lock.proofs.Seen.{follows_self, follows_longer, longer_is, all_seen, empty_before}
 
 abbrev pub in_hand : {K : Type 0} → K → List (ℕ × Option K) → K
@@ -56,13 +58,13 @@ module _ {K C R : Type 0} (k : Ghosts K C R) (start : Start K) where
   -- the table as it is made is that of the core's opening
   pub opens_with : (book : K) → k.opening book ≡ (k.opening start.book) → k.history book ≡ [] → k.refusals book ≡ 0 → 0 < start.numbers
       → start.numbers ≤ 1024 → start.draws ≤ 4294967295
-      → IsTableOf k start [] (opened start.numbers start.draws (k.opening start.book)) (opens first_words (Some book ∷ []) (first_view start))
+      → IsTableOf k start [] (opened start.numbers start.draws (k.opening start.book)) (opens (first_words (k.board (k.opening start.book))) (Some book ∷ []) (first_view start))
   opens_with book state none_kept none_refused some_number few few_draws =
       record {
         some_number = some_number;
         few_numbers = few;
         few_draws = few_draws;
-        words = record { words = words_opened; seats = refl; leads = refl };
+        words = record { words = words_opened (k.board (k.opening start.book)); seats = refl; leads = refl };
         slot =
             record {
               one_slot = refl;
@@ -84,7 +86,7 @@ module _ {K C R : Type 0} (k : Ghosts K C R) (start : Start K) where
 
   pub starts : (book : K) → k.opening book ≡ (k.opening start.book) → k.history book ≡ [] → k.refusals book ≡ 0 → 0 < start.numbers
       → start.numbers ≤ 1024 → start.draws ≤ 4294967295
-      → Rule (opens first_words (Some book ∷ []) (first_view start))
+      → Rule (opens (first_words (k.board (k.opening start.book))) (Some book ∷ []) (first_view start))
   starts book state none_kept none_refused some_number few few_draws =
       ([], opened start.numbers start.draws (k.opening start.book), opens_with book state none_kept none_refused some_number few few_draws)
 
@@ -101,7 +103,7 @@ module _ {K C R : Type 0} (k : Ghosts K C R) (start : Start K) where
   look_held_told hs c s id me book st r at waits bare is_book =
       let v : V = me.0 in
       let is : get_or s.words (grant_word c.served) 0 ≡ c.served =
-      (watched_found c.next c.served s.words r.words.words c.served (omega arith)).1 refl in
+      (watched_found c.next c.served (k.board c.book.state) s.words r.words.words c.served (omega arith)).1 refl in
       let l = lawful k start hs c s r in
       let at' = seat_at k start hs c s r id v at in
       let old = r.known.each id v at in
@@ -136,7 +138,7 @@ module _ {K C R : Type 0} (k : Ghosts K C R) (start : Start K) where
       let l = lawful k start hs c s r in
       let at' = seat_at k start hs c s r id v at in
       let to_come : c.served ≤ ticket = waits_in_line start.numbers start.draws c l id ticket v.seat at' waits in
-      let found = watched_found c.next c.served s.words r.words.words ticket to_come in
+      let found = watched_found c.next c.served (k.board c.book.state) s.words r.words.words ticket to_come in
       let old = r.known.each id v at in
       let same : (t' : ℕ) → v.seat.phase ≡ Waiting t' → ticket ≡ t' = λ t' e. let both : Waiting ticket ≡ Waiting t' = sym waits ∙ e in cc in
       λ t' phase. (
@@ -211,17 +213,17 @@ module _ {K C R : Type 0} (k : Ghosts K C R) (start : Start K) where
         ),
       )
 
-  leaves_in : ((b : K) → IsLegal k.step (k.opening b) (k.history b)) → (n id t : ℕ) (me : Me (Option K) V) (book : K) (o : Start K)
-      → me.1 ≡ (0, Some book) ∷ [] → me.0.seat.phase ≡ Holding t → me.0.start ≡ Some o → Returns k o me.0.seat.own me.0.seen me.0.refused book
+  leaves_in : AreLaws k → (n id t : ℕ) (me : Me (Option K) V) (book : K) (o : Start K)
+      → me.1 ≡ (0, Some book) ∷ [] → me.0.seat.phase ≡ Holding t → me.0.start ≡ Some o → Returns k o me.0.seat.own me.0.seen me.0.refused None book
       → Allows Rule n id me (grant_word (t + 1)) (λ _. t + 1) (λ _. LeaveTells k (step n (grant_word (t + 1)) (t + 1) 0 none) me (t + 1))
-  leaves_in legal n id t me book o hand holder known ret s r wide at small =
+  leaves_in laws n id t me book o hand holder known ret s r wide at small =
       let v : V = me.0 in
       let hs = r.0 in
       let c = r.1 in
       let mine : o ≡ start = (r.2.known.each id v at).start_is o known in
       let st : Step (Option K) = step n (grant_word (t + 1)) (t + 1) 0 none in
-      let e = leave_event k start legal hs c s id t me book r.2 at holder hand
-      (subst (λ (z : Start K). Returns k z v.seat.own v.seen v.refused book) mine ret) in (
+      let e = leave_event k start laws hs c s id t me book r.2 at holder hand
+      (subst (λ (z : Start K). Returns k z v.seat.own v.seen v.refused None book) mine ret) in (
         left_view k v book,
         gives,
         tt,
@@ -230,13 +232,104 @@ module _ {K C R : Type 0} (k : Ghosts K C R) (start : Start K) where
             (leave_told hs c s id t me book st r.2 at (holding_holds t v.seat.phase holder) hand (t + 1)),
       )
 
-  pub leaves : ((b : K) → IsLegal k.step (k.opening b) (k.history b)) → (n id t word : ℕ) (me : Me (Option K) V) (book : K) (o : Start K)
-      → word ≡ grant_word (t + 1)
-      → me.1 ≡ (0, Some book) ∷ [] → me.0.seat.phase ≡ Holding t → me.0.start ≡ Some o → Returns k o me.0.seat.own me.0.seen me.0.refused book
+  leaves_posted_in : (n id t : ℕ) (me : Me (Option K) V) (book : K) (o : Start K)
+      → me.1 ≡ (0, Some book) ∷ [] → me.0.seat.phase ≡ Posted t → me.0.start ≡ Some o → IsPosted k o me.0.seen me.0.refused book
+      → Allows Rule n id me (grant_word (t + 1)) (λ _. t + 1) (λ _. LeaveTells k (step n (grant_word (t + 1)) (t + 1) 0 none) me (t + 1))
+  leaves_posted_in n id t me book o hand holder known ret s r wide at small =
+      let v : V = me.0 in
+      let hs = r.0 in
+      let c = r.1 in
+      let mine : o ≡ start = (r.2.known.each id v at).start_is o known in
+      let st : Step (Option K) = step n (grant_word (t + 1)) (t + 1) 0 none in
+      let e = leave_posted_event k start hs c s id t me book r.2 at holder hand
+      (subst (λ (z : Start K). IsPosted k z v.seen v.refused book) mine ret) in (
+        left_view k v book,
+        gives,
+        tt,
+        (hs ++ left_posted v.seat.own ∷ [], e.0, e.2),
+        subst (λ (q : List (ℕ × Option K)). LeaveTells k st me (t + 1) (left_view k v book, q)) (ap rest (sym hand))
+            (leave_told hs c s id t me book st r.2 at (posted_holds t v.seat.phase holder) hand (t + 1)),
+      )
+
+  leaves_either : AreLaws k → (posted : Bool) (n id t : ℕ) (me : Me (Option K) V) (book : K) (o : Start K)
+      → me.1 ≡ (0, Some book) ∷ [] → me.0.seat.phase ≡ cond posted (Posted t) (Holding t) → me.0.start ≡ Some o
+      → (posted ≡ false → Returns k o me.0.seat.own me.0.seen me.0.refused None book) → (posted ≡ true → IsPosted k o me.0.seen me.0.refused book)
+      → Allows Rule n id me (grant_word (t + 1)) (λ _. t + 1) (λ _. LeaveTells k (step n (grant_word (t + 1)) (t + 1) 0 none) me (t + 1))
+  leaves_either laws true n id t me book o hand holder known ret is = leaves_posted_in n id t me book o hand holder known (is refl)
+  leaves_either laws false n id t me book o hand holder known ret is = leaves_in laws n id t me book o hand holder known (ret refl)
+
+  pub leaves : AreLaws k → (posted : Bool) (n id t word : ℕ) (me : Me (Option K) V) (book : K) (o : Start K) → word ≡ grant_word (t + 1)
+      → me.1 ≡ (0, Some book) ∷ [] → me.0.seat.phase ≡ cond posted (Posted t) (Holding t) → me.0.start ≡ Some o
+      → (posted ≡ false → Returns k o me.0.seat.own me.0.seen me.0.refused None book) → (posted ≡ true → IsPosted k o me.0.seen me.0.refused book)
       → Allows Rule n id me word (λ _. t + 1) (λ _. LeaveTells k (step n word (t + 1) 0 none) me (t + 1))
-  leaves legal n id t word me book o is hand holder known ret =
+  leaves laws posted n id t word me book o is hand holder known ret posts =
       subst (λ (w : ℕ). Allows Rule n id me w (λ _. t + 1) (λ _. LeaveTells k (step n w (t + 1) 0 none) me (t + 1))) (sym is)
-      (leaves_in legal n id t me book o hand holder known ret)
+      (leaves_either laws posted n id t me book o hand holder known ret posts)
+
+  -- what the play of a post tells
+  pub post_told : (t : ℕ) (me : Me (Option K) V) (entries : List (Entry C R)) (refused : ℕ) (st : Step (Option K)) → me.0.seat.phase ≡ Holding t
+      → (found : ℕ) → PostTells entries refused st me found (posted_view t entries refused me.0, me.1)
+  post_told t me entries refused st holder found =
+      λ t' e. let both : Holding t ≡ Holding t' = sym holder ∙ e in let same : t ≡ t' = cc in λ i. (posted_view (same i) entries refused me.0, me.1)
+
+  posts_in : AreLaws k → (n id t place : ℕ) (me : Me (Option K) V) (book : K) (o : Start K) → me.0.seat.phase ≡ Holding t
+      → me.0.start ≡ Some o → Returns k o me.0.seat.own me.0.seen me.0.refused (Some place) book
+      → Allows Rule n id me (board_word place) (λ _. word_in k book place)
+      (λ _. PostTells (k.history book) (k.refusals book) (step n (board_word place) (word_in k book place) 0 none) me (word_in k book place))
+  posts_in laws n id t place me book o holder known ret s r wide at small =
+      let v : V = me.0 in
+      let mine : o ≡ start = (r.2.known.each id v at).start_is o known in
+      let e = post_event k start laws r.0 r.1 s id t place me book r.2 at holder
+      (subst (λ (z : Start K). Returns k z v.seat.own v.seen v.refused (Some place) book) mine ret) in (
+        posted_view t (k.history book) (k.refusals book) v,
+        keeps,
+        tt,
+        (r.0 ++ e.0 ∷ [], e.2.0, e.2.2),
+        post_told t me (k.history book) (k.refusals book) (step n (board_word place) (word_in k book place) 0 none) holder (word_in k book place),
+      )
+
+  pub posts : AreLaws k → (n id t place word number : ℕ) (entries : List (Entry C R)) (refused : ℕ) (me : Me (Option K) V) (book : K) (o : Start K)
+      → word ≡ board_word place → number ≡ word_in k book place → entries ≡ k.history book → refused ≡ k.refusals book
+      → me.0.seat.phase ≡ Holding t → me.0.start ≡ Some o → Returns k o me.0.seat.own me.0.seen me.0.refused (Some place) book
+      → Allows Rule n id me word (λ _. number) (λ _. PostTells entries refused (step n word number 0 none) me number)
+  posts laws n id t place word number entries refused me book o at stores has kept holder known ret =
+      rw (at, stores, has, kept) (posts_in laws n id t place me book o holder known ret)
+
+  -- what the play of a glance tells
+  pub glance_told : (hs : List (Happening C R)) (c : Core) (s : Table) (id place : ℕ) (me : Me (Option K) V) (st : Step (Option K))
+      → IsTableOf k start hs c s → get_elem? s.views id ≡ some me.0 → st.word ≡ board_word place
+      → GlanceTells k st me (get_or s.words (board_word place) 0) (glanced_view c.book.entries me.0, me.1)
+  glance_told hs c s id place me st r at loads =
+      let v : V = me.0 in
+      let old = r.known.each id v at in
+      let lb = lawful_book k start hs c s r in (
+        c.book.entries,
+        refl,
+        λ o known. let mine : start ≡ o = sym (old.start_is o known) in record {
+          follows = old.seen;
+          legal = subst (λ (z : Start K). IsLegal k.step (k.opening z.book) c.book.entries) mine lb.legal;
+          shown = λ p is.
+              let same : place ≡ p = omega (arith, loads, is) in
+              board_found c.next c.served (k.board c.book.state) s.words r.words.words place
+              ∙ (ap (λ (z : k.State). get_or (k.board z) place 0) lb.replayed
+              ∙ (λ i. get_or (k.board (replay k.step (k.opening (mine i).book) c.book.entries)) (same i) 0));
+        },
+      )
+
+  glances_at : (n id place : ℕ) (me : Me (Option K) V) → me.0.seat.phase ≡ Idle
+      → Allows Rule n id me (board_word place) (λ x. x) (GlanceTells k (step n (board_word place) 0 0 none) me)
+  glances_at n id place me idle s r wide at small = (
+    glanced_view r.1.book.entries me.0,
+    keeps,
+    tt,
+    (r.0, r.1, glance_same k start r.0 r.1 s id place me r.2 at idle),
+    glance_told r.0 r.1 s id place me (step n (board_word place) 0 0 none) r.2 at refl,
+  )
+
+  pub glances : (n id place word : ℕ) (me : Me (Option K) V) → word ≡ board_word place → me.0.seat.phase ≡ Idle
+      → Allows Rule n id me word (λ x. x) (GlanceTells k (step n word 0 0 none) me)
+  glances n id place word me is idle =
+      subst (λ (w : ℕ). Allows Rule n id me w (λ x. x) (GlanceTells k (step n w 0 0 none) me)) (sym is) (glances_at n id place me idle)
 
   pub splits : (id count : ℕ) (v : V) (o : Start K) → v.start ≡ Some o → v.seat.phase ≡ Idle → v.seat.fresh ≡ true → 0 < count
       → count < length v.seat.numbers → Splits Rule id v (keeping_view count v) (given_view count v)

@@ -1,26 +1,26 @@
 -- An operation that meets its kind's play leaves one table.
 use Rattle.std.proofs.Common.{◌≡◌, ℕ, ◌+◌, ◌<◌, ◌≤◌, ◌≢◌, List, [], ◌∷◌, get_or, set, sym, refl, ap, ◌∙◌, inl, inr, subst, arith}
-use Rattle.std.proofs.Common.{Option, Some}
+use Rattle.std.proofs.Common.{Option, Some, None}
 use Rattle.std.specs.Option.{unwrap_or}
 use mathlib.Core.Option.{some, none, some-injective}
 use mathlib.Core.Option as maybe
 use lib.ListN.{get_elem?}
 use Rattle.atomic_table.specs.Table.{Me, Step, Act, keeps, takes, gives, put_back, rest, homes_after, carried_after, stepped, Valid}
 use Rattle.ticket_steps.specs.declared.kept.Kept.{Ghosts}
-use Rattle.ticket_steps.specs.declared.seats.Phase.TheVariants.{Waiting}
+use Rattle.ticket_steps.specs.declared.seats.Phase.TheVariants.{Waiting, Holding}
 use Rattle.ticket_steps.specs.Seats.{Holds, holders}
-use Rattle.ticket_steps.proofs.SeatLemmas.{holds, waits_in_line}
+use Rattle.ticket_steps.proofs.SeatLemmas.{holds, waits_in_line, holding_holds}
 use Rattle.ticket_steps.proofs.Totals.{term_le}
 use Rattle.ticket_lock.specs.declared.views.View.{View}
-use Rattle.ticket_lock.specs.Layout.{grant_word, next_word}
-use Rattle.ticket_lock.specs.Plays.{DrawTells, LookTells, LeaveTells, SecondLoadTells}
+use Rattle.ticket_lock.specs.Layout.{grant_word, board_word, next_word}
+use Rattle.ticket_lock.specs.Plays.{DrawTells, LookTells, PostTells, LeaveTells, SecondLoadTells}
 use Rattle.ticket_lock.specs.Slots.{IsBook}
 use Rattle.ticket_lock.specs.Steps.{TableMoment, IsTableMoment, LeavesOnly, one_more, as_found, stored, after_draw, after_waiting, after_holding, after_leaving}
-use Rattle.ticket_lock.specs.Steps.{after_second_load}
-use Rattle.ticket_lock.specs.Views.{drawn_view, held_view, left_view, reloaded_view, longer}
+use Rattle.ticket_lock.specs.Steps.{after_second_load, after_posting, word_in}
+use Rattle.ticket_lock.specs.Views.{drawn_view, held_view, posted_view, left_view, reloaded_view, longer}
 use Rattle.ticket_lock.proofs.Acts.{HasSlot, has_after, left_home, took_home, one_slot_is}
 use Rattle.ticket_lock.proofs.Events.{lawful, seat_at, look_event}
-use Rattle.ticket_lock.proofs.Obligations.{look_held_told, look_waits_told, leave_told, second_load_told}
+use Rattle.ticket_lock.proofs.Obligations.{look_held_told, look_waits_told, post_told, leave_told, second_load_told}
 use Rattle.ticket_lock.proofs.WordLemmas.{watched_found}
 
 module _ {K C R : Type 0} (k : Ghosts K C R) where
@@ -83,7 +83,7 @@ module _ {K C R : Type 0} (k : Ghosts K C R) where
     only = λ t may.
         let homes : m.table.homes ≡ get_or m.table.homes 0 none ∷ [] = one_slot_is m.table.homes is.ruled.slot.one_slot in
         let found : get_or m.table.words (grant_word m.core.served) 0 ≡ m.core.served =
-        (watched_found m.core.next m.core.served m.table.words is.ruled.words.words m.core.served (omega arith)).1 refl in
+        (watched_found m.core.next m.core.served (k.board m.core.book.state) m.table.words is.ruled.words.words m.core.served (omega arith)).1 refl in
         let told = ((may.told m.core.served waits).0 found).1 in
         let other : K = ((may.told m.core.served waits).0 found).0 in
         let took = took_home (get_or m.table.homes 0 none) _ _ (Some other) (in_all m is bare may.act may.valid)
@@ -111,7 +111,7 @@ module _ {K C R : Type 0} (k : Ghosts K C R) where
         let l = lawful k m.start m.happened m.core m.table is.ruled in
         let here = seat_at k m.start m.happened m.core m.table is.ruled m.id m.me.0 is.there in
         let to_come : m.core.served ≤ ticket = waits_in_line m.start.numbers m.start.draws m.core l m.id ticket m.me.0.seat here waits in
-        let found = watched_found m.core.next m.core.served m.table.words is.ruled.words.words ticket to_come in
+        let found = watched_found m.core.next m.core.served (k.board m.core.book.state) m.table.words is.ruled.words.words ticket to_come in
         let told = ((may.told ticket waits).1 (λ e. later (found.0 e))).0 in
         may.is ∙ same_table m (grant_word ticket) _ may.view _ may.act keeps (ap (λ (p : Me (Option K) V). p.0) told)
         (same_homes m is bare may.act may.valid (ap (λ (p : Me (Option K) V). p.1) told ∙ bare));
@@ -125,6 +125,27 @@ module _ {K C R : Type 0} (k : Ghosts K C R) where
       let homes : m.table.homes ≡ get_or m.table.homes 0 none ∷ [] = one_slot_is m.table.homes is.ruled.slot.one_slot in
       homes ∙ ap (λ (o : maybe.Option (Option K)). o ∷ [])
       (some-injective _ _ (ap (λ (q : Homes). get_elem? q 0) (sym homes) ∙ is.ruled.slot.away some_holder))
+
+  pub post_only : (m : Moment) (ticket place : ℕ) (book : K) (st : Step (Option K)) → IsTableMoment k m → m.me.0.seat.phase ≡ Holding ticket
+      → m.me.1 ≡ (0, None) ∷ []
+      → LeavesOnly k m (board_word place) (stored (word_in k book place))
+      (λ _. PostTells (k.history book) (k.refusals book) st m.me (word_in k book place)) (after_posting k m.table m.id ticket place m.me book)
+  post_only m ticket place book st is holding hand = record {
+    may = record {
+      view = posted_view ticket (k.history book) (k.refusals book) m.me.0;
+      act = keeps;
+      valid = tt;
+      told = post_told k m.start ticket m.me (k.history book) (k.refusals book) st holding (word_in k book place);
+      is = refl;
+    };
+    only = λ t may.
+        let told = may.told ticket holding in
+        let out = slot_out m ticket is (holding_holds ticket m.me.0.seat.phase holding) in
+        let homes = took_home (some None) _ _ None
+        (has_after (some None) m.table.homes m.me.1 may.act (inr (None, refl, out, hand)) may.valid)
+        (ap (λ (p : Me (Option K) V). p.1) told ∙ hand) in
+        may.is ∙ same_table m (board_word place) _ may.view _ may.act keeps (ap (λ (p : Me (Option K) V). p.0) told) (homes.1 ∙ sym out);
+  }
 
   pub leave_only : (m : Moment) (ticket : ℕ) (book : K) (st : Step (Option K)) → IsTableMoment k m → Holds ticket m.me.0.seat.phase
       → m.me.1 ≡ (0, Some book) ∷ []

@@ -96,7 +96,7 @@ module _ {K C R : Type 0} (k : Ghosts K C R) where
 
   -- a step to the table s from one with the core state c is this one event
   abbrev pub IsEvent : Start K → List (Happening C R) → CoreState k.State C R → Happening C R → State (Option K) (View K C R) → Type 0
-  IsEvent start happened c h s = (d : CoreState k.State C R) × Moves k.step start.draws c h d × IsTableOf k start (happened ++ h ∷ []) d s
+  IsEvent start happened c h s = (d : CoreState k.State C R) × Moves k start.draws c h d × IsTableOf k start (happened ++ h ∷ []) d s
 
 -- a moment of the table, for one of its seats: how the lock was opened, what has happened since, the core state that it led
 -- to, the table, and the seat that is about to step

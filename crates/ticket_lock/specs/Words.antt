@@ -24,4 +24,4 @@ module _ {K C R : Type 0} (k : Ghosts K C R) (start : Start K) where
     -- the board shows the state of the book that is at home, or with its holder
     pub words : AreWordsOf c.next c.served (k.board c.book.state) s.words
     pub seats : c.seats ≡ map seat_in s.views
-    pub leads : Leads k.step start.draws (opened start.numbers start.draws (k.opening start.book)) happened c
+    pub leads : Leads k start.draws (opened start.numbers start.draws (k.opening start.book)) happened c

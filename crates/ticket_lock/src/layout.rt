@@ -33,9 +33,11 @@ pub(crate) fn first_words<K: Kept>(alloc: Global, book: &K) -> Result<Vec<u64>, 
 {
     let count = book.words();
     let mut words = Vec::with_capacity(alloc, count as usize + 5)?;
-    for _ in 0..5 {
-        words.push_reserved(0);
-    }
+    words.push_reserved(0);
+    words.push_reserved(0);
+    words.push_reserved(0);
+    words.push_reserved(0);
+    words.push_reserved(0);
     for place in 0..count {
         words.push_reserved(book.word(place));
     }

@@ -1,19 +1,20 @@
 //! Each kind of step of the lock is one event of the core.
-ghost use Rattle.std.specs.Prelude.{◌≡◌, ◌≢◌, ◌⊎◌, ℕ, ◌+◌, ◌<◌, ◌≤◌, true, [], ◌∷◌, length, Option, Some, None};
+ghost use Rattle.std.specs.Prelude.{◌≡◌, ◌≢◌, ◌⊎◌, ℕ, ◌+◌, ◌<◌, ◌≤◌, true, [], ◌∷◌, length, slice_index, Option, Some, None};
 ghost use mathlib.Core.Option.{some};
 ghost use lib.ListN.{get_elem?};
-ghost use Rattle.ticket_steps.specs.Happenings.{Happening, split, drew, waited, held, posted, post_refused, left_posted, recorded, refused, gathered};
+ghost use Rattle.ticket_steps.specs.Happenings.{Happening, split, drew, waited, held, posted, post_refused, left_posted, recorded, refused, glanced, gathered};
 ghost use Rattle.ticket_steps.specs.declared.seats.Phase.TheVariants.{Idle, Waiting, Holding, Posted};
 ghost use Rattle.ticket_steps.specs.CoreStates.{opened};
 ghost use Rattle.ticket_steps.specs.Seats.{Holds};
 ghost use Rattle.atomic_table.specs.Table.{Step};
 ghost use Rattle.ticket_lock.specs.declared.views.Start.{Start};
 ghost use Rattle.ticket_lock.specs.declared.views.View.{View as ViewOf};
-ghost use Rattle.ticket_lock.specs.Plays.{DrawTells, LookTells, PostTells, LeaveTells, SecondLoadTells};
+ghost use Rattle.ticket_lock.specs.Boards.{board_length};
+ghost use Rattle.ticket_lock.specs.Plays.{DrawTells, LookTells, PostTells, LeaveTells, SecondLoadTells, GlanceTells};
 ghost use Rattle.ticket_lock.specs.Rule.{IsTableOf};
 ghost use Rattle.ticket_lock.specs.Steps.{TableMoment, IsTableMoment, IsOneEvent, IsNoEvent, IsTold, IsPosted, LeavesOnly, Returns, one_more, as_found, stored, word_in};
-ghost use Rattle.ticket_lock.specs.Steps.{first_table, after_split, after_draw, after_waiting, after_holding, after_posting, after_leaving, after_gather, after_second_load};
-ghost use Rattle.ticket_lock.specs.Views.{drawn_view, held_view, posted_view, left_view, reloaded_view, longer};
+ghost use Rattle.ticket_lock.specs.Steps.{first_table, after_split, after_draw, after_waiting, after_holding, after_posting, after_leaving, after_gather, after_second_load, after_glance};
+ghost use Rattle.ticket_lock.specs.Views.{drawn_view, held_view, posted_view, left_view, reloaded_view, glanced_view, longer};
 ghost use Rattle.ticket_lock.specs.Layout.{grant_word, board_word, next_word};
 
 use ticket_steps::Kept;
@@ -22,24 +23,28 @@ use ticket_steps::Kept;
 ///
 /// The table as it is made is that of the core's opening (`opening`). At any moment that meets the
 /// rule, each kind of step leads to a table that meets it again, whose core state is the one that
-/// this one event of the core leaves: a split, a draw, a look that holds or waits, a leave, and a
-/// gather. The second load of a gather, by which the joined seat learns that its two histories are
-/// beginnings of one, is no event: it leaves the core state as it was (`second_load`).
+/// this one event of the core leaves: a split, a draw, a look that holds or waits, a post, a leave, a
+/// gather and a glance. The second load of a gather, by which the joined seat learns that its two
+/// histories are beginnings of one, is no event: it leaves the core state as it was (`second_load`).
 ///
-/// What a holder records is no operation of the table, so no call of the lock posts. The rule allows
-/// for it: a holder's view that goes to posted leaves a table that meets the rule again, by the event
-/// Post (`post`), and its leave is the event Leave that brings no call (`leave_posted`). What a leave
-/// tells, and that it leaves one table alone, is said of a holder whether it has posted or not.
+/// A holder that has recorded a call with a place on the board posts it (`post`), and its leave is the
+/// event Leave that brings no call (`leave_posted`). One whose call has no place leaves with it
+/// (`leave`). What a leave tells, and that it leaves one table alone, is said of a holder whether it
+/// has posted or not.
 ///
-/// A look loads the word that its ticket watches, a leave stores the next number in the word that
-/// this number watches. What the seat that steps is told, on which the lock's code relies, is so of
+/// A look loads the word that its ticket watches, a post stores the book's word at the place of the
+/// call, a leave stores the next number in the word that this number watches, and a glance loads a
+/// word of the board. What the seat that steps is told, on which the lock's code relies, is so of
 /// that very step: of the number found in the word, and of the seat as it stands in the table after
-/// it (`draw_tells`, `look_held_tells`, `look_waits_tells`, `leave_tells`, `second_load_tells`).
+/// it (`draw_tells`, `look_held_tells`, `look_waits_tells`, `post_tells`, `leave_tells`,
+/// `glance_tells`, `second_load_tells`).
 ///
 /// Nor could the step be another one: an operation on that word, an add of one, a load or a store of
 /// that number, by a seat that carries what its phase says, of which this is told, leaves that table
 /// and no other, whatever the seat took or gave back (`draw_only`, `look_held_only`,
-/// `look_waits_only`, `leave_only`, `second_load_only`).
+/// `look_waits_only`, `post_only`, `leave_only`, `second_load_only`). Of a glance nothing like it is
+/// said: what it tells is so of any legal history that goes on from what the seat had seen and shows
+/// that word, and the seat's view after it is one of these.
 pub fn every_step<K: Kept>()
     ensures opening { (start : Start K) → K.history start.book ≡ [] → K.refusals start.book ≡ 0
         → 0 < start.numbers → start.numbers ≤ 1024 → start.draws ≤ 4294967295
@@ -145,6 +150,17 @@ pub fn every_step<K: Kept>()
         → get_elem? m.table.views other ≡ some w → w.seat.phase ≡ Idle
         → IsOneEvent K.Kept m (gathered m.me.0.seat.own w.seat.own)
         (after_gather m.table m.id m.me.0 other w) }
+    ensures glance { (m : TableMoment K K.State K.Call K.Reply) (place : ℕ)
+        → IsTableMoment K.Kept m → m.me.0.seat.phase ≡ Idle
+        → place < board_length K.Kept m.start.book
+        → IsOneEvent K.Kept m
+        (glanced m.me.0.seat.own place (slice_index m.table.words (board_word place)))
+        (after_glance m.table m.id place m.core.book.entries m.me) }
+    ensures glance_tells { (m : TableMoment K K.State K.Call K.Reply) (place : ℕ)
+        (step : Step (Option K)) → IsTableMoment K.Kept m → step.word ≡ board_word place
+        → IsTold K.Kept m (board_word place) (GlanceTells K.Kept step m.me)
+        (glanced_view m.core.book.entries m.me.0, m.me.1)
+        (after_glance m.table m.id place m.core.book.entries m.me) }
     ensures second_load { (m : TableMoment K K.State K.Call K.Reply) → IsTableMoment K.Kept m
         → m.me.0.seat.phase ≡ Idle
         → IsNoEvent K.Kept m (after_second_load m.table m.id m.me) }

@@ -3,16 +3,22 @@ use mathlib.Core.Option.{some}
 use lib.ListN.{get_elem?}
 use Rattle.ticket_steps.proofs.Lists.{at_within, set_here}
 use Rattle.ticket_lock.specs.Layout.{next_word}
+use Rattle.ticket_lock.specs.Steps.{word_in}
 use Rattle.ticket_lock.specs.Views.{drawn_view}
-use Rattle.ticket_lock.proofs.Events.{split_event, draw_event, look_event, wait_event, post_event, leave_posted_event, leave_event, gather_event}
+use Rattle.ticket_lock.proofs.BoardLemmas.{AreLaws}
+use Rattle.ticket_lock.proofs.Events.{split_event, draw_event, look_event, wait_event, post_event, leave_posted_event, leave_event, gather_event, glance_event}
 use Rattle.ticket_lock.proofs.Events.{second_load_same}
-use Rattle.ticket_lock.proofs.Obligations.{opens_with, look_held_told, look_waits_told, leave_told, second_load_told}
-use Rattle.ticket_lock.proofs.OnlyTables.{book_home, draw_only, look_held_only, look_waits_only, leave_only, second_load_only}
+use Rattle.ticket_lock.proofs.Obligations.{opens_with, look_held_told, look_waits_told, post_told, leave_told, second_load_told, glance_told}
+use Rattle.ticket_lock.proofs.OnlyTables.{book_home, draw_only, look_held_only, look_waits_only, post_only, leave_only, second_load_only}
 use Rattle.ticket_lock.proofs.WordLemmas.{next_found}
+use Rattle.ticket_lock.proofs.steps.every_step.Given.{Over}
 use Rattle.ticket_lock.proofs.steps.every_step.Goals as goal
 
 stepped_here : {V : Type 0} (views : List V) (id : ℕ) (v w : V) → get_elem? views id ≡ some v → get_elem? (set views id w) id ≡ some w
 stepped_here views id v w at = set_here views id w (at_within views id v at)
+
+laws_of : (g : Over) → AreLaws g.K.Kept
+laws_of g = record { legal = g.met.K.Kept.legal; replayed = g.met.K.Kept.replayed; unposted = g.met.K.Kept.unposted; posted = g.met.K.Kept.posted }
 
 pub returns : goal.returns
 returns g c = record {
@@ -23,7 +29,8 @@ returns g c = record {
       split_event g.K.Kept m.start m.happened m.core m.table m.id count m.me.0 is.ruled is.there start idle fresh some_count less;
   draw = λ m is idle some_left. draw_event g.K.Kept m.start m.happened m.core m.table m.id m.me is.ruled is.there idle some_left;
   draw_tells = λ m step is.
-      let next : get_or m.table.words next_word 0 ≡ m.core.next = next_found m.core.next m.core.served m.table.words is.ruled.words.words in
+      let next : get_or m.table.words next_word 0 ≡ m.core.next =
+      next_found m.core.next m.core.served (g.K.Kept.board m.core.book.state) m.table.words is.ruled.words.words in
       record {
         stands = stepped_here m.table.views m.id m.me.0 _ is.there ∙ ap (λ (n : ℕ). some (drawn_view n m.me.0)) next;
         told = ap (λ (n : ℕ). (drawn_view n m.me.0, m.me.1)) (sym next);
@@ -54,14 +61,26 @@ returns g c = record {
   look_held = λ m is waits. let e = look_event g.K.Kept m.start m.happened m.core m.table m.id m.me is.ruled is.there waits in (e.0, e.1, e.3);
   look_waits = λ m ticket is waits later. wait_event g.K.Kept m.start m.happened m.core m.table m.id ticket m.me is.ruled is.there waits later;
   post =
-      λ m ticket book is holds returns.
-      post_event g.K.Kept m.start g.met.K.Kept.legal m.happened m.core m.table m.id ticket m.me.0 book is.ruled is.there holds returns;
+      λ m ticket place book is holds returns.
+      post_event g.K.Kept m.start (laws_of g) m.happened m.core m.table m.id ticket place m.me book is.ruled is.there holds returns;
+  post_tells = λ m ticket place book step is holds. record {
+    stands = stepped_here m.table.views m.id m.me.0 _ is.there;
+    told = post_told g.K.Kept m.start ticket m.me (g.K.Kept.history book) (g.K.Kept.refusals book) step holds (word_in g.K.Kept book place);
+  };
+  post_only = λ m ticket place book step is holds hand. post_only g.K.Kept m ticket place book step is holds hand;
+  glance =
+      λ m place is idle within.
+      glance_event g.K.Kept m.start (laws_of g) m.happened m.core m.table m.id place m.me is.ruled is.there idle within;
+  glance_tells = λ m place step is loads. record {
+    stands = stepped_here m.table.views m.id m.me.0 _ is.there;
+    told = glance_told g.K.Kept m.start m.happened m.core m.table m.id place m.me step is.ruled is.there loads;
+  };
   leave_posted =
       λ m ticket book is posts hand posted.
       leave_posted_event g.K.Kept m.start m.happened m.core m.table m.id ticket m.me book is.ruled is.there posts hand posted;
   leave =
       λ m ticket book is holds hand returns.
-      leave_event g.K.Kept m.start g.met.K.Kept.legal m.happened m.core m.table m.id ticket m.me book is.ruled is.there holds hand returns;
+      leave_event g.K.Kept m.start (laws_of g) m.happened m.core m.table m.id ticket m.me book is.ruled is.there holds hand returns;
   gather =
       λ m other w is idle apart at idle'. gather_event g.K.Kept m.start m.happened m.core m.table m.id other m.me.0 w is.ruled is.there apart at idle idle';
   second_load = λ m is idle. second_load_same g.K.Kept m.start m.happened m.core m.table m.id m.me is.ruled is.there idle;

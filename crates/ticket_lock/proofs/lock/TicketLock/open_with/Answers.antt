@@ -1,5 +1,6 @@
-use Rattle.std.proofs.Common.{rules, refl, true, ◌≡◌, ℕ, ◌*◌, ◌∷◌, [], Some, arith, sym, ap, subst}
+use Rattle.std.proofs.Common.{rules, refl, true, ◌≡◌, ℕ, ◌*◌, ◌∷◌, [], Some, arith, sym, ap, ◌∙◌, subst}
 use Rattle.atomic_table.specs.Table.{opening}
+use Rattle.ticket_steps.specs.History.{replay}
 use Rattle.ticket_steps.proofs.Totals.{length-counted}
 use Rattle.ticket_lock.specs.declared.counts.SeatCounts.{SeatCounts}
 use Rattle.ticket_lock.specs.Layout.{first_words}
@@ -13,10 +14,18 @@ pub new-requires : goal.new-requires
 new-requires g c =
     let items : c.push_reserved.new.self.items ≡ Some c.args.book ∷ [] = search rules in
     let k = g.K.Kept in
-    subst (λ xs. IsRuled k record { book = c.of.result.value; numbers = c.args.numbers; draws = c.args.draws }
-    (opening first_words xs (first_view record { book = c.of.result.value; numbers = c.args.numbers; draws = c.args.draws })))
-    (sym items) (starts k _ c.args.book (ap k.opening (sym c.of.ensures)) c.requires.empty.0 c.requires.empty.1 c.requires.numbers.0
-    c.requires.numbers.1 (omega arith))
+    let same : c.args.book ≡ c.of.result.value = sym c.of.ensures in
+    let state : g.K.Kept.state c.args.book ≡ g.K.Kept.opening c.of.result.value =
+    g.met.K.Kept.replayed c.args.book ∙ (ap (replay g.K.Kept.step (g.K.Kept.opening c.args.book)) c.requires.empty.0 ∙ ap g.K.Kept.opening same) in
+    let words : c.as_slice.result.now ≡ first_words (g.K.Kept.board (g.K.Kept.opening c.of.result.value)) =
+    c.as_slice.ensures.value ∙ (c.in-Ok.ensures ∙ ap (λ (s : g.K.Kept.State). first_words (g.K.Kept.board s)) state) in
+    subst (λ ws. IsRuled k record { book = c.of.result.value; numbers = c.args.numbers; draws = c.args.draws }
+    (opening ws c.push_reserved.new.self.items (first_view record { book = c.of.result.value; numbers = c.args.numbers; draws = c.args.draws })))
+    (sym words) (subst (λ xs. IsRuled k record { book = c.of.result.value; numbers = c.args.numbers; draws = c.args.draws }
+    (opening (first_words (g.K.Kept.board (g.K.Kept.opening c.of.result.value))) xs
+    (first_view record { book = c.of.result.value; numbers = c.args.numbers; draws = c.args.draws })))
+    (sym items) (starts k _ c.args.book (ap k.opening same) c.requires.empty.0 c.requires.empty.1 c.requires.numbers.0
+    c.requires.numbers.1 (omega arith)))
 
 pub invariant_of-seat : goal.invariant_of-seat
 invariant_of-seat g c =
