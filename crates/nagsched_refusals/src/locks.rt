@@ -11,12 +11,15 @@ use crate::outcome::{Outcome, Wrong, second};
 use crate::setups::ONE_SERVICE;
 use check_desk::{Desk, Pass};
 use check_sched::Book;
+use check_sched::laws::board_shows_standings;
 use std::alloc::Global;
 use ticket_lock::{Seat, TicketLock};
 use ticket_steps::Core;
 
 /// Makes a core of two numbers over a book.
 pub fn open_core(alloc: Global) -> Result<Outcome, Wrong> {
+    // for the proof: a book's board has few words
+    board_shows_standings();
     match Core::open(alloc, book_of(alloc, ONE_SERVICE, 4)?, 2) {
         Ok(core) => where_new(alloc, core.book(), ONE_SERVICE, Outcome::Answered),
         Err(back) => open_core_again(alloc, back),
@@ -25,6 +28,8 @@ pub fn open_core(alloc: Global) -> Result<Outcome, Wrong> {
 
 /// The same with three draws for each number.
 pub fn open_core_with_draws(alloc: Global) -> Result<Outcome, Wrong> {
+    // for the proof: a book's board has few words
+    board_shows_standings();
     match Core::open_with(alloc, book_of(alloc, ONE_SERVICE, 4)?, 2, 3) {
         Ok(core) => where_new(alloc, core.book(), ONE_SERVICE, Outcome::Answered),
         Err(back) => open_core_again(alloc, back),
@@ -35,6 +40,8 @@ pub fn open_core_with_draws(alloc: Global) -> Result<Outcome, Wrong> {
 fn open_core_again(alloc: Global, back: Book) -> Result<Outcome, Wrong>
     requires { (entries_of back ≡ []) × (refused_of back ≡ 0) }
 {
+    // for the proof: a book's board has few words
+    board_shows_standings();
     let outcome = where_new(alloc, &back, ONE_SERVICE, Outcome::Refused)?;
     let core = second(Core::open(alloc, back, 2))?;
     where_new(alloc, core.book(), ONE_SERVICE, outcome)
@@ -42,6 +49,8 @@ fn open_core_again(alloc: Global, back: Book) -> Result<Outcome, Wrong>
 
 /// Makes a lock of two numbers over a book, and closes it.
 pub fn open_lock(alloc: Global) -> Result<Outcome, Wrong> {
+    // for the proof: a book's board has few words
+    board_shows_standings();
     match TicketLock::open(alloc, book_of(alloc, ONE_SERVICE, 4)?, 2) {
         Ok((lock, seat)) => close_lock(alloc, lock, seat, Outcome::Answered),
         Err(back) => open_lock_again(alloc, back),
@@ -50,6 +59,8 @@ pub fn open_lock(alloc: Global) -> Result<Outcome, Wrong> {
 
 /// The same with three draws for each number.
 pub fn open_lock_with_draws(alloc: Global) -> Result<Outcome, Wrong> {
+    // for the proof: a book's board has few words
+    board_shows_standings();
     match TicketLock::open_with(alloc, book_of(alloc, ONE_SERVICE, 4)?, 2, 3) {
         Ok((lock, seat)) => close_lock(alloc, lock, seat, Outcome::Answered),
         Err(back) => open_lock_again(alloc, back),
@@ -60,6 +71,8 @@ pub fn open_lock_with_draws(alloc: Global) -> Result<Outcome, Wrong> {
 fn open_lock_again(alloc: Global, back: Book) -> Result<Outcome, Wrong>
     requires { (entries_of back ≡ []) × (refused_of back ≡ 0) }
 {
+    // for the proof: a book's board has few words
+    board_shows_standings();
     let outcome = where_new(alloc, &back, ONE_SERVICE, Outcome::Refused)?;
     let (lock, seat) = second(TicketLock::open(alloc, back, 2))?;
     close_lock(alloc, lock, seat, outcome)
