@@ -1,4 +1,5 @@
-//! What no clause says: worked turns, that calls succeed, two threads, and out of memory.
+//! What no clause says: worked turns, that calls succeed, glances before and after a post, two threads,
+//! and out of memory.
 //!
 //! The test of one thread also passes where any one request for memory is refused
 //! (`rt try --test --fail-alloc N`).
