@@ -164,7 +164,8 @@ module _ {K C R : Type 0} (k : Ghosts K C R) (start : Start K) where
       let move : Moves k start.draws c (drew v.seat.own c.next) d = (id, v.seat, (at', refl, idle), some_left, refl, refl) in
       let old = r.known.each id v at in
       let words : AreWordsOf (c.next + 1) c.served (k.board c.book.state) (set s.words next_word ((x + 1) % 18446744073709551616)) =
-      subst (λ (n : ℕ). AreWordsOf (c.next + 1) c.served (k.board c.book.state) (set s.words next_word n)) (sym (ap (λ (n : ℕ). (n + 1) % 18446744073709551616) is ∙ up))
+      subst (λ (n : ℕ). AreWordsOf (c.next + 1) c.served (k.board c.book.state) (set s.words next_word n))
+      (sym (ap (λ (n : ℕ). (n + 1) % 18446744073709551616) is ∙ up))
       (next_raised c.next c.served (k.board c.book.state) s.words r.words.words (c.next + 1)) in (
         d,
         move,
@@ -316,7 +317,8 @@ module _ {K C R : Type 0} (k : Ghosts K C R) (start : Start K) where
       let served : ticket ≡ c.served = (l.each id v.seat at').holder ticket holder in
       let words : AreWordsOf c.next (c.served + 1) (k.board b.state) (set s.words (grant_word (ticket + 1)) (ticket + 1)) =
       subst (λ (n : ℕ). AreWordsOf c.next (c.served + 1) (k.board b.state) (set s.words (grant_word (n + 1)) (n + 1))) (sym served)
-      (subst (λ (q : List ℕ). AreWordsOf c.next (c.served + 1) q (set s.words (grant_word (c.served + 1)) (c.served + 1))) (sym shows) (next_granted c.next c.served (k.board c.book.state) s.words r.words.words)) in
+      (subst (λ (q : List ℕ). AreWordsOf c.next (c.served + 1) q (set s.words (grant_word (c.served + 1)) (c.served + 1))) (sym shows)
+      (next_granted c.next c.served (k.board c.book.state) s.words r.words.words)) in
       let w : V = left_view k v book in
       let p : CoreSeat = ended v.seat in
       let d : Core = after_leave c id v.seat b in

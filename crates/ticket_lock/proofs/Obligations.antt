@@ -1,6 +1,6 @@
 -- What the calls owe the table: each step keeps the rule, and tells what its play says.
-use Rattle.std.proofs.Common.{◌≡◌, ℕ, suc, ◌+◌, ◌%◌, ◌<◌, ◌≤◌, ◌≢◌, List, [], ◌∷◌, ◌++◌, length, get_or, sym, refl, ap, ◌∙◌, subst, ⊎_elim, arith, Bool, true, false, cond}
-use Rattle.std.proofs.Common.{Option, Some, None}
+use Rattle.std.proofs.Common.{◌≡◌, ℕ, suc, ◌+◌, ◌%◌, ◌<◌, ◌≤◌, ◌≢◌, List, [], ◌∷◌, ◌++◌, length, get_or, sym, refl, ap, ◌∙◌, subst, ⊎_elim, arith}
+use Rattle.std.proofs.Common.{Option, Some, None, Bool, true, false, cond}
 use mathlib.Core.Logic.{dite}
 use native.Mathlib.Decide.{ℕ_discrete, dec_le}
 use mathlib.Core.Option.{some, none, some-ne-none}
@@ -58,7 +58,8 @@ module _ {K C R : Type 0} (k : Ghosts K C R) (start : Start K) where
   -- the table as it is made is that of the core's opening
   pub opens_with : (book : K) → k.opening book ≡ (k.opening start.book) → k.history book ≡ [] → k.refusals book ≡ 0 → 0 < start.numbers
       → start.numbers ≤ 1024 → start.draws ≤ 4294967295
-      → IsTableOf k start [] (opened start.numbers start.draws (k.opening start.book)) (opens (first_words (k.board (k.opening start.book))) (Some book ∷ []) (first_view start))
+      → IsTableOf k start [] (opened start.numbers start.draws (k.opening start.book))
+      (opens (first_words (k.board (k.opening start.book))) (Some book ∷ []) (first_view start))
   opens_with book state none_kept none_refused some_number few few_draws =
       record {
         some_number = some_number;

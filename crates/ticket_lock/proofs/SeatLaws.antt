@@ -24,5 +24,6 @@ module _ {K C R : Type 0} {G : Ghosts K C R} where
   few_calls seat = omega (arith, seat.told.calls, seat.told.few_calls)
 
   -- what it has seen is a legal history from the book with which its lock was opened
-  pub legal_history : (lock : TicketLock K C R G) (seat : Seat K C R G) → IsSeatOf lock seat → IsLegal G.step (G.opening (start_of lock).book) (seat_of seat).seen
+  pub legal_history : (lock : TicketLock K C R G) (seat : Seat K C R G) → IsSeatOf lock seat
+      → IsLegal G.step (G.opening (start_of lock).book) (seat_of seat).seen
   legal_history lock seat is = subst (λ start. IsLegalFrom G start (seat_of seat).seen) is.1 seat.legal

@@ -1,7 +1,8 @@
 //! The layout of the table: at which place each of its words stands, and the list of them all.
 //!
-//! Nothing else says it. The words lie side by side. A machine with many cores may want each grant
-//! word in a cache line of its own: that is another list, and another place for each word.
+//! Nothing else says it. The words lie side by side: the next ticket, the four grant words, and the
+//! words of the board. A machine with many cores may want each grant word in a cache line of its own:
+//! that is another list, and another place for each word.
 ghost use Rattle.std.specs.Prelude.{◌≡◌, ◌<◌, IfOk};
 ghost use Rattle.ticket_lock.specs.Layout.{grant_word, board_word, first_words};
 

@@ -1,4 +1,4 @@
-//! The lock and its calls.
+//! The lock and its calls: open, split, draw, look, post, leave, gather, glance and close.
 ghost use Rattle.std.specs.Prelude.{⊤, ◌≡◌, ◌↔◌, ℕ, ◌+◌, ◌*◌, ◌<◌, ◌≤◌, true, false, [], ◌∷◌, length, slice_index, Some, None, IsErr, IfOk, IfErr};
 ghost use Rattle.ticket_steps.specs.Books.{book_state, IsLawfulBook};
 ghost use Rattle.ticket_steps.specs.History.{of, IsLegal};

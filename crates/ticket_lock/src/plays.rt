@@ -1,4 +1,5 @@
-//! The kinds of step, and what each tells the seat that steps.
+//! The seven kinds of step (split, draw, look, post, leave, gather, glance), and what each tells the
+//! seat that steps.
 ghost use Rattle.std.specs.Prelude.{ℕ, List, []};
 ghost use Rattle.ticket_steps.specs.declared.kept.Entry.{Entry as EntryOf};
 ghost use Rattle.ticket_lock.specs.Plays.{DrawTells, LookTells, PostTells, LeaveTells, SecondLoadTells, GlanceTells};

@@ -1,4 +1,5 @@
-//! What no clause says: worked turns, that calls succeed, two threads, and out of memory.
+//! What no clause says: worked turns, that calls succeed, glances before and after a post, two threads,
+//! and out of memory.
 //!
 //! The test of one thread also passes where any one request for memory is refused
 //! (`rt try --test --fail-alloc N`).
@@ -6,7 +7,7 @@ ghost use Rattle.std.specs.Prelude.{◌≡◌, ◌<◌, ◌≤◌, [], IfOk};
 ghost use Rattle.ticket_steps.specs.CounterBooks.{entries_of, refused_of};
 ghost use Rattle.ticket_lock.specs.Tokens.{IsSeatOf, IsTurnOf};
 
-use crate::{Seat, TicketLock, Turn, every_step};
+use crate::{Look, Seat, TicketLock, Turn, every_step};
 use std::alloc::{AllocError, Global};
 use std::process::Abort;
 use std::test::Fail;
@@ -88,6 +89,8 @@ fn two_seats_take_turns(rt: HostRuntime) -> Result<(), Fail> {
     let (lock, first, second) = two_seats(rt.alloc(), 10)?;
     assert!(rt; first.number() == 0 && first.count() == 1 && first.fresh() && first.calls() == 0);
     assert!(rt; second.number() == 1 && second.count() == 1 && second.left() == 4_294_967_295);
+    let (first, zero) = lock.glance(first, 0);
+    assert!(rt; zero == 0 && first.fresh() && first.calls() == 0);
     let Ok(a) = lock.draw(first) else {
         panic!(rt; "spent")
     };
@@ -107,7 +110,8 @@ fn two_seats_take_turns(rt: HostRuntime) -> Result<(), Fail> {
         Ok(done) => done,
         Err(_turn) => panic!(rt; "waits"),
     };
-    assert_eq!(rt; (five, twelve), (Ok(5), Ok(12)));
+    let (second, shown) = lock.glance(second, 0);
+    assert_eq!(rt; (five, twelve, shown), (Ok(5), Ok(12), 12));
     let (lock, first) = match lock.close(first) {
         Ok(_book) => panic!(rt; "closed with a seat missing"),
         Err(back) => back,
@@ -122,6 +126,47 @@ fn two_seats_take_turns(rt: HostRuntime) -> Result<(), Fail> {
     assert_eq!(rt; entries.len(), 2);
     assert!(rt; is_entry(&entries[0], 0, 5, 5) && is_entry(&entries[1], 1, 7, 12));
     every_step::<CounterBook>();
+    Ok(())
+}
+
+/// A board is read without a ticket: it shows what was posted, before the holder leaves. A call of 0
+/// changes no word: it has no place, and the holder leaves with it.
+#[test]
+fn a_glance_reads_what_was_posted(rt: HostRuntime) -> Result<(), Fail> {
+    let (lock, first, second) = two_seats(rt.alloc(), 10)?;
+    let Ok(turn) = lock.draw(first) else {
+        panic!(rt; "spent")
+    };
+    let (hold, mut book) = match lock.look(turn) {
+        Look::Held(hold, book) => (hold, book),
+        Look::Waiting(_turn) => panic!(rt; "waits"),
+    };
+    assert!(rt; !hold.posted() && hold.number() == 0 && hold.ticket() == 0);
+    let Ok(reply) = book.record(hold.number(), 5) else {
+        panic!(rt; "no room")
+    };
+    let (second, before) = lock.glance(second, 0);
+    let hold = lock.post(hold, &book, 0);
+    let (second, after) = lock.glance(second, 0);
+    assert!(rt; hold.posted() && reply == 5 && before == 0 && after == 5);
+    let first = lock.leave(hold, book);
+    let Ok(turn) = lock.draw(second) else {
+        panic!(rt; "spent")
+    };
+    let (second, same) = match take_turn(&lock, turn, 0) {
+        Ok(done) => done,
+        Err(_turn) => panic!(rt; "waits"),
+    };
+    let (second, shown) = lock.glance(second, 0);
+    assert_eq!(rt; (same, shown), (Ok(5), 5));
+    let seat = lock.gather(first, second);
+    let book = match lock.close(seat) {
+        Ok(book) => book,
+        Err((_lock, _seat)) => panic!(rt; "missing"),
+    };
+    let entries = book.entries();
+    assert_eq!(rt; entries.len(), 2);
+    assert!(rt; is_entry(&entries[0], 0, 5, 5) && is_entry(&entries[1], 1, 0, 5));
     Ok(())
 }
 

@@ -7,7 +7,8 @@ use crate::tokens::{Seat, Turn};
 use ticket_steps::counter::CounterBook;
 use ticket_steps::{Kept, NoMemory};
 
-/// Looks, and where the ticket is served records the call under the seat's own number and leaves.
+/// Looks, and where the ticket is served records the call under the seat's own number, posts it where
+/// it has a place on the board, and leaves.
 pub(crate) fn take_turn(
     lock: &TicketLock<CounterBook>,
     turn: Turn<CounterBook>,
@@ -21,8 +22,15 @@ pub(crate) fn take_turn(
 {
     match lock.look(turn) {
         Look::Held(hold, mut book) => {
+            let place = book.posts(call);
             let reply = book.record(hold.number(), call);
-            let seat = lock.leave(hold, book);
+            let seat = match place {
+                Some(place) => {
+                    let hold = lock.post(hold, &book, place);
+                    lock.leave(hold, book)
+                }
+                None => lock.leave(hold, book),
+            };
             Ok((seat, reply))
         }
         Look::Waiting(turn) => Err(turn),
