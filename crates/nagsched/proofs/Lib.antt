@@ -1,3 +1,0 @@
-pub mod DriveLemmas
-pub mod DrillDriveLemmas
-pub mod DrillLaws

@@ -2,23 +2,17 @@
 //! The program `nagsched`: reads a setup and a script of calls from standard input, makes the calls
 //! on one scheduler, and writes the line of each reply to standard output.
 //!
-//! `session` does what the words ask for, which `check_words` reads, and gives the exit status.
-//! `drive` is a run: an input is read by `check_script`, its calls are made on one scheduler, and the
-//! lines are made and written by `check_text`. `drill` lets workers work on an input, with the plugin
-//! of `scripted`, and writes what came of it.
+//! Here are the program's own words and its streams. What it does with them, and the exit status, is
+//! `session` of `check_session`.
 
 ghost use Rattle.std.specs.Prelude.{◌≡◌, IfOk, map, string_bytes};
 ghost use Rattle.clap.specs.Walk.{texts};
 
-mod drill;
-mod drive;
-mod scripted;
-mod session;
 #[cfg(test)]
 mod tests;
 
 use check_script::DriveError;
-use session::{Ending, exit_status, refuse_words, session};
+use check_session::session::{Ending, exit_status, refuse_words, session};
 use std::alloc::{AllocError, Global};
 use std::io::{BufWriter, ErrorKind};
 use std::process::ExitCode;

@@ -21,7 +21,7 @@ mod reports;
 mod setups;
 mod statuses;
 
-use crate::drive::{Outcome, drive};
+use check_session::drive::{Outcome, drive};
 use std::alloc::Global;
 use std::test::Fail;
 

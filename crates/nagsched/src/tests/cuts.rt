@@ -3,8 +3,8 @@
 
 use super::devices::ShortWriter;
 use super::{OFFICE, SERVICE, drill_example, drill_faults, office, run_on};
-use crate::drill::drill;
-use crate::drive::Outcome;
+use check_session::drill::drill;
+use check_session::drive::Outcome;
 use std::alloc::Global;
 use std::process::Abort;
 use std::sync::Wait;

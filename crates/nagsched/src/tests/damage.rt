@@ -3,7 +3,7 @@
 use super::cuts::LINES;
 use super::devices::ShortWriter;
 use super::{OFFICE, SERVICE, drill_example, office};
-use crate::session::session;
+use check_session::session::session;
 use std::alloc::Global;
 use std::process::Abort;
 use std::sync::Wait;

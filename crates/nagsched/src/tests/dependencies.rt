@@ -1,7 +1,7 @@
 //! Dependencies, the limit, and the refusals of dependencies.
 
 use super::run_script;
-use crate::drive::Outcome;
+use check_session::drive::Outcome;
 use std::alloc::Global;
 use std::test::Fail;
 

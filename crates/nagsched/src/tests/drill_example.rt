@@ -2,8 +2,8 @@
 //! office network at every moment of the script.
 
 use super::OFFICE;
-use crate::drill::drill;
-use crate::drive::Outcome;
+use check_session::drill::drill;
+use check_session::drive::Outcome;
 use std::test::Fail;
 
 /// The lines of the example.

@@ -3,9 +3,9 @@
 
 use super::SERVICE;
 use super::devices::{FailingReader, KINDS, ShortWriter};
-use crate::drill::drill;
-use crate::drive::Outcome;
 use check_script::DriveError;
+use check_session::drill::drill;
+use check_session::drive::Outcome;
 use std::alloc::Global;
 use std::io::{ErrorKind, Read};
 use std::process::Abort;

@@ -3,7 +3,7 @@
 
 use super::devices::{FailingReader, KINDS, ShortWriter};
 use super::drill_faults::{LINES, WELL_AGAIN, with_service};
-use crate::session::session;
+use check_session::session::session;
 use std::alloc::Global;
 use std::io::ErrorKind;
 use std::process::Abort;

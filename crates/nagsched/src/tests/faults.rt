@@ -2,8 +2,8 @@
 
 use super::devices::{FailingReader, KINDS, ShortWriter};
 use super::with_host;
-use crate::drive::{Outcome, drive};
 use check_script::DriveError;
+use check_session::drive::{Outcome, drive};
 use std::io::ErrorKind;
 use std::test::Fail;
 

@@ -1,7 +1,7 @@
 //! Results that come and go: an object begins to flap and stops.
 
 use super::run_script;
-use crate::drive::Outcome;
+use check_session::drive::Outcome;
 use std::alloc::Global;
 use std::test::Fail;
 

@@ -2,7 +2,7 @@
 
 use super::devices::LongReader;
 use super::run_on;
-use crate::drive::{Outcome, drive};
+use check_session::drive::{Outcome, drive};
 use std::alloc::Global;
 use std::test::Fail;
 

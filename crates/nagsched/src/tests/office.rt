@@ -2,7 +2,7 @@
 //! gateway goes down and comes back, and its mail service goes down and stays so.
 
 use super::{OFFICE, run_script};
-use crate::drive::Outcome;
+use check_session::drive::Outcome;
 use std::test::Fail;
 
 /// The lines of the example.

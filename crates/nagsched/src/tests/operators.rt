@@ -1,7 +1,7 @@
 //! The operators' calls and their lines.
 
 use super::{SERVICE, run_script};
-use crate::drive::Outcome;
+use check_session::drive::Outcome;
 use std::test::Fail;
 
 #[test]

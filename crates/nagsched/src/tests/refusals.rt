@@ -1,7 +1,7 @@
 //! The lines of refusals of an input.
 
 use super::{run_on, with_host};
-use crate::drive::Outcome;
+use check_session::drive::Outcome;
 use std::test::Fail;
 
 /// The first checks of hosts are all due at the start.

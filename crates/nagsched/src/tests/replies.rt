@@ -1,7 +1,7 @@
 //! The lines of replies.
 
 use super::{run_on, with_host};
-use crate::drive::{Outcome, drive};
+use check_session::drive::{Outcome, drive};
 use std::test::Fail;
 
 #[test]

@@ -1,7 +1,7 @@
 //! Reports and the lines of standings.
 
 use super::{SERVICE, run_script};
-use crate::drive::Outcome;
+use check_session::drive::Outcome;
 use std::test::Fail;
 
 /// A host `p` and a host `h` behind it, each with 3 attempts.

@@ -2,7 +2,7 @@
 //! script without calls runs over it.
 
 use super::run_on;
-use crate::drive::Outcome;
+use check_session::drive::Outcome;
 use std::test::Fail;
 
 const EXAMPLES: [&str; 3] = [

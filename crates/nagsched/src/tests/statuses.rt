@@ -2,9 +2,9 @@
 
 use super::devices::{FailingReader, ShortWriter};
 use super::with_host;
-use crate::drive::Outcome;
-use crate::session::{Ending, exit_status, refuse_words, session};
 use check_script::DriveError;
+use check_session::drive::Outcome;
+use check_session::session::{Ending, exit_status, refuse_words, session};
 use std::io::ErrorKind;
 use std::test::Fail;
 

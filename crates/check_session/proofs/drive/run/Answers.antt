@@ -1,0 +1,24 @@
+use Rattle.std.proofs.Common.{arith}
+use Rattle.check_sched.specs.declared.call.Call.TheVariants as call
+use Rattle.check_text.proofs.OutputLemmas.{WroteUpTo-none, WroteUpTo-next, WroteUpTo-cut, WroteUpTo-whole, on_err_any}
+use Rattle.check_text.proofs.TextLemmas.{text_next, text_end}
+use Rattle.check_session.proofs.drive.run.Goals as goal
+
+pub returns-in_default-clause-fault : goal.returns-in_default-clause-fault
+returns-in_default-clause-fault g c = (_, WroteUpTo-none _ _)
+
+pub loop-call-preserved : goal.loop-call-preserved
+loop-call-preserved g c =
+    let next = text_next c.loop-call.sched c.deref-call-items.result.now c.loop-call.call-index (call.Take 0) c.loop-call-test.true
+    (rw c.make_call.ensures.state at c.make_call.ensures.setup) in
+    rw c.make_call.ensures.state (WroteUpTo-next _ _ _ _ _ _ _ c.loop-call.invariant next c.in_ok-make_call.ensures.written)
+
+pub returns-in_err-make_call-clause-fault : goal.returns-in_err-make_call-clause-fault
+returns-in_err-make_call-clause-fault g c =
+    let next = text_next c.loop-call.sched c.deref-call-items.result.now c.loop-call.call-index (call.Take 0) c.loop-call-test.true
+    (rw c.make_call.ensures.state at c.make_call.ensures.setup) in
+    on_err_any _ (WroteUpTo-cut _ _ _ _ _ _ _ c.loop-call.invariant next c.in_err-make_call.ensures.fault)
+
+pub returns-clause-written : goal.returns-clause-written
+returns-clause-written g c =
+    WroteUpTo-whole _ _ _ _ c.loop-call.invariant (text_end c.loop-call.sched c.deref-call-items.result.now c.loop-call.call-index (omega arith))

@@ -1,0 +1,105 @@
+-- What the workers of a drill leave in the history, and what a drill writes.
+use Rattle.std.specs.Prelude.{◌≡◌, ◌⊎◌, ℕ, ◌+◌, ◌<◌, ◌≤◌, ⊤, List, [], ◌∷◌, filter_map, length, Option, Some, None, Result, Ok, Err, IfOk, OnErr, OnOk}
+use Rattle.std.specs.Io.KnownBytes.{Appends, Keeps}
+use Rattle.ticket_steps.specs.declared.kept.Entry.{Entry}
+use Rattle.ticket_steps.specs.History.{of, IsLegal}
+use Rattle.check_rules.specs.declared.state.Code.{Code}
+use Rattle.check_sched.specs.declared.call.Call.{Call}
+use Rattle.check_sched.specs.declared.call.Reply.{Reply}
+use Rattle.check_sched.specs.State.{opening}
+use Rattle.check_sched.specs.Step.{step}
+use Rattle.check_workers.specs.Shifts.{IsShift, Shift, shift_entries}
+use Rattle.check_script.specs.declared.drive_error.DriveError.{DriveError}
+use Rattle.check_script.specs.declared.drive_error.DriveError.TheVariants as errors
+use Rattle.check_session.specs.declared.drive.Outcome.{Outcome}
+use Rattle.check_script.specs.declared.refusal.InputRefusal.{InputRefusal}
+use Rattle.check_script.specs.DrillScript.{DrillScript, drill_script_of}
+use Rattle.check_session.specs.Drive.{HasRead, IsInput, outcome_by}
+use Rattle.check_text.specs.Output.{WroteFront}
+use Rattle.check_session.specs.ScriptedCodes.{scripted_code}
+use Rattle.check_text.specs.Text.{drill_text, refusal_line}
+
+-- the plugin of a drill gives the scripted code and no other, whatever the moment
+abbrev pub gives_scripted : List (List Code) → ℕ → ℕ → ℕ → Code → Type 0
+gives_scripted codes object run now code = code ≡ scripted_code codes object run
+
+-- The entries of the pass with this number are those of this shift: a take for each moment in order, and behind each check
+-- that was taken its report with the scripted code; where the worker stopped early, a beginning of that alone.
+pub record IsWorkerOf (s : DrillScript) (number : ℕ) (entries : List (Entry Call Reply)) (shift : Shift) : Type 0 where
+  pub number_is : shift.number ≡ number
+  pub worked : IsShift (gives_scripted s.returns) s.moments shift
+  pub entries_are : entries ≡ shift_entries shift
+
+-- these are the shifts of the passes from this number on, in order
+abbrev pub AreWorkersOf : DrillScript → List (Entry Call Reply) → ℕ → List Shift → Type 0
+AreWorkersOf s history number [] = ⊤
+AreWorkersOf s history number (shift ∷ shifts) = IsWorkerOf s number (of number history) shift × AreWorkersOf s history (number + 1) shifts
+
+-- how many of the shifts stopped early
+abbrev pub stopped_in : List Shift → ℕ
+stopped_in shifts = length (filter_map (λ shift. shift.stopped) shifts)
+
+-- A history that so many workers can leave over a script, from this start and with this room, and how many calls were
+-- refused when out of memory.
+pub record IsDrill (s : DrillScript) (start workers room : ℕ) (history : List (Entry Call Reply)) (refused : ℕ) : Type 0 where
+  -- it is one thread's
+  pub legal : IsLegal step (opening s.setup start) history
+  -- the pass numbers are those below the number of workers
+  pub numbers : (number : ℕ) → workers ≤ number → of number history ≡ []
+  -- each worker has worked a shift
+  pub shifts : List Shift
+  pub one_each : length shifts ≡ workers
+  pub each : AreWorkersOf s history 0 shifts
+  -- a worker stops at its first call without memory, and there are no other refusals
+  pub refusals : refused ≡ stopped_in shifts
+  -- memory isn't wanted below the room
+  pub within_room : length history < room → refused ≡ 0
+
+-- the text of a history that the workers can leave over this script
+pub record IsDrillText (s : DrillScript) (start workers room : ℕ) (text : List ℕ) : Type 0 where
+  pub history : List (Entry Call Reply)
+  pub refused : ℕ
+  pub drill : IsDrill s start workers room history refused
+  pub text_is : text ≡ drill_text s.setup history refused
+
+-- a text that a drill can write over a script or the input's refusal
+abbrev pub IsTextBy : ℕ → ℕ → ℕ → Result DrillScript InputRefusal → List ℕ → Type 0
+IsTextBy start workers room (Ok s) text = IsDrillText s start workers room text
+IsTextBy start workers room (Err r) text = text ≡ refusal_line r
+
+-- A text that a drill can write on the input: the line of its first refusal, or the lines of a history and its total.
+abbrev pub IsTextOf : ℕ → ℕ → ℕ → List ℕ → List ℕ → Type 0
+IsTextOf start workers room input text = IsTextBy start workers room (drill_script_of input) text
+
+-- whether a drill on the input lets workers work or refuses it
+abbrev pub drill_outcome : List ℕ → Outcome
+drill_outcome input = outcome_by (drill_script_of input)
+
+-- such a text was written, whole
+pub record WroteDrill (start workers room : ℕ) (input : List ℕ) (held holds : Option (List ℕ)) : Type 0 where
+  pub text : List ℕ
+  pub is_text : IsTextOf start workers room input text
+  pub written : Appends held holds text
+
+-- a front of such a text was
+pub record WroteDrillFront (start workers room : ℕ) (input : List ℕ) (held holds : Option (List ℕ)) : Type 0 where
+  pub text : List ℕ
+  pub is_text : IsTextOf start workers room input text
+  pub written : WroteFront held holds text
+
+-- What an error of a drill leaves, as `AfterFault` says it of a run: after a fault of the reader nothing was written. After
+-- any other error nothing was, or the input was read and a front of a text that a drill can write on it was written.
+abbrev pub AfterDrillFault : DriveError → ℕ → ℕ → ℕ → Option (List ℕ) → Option (List ℕ) → Option (List ℕ) → Option (List ℕ) → Type 0
+AfterDrillFault errors.Read start workers room had left held holds = Keeps held holds
+AfterDrillFault e start workers room None left held holds = ⊤
+AfterDrillFault e start workers room (Some input) left held holds =
+    Keeps held holds ⊎ (HasRead (Some input) left input × WroteDrillFront start workers room input held holds)
+
+-- Whatever is known of reader and writer, a drill that ended so is that of one input: it let workers work over that input or
+-- refused it, and wrote such a text on it, or after an error nothing or a front of one.
+pub record IsDrillOnInput (start workers room : ℕ) (ended : Result Outcome DriveError) (had held holds : Option (List ℕ)) : Type 0 where
+  pub input : List ℕ
+  pub is_input : IsInput had input
+  pub outcome_is : IfOk ended (λ outcome. outcome ≡ drill_outcome input)
+  pub written : OnOk ended (WroteDrill start workers room input held holds)
+  pub front : OnErr ended (Keeps held holds ⊎ WroteDrillFront start workers room input held holds)

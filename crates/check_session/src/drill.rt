@@ -1,0 +1,216 @@
+//! A drill: reads a setup, return codes and moments, lets many workers work on one scheduler, and
+//! writes the history that they made.
+ghost use Rattle.std.specs.Prelude.{◌≡◌, ◌≢◌, ◌<◌, ◌≤◌, ◌⊎◌, OnOk, OnErr, IfOk, IfErr, IfSome, length};
+ghost use Rattle.std.specs.Io.KnownBytes.{Appends, Keeps};
+ghost use Rattle.check_sched.specs.Books.{entries_of, refused_of, sched_of};
+ghost use Rattle.check_session.specs.Drill.{AfterDrillFault, IsDrill, IsDrillOnInput};
+ghost use Rattle.check_session.specs.Drill.{WroteDrill, WroteDrillFront, drill_outcome};
+ghost use Rattle.check_script.specs.DrillScript.{drill_script_of};
+ghost use Rattle.check_script.specs.DrillScripted.{drill_script};
+ghost use Rattle.check_session.specs.Drive.{HasRead};
+ghost use Rattle.check_text.specs.Output.{WroteFront};
+ghost use Rattle.check_text.specs.Text.{drill_text, entry_line, total_line};
+
+use crate::drive::Outcome;
+use crate::scripted::Scripted;
+use check_desk::Desk;
+use check_objects::Setup;
+use check_sched::{Book, Call, LAST_MOMENT, Reply};
+use check_script::{DrillScript, DriveError, MAX_INPUT_BYTES, ScriptError, read_input};
+use check_text::{flush, push_entry, push_total, write_refusal, write_text};
+use check_workers::crew;
+use std::alloc::Global;
+use std::io::{Read, Write};
+use std::sync::Wait;
+use std::thread::Threads;
+use ticket_steps::{Entry, Kept};
+
+/// Reads a setup and the script of a drill, checks every line, then lets so many workers work at the
+/// script's moments on one scheduler that starts at the moment `start`, in milliseconds. Each asks
+/// for a check at each moment and reports the scripted code of the check that it is given. When all
+/// have returned, the history is written, an entry a line with the number of its pass, and then the
+/// total. An input that is refused writes the line of its first refusal and nothing else. The writer
+/// is flushed once, at the end.
+///
+/// The book has room for so many entries: memory for more is asked for as they come. A worker stops
+/// at its first call without memory, which the total tells. The error `Memory` comes where there is
+/// no memory elsewhere, as for a thread, `Read` where the reader fails, `Write` where the writer or
+/// its flush fails. After `Read` nothing was written, after the others nothing or a front of a text
+/// that the drill can write.
+pub fn drill<H: Threads + Wait + Sync, R: Read, W: Write>(
+    rt: &H,
+    alloc: Global,
+    start: u64,
+    workers: u32,
+    room: usize,
+    reader: &mut R,
+    writer: &mut W,
+) -> Result<Outcome, DriveError>
+    requires start { start ≤ LAST_MOMENT }
+    requires workers { (0 < workers) × (workers ≤ 64) }
+    ensures written { OnOk result (IfSome (R.remaining reader.old) (λ input.
+        WroteDrill start workers room input (W.contents writer.old) (W.contents writer.new))) }
+    ensures outcome { IfOk result (λ outcome.
+        IfSome (R.remaining reader.old) (λ input. outcome ≡ drill_outcome input)) }
+    ensures read { OnOk result (IfSome (R.remaining reader.old)
+        (HasRead (R.remaining reader.old) (R.remaining reader.new))) }
+    ensures fault { IfErr result (λ e.
+        AfterDrillFault e start workers room (R.remaining reader.old) (R.remaining reader.new)
+        (W.contents writer.old) (W.contents writer.new)) }
+    ensures input { IsDrillOnInput start workers room result (R.remaining reader.old)
+        (W.contents writer.old) (W.contents writer.new) }
+{
+    let input = read_input(alloc, reader)?;
+    let outcome = answer(rt, alloc, start, workers, room, &input, writer)?;
+    flush(writer)?;
+    Ok(outcome)
+}
+
+/// Writes the text of an input that was read.
+#[tactic(auto, unfolding(check_script::specs::DrillScript::drill_script_of))]
+fn answer<H: Threads + Wait + Sync, W: Write>(
+    rt: &H,
+    alloc: Global,
+    start: u64,
+    workers: u32,
+    room: usize,
+    input: &[u8],
+    writer: &mut W,
+) -> Result<Outcome, DriveError>
+    requires start { start ≤ LAST_MOMENT }
+    requires workers { (0 < workers) × (workers ≤ 64) }
+    ensures written { OnOk result (WroteDrill start workers room input.now
+        (W.contents writer.old) (W.contents writer.new)) }
+    ensures outcome { IfOk result (λ outcome. outcome ≡ drill_outcome input.now) }
+    ensures fault { OnErr result (Keeps (W.contents writer.old) (W.contents writer.new)
+        ⊎ WroteDrillFront start workers room input.now
+        (W.contents writer.old) (W.contents writer.new)) }
+    ensures kind { IfErr result (λ e. e ≢ DriveError.Read) }
+{
+    match DrillScript::read(alloc, input) {
+        Ok(script) => {
+            let book = work_all(rt, alloc, start, workers, room, script)?;
+            write_book(alloc, &book, writer)
+        }
+        Err(ScriptError::Refused(refusal)) => {
+            write_refusal(alloc, refusal, writer)?;
+            Ok(Outcome::Refused)
+        }
+        Err(ScriptError::Memory) => Err(DriveError::Memory),
+    }
+}
+
+/// Lets the workers work, and gives the book that they leave.
+fn work_all<H: Threads + Wait + Sync>(
+    rt: &H,
+    alloc: Global,
+    start: u64,
+    workers: u32,
+    room: usize,
+    script: DrillScript,
+) -> Result<Book, DriveError>
+    requires start { start ≤ LAST_MOMENT }
+    requires workers { (0 < workers) × (workers ≤ 64) }
+    requires few { length script.moments.items ≤ MAX_INPUT_BYTES }
+    ensures drill { IfOk result (λ book. IsDrill (drill_script script) start workers room
+        (entries_of book) (refused_of book)) }
+    ensures setup { IfOk result (λ book. (sched_of book).setup ≡ script.setup) }
+    ensures kind { IfErr result (λ e. e ≡ DriveError.Memory) }
+{
+    let DrillScript {
+        setup,
+        codes,
+        moments,
+    } = script;
+    let Ok(book) = Book::open(alloc, setup, start, room) else {
+        return Err(DriveError::Memory);
+    };
+    let Ok((desk, passes)) = Desk::open(alloc, book, workers) else {
+        return Err(DriveError::Memory);
+    };
+    match crew(rt, alloc, desk, passes, &Scripted { codes }, &moments) {
+        Ok((book, _tally)) => Ok(book),
+        Err(_) => Err(DriveError::Memory),
+    }
+}
+
+/// Writes the history of a book, and its total.
+fn write_book<W: Write>(alloc: Global, book: &Book, writer: &mut W) -> Result<Outcome, DriveError>
+    ensures written { OnOk result (Appends (W.contents writer.old) (W.contents writer.new)
+        (drill_text (sched_of book.now).setup (entries_of book.now) (refused_of book.now))) }
+    ensures outcome { IfOk result (λ outcome. outcome ≡ Outcome.Ran) }
+    ensures fault { OnErr result (WroteFront (W.contents writer.old) (W.contents writer.new)
+        (drill_text (sched_of book.now).setup (entries_of book.now) (refused_of book.now))) }
+    ensures kind { IfErr result (λ e. e ≢ DriveError.Read) }
+{
+    write_history(
+        alloc,
+        book.sched().setup(),
+        book.entries(),
+        book.refused(),
+        writer,
+    )?;
+    Ok(Outcome::Ran)
+}
+
+/// Writes the line of each entry of a history, in order, and then the total: how many entries there
+/// are, and how many calls were refused when out of memory. One buffer serves all lines. Nothing is
+/// flushed.
+///
+/// An Err is `Write`, where the writer fails or takes no byte, or `Memory`. A front of the text was
+/// written then.
+pub fn write_history<W: Write>(
+    alloc: Global,
+    setup: &Setup,
+    entries: &[Entry<Call, Reply>],
+    refused: u64,
+    writer: &mut W,
+) -> Result<(), DriveError>
+    ensures written { OnOk result (Appends (W.contents writer.old) (W.contents writer.new)
+        (drill_text setup.now entries.now refused)) }
+    ensures fault { OnErr result (WroteFront (W.contents writer.old) (W.contents writer.new)
+        (drill_text setup.now entries.now refused)) }
+    ensures kind { IfErr result (λ e. e ≢ DriveError.Read) }
+{
+    let mut line = String::new(alloc);
+    for entry in entries {
+        write_entry(setup, entry, &mut line, writer)?;
+    }
+    write_total(entries.len(), refused, &mut line, writer)
+}
+
+/// Writes the line of an entry by way of the buffer `line`.
+fn write_entry<W: Write>(
+    setup: &Setup,
+    entry: &Entry<Call, Reply>,
+    line: &mut String,
+    writer: &mut W,
+) -> Result<(), DriveError>
+    ensures written { OnOk result (Appends (W.contents writer.old) (W.contents writer.new)
+        (entry_line setup.now entry.now)) }
+    ensures fault { OnErr result (WroteFront (W.contents writer.old) (W.contents writer.new)
+        (entry_line setup.now entry.now)) }
+    ensures kind { IfErr result (λ e. e ≢ DriveError.Read) }
+{
+    line.clear();
+    push_entry(line, setup, entry)?;
+    write_text(writer, line.as_bytes())
+}
+
+/// Writes the total by way of the buffer `line`.
+fn write_total<W: Write>(
+    entries: usize,
+    refused: u64,
+    line: &mut String,
+    writer: &mut W,
+) -> Result<(), DriveError>
+    ensures written { OnOk result (Appends (W.contents writer.old) (W.contents writer.new)
+        (total_line entries refused)) }
+    ensures fault { OnErr result (WroteFront (W.contents writer.old) (W.contents writer.new)
+        (total_line entries refused)) }
+    ensures kind { IfErr result (λ e. e ≢ DriveError.Read) }
+{
+    line.clear();
+    push_total(line, entries, refused)?;
+    write_text(writer, line.as_bytes())
+}

@@ -1,0 +1,139 @@
+//! What the program does, by its words, and its exit statuses.
+ghost use Rattle.std.specs.Prelude.{◌≡◌, codes, Result, OnOk, OnErr, IsOkUnless};
+ghost use Rattle.std.specs.Io.KnownBytes.{Appends};
+ghost use Rattle.clap.specs.Walk.{texts};
+ghost use Rattle.check_script.specs.declared.drive_error.DriveError.{DriveError};
+ghost use Rattle.check_session.specs.declared.session.Ending.{Ending};
+ghost use Rattle.check_text.specs.Output.{WroteFront};
+ghost use Rattle.check_session.specs.Session.{exit_status, Ends, Tells};
+
+use crate::drill::drill;
+use crate::drive::{Outcome, drive};
+use check_script::DriveError;
+use check_text::{flush, write_text};
+use check_words::job::job;
+use check_words::words::{Job, WordsError};
+use std::alloc::Global;
+use std::io::{Read, Write};
+use std::sync::Wait;
+use std::thread::Threads;
+
+/// How a session ended that met no fault and wasn't out of memory.
+#[derive(Clone, Copy, Debug, PartialEq, Eq)]
+pub enum Ending {
+    /// The words were accepted, and the input was run or refused.
+    Drove(Outcome),
+    /// The words asked for help, which was written. The input wasn't read.
+    Helped,
+    /// The words were refused, which was written. The input wasn't read.
+    RefusedWords,
+}
+
+/// Does what the program's words ask for, its own name first, and gives the exit status. Words are
+/// tested first: where they are refused, or ask for help, the input isn't read, and the line
+/// `refused words` or the help's text is written. The writer is flushed once, at the end.
+///
+/// The status is that of [`exit_status`]. Where it tells a fault or that there was no memory, a job
+/// leaves what `drive` or `drill` says of that error; without a job the reader is as it was, and the
+/// writer has got a front of what it was to be told, or nothing.
+///
+/// `rt` is the machine that starts threads and waits, which only a drill uses.
+pub fn session<H: Threads + Wait + Sync, R: Read, W: Write>(
+    rt: &H,
+    alloc: Global,
+    words: &[&str],
+    reader: &mut R,
+    writer: &mut W,
+) -> u8
+    ensures { (ended : Result Ending DriveError) × (result ≡ exit_status ended)
+        × Ends (texts words.now) ended (R.remaining reader.old) (R.remaining reader.new)
+        (W.contents writer.old) (W.contents writer.new) }
+{
+    exit_status(serve(rt, alloc, words, reader, writer))
+}
+
+/// Does what the words ask for.
+fn serve<H: Threads + Wait + Sync, R: Read, W: Write>(
+    rt: &H,
+    alloc: Global,
+    words: &[&str],
+    reader: &mut R,
+    writer: &mut W,
+) -> Result<Ending, DriveError>
+    ensures { Ends (texts words.now) result (R.remaining reader.old) (R.remaining reader.new)
+        (W.contents writer.old) (W.contents writer.new) }
+{
+    match job(alloc, words) {
+        Ok(Job::Run { start }) => match drive(alloc, start, reader, writer) {
+            Ok(outcome) => Ok(Ending::Drove(outcome)),
+            Err(e) => Err(e),
+        },
+        Ok(
+            Job::Drill {
+                start,
+                workers,
+                room,
+            },
+        ) => match drill(rt, alloc, start, workers, room, reader, writer) {
+            Ok(outcome) => Ok(Ending::Drove(outcome)),
+            Err(e) => Err(e),
+        },
+        Err(error) => tell_words(error, writer),
+    }
+}
+
+/// Tells words that ask for no job their help, or that they are refused. Out of memory it writes
+/// nothing.
+fn tell_words<W: Write>(error: WordsError, writer: &mut W) -> Result<Ending, DriveError>
+    ensures { Tells error result (W.contents writer.old) (W.contents writer.new) }
+{
+    match error {
+        WordsError::Help(text) => {
+            tell(writer, text.as_bytes())?;
+            Ok(Ending::Helped)
+        }
+        WordsError::Refused => {
+            refuse_words(writer)?;
+            Ok(Ending::RefusedWords)
+        }
+        WordsError::Memory => Err(DriveError::Memory),
+    }
+}
+
+/// Writes the line that refuses the program's words, and flushes it. An Err is `Write`: the writer or
+/// its flush failed, or a write took no byte. A front of the line was written then.
+pub fn refuse_words<W: Write>(writer: &mut W) -> Result<(), DriveError>
+    ensures written { OnOk result
+        (Appends (W.contents writer.old) (W.contents writer.new) (codes "refused words\n")) }
+    ensures fault { OnErr result
+        (WroteFront (W.contents writer.old) (W.contents writer.new) (codes "refused words\n")) }
+    ensures only { IsOkUnless result DriveError.Write }
+{
+    tell(writer, b"refused words\n")
+}
+
+/// Writes a text and flushes it.
+fn tell<W: Write>(writer: &mut W, text: &[u8]) -> Result<(), DriveError>
+    ensures written { OnOk result
+        (Appends (W.contents writer.old) (W.contents writer.new) text.now) }
+    ensures fault { OnErr result
+        (WroteFront (W.contents writer.old) (W.contents writer.new) text.now) }
+    ensures only { IsOkUnless result DriveError.Write }
+{
+    write_text(writer, text)?;
+    flush(writer)
+}
+
+/// The exit status of a session: 0 ran or told its help, 1 input refused, 2 words refused, 3 a fault
+/// of the reader or the writer, 4 out of memory.
+pub fn exit_status(ended: Result<Ending, DriveError>) -> u8
+    ensures { result ≡ exit_status ended }
+{
+    match ended {
+        Ok(Ending::Drove(Outcome::Ran) | Ending::Helped) => 0,
+        Ok(Ending::Drove(Outcome::Refused)) => 1,
+        Ok(Ending::RefusedWords) => 2,
+        Err(DriveError::Read | DriveError::Write) => 3,
+        Err(DriveError::Memory) => 4,
+    }
+}
