@@ -7,9 +7,12 @@
 ghost use Rattle.std.specs.Prelude.{◌≡◌, [], IfOk};
 ghost use Rattle.check_sched.specs.Books.{entries_of, refused_of};
 
-use crate::laws::{flaps_by_history, limit, never_checked, replies, runs_once};
+use crate::laws::{
+    board_shows_standings, flaps_by_history, limit, never_checked, replies, runs_once,
+};
 use crate::{Book, Call, Reply};
 use check_objects::{LoadError, Setup};
+use check_rules::Code;
 use std::alloc::Global;
 use std::process::Abort;
 use std::test::Fail;
@@ -108,6 +111,84 @@ fn a_history_keeps_what_was_answered(rt: HostRuntime) -> Result<(), Fail> {
     Ok(())
 }
 
+/// Makes a call as pass 1.
+fn recorded(book: &mut Book, call: Call) -> Result<Reply, Fail> {
+    if book.refused() > 0 {
+        return Err(Fail::from("a call was refused"));
+    }
+    Ok(book.record(1, call).ok().ok_or("no memory below the room")?)
+}
+
+fn report(object: u32, run: u64, code: Code) -> Call {
+    Call::Report { object, run, code }
+}
+
+/// The board of a host and its service: of both never checked, and after a CRITICAL report of the
+/// service, which leaves the host's word.
+#[test]
+fn a_board_has_a_word_for_each_object(rt: HostRuntime) -> Result<(), Fail> {
+    let mut book = book_of(rt.alloc(), 4)?;
+    assert_eq!(rt; book.words(), 2);
+    assert_eq!(rt; book.word(0), 32_824);
+    assert_eq!(rt; book.word(1), 48);
+    let taken = recorded(&mut book, Call::Take { now: 0 })?;
+    assert_eq!(rt; taken, Reply::Taken { object: 1, run: 1 });
+    let reported = recorded(&mut book, report(1, 1, Code::Critical))?;
+    assert!(rt; matches!(reported, Reply::Standing { .. }));
+    assert_eq!(rt; book.words(), 2);
+    assert_eq!(rt; book.word(0), 32_824);
+    assert_eq!(rt; book.word(1), 37);
+    Ok(())
+}
+
+/// Of all calls only the report of the run under which the object is being checked is posted, at the
+/// object's number.
+#[test]
+fn only_a_report_that_will_be_taken_is_posted(rt: HostRuntime) -> Result<(), Fail> {
+    let mut book = book_of(rt.alloc(), 4)?;
+    assert_eq!(rt; book.posts(report(1, 1, Code::Critical)), None);
+    let taken = recorded(&mut book, Call::Take { now: 0 })?;
+    assert_eq!(rt; taken, Reply::Taken { object: 1, run: 1 });
+    for (call, want) in [
+        (report(1, 1, Code::Critical), Some(1)),
+        (report(1, 1, Code::Ok), Some(1)),
+        (report(1, 2, Code::Critical), None),
+        (report(0, 1, Code::Critical), None),
+        (report(2, 1, Code::Critical), None),
+        (Call::Take { now: 0 }, None),
+        (
+            Call::Abandon {
+                object: 1,
+                run: 1,
+                now: 0,
+            },
+            None,
+        ),
+        (
+            Call::Reschedule {
+                object: 1,
+                time: 0,
+                forced: true,
+            },
+            None,
+        ),
+        (
+            Call::Enable {
+                object: 1,
+                on: false,
+            },
+            None,
+        ),
+        (Call::Status { object: 1 }, None),
+    ] {
+        assert_eq!(rt; book.posts(call), want, "{call:?}");
+    }
+    let reported = recorded(&mut book, report(1, 1, Code::Critical))?;
+    assert!(rt; matches!(reported, Reply::Standing { .. }));
+    assert_eq!(rt; book.posts(report(1, 1, Code::Critical)), None);
+    Ok(())
+}
+
 /// The laws have no parameters; each is called once.
 #[test]
 fn the_laws_can_be_called(_rt: HostRuntime) {
@@ -116,4 +197,5 @@ fn the_laws_can_be_called(_rt: HostRuntime) {
     replies();
     runs_once();
     flaps_by_history();
+    board_shows_standings();
 }
