@@ -237,15 +237,16 @@ fn rounds_of_one_thread_and_then_two_threads(rt: HostRuntime) -> Result<(), Fail
     Ok(())
 }
 
-/// A glance by a pass with no call left to make, of an object that is there.
+/// A glance at an object that is there.
 fn glanced(rt: &impl Abort, desk: &Desk, pass: Pass, object: u32) -> (Pass, Standing)
     requires { IsPassOf desk.now pass }
     ensures { IsPassOf desk.now result.0 }
 {
-    match desk.glance(pass, object) {
-        (pass, Some(standing)) => (pass, standing),
-        (_pass, None) => panic!(rt; "no such object"),
-    }
+    let (pass, standing) = desk.glance(pass, object);
+    let Some(standing) = standing else {
+        panic!(rt; "no such object");
+    };
+    (pass, standing)
 }
 
 /// The second pass glances while the first takes, holds and reports: it reads what was posted, and

@@ -31,9 +31,10 @@ glance-seat-requires-clause-place c =
 pub returns-clause-missing : goal.returns-clause-missing
 returns-clause-missing c =
     let known : Some (standing_after c.args.self.now (seat_of c.glance-seat.result.0).seen c.args.object) ≡ c.decode.result = sym (read c) in
-    let less = there (goal.at.returns-clause-missing c).Else-self-object in
-    (λ none. let no : Some (standing_after c.args.self.now (seat_of c.glance-seat.result.0).seen c.args.object) ≡ None = known ∙ none in absurd (cc),
-    λ past. absurd (omega (arith, past, less)))
+    let less = there (goal.at.returns-clause-missing c).Else-self-object in (
+      λ none. let no : Some (standing_after c.args.self.now (seat_of c.glance-seat.result.0).seen c.args.object) ≡ None = known ∙ none in absurd (cc),
+      λ past. absurd (omega (arith, past, less)),
+    )
 
 pub returns-clause-standing : goal.returns-clause-standing
 returns-clause-standing c = λ less. read c
