@@ -72,7 +72,11 @@ fn glance_all<R: Threads + Wait + Clock + Sync>(
     requires { All (IsPassOf desk.now) passes.items }
 {
     let alone = passes.len() == 1;
-    thread::map_vec(rt, passes, &|pass| one(rt, desk, pass, objects, count, alone))
+    thread::map_vec(
+        rt,
+        passes,
+        &|pass| one(rt, desk, pass, objects, count, alone),
+    )
 }
 
 /// The work of one thread: the first reports, unless it is alone, and the others glance.
@@ -94,13 +98,7 @@ fn one(
 }
 
 /// The glances of one thread.
-fn glance_often(
-    rt: &impl Clock,
-    desk: &Desk,
-    mut pass: Pass,
-    objects: u32,
-    count: u64,
-) -> Glanced
+fn glance_often(rt: &impl Clock, desk: &Desk, mut pass: Pass, objects: u32, count: u64) -> Glanced
     requires { IsPassOf desk.now pass }
 {
     let start = Instant::now(rt);
@@ -125,13 +123,7 @@ fn glance_often(
 }
 
 /// The checks of one thread, each taken and reported: a sum of what was taken.
-fn report_often(
-    rt: &impl Wait,
-    desk: &Desk,
-    mut pass: Pass,
-    objects: u32,
-    checks: u64,
-) -> u64
+fn report_often(rt: &impl Wait, desk: &Desk, mut pass: Pass, objects: u32, checks: u64) -> u64
     requires { IsPassOf desk.now pass }
 {
     let services = u64::from(objects.max(2) - 1);
