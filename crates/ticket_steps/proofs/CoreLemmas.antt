@@ -1,19 +1,21 @@
 -- Facts that the core's functions cite.
-use Rattle.std.proofs.Common.{mul-le-mul_right, ◌≡◌, ℕ, ◌+◌, ◌*◌, ◌<◌, ◌≤◌, ◌≢◌, List, [], ◌∷◌, ◌++◌, length, set, sym, refl, ap, ◌∙◌, subst, arith, true, Some, None}
+use Rattle.std.proofs.Common.{mul-le-mul_right, ◌≡◌, ℕ, ◌+◌, ◌*◌, ◌^◌, ◌<◌, ◌≤◌, ◌≢◌, List, [], ◌∷◌, ◌++◌, length, get_or, set, sym, refl, ap, ◌∙◌, subst, arith, true, Some, None}
 use mathlib.Core.Option.{some}
 use lib.ListN.{get_elem?}
 use Rattle.ticket_steps.specs.declared.kept.Entry.{Entry}
 use Rattle.ticket_steps.specs.declared.kept.Kept.{Ghosts}
 use Rattle.ticket_steps.specs.declared.seats.CoreSeat.{CoreSeat}
+use Rattle.ticket_steps.specs.declared.seats.Phase.{Phase}
 use Rattle.ticket_steps.specs.declared.seats.Phase.TheVariants.{Idle, Waiting, Holding, Posted}
 use Rattle.ticket_steps.specs.Books.{BookState, book_state, with_entry, with_refusal}
 use Rattle.ticket_steps.specs.CoreStates.{CoreState, core_state, opened}
 use Rattle.ticket_steps.specs.Happenings.{split, drew, waited, held, posted, post_refused, left_posted, recorded, refused, gathered, with_seats, Moves}
 use Rattle.ticket_steps.specs.Lawful.{IsLawful}
-use Rattle.ticket_steps.specs.Seats.{seat, keeping, given, waiting, holding, posting, ended, joined, gone}
+use Rattle.ticket_steps.specs.Seats.{Holds, seat, keeping, given, waiting, holding, posting, ended, joined, gone}
 use Rattle.ticket_steps.specs.Sums.{counted}
+use Rattle.ticket_steps.proofs.FaultLemmas.{read_is}
 use Rattle.ticket_steps.proofs.Lists.{at_same, set_swap}
-use Rattle.ticket_steps.proofs.SeatLemmas.{served_le, taken_le}
+use Rattle.ticket_steps.proofs.SeatLemmas.{one_calls, served_le, taken_le}
 use Rattle.ticket_steps.proofs.Totals.{length-counted}
 
 -- the core state at the opening
@@ -41,6 +43,28 @@ few_served numbers draws c l few small =
 pub few_refused : {S C R : Type 0} (numbers draws : ℕ) (c : CoreState S C R) → IsLawful numbers draws c → numbers ≤ 1024 → draws < 4294967296
     → c.book.refused ≤ 4398046510081
 few_refused numbers draws c l few small = omega (arith, taken_le numbers draws c l, few_served numbers draws c l few small)
+
+-- the seat x, read at the place where p stands
+module _ {S C R : Type 0} (numbers draws : ℕ) (c : CoreState S C R) (l : IsLawful numbers draws c) (few : numbers ≤ 1024) (small : draws ≤ 4294967295) (i : ℕ)
+    {p x : CoreSeat} (at : get_elem? c.seats i ≡ some p) (read : x ≡ get_or c.seats i x) where
+  served_within : c.served ≤ 4398046510080
+  served_within = few_served numbers draws c l few (omega (arith, small))
+
+  -- it can end one call more
+  pub can_end : x.calls + 1 < 2 ^ 64
+  can_end = omega (arith, ap (λ (s : CoreSeat). s.calls) (read_is c.seats i at read), one_calls numbers draws c l i p at, served_within)
+
+  -- where it holds, its ticket is the number served, which is small
+  pub ticket_served : (ticket : ℕ) → Holds ticket x.phase → (ticket ≡ c.served) × (ticket < 2 ^ 60)
+  ticket_served ticket holder =
+      let first : ticket ≡ c.served = (l.each i p at).holder ticket (subst (λ (s : CoreSeat). Holds ticket s.phase) (read_is c.seats i at read) holder) in
+      (first, omega (arith, first, served_within))
+
+-- p stands where x was read in this phase, and where y was read and changed
+pub changed_is : (seats : List CoreSeat) (i : ℕ) (change : CoreSeat → CoreSeat) (phase : Phase) {p x y w : CoreSeat} → get_elem? seats i ≡ some p
+    → x ≡ get_or seats i x → x.phase ≡ phase → y ≡ get_or seats i y → w ≡ change y → (p.phase ≡ phase) × (w ≡ change p)
+changed_is seats i change phase at read is read' changed =
+    (ap (λ (s : CoreSeat). s.phase) (sym (read_is seats i at read)) ∙ is, changed ∙ ap change (read_is seats i at read'))
 
 module _ {K C R : Type 0} (k : Ghosts K C R) (draws : ℕ) (b : CoreState k.State C R) (i own : ℕ) (p : CoreSeat)
     (at : get_elem? b.seats i ≡ some p) (called : p.own ≡ own) where

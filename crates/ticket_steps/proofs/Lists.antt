@@ -1,5 +1,8 @@
--- Lists read by `get_elem?`.
+-- Lists read by `get_elem?`, and lists of words that are copied one by one.
 use Rattle.std.proofs.Common.{◌≡◌, ℕ, zero, suc, ◌<◌, ◌≢◌, ◌⊎◌, List, [], ◌∷◌, ◌++◌, length, get_or, set, sym, refl, ap, ◌∙◌, inl, inr, ⊎_elim, arith}
+use Rattle.std.proofs.Common.{◌+◌, take, add-one}
+use Rattle.std.proofs.Math.Seq.{take-suc, take-length}
+use Rattle.std.proofs.lemmas.List.{length-take-le}
 use mathlib.Core.Option.{some, some-injective, some-ne-none}
 use lib.ListN.{get_elem?}
 
@@ -61,3 +64,17 @@ module _ {A : Type 0} where
   set_swap (x ∷ xs) zero (suc j) a b n = refl
   set_swap (x ∷ xs) (suc i) zero a b n = refl
   set_swap (x ∷ xs) (suc i) (suc j) a b n = ap (λ (l : List A). x ∷ l) (set_swap xs i j a b (λ e. n (ap suc e)))
+
+-- the words of a list, copied up to a place
+module _ (words : List ℕ) (place count : ℕ) (all : count ≡ length words) where
+  pub length-copied : place < count → length (take place words) ≡ place
+  length-copied less = length-take-le place words (omega (arith, all, less))
+
+  -- with the word at the place they are those up to the next one
+  pub copied-next : {word : ℕ} → place < count → word ≡ get_or words place 0 → take place words ++ word ∷ [] ≡ take (place + 1) words
+  copied-next less is =
+      ap (λ (n : ℕ). take place words ++ n ∷ []) is ∙ sym (rw add-one (take-suc words place 0 (omega (arith, all, less))))
+
+  -- at the end they are all
+  pub copied-all : place ≡ count → take place words ≡ words
+  copied-all end = ap (λ (n : ℕ). take n words) (end ∙ all) ∙ take-length words

@@ -133,73 +133,50 @@ module _ {K C R : Type 0} (k : Ghosts K C R) where
         ∙ (append_assoc (of n b.book.entries) (recorded_by n (h ∷ [])) (recorded_by n hs) ∙ ap
         (λ (l : List (Entry C R)). of n b.book.entries ++ l) (sym (recorded-cons n h hs))))
 
-    -- each happening that makes a call adds one to those that the book has taken in
     abbrev taken : CoreState k.State C R → ℕ
     taken c = calls_taken c.book
 
-    moves_made : (b c : CoreState k.State C R) (h : Happening C R) → Moves k draws b h c → taken c ≡ taken b + calls_made (h ∷ [])
-    moves_made b c (split own count) t = omega (arith, ap taken t.6)
-    moves_made b c (drew own ticket) t = omega (arith, ap taken t.5)
-    moves_made b c (waited own) t = omega (arith, ap taken t.5)
-    moves_made b c (held own) t = omega (arith, ap taken t.3)
-    moves_made b c (posted own call reply) t = omega (arith, ap taken t.5, taken_entry 0 draws k b.book own call)
-    moves_made b c (post_refused own) t = omega (arith, ap taken t.4, taken_refusal 0 draws k b.book)
-    moves_made b c (left_posted own) t = omega (arith, ap taken t.4)
-    moves_made b c (recorded own call reply) t = omega (arith, ap taken t.5, taken_entry 0 draws k b.book own call)
-    moves_made b c (refused own) t = omega (arith, ap taken t.4, taken_refusal 0 draws k b.book)
-    moves_made b c (glanced own place word) t = omega (arith, ap taken t.5)
-    moves_made b c (gathered own other) t = omega (arith, ap taken t.7)
-
-    made-cons : (h : Happening C R) (hs : List (Happening C R)) → calls_made (h ∷ hs) ≡ calls_made (h ∷ []) + calls_made hs
-    made-cons (split own count) hs = omega arith
-    made-cons (drew own ticket) hs = omega arith
-    made-cons (waited own) hs = omega arith
-    made-cons (held own) hs = omega arith
-    made-cons (posted own call reply) hs = omega arith
-    made-cons (post_refused own) hs = omega arith
-    made-cons (left_posted own) hs = omega arith
-    made-cons (recorded own call reply) hs = omega arith
-    made-cons (refused own) hs = omega arith
-    made-cons (glanced own place word) hs = omega arith
-    made-cons (gathered own other) hs = omega arith
-
-    pub leads_made : (b c : CoreState k.State C R) (hs : List (Happening C R)) → Leads k draws b hs c → taken c ≡ taken b + calls_made hs
-    leads_made b c [] t = omega (arith, ap taken t)
-    leads_made b c (h ∷ hs) t = omega (arith, moves_made b t.0 h t.1, leads_made t.0 c hs t.2, made-cons h hs)
-
-    -- each happening that ends a turn raises the number served by one
     abbrev served : CoreState k.State C R → ℕ
     served c = c.served
 
-    moves_ended : (b c : CoreState k.State C R) (h : Happening C R) → Moves k draws b h c → served c ≡ served b + turns_ended (h ∷ [])
-    moves_ended b c (split own count) t = omega (arith, ap served t.6)
-    moves_ended b c (drew own ticket) t = omega (arith, ap served t.5)
-    moves_ended b c (waited own) t = omega (arith, ap served t.5)
-    moves_ended b c (held own) t = omega (arith, ap served t.3)
-    moves_ended b c (posted own call reply) t = omega (arith, ap served t.5)
-    moves_ended b c (post_refused own) t = omega (arith, ap served t.4)
-    moves_ended b c (left_posted own) t = omega (arith, ap served t.4)
-    moves_ended b c (recorded own call reply) t = omega (arith, ap served t.5)
-    moves_ended b c (refused own) t = omega (arith, ap served t.4)
-    moves_ended b c (glanced own place word) t = omega (arith, ap served t.5)
-    moves_ended b c (gathered own other) t = omega (arith, ap served t.7)
+    -- the book has taken in the calls that were made since, and the number served has risen by the turns that have ended
+    abbrev pub Counts : CoreState k.State C R → CoreState k.State C R → List (Happening C R) → Type 0
+    Counts b c hs = (calls_taken c.book ≡ calls_taken b.book + calls_made hs) × (c.served ≡ b.served + turns_ended hs)
 
-    ended-cons : (h : Happening C R) (hs : List (Happening C R)) → turns_ended (h ∷ hs) ≡ turns_ended (h ∷ []) + turns_ended hs
-    ended-cons (split own count) hs = omega arith
-    ended-cons (drew own ticket) hs = omega arith
-    ended-cons (waited own) hs = omega arith
-    ended-cons (held own) hs = omega arith
-    ended-cons (posted own call reply) hs = omega arith
-    ended-cons (post_refused own) hs = omega arith
-    ended-cons (left_posted own) hs = omega arith
-    ended-cons (recorded own call reply) hs = omega arith
-    ended-cons (refused own) hs = omega arith
-    ended-cons (glanced own place word) hs = omega arith
-    ended-cons (gathered own other) hs = omega arith
+    moves_count : (b c : CoreState k.State C R) (h : Happening C R) → Moves k draws b h c → Counts b c (h ∷ [])
+    moves_count b c (split own count) t = (omega (arith, ap taken t.6), omega (arith, ap served t.6))
+    moves_count b c (drew own ticket) t = (omega (arith, ap taken t.5), omega (arith, ap served t.5))
+    moves_count b c (waited own) t = (omega (arith, ap taken t.5), omega (arith, ap served t.5))
+    moves_count b c (held own) t = (omega (arith, ap taken t.3), omega (arith, ap served t.3))
+    moves_count b c (posted own call reply) t = (omega (arith, ap taken t.5, taken_entry 0 draws k b.book own call), omega (arith, ap served t.5))
+    moves_count b c (post_refused own) t = (omega (arith, ap taken t.4, taken_refusal 0 draws k b.book), omega (arith, ap served t.4))
+    moves_count b c (left_posted own) t = (omega (arith, ap taken t.4), omega (arith, ap served t.4))
+    moves_count b c (recorded own call reply) t = (omega (arith, ap taken t.5, taken_entry 0 draws k b.book own call), omega (arith, ap served t.5))
+    moves_count b c (refused own) t = (omega (arith, ap taken t.4, taken_refusal 0 draws k b.book), omega (arith, ap served t.4))
+    moves_count b c (glanced own place word) t = (omega (arith, ap taken t.5), omega (arith, ap served t.5))
+    moves_count b c (gathered own other) t = (omega (arith, ap taken t.7), omega (arith, ap served t.7))
 
-    pub leads_ended : (b c : CoreState k.State C R) (hs : List (Happening C R)) → Leads k draws b hs c → served c ≡ served b + turns_ended hs
-    leads_ended b c [] t = omega (arith, ap served t)
-    leads_ended b c (h ∷ hs) t = omega (arith, moves_ended b t.0 h t.1, leads_ended t.0 c hs t.2, ended-cons h hs)
+    count-cons : (h : Happening C R) (hs : List (Happening C R)) → (calls_made (h ∷ hs) ≡ calls_made (h ∷ []) + calls_made hs)
+        × (turns_ended (h ∷ hs) ≡ turns_ended (h ∷ []) + turns_ended hs)
+    count-cons (split own count) hs = (omega arith, omega arith)
+    count-cons (drew own ticket) hs = (omega arith, omega arith)
+    count-cons (waited own) hs = (omega arith, omega arith)
+    count-cons (held own) hs = (omega arith, omega arith)
+    count-cons (posted own call reply) hs = (omega arith, omega arith)
+    count-cons (post_refused own) hs = (omega arith, omega arith)
+    count-cons (left_posted own) hs = (omega arith, omega arith)
+    count-cons (recorded own call reply) hs = (omega arith, omega arith)
+    count-cons (refused own) hs = (omega arith, omega arith)
+    count-cons (glanced own place word) hs = (omega arith, omega arith)
+    count-cons (gathered own other) hs = (omega arith, omega arith)
+
+    pub leads_count : (b c : CoreState k.State C R) (hs : List (Happening C R)) → Leads k draws b hs c → Counts b c hs
+    leads_count b c [] t = (omega (arith, ap taken t), omega (arith, ap served t))
+    leads_count b c (h ∷ hs) t =
+        let now = moves_count b t.0 h t.1 in
+        let later = leads_count t.0 c hs t.2 in
+        let both = count-cons h hs in
+        (omega (arith, now.0, later.0, both.0), omega (arith, now.1, later.1, both.1))
 
     are_more : (es : List (Event C)) (hs : List (Happening C R)) (e : Event C) (h : Happening C R) → AreOf es hs → IsOf e h
         → AreOf (es ++ e ∷ []) (hs ++ h ∷ [])
@@ -272,10 +249,10 @@ module _ {K C R : Type 0} (k : Ghosts K C R) where
       (subst (λ (hs : List (Happening C R)). Leads k s.draws (opened s.numbers s.draws s.opening) hs s.end) happened is.leads)
 
   pub schedule_made : (s : Schedule k.State C R) → IsSchedule k s → calls_made s.happened ≡ calls_taken s.end.book
-  schedule_made s is = omega (arith, leads_made s.draws (opened s.numbers s.draws s.opening) s.end s.happened is.leads)
+  schedule_made s is = omega (arith, (leads_count s.draws (opened s.numbers s.draws s.opening) s.end s.happened is.leads).0)
 
   pub schedule_ended : (s : Schedule k.State C R) → IsSchedule k s → turns_ended s.happened ≡ s.end.served
-  schedule_ended s is = omega (arith, leads_ended s.draws (opened s.numbers s.draws s.opening) s.end s.happened is.leads)
+  schedule_ended s is = omega (arith, (leads_count s.draws (opened s.numbers s.draws s.opening) s.end s.happened is.leads).1)
 
   pub schedule_strangers : (s : Schedule k.State C R) → IsSchedule k s → (n : ℕ) → s.numbers ≤ n → of n s.end.book.entries ≡ []
   schedule_strangers s is n le =

@@ -17,19 +17,14 @@ tickets_of Gone = []
 
 -- 1 for a seat that holds, and else 0; a seat that has posted its call holds until it leaves
 abbrev pub holds_one : Phase → ℕ
-holds_one Idle = 0
-holds_one (Waiting ticket) = 0
 holds_one (Holding ticket) = 1
 holds_one (Posted ticket) = 1
-holds_one Gone = 0
+holds_one _ = 0
 
 -- 1 for a seat that has posted its call and hasn't left yet, and else 0
 abbrev pub posted_one : Phase → ℕ
-posted_one Idle = 0
-posted_one (Waiting ticket) = 0
-posted_one (Holding ticket) = 0
 posted_one (Posted ticket) = 1
-posted_one Gone = 0
+posted_one _ = 0
 
 -- a seat in this phase has this ticket, and holds
 abbrev pub Holds : ℕ → Phase → Type 0

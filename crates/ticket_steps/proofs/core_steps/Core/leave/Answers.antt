@@ -1,4 +1,4 @@
-use Rattle.std.proofs.Common.{◌≡◌, ◌+◌, ◌∷◌, ◌++◌, [], arith, sym, ap, ◌∙◌, refl, subst, List, ℕ, set, Result, Ok, Err, Some, None, IfOk, OnErr}
+use Rattle.std.proofs.Common.{◌≡◌, ◌+◌, ◌^◌, ◌<◌, ◌∷◌, ◌++◌, [], arith, sym, ap, ◌∙◌, refl, subst, List, ℕ, set, Result, Ok, Err, Some, None, IfOk, OnErr}
 use mathlib.Core.Option.{some}
 use lib.ListN.{get_elem?}
 use Rattle.ticket_steps.specs.declared.kept.Kept.{Ghosts}
@@ -16,10 +16,10 @@ use Rattle.ticket_steps.specs.Cores.{state_of}
 use Rattle.ticket_steps.specs.Happenings.{recorded, refused, Moves}
 use Rattle.ticket_steps.specs.Seats.{ended}
 use Rattle.ticket_steps.proofs.BoardLemmas.{board_kept}
-use Rattle.ticket_steps.proofs.CoreLemmas.{recorded_moves, refused_moves, few_refused, few_served}
+use Rattle.ticket_steps.proofs.CoreLemmas.{recorded_moves, refused_moves, few_refused, can_end, changed_is, ticket_served}
 use Rattle.ticket_steps.proofs.FaultLemmas.{steps_fault, steps_shown, shows_lawful, read_is, unfit_leave, unplaced}
 use Rattle.ticket_steps.proofs.Histories.{recorded_is}
-use Rattle.ticket_steps.proofs.SeatLemmas.{holding_holds, one_calls}
+use Rattle.ticket_steps.proofs.SeatLemmas.{holding_holds}
 use Rattle.ticket_steps.proofs.core_steps.Core.leave.Given.{Over}
 use Rattle.ticket_steps.proofs.core_steps.Core.leave.Goals.{After-leave, In-Holding}
 use Rattle.ticket_steps.proofs.core_steps.Core.leave.Goals as goal
@@ -74,27 +74,21 @@ record-reply-requires g c =
 
 pub end-requires : goal.end-requires
 end-requires g c =
-    let self = c.args.self.now in let e = c.in_ok-at.ensures.found in
-    let served = few_served self.numbers self.draws (state_of self) self.lawful self.few (omega (arith, self.few_draws)) in
-    let calls = ap (λ (s : CoreSeat). s.calls) (read_is c.args.self.now.seats.items c.in_ok-at.at c.in_ok-at.ensures.found.1 c.index_mut.ensures.value) in
-    omega (arith, calls, one_calls self.numbers self.draws (state_of self) self.lawful c.in_ok-at.at e.0 e.1, served)
+    let self = c.args.self.now in
+    can_end self.numbers self.draws (state_of self) self.lawful self.few self.few_draws c.in_ok-at.at c.in_ok-at.ensures.found.1 c.index_mut.ensures.value
 
--- the seat that leaves has the number served as its ticket
-served_is : (g : Over) (c : In-Holding g) → c.in-Holding.ticket ≡ c.args.self.now.grants
-served_is g c =
-    let self = c.args.self.now in let e = c.in_ok-at.ensures.found in
-    let is = read_is self.seats.items c.in_ok-at.at e.1 c.index.ensures in
-    (self.lawful.each c.in_ok-at.at e.0 e.1).holder c.in-Holding.ticket
-    (holding_holds c.in-Holding.ticket e.0.phase (ap (λ (s : CoreSeat). s.phase) (sym is) ∙ c.in-Holding.is))
+-- the ticket of the seat that leaves
+ticket_is : (g : Over) (c : In-Holding g) → (c.in-Holding.ticket ≡ c.args.self.now.grants) × (c.in-Holding.ticket < 2 ^ 60)
+ticket_is g c =
+    let self = c.args.self.now in
+    ticket_served self.numbers self.draws (state_of self) self.lawful self.few self.few_draws c.in_ok-at.at c.in_ok-at.ensures.found.1 c.index.ensures
+    c.in-Holding.ticket (holding_holds c.in-Holding.ticket _ c.in-Holding.is)
 
 pub leave-requires-clause-served : goal.leave-requires-clause-served
-leave-requires-clause-served g c = served_is g (goal.at.leave-requires-clause-served g c).In-Holding
+leave-requires-clause-served g c = (ticket_is g (goal.at.leave-requires-clause-served g c).In-Holding).0
 
 pub leave-requires-clause-small : goal.leave-requires-clause-small
-leave-requires-clause-small g c =
-    let self = c.args.self.now in
-    let first = served_is g (goal.at.leave-requires-clause-small g c).In-Holding in
-    omega (arith, first, few_served self.numbers self.draws (state_of self) self.lawful self.few (omega (arith, self.few_draws)))
+leave-requires-clause-small g c = (ticket_is g (goal.at.leave-requires-clause-small g c).In-Holding).1
 
 -- the seat leaves, and its call is recorded or refused
 leaves : (g : Over) (c : After-leave g) → let self = c.args.self.now in let k = g.K.Kept in let book = c.record-reply.new.self in
@@ -105,16 +99,15 @@ leaves g c =
     let self = c.args.self.now in
     let k = g.K.Kept in
     let e = c.in_ok-at.ensures.found in
-    let is = read_is c.args.self.now.seats.items c.in_ok-at.at c.in_ok-at.ensures.found.1 c.index.ensures in
-    let is' = read_is c.args.self.now.seats.items c.in_ok-at.at c.in_ok-at.ensures.found.1 c.index_mut.ensures.value in
+    let ticket = c.in-Holding.ticket in
     let r = c.record-reply.ensures in
-    let holds = ap (λ (s : CoreSeat). s.phase) (sym is) ∙ c.in-Holding.is in
-    let first = (self.lawful.each c.in_ok-at.at e.0 e.1).holder c.in-Holding.ticket (holding_holds c.in-Holding.ticket e.0.phase holds) in
-    let up : c.leave.new.self ≡ self.grants + 1 = c.leave.ensures ∙ ap (λ (n : ℕ). n + 1) first in
+    let s = changed_is self.seats.items c.in_ok-at.at ended (Holding ticket) e.1 c.index.ensures c.in-Holding.is c.index_mut.ensures.value c.end.ensures in
+    let first = ticket_served self.numbers self.draws (state_of self) self.lawful self.few self.few_draws c.in_ok-at.at e.1 c.index.ensures
+    ticket (holding_holds ticket _ c.in-Holding.is) in
     leave_shows k g.met.K.Kept.legal g.met.K.Kept.replayed self.draws self.next
-    self.grants c.leave.new.self c.in_ok-at.at c.args.seat c.in-Holding.ticket self.seats.items e.0 c.end.new.self
-    c.args.call self.book c.record-reply.new.self c.record-reply.result (sym c.posts.ensures ∙ c.in-None.is) up e.1 e.2
-    holds (c.end.ensures ∙ ap ended is') r.same r.replied r.refused
+    self.grants c.leave.new.self c.in_ok-at.at c.args.seat ticket self.seats.items e.0 c.end.new.self
+    c.args.call self.book c.record-reply.new.self c.record-reply.result (sym c.posts.ensures ∙ c.in-None.is)
+    (c.leave.ensures ∙ ap (λ (n : ℕ). n + 1) first.0) e.1 e.2 s.0 s.1 r.same r.replied r.refused
 
 pub invariant_of-self-clause-lawful : goal.invariant_of-self-clause-lawful
 invariant_of-self-clause-lawful g c = shows_lawful g.K.Kept _ _ _ _ _ _ c.args.self.now.lawful (leaves g c)

@@ -1,16 +1,17 @@
-use Rattle.std.proofs.Common.{◌≡◌, ◌+◌, arith, sym, ap, ◌∙◌, refl, subst, ℕ, set, None}
+use Rattle.std.proofs.Common.{◌≡◌, ◌+◌, ◌^◌, ◌<◌, sym, ap, ◌∙◌, refl, subst, ℕ, set, None}
 use Rattle.ticket_steps.specs.CoreStates.{core_state}
 use Rattle.ticket_steps.specs.Faults.{Shows}
 use Rattle.ticket_steps.specs.declared.seats.CoreSeat.{CoreSeat}
+use Rattle.ticket_steps.specs.declared.seats.Phase.TheVariants.{Posted}
 use Rattle.ticket_steps.specs.declared.events.Event.TheVariants.{Leave}
 use Rattle.ticket_steps.specs.declared.events.Seen.TheVariants as seen
 use Rattle.ticket_steps.specs.declared.events.Fault.TheVariants.{Phase}
 use Rattle.ticket_steps.specs.Cores.{state_of}
 use Rattle.ticket_steps.specs.Happenings.{left_posted, Moves}
 use Rattle.ticket_steps.specs.Seats.{ended}
-use Rattle.ticket_steps.proofs.CoreLemmas.{left_posted_moves, few_served}
+use Rattle.ticket_steps.proofs.CoreLemmas.{left_posted_moves, can_end, changed_is, ticket_served}
 use Rattle.ticket_steps.proofs.FaultLemmas.{steps_fault, steps_shown, shows_lawful, read_is, unfit_leave_posted}
-use Rattle.ticket_steps.proofs.SeatLemmas.{one_calls, posted_holds}
+use Rattle.ticket_steps.proofs.SeatLemmas.{posted_holds}
 use Rattle.ticket_steps.proofs.core_steps.Core.leave_posted.Given.{Over}
 use Rattle.ticket_steps.proofs.core_steps.Core.leave_posted.Goals.{After-leave, In-Posted}
 use Rattle.ticket_steps.proofs.core_steps.Core.leave_posted.Goals as goal
@@ -23,29 +24,23 @@ returns-in_default-clause-step g c =
     (λ ticket posts. c.in_default.not-Posted ticket (ap (λ (s : CoreSeat). s.phase) is ∙ posts)) in
     steps_fault g.K.Kept self.draws (state_of self) (Leave c.args.seat None) Phase unfit
 
-pub end-requires : goal.end-requires
-end-requires g c =
-    let self = c.args.self.now in let e = c.in_ok-at.ensures.found in
-    let served = few_served self.numbers self.draws (state_of self) self.lawful self.few (omega (arith, self.few_draws)) in
-    let calls = ap (λ (s : CoreSeat). s.calls) (read_is c.args.self.now.seats.items c.in_ok-at.at c.in_ok-at.ensures.found.1 c.index_mut.ensures.value) in
-    omega (arith, calls, one_calls self.numbers self.draws (state_of self) self.lawful c.in_ok-at.at e.0 e.1, served)
-
--- the seat that leaves has the number served as its ticket
-served_is : (g : Over) (c : In-Posted g) → c.in-Posted.ticket ≡ c.args.self.now.grants
-served_is g c =
-    let self = c.args.self.now in let e = c.in_ok-at.ensures.found in
-    let is = read_is self.seats.items c.in_ok-at.at e.1 c.index.ensures in
-    (self.lawful.each c.in_ok-at.at e.0 e.1).holder c.in-Posted.ticket
-    (posted_holds c.in-Posted.ticket e.0.phase (ap (λ (s : CoreSeat). s.phase) (sym is) ∙ c.in-Posted.is))
-
-pub leave-requires-clause-served : goal.leave-requires-clause-served
-leave-requires-clause-served g c = served_is g (goal.at.leave-requires-clause-served g c).In-Posted
+-- the ticket of the seat that leaves
+ticket_is : (g : Over) (c : In-Posted g) → (c.in-Posted.ticket ≡ c.args.self.now.grants) × (c.in-Posted.ticket < 2 ^ 60)
+ticket_is g c =
+    let self = c.args.self.now in
+    ticket_served self.numbers self.draws (state_of self) self.lawful self.few self.few_draws c.in_ok-at.at c.in_ok-at.ensures.found.1 c.index.ensures
+    c.in-Posted.ticket (posted_holds c.in-Posted.ticket _ c.in-Posted.is)
 
 pub leave-requires-clause-small : goal.leave-requires-clause-small
-leave-requires-clause-small g c =
+leave-requires-clause-small g c = (ticket_is g (goal.at.leave-requires-clause-small g c).In-Posted).1
+
+pub leave-requires-clause-served : goal.leave-requires-clause-served
+leave-requires-clause-served g c = (ticket_is g (goal.at.leave-requires-clause-served g c).In-Posted).0
+
+pub end-requires : goal.end-requires
+end-requires g c =
     let self = c.args.self.now in
-    let first = served_is g (goal.at.leave-requires-clause-small g c).In-Posted in
-    omega (arith, first, few_served self.numbers self.draws (state_of self) self.lawful self.few (omega (arith, self.few_draws)))
+    can_end self.numbers self.draws (state_of self) self.lawful self.few self.few_draws c.in_ok-at.at c.in_ok-at.ensures.found.1 c.index_mut.ensures.value
 
 -- the seat leaves, and nothing more is recorded
 leaves : (g : Over) (c : After-leave g) → let self = c.args.self.now in
@@ -53,21 +48,19 @@ leaves : (g : Over) (c : After-leave g) → let self = c.args.self.now in
     (core_state self.next c.leave.new.self (set self.seats.items c.in_ok-at.at c.end.new.self) (state_of self).book)
 leaves g c =
     let self = c.args.self.now in
-    let k = g.K.Kept in
     let e = c.in_ok-at.ensures.found in
-    let is = read_is c.args.self.now.seats.items c.in_ok-at.at c.in_ok-at.ensures.found.1 c.index.ensures in
-    let is' = read_is c.args.self.now.seats.items c.in_ok-at.at c.in_ok-at.ensures.found.1 c.index_mut.ensures.value in
-    let posts = ap (λ (s : CoreSeat). s.phase) (sym is) ∙ c.in-Posted.is in
-    let first = (self.lawful.each c.in_ok-at.at e.0 e.1).holder c.in-Posted.ticket (posted_holds c.in-Posted.ticket e.0.phase posts) in
-    let up : c.leave.new.self ≡ self.grants + 1 = c.leave.ensures ∙ ap (λ (n : ℕ). n + 1) first in
+    let ticket = c.in-Posted.ticket in
+    let s = changed_is self.seats.items c.in_ok-at.at ended (Posted ticket) e.1 c.index.ensures c.in-Posted.is c.index_mut.ensures.value c.end.ensures in
+    let first = ticket_served self.numbers self.draws (state_of self) self.lawful self.few self.few_draws c.in_ok-at.at e.1 c.index.ensures
+    ticket (posted_holds ticket _ c.in-Posted.is) in
+    let up : c.leave.new.self ≡ self.grants + 1 = c.leave.ensures ∙ ap (λ (n : ℕ). n + 1) first.0 in
     let b = state_of self in
     let seats = set self.seats.items c.in_ok-at.at c.end.new.self in (
       left_posted c.args.seat,
       refl,
       refl,
-      subst (λ (n : ℕ). Moves k self.draws b (left_posted c.args.seat) (core_state self.next n seats b.book)) (sym up)
-          (left_posted_moves k self.draws b c.in_ok-at.at c.args.seat e.0 e.1 e.2 c.in-Posted.ticket c.end.new.self posts
-          (c.end.ensures ∙ ap ended is')),
+      subst (λ (n : ℕ). Moves g.K.Kept self.draws b (left_posted c.args.seat) (core_state self.next n seats b.book)) (sym up)
+          (left_posted_moves g.K.Kept self.draws b c.in_ok-at.at c.args.seat e.0 e.1 e.2 ticket c.end.new.self s.0 s.1),
       tt,
     )
 

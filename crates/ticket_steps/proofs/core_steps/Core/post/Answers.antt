@@ -16,7 +16,7 @@ use Rattle.ticket_steps.specs.Cores.{state_of}
 use Rattle.ticket_steps.specs.Happenings.{posted, post_refused}
 use Rattle.ticket_steps.specs.Seats.{posting}
 use Rattle.ticket_steps.proofs.BoardLemmas.{board_posted, words_posted}
-use Rattle.ticket_steps.proofs.CoreLemmas.{posted_moves, post_refused_moves, few_refused}
+use Rattle.ticket_steps.proofs.CoreLemmas.{posted_moves, post_refused_moves, few_refused, changed_is}
 use Rattle.ticket_steps.proofs.FaultLemmas.{steps_fault, steps_shown, shows_lawful, read_is, unfit_post, unplaced}
 use Rattle.ticket_steps.proofs.Histories.{recorded_is}
 use Rattle.ticket_steps.proofs.core_steps.Core.post.Given.{Over}
@@ -71,16 +71,15 @@ posts : (g : Over) (c : After-self-2-1 g) → let self = c.args.self.now in let 
     (book_state (k.state book) (k.history book) (k.refusals book)))
 posts g c =
     let self = c.args.self.now in
-    let k = g.K.Kept in
     let e = c.in_ok-at.ensures.found in
-    let is = read_is c.args.self.now.seats.items c.in_ok-at.at c.in_ok-at.ensures.found.1 c.index.ensures in
-    let is' = read_is c.args.self.now.seats.items c.in_ok-at.at c.in_ok-at.ensures.found.1 c.index_mut.ensures.value in
+    let ticket = c.in-Holding.ticket in
     let r = c.record-recorded.ensures in
-    let holds = ap (λ (s : CoreSeat). s.phase) (sym is) ∙ c.in-Holding.is in
-    post_shows k g.met.K.Kept.legal g.met.K.Kept.replayed self.draws self.next
-    self.grants c.in_ok-at.at c.args.seat c.in-Holding.ticket self.seats.items e.0 c.post.new.self
+    let s =
+    changed_is self.seats.items c.in_ok-at.at (posting ticket) (Holding ticket) e.1 c.index.ensures c.in-Holding.is c.index_mut.ensures.value c.post.ensures in
+    post_shows g.K.Kept g.met.K.Kept.legal g.met.K.Kept.replayed self.draws self.next
+    self.grants c.in_ok-at.at c.args.seat ticket self.seats.items e.0 c.post.new.self
     c.args.call self.book c.record-recorded.new.self c.record-recorded.result c.in-Some.place (sym c.posts.ensures ∙ c.in-Some.is) e.1 e.2
-    holds (c.post.ensures ∙ ap (posting c.in-Holding.ticket) is') r.same r.replied r.refused
+    s.0 s.1 r.same r.replied r.refused
 
 pub invariant_of-self-clause-lawful : goal.invariant_of-self-clause-lawful
 invariant_of-self-clause-lawful g c = shows_lawful g.K.Kept _ _ _ _ _ _ c.args.self.now.lawful (posts g c)
