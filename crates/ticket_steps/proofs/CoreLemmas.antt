@@ -7,8 +7,10 @@ use Rattle.ticket_steps.specs.declared.kept.Kept.{Ghosts}
 use Rattle.ticket_steps.specs.declared.seats.CoreSeat.{CoreSeat}
 use Rattle.ticket_steps.specs.declared.seats.Phase.{Phase}
 use Rattle.ticket_steps.specs.declared.seats.Phase.TheVariants.{Idle, Waiting, Holding, Posted}
+use Rattle.ticket_steps.specs.declared.core_steps.Core.{Core}
 use Rattle.ticket_steps.specs.Books.{BookState, book_state, with_entry, with_refusal}
 use Rattle.ticket_steps.specs.CoreStates.{CoreState, core_state, opened}
+use Rattle.ticket_steps.specs.Cores.{state_of}
 use Rattle.ticket_steps.specs.Happenings.{split, drew, waited, held, posted, post_refused, left_posted, recorded, refused, gathered, with_seats, Moves}
 use Rattle.ticket_steps.specs.Lawful.{IsLawful}
 use Rattle.ticket_steps.specs.Seats.{Holds, seat, keeping, given, waiting, holding, posting, ended, joined, gone}
@@ -44,21 +46,31 @@ pub few_refused : {S C R : Type 0} (numbers draws : ℕ) (c : CoreState S C R) �
     → c.book.refused ≤ 4398046510081
 few_refused numbers draws c l few small = omega (arith, taken_le numbers draws c l, few_served numbers draws c l few small)
 
--- the seat x, read at the place where p stands
-module _ {S C R : Type 0} (numbers draws : ℕ) (c : CoreState S C R) (l : IsLawful numbers draws c) (few : numbers ≤ 1024) (small : draws ≤ 4294967295) (i : ℕ)
-    {p x : CoreSeat} (at : get_elem? c.seats i ≡ some p) (read : x ≡ get_or c.seats i x) where
-  served_within : c.served ≤ 4398046510080
-  served_within = few_served numbers draws c l few (omega (arith, small))
+-- what a core that runs says of itself
+module _ {K C R : Type 0} {G : Ghosts K C R} (core : Core K C R G) where
+  few_ended : core.grants ≤ 4398046510080
+  few_ended = few_served core.numbers core.draws (state_of core) core.lawful core.few (omega (arith, core.few_draws))
 
-  -- it can end one call more
-  pub can_end : x.calls + 1 < 2 ^ 64
-  can_end = omega (arith, ap (λ (s : CoreSeat). s.calls) (read_is c.seats i at read), one_calls numbers draws c l i p at, served_within)
+  -- its book can count one refusal more
+  pub can_refuse : G.refusals core.book < 2 ^ 60
+  can_refuse = omega (arith, few_refused core.numbers core.draws (state_of core) core.lawful core.few (omega (arith, core.few_draws)))
 
-  -- where it holds, its ticket is the number served, which is small
-  pub ticket_served : (ticket : ℕ) → Holds ticket x.phase → (ticket ≡ c.served) × (ticket < 2 ^ 60)
-  ticket_served ticket holder =
-      let first : ticket ≡ c.served = (l.each i p at).holder ticket (subst (λ (s : CoreSeat). Holds ticket s.phase) (read_is c.seats i at read) holder) in
-      (first, omega (arith, first, served_within))
+  -- its seat x, read at the place where p stands
+  module _ (i : ℕ) {p x : CoreSeat} (at : get_elem? core.seats.items i ≡ some p) (read : x ≡ get_or core.seats.items i x) where
+    -- can end one call more
+    pub can_end : x.calls + 1 < 2 ^ 64
+    can_end = omega (
+      arith,
+      ap (λ (s : CoreSeat). s.calls) (read_is core.seats.items i at read),
+      one_calls core.numbers core.draws (state_of core) core.lawful i p at,
+      few_ended,
+    )
+
+    -- where it holds, its ticket is the number served, which is small
+    pub ticket_served : (ticket : ℕ) → Holds ticket x.phase → (ticket ≡ core.grants) × (ticket < 2 ^ 60)
+    ticket_served ticket holder =
+        let holder' = subst (λ (s : CoreSeat). Holds ticket s.phase) (read_is core.seats.items i at read) holder in
+        let first : ticket ≡ core.grants = (core.lawful.each i p at).holder ticket holder' in (first, omega (arith, first, few_ended))
 
 -- p stands where x was read in this phase, and where y was read and changed
 pub changed_is : (seats : List CoreSeat) (i : ℕ) (change : CoreSeat → CoreSeat) (phase : Phase) {p x y w : CoreSeat} → get_elem? seats i ≡ some p

@@ -1,11 +1,10 @@
-use Rattle.std.proofs.Common.{◌≡◌, ◌+◌, ◌^◌, ◌<◌, ◌∷◌, ◌++◌, [], arith, sym, ap, ◌∙◌, refl, subst, List, ℕ, set, Result, Ok, Err, Some, None, IfOk, OnErr}
+use Rattle.std.proofs.Common.{◌≡◌, ◌+◌, ◌^◌, ◌<◌, sym, ap, ◌∙◌, refl, subst, ℕ, set, Result, Ok, Err, Some, None}
 use mathlib.Core.Option.{some}
 use lib.ListN.{get_elem?}
 use Rattle.ticket_steps.specs.declared.kept.Kept.{Ghosts}
-use Rattle.ticket_steps.specs.Books.{book_state}
-use Rattle.ticket_steps.specs.CoreStates.{core_state}
+use Rattle.ticket_steps.specs.Books.{BookState, book_state}
+use Rattle.ticket_steps.specs.CoreStates.{CoreState, core_state}
 use Rattle.ticket_steps.specs.Faults.{Shows}
-use Rattle.ticket_steps.specs.History.{entry, replay, IsLegal}
 use Rattle.ticket_steps.specs.declared.kept.NoMemory.{NoMemory}
 use Rattle.ticket_steps.specs.declared.seats.CoreSeat.{CoreSeat}
 use Rattle.ticket_steps.specs.declared.seats.Phase.TheVariants.{Holding}
@@ -15,48 +14,35 @@ use Rattle.ticket_steps.specs.declared.events.Fault.TheVariants.{Phase}
 use Rattle.ticket_steps.specs.Cores.{state_of}
 use Rattle.ticket_steps.specs.Happenings.{recorded, refused, Moves}
 use Rattle.ticket_steps.specs.Seats.{ended}
-use Rattle.ticket_steps.proofs.BoardLemmas.{board_kept}
-use Rattle.ticket_steps.proofs.CoreLemmas.{recorded_moves, refused_moves, few_refused, can_end, changed_is, ticket_served}
+use Rattle.ticket_steps.proofs.BoardLemmas.{Takes, takes, board_kept}
+use Rattle.ticket_steps.proofs.CoreLemmas.{recorded_moves, refused_moves, can_end, can_refuse, changed_is, ticket_served}
 use Rattle.ticket_steps.proofs.FaultLemmas.{steps_fault, steps_shown, shows_lawful, read_is, unfit_leave, unplaced}
-use Rattle.ticket_steps.proofs.Histories.{recorded_is}
 use Rattle.ticket_steps.proofs.SeatLemmas.{holding_holds}
 use Rattle.ticket_steps.proofs.core_steps.Core.leave.Given.{Over}
 use Rattle.ticket_steps.proofs.core_steps.Core.leave.Goals.{After-leave, In-Holding}
 use Rattle.ticket_steps.proofs.core_steps.Core.leave.Goals as goal
 
 -- what the leave of a seat shows, whatever the book answered
-leave_shows : {K C R : Type 0} (k : Ghosts K C R)
-    → ((book : K) → IsLegal k.step (k.opening book) (k.history book)) → ((book : K) → k.state book ≡ replay k.step (k.opening book) (k.history book))
-    → (draws next served after i own ticket : ℕ) (seats : List CoreSeat) (p w : CoreSeat) (call : C) (old new : K) (reply : Result R NoMemory)
-    → k.posts_at (k.state old) call ≡ None → after ≡ served + 1 → get_elem? seats i ≡ some p → p.own ≡ own → p.phase ≡ Holding ticket → w ≡ ended p → k.opening new ≡ k.opening old
-    → IfOk reply (λ r. (k.history new ≡ k.history old ++ entry own call r ∷ []) × (k.refusals new ≡ k.refusals old))
-    → OnErr reply ((k.history new ≡ k.history old) × (k.state new ≡ k.state old) × (k.refusals new ≡ k.refusals old + 1))
-    → Shows k draws (core_state next served seats (book_state (k.state old) (k.history old) (k.refusals old))) (Leave own (Some call)) (seen.Left (Some reply))
-    (core_state next after (set seats i w) (book_state (k.state new) (k.history new) (k.refusals new)))
-leave_shows k legal replayed draws next served after i own ticket seats p w call old new
-    (Ok r) unplaced up at called holds is same replied _ =
-    let t = recorded_is k.step (k.opening old) (k.opening new) (k.state old) (k.state new) (k.history old) (k.history new) (k.refusals old) (k.refusals new) own call r
-    (replayed old) (replayed new) (legal new) same replied.0 replied.1 in
-    let b = core_state next served seats (book_state (k.state old) (k.history old) (k.refusals old)) in
-    let book = book_state (k.state new) (k.history new) (k.refusals new) in (
-      recorded own call r,
-      refl,
-      refl,
-      subst (λ (n : ℕ). Moves k draws b (recorded own call r) (core_state next n (set seats i w) book)) (sym up)
-          (recorded_moves k draws b i own p at called ticket w call r book holds is t.0 t.1 unplaced),
-      unplaced,
-    )
-leave_shows k legal replayed draws next served after i own ticket seats p w call old new
-    (Err e) unplaced up at called holds is same _ kept =
-    let b = core_state next served seats (book_state (k.state old) (k.history old) (k.refusals old)) in
-    let book = book_state (k.state new) (k.history new) (k.refusals new) in (
-      refused own,
-      (call, refl),
-      refl,
-      subst (λ (n : ℕ). Moves k draws b (refused own) (core_state next n (set seats i w) book)) (sym up)
-          (refused_moves k draws b i own p at called ticket w book holds is (λ j. book_state (kept.1 j) (kept.0 j) (kept.2 j))),
-      unplaced,
-    )
+leave_shows : {K C R : Type 0} (k : Ghosts K C R) (draws : ℕ) (b : CoreState k.State C R) (i own ticket after : ℕ) (p w : CoreSeat) (call : C)
+    (book : BookState k.State C R) (reply : Result R NoMemory) → k.posts_at b.book.state call ≡ None → after ≡ b.served + 1
+    → get_elem? b.seats i ≡ some p → p.own ≡ own → p.phase ≡ Holding ticket → w ≡ ended p → Takes k own call b.book reply book
+    → Shows k draws b (Leave own (Some call)) (seen.Left (Some reply)) (core_state b.next after (set b.seats i w) book)
+leave_shows k draws b i own ticket after p w call book (Ok r) unplaced up at called holds is took = (
+  recorded own call r,
+  refl,
+  refl,
+  subst (λ (n : ℕ). Moves k draws b (recorded own call r) (core_state b.next n (set b.seats i w) book)) (sym up)
+      (recorded_moves k draws b i own p at called ticket w call r book holds is took.0.0 took.0.1 unplaced),
+  unplaced,
+)
+leave_shows k draws b i own ticket after p w call book (Err e) unplaced up at called holds is took = (
+  refused own,
+  (call, refl),
+  refl,
+  subst (λ (n : ℕ). Moves k draws b (refused own) (core_state b.next n (set b.seats i w) book)) (sym up)
+      (refused_moves k draws b i own p at called ticket w book holds is took.1),
+  unplaced,
+)
 
 pub returns-in_default-clause-step : goal.returns-in_default-clause-step
 returns-in_default-clause-step g c =
@@ -67,22 +53,15 @@ returns-in_default-clause-step g c =
     steps_fault g.K.Kept self.draws (state_of self) (Leave c.args.seat (Some c.args.call)) Phase unfit
 
 pub record-reply-requires : goal.record-reply-requires
-record-reply-requires g c =
-    let self = c.args.self.now in
-    let refused = few_refused self.numbers self.draws (state_of self) self.lawful self.few (omega (arith, self.few_draws)) in
-    omega (arith, refused)
+record-reply-requires g c = can_refuse c.args.self.now
 
 pub end-requires : goal.end-requires
-end-requires g c =
-    let self = c.args.self.now in
-    can_end self.numbers self.draws (state_of self) self.lawful self.few self.few_draws c.in_ok-at.at c.in_ok-at.ensures.found.1 c.index_mut.ensures.value
+end-requires g c = can_end c.args.self.now c.in_ok-at.at c.in_ok-at.ensures.found.1 c.index_mut.ensures.value
 
 -- the ticket of the seat that leaves
 ticket_is : (g : Over) (c : In-Holding g) → (c.in-Holding.ticket ≡ c.args.self.now.grants) × (c.in-Holding.ticket < 2 ^ 60)
-ticket_is g c =
-    let self = c.args.self.now in
-    ticket_served self.numbers self.draws (state_of self) self.lawful self.few self.few_draws c.in_ok-at.at c.in_ok-at.ensures.found.1 c.index.ensures
-    c.in-Holding.ticket (holding_holds c.in-Holding.ticket _ c.in-Holding.is)
+ticket_is g c = let ticket = c.in-Holding.ticket in
+    ticket_served c.args.self.now c.in_ok-at.at c.in_ok-at.ensures.found.1 c.index.ensures ticket (holding_holds ticket _ c.in-Holding.is)
 
 pub leave-requires-clause-served : goal.leave-requires-clause-served
 leave-requires-clause-served g c = (ticket_is g (goal.at.leave-requires-clause-served g c).In-Holding).0
@@ -102,12 +81,11 @@ leaves g c =
     let ticket = c.in-Holding.ticket in
     let r = c.record-reply.ensures in
     let s = changed_is self.seats.items c.in_ok-at.at ended (Holding ticket) e.1 c.index.ensures c.in-Holding.is c.index_mut.ensures.value c.end.ensures in
-    let first = ticket_served self.numbers self.draws (state_of self) self.lawful self.few self.few_draws c.in_ok-at.at e.1 c.index.ensures
-    ticket (holding_holds ticket _ c.in-Holding.is) in
-    leave_shows k g.met.K.Kept.legal g.met.K.Kept.replayed self.draws self.next
-    self.grants c.leave.new.self c.in_ok-at.at c.args.seat ticket self.seats.items e.0 c.end.new.self
-    c.args.call self.book c.record-reply.new.self c.record-reply.result (sym c.posts.ensures ∙ c.in-None.is)
-    (c.leave.ensures ∙ ap (λ (n : ℕ). n + 1) first.0) e.1 e.2 s.0 s.1 r.same r.replied r.refused
+    let first = ticket_served self c.in_ok-at.at e.1 c.index.ensures ticket (holding_holds ticket _ c.in-Holding.is) in
+    leave_shows k self.draws (state_of self) c.in_ok-at.at c.args.seat ticket c.leave.new.self e.0 c.end.new.self c.args.call _ c.record-reply.result
+    (sym c.posts.ensures ∙ c.in-None.is) (c.leave.ensures ∙ ap (λ (n : ℕ). n + 1) first.0) e.1 e.2 s.0 s.1
+    (takes k g.met.K.Kept.legal g.met.K.Kept.replayed self.book c.record-reply.new.self c.args.seat c.args.call c.record-reply.result
+    r.same r.replied r.refused)
 
 pub invariant_of-self-clause-lawful : goal.invariant_of-self-clause-lawful
 invariant_of-self-clause-lawful g c = shows_lawful g.K.Kept _ _ _ _ _ _ c.args.self.now.lawful (leaves g c)

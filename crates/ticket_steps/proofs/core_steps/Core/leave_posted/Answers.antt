@@ -26,21 +26,17 @@ returns-in_default-clause-step g c =
 
 -- the ticket of the seat that leaves
 ticket_is : (g : Over) (c : In-Posted g) → (c.in-Posted.ticket ≡ c.args.self.now.grants) × (c.in-Posted.ticket < 2 ^ 60)
-ticket_is g c =
-    let self = c.args.self.now in
-    ticket_served self.numbers self.draws (state_of self) self.lawful self.few self.few_draws c.in_ok-at.at c.in_ok-at.ensures.found.1 c.index.ensures
-    c.in-Posted.ticket (posted_holds c.in-Posted.ticket _ c.in-Posted.is)
+ticket_is g c = let ticket = c.in-Posted.ticket in
+    ticket_served c.args.self.now c.in_ok-at.at c.in_ok-at.ensures.found.1 c.index.ensures ticket (posted_holds ticket _ c.in-Posted.is)
+
+pub end-requires : goal.end-requires
+end-requires g c = can_end c.args.self.now c.in_ok-at.at c.in_ok-at.ensures.found.1 c.index_mut.ensures.value
 
 pub leave-requires-clause-small : goal.leave-requires-clause-small
 leave-requires-clause-small g c = (ticket_is g (goal.at.leave-requires-clause-small g c).In-Posted).1
 
 pub leave-requires-clause-served : goal.leave-requires-clause-served
 leave-requires-clause-served g c = (ticket_is g (goal.at.leave-requires-clause-served g c).In-Posted).0
-
-pub end-requires : goal.end-requires
-end-requires g c =
-    let self = c.args.self.now in
-    can_end self.numbers self.draws (state_of self) self.lawful self.few self.few_draws c.in_ok-at.at c.in_ok-at.ensures.found.1 c.index_mut.ensures.value
 
 -- the seat leaves, and nothing more is recorded
 leaves : (g : Over) (c : After-leave g) → let self = c.args.self.now in
@@ -51,8 +47,7 @@ leaves g c =
     let e = c.in_ok-at.ensures.found in
     let ticket = c.in-Posted.ticket in
     let s = changed_is self.seats.items c.in_ok-at.at ended (Posted ticket) e.1 c.index.ensures c.in-Posted.is c.index_mut.ensures.value c.end.ensures in
-    let first = ticket_served self.numbers self.draws (state_of self) self.lawful self.few self.few_draws c.in_ok-at.at e.1 c.index.ensures
-    ticket (posted_holds ticket _ c.in-Posted.is) in
+    let first = ticket_served self c.in_ok-at.at e.1 c.index.ensures ticket (posted_holds ticket _ c.in-Posted.is) in
     let up : c.leave.new.self ≡ self.grants + 1 = c.leave.ensures ∙ ap (λ (n : ℕ). n + 1) first.0 in
     let b = state_of self in
     let seats = set self.seats.items c.in_ok-at.at c.end.new.self in (

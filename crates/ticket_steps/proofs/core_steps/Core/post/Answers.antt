@@ -1,11 +1,10 @@
-use Rattle.std.proofs.Common.{◌≡◌, ◌+◌, ◌∷◌, ◌++◌, [], arith, sym, ap, ◌∙◌, refl, List, ℕ, set, Result, Ok, Err, Some, IfOk, OnErr}
+use Rattle.std.proofs.Common.{◌≡◌, arith, sym, ap, ◌∙◌, refl, List, ℕ, set, Result, Ok, Err, Some}
 use mathlib.Core.Option.{some}
 use lib.ListN.{get_elem?}
 use Rattle.ticket_steps.specs.declared.kept.Kept.{Ghosts}
-use Rattle.ticket_steps.specs.Books.{book_state}
-use Rattle.ticket_steps.specs.CoreStates.{core_state}
+use Rattle.ticket_steps.specs.Books.{BookState, book_state}
+use Rattle.ticket_steps.specs.CoreStates.{CoreState, core_state}
 use Rattle.ticket_steps.specs.Faults.{Shows}
-use Rattle.ticket_steps.specs.History.{entry, replay, IsLegal}
 use Rattle.ticket_steps.specs.declared.kept.NoMemory.{NoMemory}
 use Rattle.ticket_steps.specs.declared.seats.CoreSeat.{CoreSeat}
 use Rattle.ticket_steps.specs.declared.seats.Phase.TheVariants.{Holding}
@@ -15,54 +14,35 @@ use Rattle.ticket_steps.specs.declared.events.Fault.TheVariants.{Phase}
 use Rattle.ticket_steps.specs.Cores.{state_of}
 use Rattle.ticket_steps.specs.Happenings.{posted, post_refused}
 use Rattle.ticket_steps.specs.Seats.{posting}
-use Rattle.ticket_steps.proofs.BoardLemmas.{board_posted, words_posted}
-use Rattle.ticket_steps.proofs.CoreLemmas.{posted_moves, post_refused_moves, few_refused, changed_is}
+use Rattle.ticket_steps.proofs.BoardLemmas.{Takes, takes, board_posted, words_posted}
+use Rattle.ticket_steps.proofs.CoreLemmas.{posted_moves, post_refused_moves, can_refuse, changed_is}
 use Rattle.ticket_steps.proofs.FaultLemmas.{steps_fault, steps_shown, shows_lawful, read_is, unfit_post, unplaced}
-use Rattle.ticket_steps.proofs.Histories.{recorded_is}
 use Rattle.ticket_steps.proofs.core_steps.Core.post.Given.{Over}
 use Rattle.ticket_steps.proofs.core_steps.Core.post.Goals.{After-self-2-1}
 use Rattle.ticket_steps.proofs.core_steps.Core.post.Goals as goal
 
 -- what the post of a seat shows, whatever the book answered
-post_shows : {K C R : Type 0} (k : Ghosts K C R)
-    → ((book : K) → IsLegal k.step (k.opening book) (k.history book)) → ((book : K) → k.state book ≡ replay k.step (k.opening book) (k.history book))
-    → (draws next served i own ticket : ℕ) (seats : List CoreSeat) (p w : CoreSeat) (call : C) (old new : K) (reply : Result R NoMemory)
-    → (place : ℕ) → k.posts_at (k.state old) call ≡ Some place → get_elem? seats i ≡ some p → p.own ≡ own → p.phase ≡ Holding ticket → w ≡ posting ticket p → k.opening new ≡ k.opening old
-    → IfOk reply (λ r. (k.history new ≡ k.history old ++ entry own call r ∷ []) × (k.refusals new ≡ k.refusals old))
-    → OnErr reply ((k.history new ≡ k.history old) × (k.state new ≡ k.state old) × (k.refusals new ≡ k.refusals old + 1))
-    → Shows k draws (core_state next served seats (book_state (k.state old) (k.history old) (k.refusals old))) (Post own call) (seen.Posted reply)
-    (core_state next served (set seats i w) (book_state (k.state new) (k.history new) (k.refusals new)))
-post_shows k legal replayed draws next served i own ticket seats p w call old new
-    (Ok r) place placed at called holds is same replied _ =
-    let t = recorded_is k.step (k.opening old) (k.opening new) (k.state old) (k.state new) (k.history old) (k.history new) (k.refusals old) (k.refusals new) own call r
-    (replayed old) (replayed new) (legal new) same replied.0 replied.1 in
-    let b = core_state next served seats (book_state (k.state old) (k.history old) (k.refusals old)) in
-    let book = book_state (k.state new) (k.history new) (k.refusals new) in
-    (posted own call r, refl, refl, posted_moves k draws b i own p at called ticket w call r book holds is t.0 t.1 place placed, (place, placed))
-post_shows k legal replayed draws next served i own ticket seats p w call old new
-    (Err e) place placed at called holds is same _ kept =
-    let b = core_state next served seats (book_state (k.state old) (k.history old) (k.refusals old)) in
-    let book = book_state (k.state new) (k.history new) (k.refusals new) in (
-      post_refused own,
-      (call, refl),
-      refl,
-      post_refused_moves k draws b i own p at called ticket w book holds is (λ j. book_state (kept.1 j) (kept.0 j) (kept.2 j)),
-      (place, placed),
-    )
+post_shows : {K C R : Type 0} (k : Ghosts K C R) (draws : ℕ) (b : CoreState k.State C R) (i own ticket : ℕ) (p w : CoreSeat) (call : C)
+    (book : BookState k.State C R) (reply : Result R NoMemory) (place : ℕ) → k.posts_at b.book.state call ≡ Some place
+    → get_elem? b.seats i ≡ some p → p.own ≡ own → p.phase ≡ Holding ticket → w ≡ posting ticket p → Takes k own call b.book reply book
+    → Shows k draws b (Post own call) (seen.Posted reply) (core_state b.next b.served (set b.seats i w) book)
+post_shows k draws b i own ticket p w call book (Ok r) place placed at called holds is took =
+    let moves = posted_moves k draws b i own p at called ticket w call r book holds is took.0.0 took.0.1 place placed in
+    (posted own call r, refl, refl, moves, (place, placed))
+post_shows k draws b i own ticket p w call book (Err e) place placed at called holds is took =
+    let moves = post_refused_moves k draws b i own p at called ticket w book holds is took.1 in
+    (post_refused own, (call, refl), refl, moves, (place, placed))
 
 pub returns-in_default-clause-step : goal.returns-in_default-clause-step
 returns-in_default-clause-step g c =
     let self = c.args.self.now in let e = c.in_ok-at.ensures.found in
-    let is = read_is self.seats.items c.in_ok-at.at e.1 c.index.ensures in
-    let unfit = unfit_post g.K.Kept self.numbers self.draws (state_of self) self.lawful c.in_ok-at.at c.args.seat e.0 e.1 e.2 e.3 c.args.call
-    (λ ticket holds. c.in_default.not-Holding ticket (ap (λ (s : CoreSeat). s.phase) is ∙ holds)) in
-    steps_fault g.K.Kept self.draws (state_of self) (Post c.args.seat c.args.call) Phase unfit
+    let is = ap (λ (s : CoreSeat). s.phase) (read_is self.seats.items c.in_ok-at.at e.1 c.index.ensures) in
+    steps_fault g.K.Kept self.draws (state_of self) (Post c.args.seat c.args.call) Phase
+    (unfit_post g.K.Kept self.numbers self.draws (state_of self) self.lawful c.in_ok-at.at c.args.seat e.0 e.1 e.2 e.3 c.args.call
+    (λ ticket holds. c.in_default.not-Holding ticket (is ∙ holds)))
 
 pub record-recorded-requires : goal.record-recorded-requires
-record-recorded-requires g c =
-    let self = c.args.self.now in
-    let refused = few_refused self.numbers self.draws (state_of self) self.lawful self.few (omega (arith, self.few_draws)) in
-    omega (arith, refused)
+record-recorded-requires g c = can_refuse c.args.self.now
 
 -- the seat posts, and its call is recorded or refused
 posts : (g : Over) (c : After-self-2-1 g) → let self = c.args.self.now in let k = g.K.Kept in let book = c.record-recorded.new.self in
@@ -71,15 +51,15 @@ posts : (g : Over) (c : After-self-2-1 g) → let self = c.args.self.now in let 
     (book_state (k.state book) (k.history book) (k.refusals book)))
 posts g c =
     let self = c.args.self.now in
+    let i = c.in_ok-at.at in
     let e = c.in_ok-at.ensures.found in
     let ticket = c.in-Holding.ticket in
     let r = c.record-recorded.ensures in
-    let s =
-    changed_is self.seats.items c.in_ok-at.at (posting ticket) (Holding ticket) e.1 c.index.ensures c.in-Holding.is c.index_mut.ensures.value c.post.ensures in
-    post_shows g.K.Kept g.met.K.Kept.legal g.met.K.Kept.replayed self.draws self.next
-    self.grants c.in_ok-at.at c.args.seat ticket self.seats.items e.0 c.post.new.self
-    c.args.call self.book c.record-recorded.new.self c.record-recorded.result c.in-Some.place (sym c.posts.ensures ∙ c.in-Some.is) e.1 e.2
-    s.0 s.1 r.same r.replied r.refused
+    let s = changed_is self.seats.items i (posting ticket) (Holding ticket) e.1 c.index.ensures c.in-Holding.is c.index_mut.ensures.value c.post.ensures in
+    post_shows g.K.Kept self.draws (state_of self) i c.args.seat ticket e.0 c.post.new.self c.args.call _ c.record-recorded.result c.in-Some.place
+    (sym c.posts.ensures ∙ c.in-Some.is) e.1 e.2 s.0 s.1
+    (takes g.K.Kept g.met.K.Kept.legal g.met.K.Kept.replayed self.book c.record-recorded.new.self c.args.seat c.args.call c.record-recorded.result
+    r.same r.replied r.refused)
 
 pub invariant_of-self-clause-lawful : goal.invariant_of-self-clause-lawful
 invariant_of-self-clause-lawful g c = shows_lawful g.K.Kept _ _ _ _ _ _ c.args.self.now.lawful (posts g c)
