@@ -1,12 +1,29 @@
--- What is so of every seat, at any time.
-use Rattle.std.proofs.Common.{◌<◌, ◌≤◌, ◌^◌, length, arith, subst}
+-- What is so of every seat, at any time, and what its token tells of it.
+use Rattle.std.proofs.Common.{◌≡◌, ◌<◌, ◌≤◌, ◌^◌, length, arith, ap, ◌∙◌, subst}
 use Rattle.ticket_steps.specs.declared.kept.Kept.{Ghosts}
+use Rattle.ticket_steps.specs.declared.seats.CoreSeat.{CoreSeat}
 use Rattle.ticket_steps.specs.History.{IsLegal}
 use Rattle.ticket_steps.specs.Sums.{times}
+use Rattle.ticket_lock.specs.declared.counts.SeatCounts.{SeatCounts}
 use Rattle.ticket_lock.specs.declared.lock.TicketLock.{TicketLock}
 use Rattle.ticket_lock.specs.declared.tokens.Seat.{Seat}
+use Rattle.ticket_lock.specs.Counts.{AreCountsOf}
 use Rattle.ticket_lock.specs.Legal.{IsLegalFrom}
 use Rattle.ticket_lock.specs.Tokens.{seat_of, start_of, IsSeatOf}
+
+-- the counts of a seat stay its counts in another phase
+pub counts_stay : (f : SeatCounts) (s t : CoreSeat) → t.own ≡ s.own → t.numbers ≡ s.numbers → t.left ≡ s.left → t.calls ≡ s.calls
+    → AreCountsOf f s → AreCountsOf f t
+counts_stay f s t own numbers left calls told = record {
+  own = own ∙ told.own;
+  count = ap length numbers ∙ told.count;
+  left = left ∙ told.left;
+  calls = calls ∙ told.calls;
+  some_number = told.some_number;
+  few_numbers = told.few_numbers;
+  few_calls = told.few_calls;
+  among = rw (own, numbers) told.among;
+}
 
 module _ {K C R : Type 0} {G : Ghosts K C R} where
   -- it answers for its own number, and so for at least one, and for at most 1,024

@@ -11,4 +11,5 @@ pub mod Counts
 pub mod Callers
 pub mod Plays
 pub mod Tokens
+pub mod Posting
 pub mod Belonging

@@ -62,6 +62,7 @@ pub enum Look<K: Kept> {
 impl<K: Kept> TicketLock<K> {
     ghost use Rattle.ticket_lock.specs.Tokens.{start_of, words_of, seat_of, turn_of, hold_of, ticket_of, held_ticket_of, has_posted, refused_before};
     ghost use Rattle.ticket_lock.specs.Tokens.{IsSeatOf, IsTurnOf, IsHoldOf, MatchLook};
+    ghost use Rattle.ticket_lock.specs.Posting.{MayPost, HasPosted};
 
     /// A lock with the book in it, and a seat for all of `numbers`, each of which brings 2^32 - 1
     /// draws, the most that [`TicketLock::open_with`] gives. Its board shows the book's, which has at
@@ -294,16 +295,8 @@ impl<K: Kept> TicketLock<K> {
     /// The same, for entries and refusals of the book that proofs can name in a type.
     fn post_by<A: After<K::Call, K::Reply>>(&self, hold: Hold<K>, book: &K, place: u32) -> Hold<K>
         requires after { (A.entries ≡ K.history book.now) × (A.refused ≡ K.refusals book.now) }
-        requires lock { IsHoldOf self.now hold }
-        requires unposted { has_posted hold ≡ false }
-        requires book { Returns K.Kept (start_of self.now) (hold_of hold).own (hold_of hold).seen
-            (refused_before hold) (Some place) book.now }
-        requires place { place < words_of self.now }
-        ensures lock { IsHoldOf self.now result }
-        ensures posted { has_posted result ≡ true }
-        ensures caller { (hold_of result ≡ having_seen (K.history book.now) (hold_of hold))
-            × (held_ticket_of result ≡ held_ticket_of hold) }
-        ensures refused { refused_before result ≡ K.refusals book.now }
+        requires may { MayPost self.now hold book.now place }
+        ensures { HasPosted self.now hold book.now result }
     {
         let word = book.word(place);
         let Hold {

@@ -1,4 +1,4 @@
-use Rattle.std.proofs.Common.{subst, rules, sym, ap, ◌∙◌, ◌≡◌}
+use Rattle.std.proofs.Common.{subst, rules, refl, sym, ap, ◌∙◌, ◌≡◌}
 use Rattle.ticket_steps.specs.History.{IsLegal}
 use Rattle.ticket_lock.specs.Callers.{IsHanded}
 use Rattle.ticket_lock.specs.Counts.{AreCountsOf}
@@ -6,6 +6,7 @@ use Rattle.ticket_lock.specs.Legal.{IsLegalFrom}
 use Rattle.ticket_lock.specs.Tokens.{start_of}
 use Rattle.ticket_lock.specs.Views.{held_view}
 use Rattle.ticket_lock.proofs.Obligations.{looks, in_hand}
+use Rattle.ticket_lock.proofs.SeatLaws.{counts_stay}
 use Rattle.ticket_lock.proofs.lock.TicketLock.look.Goals as goal
 
 pub load-granted-requires : goal.load-granted-requires
@@ -27,16 +28,7 @@ invariant_of-hold g c =
       legal = subst (λ w. IsLegalFrom k w.start w.seen) (sym now) (subst (λ a. IsLegalFrom k a (k.history book)) (sym c.requires.1)
           (subst (λ o. IsLegal k.step o (k.history book)) handed.opening (g.met.K.Kept.legal book)));
       holds = ap (λ w. w.seat.phase) now;
-      told = subst (λ w. AreCountsOf s.counts w.seat) (sym now) record {
-        own = s.told.own;
-        count = s.told.count;
-        left = s.told.left;
-        calls = s.told.calls;
-        some_number = s.told.some_number;
-        few_numbers = s.told.few_numbers;
-        few_calls = s.told.few_calls;
-        among = s.told.among;
-      };
+      told = subst (λ w. AreCountsOf s.counts w.seat) (sym now) (counts_stay s.counts s.table_seat.me.0.seat _ refl refl refl refl s.told);
       stale = ap (λ w. w.seat.fresh) now ∙ s.stale;
     }
 

@@ -14,18 +14,18 @@ word-word-requires g c =
     let k = g.K.Kept in
     omega (
       arith,
-      c.requires.place,
+      c.requires.may.3,
       as_many_in k (laws_of g) c.args.book.now,
-      ap (λ (s : g.K.Kept.State). length (g.K.Kept.board s)) c.requires.book.opening,
+      ap (λ (s : g.K.Kept.State). length (g.K.Kept.board s)) c.requires.may.2.opening,
     )
 
 pub store-requires : goal.store-requires
 store-requires g c =
     let s = c.args.hold in
     let lock = c.args.self.now in (
-      c.requires.lock.0,
-      omega (arith, c.board_word.ensures, c.requires.place, lock.sized.0, lock.table.shared.key.counted),
+      c.requires.may.0.0,
+      omega (arith, c.board_word.ensures, c.requires.may.3, lock.sized.0, lock.table.shared.key.counted),
       posts g.K.Kept _ (laws_of g) _ _ s.ticket c.args.place _ _ _ _ s.table_seat.me c.args.book.now (start_of lock) c.board_word.ensures
           c.word-word.ensures c.requires.after.0 c.requires.after.1
-          (s.holds ∙ ap (λ (b : Bool). cond b (Posted s.ticket) (Holding s.ticket)) c.requires.unposted) c.requires.lock.1 c.requires.book,
+          (s.holds ∙ ap (λ (b : Bool). cond b (Posted s.ticket) (Holding s.ticket)) c.requires.may.1) c.requires.may.0.1 c.requires.may.2,
     )
