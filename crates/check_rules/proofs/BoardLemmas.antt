@@ -14,43 +14,34 @@ module _ (c s k a l f : ℕ) (small_c : c < 2) (small_s : s < 8) (small_k : k < 
   abbrev whole : ℕ
   whole = c + 2 * s + 16 * k + 32 * a + 8192 * l + 65536 * f
 
-  pub first : whole / 1 % 2 ≡ c
-  first = omega (arith, small_c, small_s, small_k, small_a, small_l, small_f)
-
-  pub second : whole / 2 % 8 ≡ s
-  second = omega (arith, small_c, small_s, small_k, small_a, small_l, small_f)
-
-  pub third : whole / 16 % 2 ≡ k
-  third = omega (arith, small_c, small_s, small_k, small_a, small_l, small_f)
-
-  pub fourth : whole / 32 % 256 ≡ a
-  fourth = omega (arith, small_c, small_s, small_k, small_a, small_l, small_f)
-
-  pub fifth : whole / 8192 % 8 ≡ l
-  fifth = omega (arith, small_c, small_s, small_k, small_a, small_l, small_f)
-
-  pub sixth : whole / 65536 % 2 ≡ f
-  sixth = omega (arith, small_c, small_s, small_k, small_a, small_l, small_f)
+  digits : record {
+    first : whole / 1 % 2 ≡ c;
+    second : whole / 2 % 8 ≡ s;
+    third : whole / 16 % 2 ≡ k;
+    fourth : whole / 32 % 256 ≡ a;
+    fifth : whole / 8192 % 8 ≡ l;
+    sixth : whole / 65536 % 2 ≡ f;
+  }
+  digits = record {
+    first = omega (arith, small_c, small_s, small_k, small_a, small_l, small_f);
+    second = omega (arith, small_c, small_s, small_k, small_a, small_l, small_f);
+    third = omega (arith, small_c, small_s, small_k, small_a, small_l, small_f);
+    fourth = omega (arith, small_c, small_s, small_k, small_a, small_l, small_f);
+    fifth = omega (arith, small_c, small_s, small_k, small_a, small_l, small_f);
+    sixth = omega (arith, small_c, small_s, small_k, small_a, small_l, small_f);
+  }
 
 -- ---- each digit is read back
 
-numbered : (s : State) → numbered_state (state_number s) ≡ Some s
-numbered state.Ok = refl
-numbered state.Warning = refl
-numbered state.Critical = refl
-numbered state.Unknown = refl
-numbered state.Up = refl
-numbered state.Down = refl
-numbered state.Unreachable = refl
-
-small_state : (s : State) → state_number s < 8
-small_state state.Ok = omega arith
-small_state state.Warning = omega arith
-small_state state.Critical = omega arith
-small_state state.Unknown = omega arith
-small_state state.Up = omega arith
-small_state state.Down = omega arith
-small_state state.Unreachable = omega arith
+-- what each state's number is read as, and that it takes no more than three bits
+number_read : (s : State) → (numbered_state (state_number s) ≡ Some s) × (state_number s < 8)
+number_read state.Ok = (refl, omega arith)
+number_read state.Warning = (refl, omega arith)
+number_read state.Critical = (refl, omega arith)
+number_read state.Unknown = (refl, omega arith)
+number_read state.Up = (refl, omega arith)
+number_read state.Down = (refl, omega arith)
+number_read state.Unreachable = (refl, omega arith)
 
 flag_read : (b : Bool) → (flag b == 1) ≡ b
 flag_read true = refl
@@ -77,22 +68,23 @@ coded_back s few =
     let l = state_number s.last_hard in
     let f = flag s.flapping in
     let small_c = small_flag s.checked in
-    let small_n = small_state s.state in
+    let small_n = (number_read s.state).1 in
     let small_k = small_kind s.kind in
-    let small_l = small_state s.last_hard in
+    let small_l = (number_read s.last_hard).1 in
     let small_f = small_flag s.flapping in
     let below : nat_lt (code_of s) 131072 ≡ true = grind (arith, nat_tests, small_c, small_n, small_k, few, small_l, small_f) in
+    let read = digits c n k s.attempt l f small_c small_n small_k few small_l small_f in
     rw (
       below,
-      second c n k s.attempt l f small_c small_n small_k few small_l small_f,
-      numbered s.state,
-      fifth c n k s.attempt l f small_c small_n small_k few small_l small_f,
-      numbered s.last_hard,
-      first c n k s.attempt l f small_c small_n small_k few small_l small_f,
+      read.second,
+      (number_read s.state).0,
+      read.fifth,
+      (number_read s.last_hard).0,
+      read.first,
       flag_read s.checked,
-      third c n k s.attempt l f small_c small_n small_k few small_l small_f,
+      read.third,
       kind_read s.kind,
-      fourth c n k s.attempt l f small_c small_n small_k few small_l small_f,
-      sixth c n k s.attempt l f small_c small_n small_k few small_l small_f,
+      read.fourth,
+      read.sixth,
       flag_read s.flapping,
     ) refl

@@ -2,12 +2,13 @@
 use Rattle.std.proofs.Common.{◌≡◌, ℕ, ◌+◌, ◌*◌, ◌≤◌, ◌-◌, zero, suc, Bool, true, false, cond, List, [], ◌∷◌, ◌++◌, length, refl, sym, ap, ◌∙◌, arith}
 use Rattle.std.specs.Prelude.{zip, slice_get, Some, unwrap_or}
 use Rattle.std.specs.List.{enumerate_from, sum_by}
+use Rattle.std.proofs.lemmas.Bool.Decides.{nat_tests}
 use Rattle.std.proofs.lemmas.List.Sums.{sum_by-cons}
 use Rattle.std.proofs.lemmas.Option.{none-some}
 use Rattle.check_rules.specs.declared.state.State.{State}
-use Rattle.check_rules.specs.declared.state.State.TheVariants as state
 use Rattle.check_rules.specs.State.{is_another_state}
-use Rattle.check_rules.specs.Flapping.{changes_weight, weight_after, weight_between}
+use Rattle.check_rules.specs.Flapping.{changes_weight, weight_between}
+use Rattle.check_rules.specs.FlappingWalk.{weight_after}
 
 -- ---- the definition by pairs and the walk
 
@@ -22,13 +23,7 @@ pairs_are_walked i before (found ∷ rest) =
 
 -- no state is another than itself
 same_state : (s : State) → is_another_state s s ≡ false
-same_state state.Ok = refl
-same_state state.Warning = refl
-same_state state.Critical = refl
-same_state state.Unknown = refl
-same_state state.Up = refl
-same_state state.Down = refl
-same_state state.Unreachable = refl
+same_state s = grind (arith, nat_tests)
 
 -- a walk from the oldest result over all of them finds no change before the second
 from_oldest : (oldest : State) (rest : List State) → weight_after oldest (oldest ∷ rest) 55 ≡ changes_weight (oldest ∷ rest)

@@ -46,11 +46,3 @@ percent_of results = if length results == KEPT_RESULTS then 100 * changes_weight
 -- that did stops below the low one.
 abbrev pub is_flapping : List State → Bool → ℕ → ℕ → Bool
 is_flapping results was low high = if was then not (nat_lt (percent_of results) low) else nat_le high (percent_of results)
-
--- ---- how the weights are added up, one result after another
-
--- The weight of the changes from one result through those that come after it, where the first of them
--- weighs this much.
-abbrev pub weight_after : State → List State → ℕ → ℕ
-weight_after before [] weight = 0
-weight_after before (found ∷ rest) weight = (if is_another_state found before then weight else 0) + weight_after found rest (weight + 2)

@@ -3,6 +3,7 @@ pub mod Standing
 pub mod Reachability
 pub mod Verdict
 pub mod Flapping
+pub mod FlappingWalk
 pub mod Board
 pub mod Dependencies
 pub mod Marks

@@ -3,7 +3,8 @@
 //! own profile.)
 
 ghost use Rattle.std.specs.Prelude.{◌≡◌, ◌+◌, ◌≤◌, ◌∷◌, length};
-ghost use Rattle.check_rules.specs.Flapping.{changes_weight, is_flapping, percent_of, weight_after};
+ghost use Rattle.check_rules.specs.Flapping.{changes_weight, is_flapping, percent_of};
+ghost use Rattle.check_rules.specs.FlappingWalk.{weight_after};
 
 use crate::state::State;
 use circular_buffer::HeapCircularBuffer;

@@ -7,7 +7,7 @@ use Rattle.std.specs.Prelude.{filter, is_some, nat_le, nat_lt}
 use Rattle.std.specs.List.{list_all, list_any, enumerate_from, cons_option}
 use Rattle.std.proofs.lemmas.Bool.Decides.{nat_tests}
 use Rattle.std.proofs.lemmas.Bool.{and_parts, and_from}
-use Rattle.std.proofs.lemmas.List.{length-map}
+use Rattle.std.proofs.lemmas.List.{length-map, set-get_or}
 use Rattle.std.proofs.lemmas.List.FromFn.{length-enumerate_from}
 use Rattle.std.proofs.lemmas.List.Sums.{sum_by-set}
 use Rattle.check_queue.specs.Order.{least}
@@ -24,35 +24,37 @@ use Rattle.check_sched.proofs.EligibleLaws.{filtered_pass, numbered, numbered_fi
 pub length-waiting_from : (k : ℕ) (picked : ℕ → Bool) (os : List Scheduling) → length (waiting_from k picked os) ≡ length os
 length-waiting_from k picked os = length-map (enumerate_from k os) _ ∙ length-enumerate_from k os
 
--- one object written that is picked
-waiting_set_from : (k n : ℕ) (picked : ℕ → Bool) (os : List Scheduling) (new : Scheduling) → n < length os → picked (k + n) ≡ true
-    → set (waiting_from k picked os) n (candidate_time new) ≡ waiting_from k picked (set os n new)
-waiting_set_from k n picked [] new l e = absurd (omega arith)
-waiting_set_from k zero picked (o ∷ os) new l e =
-    let here : picked k ≡ true = ap picked (let z : k ≡ k + 0 = omega arith in z) ∙ e in
-    rw here refl
-waiting_set_from k (suc n) picked (o ∷ os) new l e =
-    ap (λ ts. cond (picked k) (candidate_time o) None ∷ ts)
-    (waiting_set_from (k + 1) n picked os new (omega arith) (ap picked (let z : k + 1 + n ≡ k + suc n = omega arith in z) ∙ e))
+-- the time for which an object waits, where its number is picked
+abbrev time_picked : Bool → Scheduling → Option ℕ
+time_picked picked o = cond picked (candidate_time o) None
 
+-- one object written
+waiting_written : (k n : ℕ) (picked : ℕ → Bool) (os : List Scheduling) (new : Scheduling) → n < length os
+    → waiting_from k picked (set os n new) ≡ set (waiting_from k picked os) n (time_picked (picked (k + n)) new)
+waiting_written k n picked [] new l = absurd (omega arith)
+waiting_written k zero picked (o ∷ os) new l = ap (λ m. time_picked (picked m) new ∷ waiting_from (k + 1) picked os) (omega arith)
+waiting_written k (suc n) picked (o ∷ os) new l =
+    ap (λ ts. time_picked (picked k) o ∷ ts)
+    (waiting_written (k + 1) n picked os new (omega arith)
+    ∙ ap (λ m. set (waiting_from (k + 1) picked os) n (time_picked (picked m) new)) (omega arith))
+
+-- the same of a test's answer
+written_as : (n : ℕ) (picked : ℕ → Bool) (os : List Scheduling) (new : Scheduling) (is_picked : Bool) → n < length os → picked n ≡ is_picked
+    → waiting_times picked (set os n new) ≡ set (waiting_times picked os) n (time_picked is_picked new)
+written_as n picked os new is_picked l e =
+    waiting_written 0 n picked os new l
+    ∙ ap (λ b. set (waiting_times picked os) n (time_picked b new)) (ap picked (let z : 0 + n ≡ n = omega arith in z) ∙ e)
+
+-- one object written that is picked
 pub waiting_set : (n : ℕ) (picked : ℕ → Bool) (os : List Scheduling) (new : Scheduling) → n < length os → picked n ≡ true
     → set (waiting_times picked os) n (candidate_time new) ≡ waiting_times picked (set os n new)
-waiting_set n picked os new l e = waiting_set_from 0 n picked os new l (ap picked (let z : 0 + n ≡ n = omega arith in z) ∙ e)
+waiting_set n picked os new l e = sym (written_as n picked os new true l e)
 
--- one object written that isn't
-waiting_apart_from : (k n : ℕ) (picked : ℕ → Bool) (os : List Scheduling) (new : Scheduling) → n < length os → picked (k + n) ≡ false
-    → waiting_from k picked os ≡ waiting_from k picked (set os n new)
-waiting_apart_from k n picked [] new l e = absurd (omega arith)
-waiting_apart_from k zero picked (o ∷ os) new l e =
-    let here : picked k ≡ false = ap picked (let z : k ≡ k + 0 = omega arith in z) ∙ e in
-    rw here refl
-waiting_apart_from k (suc n) picked (o ∷ os) new l e =
-    ap (λ ts. cond (picked k) (candidate_time o) None ∷ ts)
-    (waiting_apart_from (k + 1) n picked os new (omega arith) (ap picked (let z : k + 1 + n ≡ k + suc n = omega arith in z) ∙ e))
-
+-- one object written that isn't: the one that was there leaves as much
 pub waiting_apart : (n : ℕ) (picked : ℕ → Bool) (os : List Scheduling) (new : Scheduling) → n < length os → picked n ≡ false
     → waiting_times picked os ≡ waiting_times picked (set os n new)
-waiting_apart n picked os new l e = waiting_apart_from 0 n picked os new l (ap picked (let z : 0 + n ≡ n = omega arith in z) ∙ e)
+waiting_apart n picked os new l e =
+    ap (waiting_times picked) (sym (set-get_or os n new)) ∙ written_as n picked os (get_or os n new) false l e ∙ sym (written_as n picked os new false l e)
 
 -- two tests that pick the same of some objects
 pub waiting_agree : (k : ℕ) (p q : ℕ → Bool) (os : List Scheduling) → ((n : ℕ) → k ≤ n → n < k + length os → p n ≡ q n)

@@ -78,12 +78,7 @@ pub(crate) enum Change {
 impl ObjectState {
     ghost use Rattle.std.specs.Prelude.{◌≡◌, is_some, option_map};
     ghost use Rattle.check_sched.specs.Change.{changed};
-    ghost use Rattle.check_sched.specs.Scheduling.{
-      candidate_time,
-      freed_time,
-      opening_object,
-      run_under,
-    };
+    ghost use Rattle.check_sched.specs.Scheduling.{candidate_time, freed_time, opening_object, run_under};
 
     /// The state of an object when scheduling starts: its first check is at `first`, it doesn't
     /// run, it is enabled as the setup says, and nothing is forced.

@@ -159,6 +159,26 @@ fn answers_from(
     Ok(())
 }
 
+/// A host and its service are each taken at the start, their checks return this code, and they are
+/// answered like this.
+fn host_and_service(
+    rt: &impl Abort,
+    alloc: Global,
+    document: &[u8],
+    code: Code,
+    host: Reply,
+    service: Reply,
+) -> Result<(), Fail> {
+    let take = Call::Take { now: 0 };
+    let calls = [
+        (take, Reply::Taken { object: 0, run: 1 }),
+        (report(0, 1, code), host),
+        (take, Reply::Taken { object: 1, run: 2 }),
+        (report(1, 2, code), service),
+    ];
+    answers_as(rt, alloc, document, &calls)
+}
+
 fn report(object: u32, run: u64, code: Code) -> Call {
     Call::Report { object, run, code }
 }

@@ -1,5 +1,7 @@
 //! First checks: spread, from late starts, and of the greatest setup.
 
+ghost use Rattle.std.specs.Prelude.{◌≤◌};
+
 use super::{
     A_SECOND_APART, LAST_MOMENT, ONE_SERVICE, answers_from, never_checked, opened, report,
     reschedule, standing, status,
@@ -7,6 +9,7 @@ use super::{
 use crate::{Call, Refusal, Reply};
 use check_rules::{Code, Kind, State};
 use std::alloc::{AllocError, Global};
+use std::process::Abort;
 use std::test::Fail;
 
 #[test]
@@ -23,51 +26,31 @@ fn first_checks_are_spread(rt: HostRuntime) -> Result<(), Fail> {
     Ok(())
 }
 
-/// From today's clock in milliseconds.
-#[test]
-fn first_checks_from_todays_clock(rt: HostRuntime) -> Result<(), Fail> {
-    use State::Ok;
-    let start = 1_800_000_000_000;
+/// The first check of a service, which isn't due at the moment `early`, and its result.
+fn first_check_from(rt: &impl Abort, alloc: Global, start: u64, early: u64) -> Result<(), Fail>
+    requires { start ≤ LAST_MOMENT }
+{
+    let next = Some(start + 300_000);
     let calls = [
-        (
-            Call::Take {
-                now: 1_799_999_999_999,
-            },
-            Reply::Idle { next: Some(start) },
-        ),
+        (Call::Take { now: early }, Reply::Idle { next: Some(start) }),
         (
             Call::Take { now: start },
             Reply::Taken { object: 1, run: 1 },
         ),
         (
             report(1, 1, Code::Ok),
-            standing(Ok, Kind::Hard, 1, Ok, false, Some(1_800_000_300_000)),
+            standing(State::Ok, Kind::Hard, 1, State::Ok, false, next),
         ),
     ];
-    answers_from(&rt, rt.alloc(), ONE_SERVICE, start, &calls)
+    answers_from(rt, alloc, ONE_SERVICE, start, &calls)
 }
 
-/// From the last start: the next time passes it by the interval.
+/// From today's clock in milliseconds, and from the last start, where the next time passes it by the
+/// interval.
 #[test]
-fn first_checks_from_the_last_moment(rt: HostRuntime) -> Result<(), Fail> {
-    use State::Ok;
-    let calls = [
-        (
-            Call::Take { now: 0 },
-            Reply::Idle {
-                next: Some(LAST_MOMENT),
-            },
-        ),
-        (
-            Call::Take { now: LAST_MOMENT },
-            Reply::Taken { object: 1, run: 1 },
-        ),
-        (
-            report(1, 1, Code::Ok),
-            standing(Ok, Kind::Hard, 1, Ok, false, Some(LAST_MOMENT + 300_000)),
-        ),
-    ];
-    answers_from(&rt, rt.alloc(), ONE_SERVICE, LAST_MOMENT, &calls)
+fn first_checks_from_late_starts(rt: HostRuntime) -> Result<(), Fail> {
+    first_check_from(&rt, rt.alloc(), 1_800_000_000_000, 1_799_999_999_999)?;
+    first_check_from(&rt, rt.alloc(), LAST_MOMENT, 0)
 }
 
 /// A document of a host and 4,095 services, all due at the start.

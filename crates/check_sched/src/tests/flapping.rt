@@ -1,8 +1,8 @@
 //! Objects whose state comes and goes.
 
 use super::{
-    HOSTS_FLAP_AT_ONCE, ONE_ATTEMPT_EACH_MINUTE, SERVICES_FLAP_AT_ONCE, answers_as, opened, report,
-    standing, that_flaps,
+    HOSTS_FLAP_AT_ONCE, ONE_ATTEMPT_EACH_MINUTE, SERVICES_FLAP_AT_ONCE, host_and_service, opened,
+    report, standing, that_flaps,
 };
 use crate::{Call, Reply};
 use check_rules::{Code, Kind, State};
@@ -48,37 +48,24 @@ fn a_service_that_comes_and_goes(rt: HostRuntime) -> Result<(), Fail> {
 }
 
 #[test]
-fn hosts_flap_by_their_own_thresholds(rt: HostRuntime) -> Result<(), Fail> {
+fn hosts_and_services_flap_by_their_own_thresholds(rt: HostRuntime) -> Result<(), Fail> {
     use State::{Ok, Up};
-    let calls = [
-        (Call::Take { now: 0 }, Reply::Taken { object: 0, run: 1 }),
-        (
-            report(0, 1, Code::Ok),
-            that_flaps(standing(Up, Kind::Hard, 1, Up, false, Some(300_000))),
-        ),
-        (Call::Take { now: 0 }, Reply::Taken { object: 1, run: 2 }),
-        (
-            report(1, 2, Code::Ok),
-            standing(Ok, Kind::Hard, 1, Ok, false, Some(300_000)),
-        ),
-    ];
-    answers_as(&rt, rt.alloc(), HOSTS_FLAP_AT_ONCE, &calls)
-}
-
-#[test]
-fn services_flap_by_their_own_thresholds(rt: HostRuntime) -> Result<(), Fail> {
-    use State::{Ok, Up};
-    let calls = [
-        (Call::Take { now: 0 }, Reply::Taken { object: 0, run: 1 }),
-        (
-            report(0, 1, Code::Ok),
-            standing(Up, Kind::Hard, 1, Up, false, Some(300_000)),
-        ),
-        (Call::Take { now: 0 }, Reply::Taken { object: 1, run: 2 }),
-        (
-            report(1, 2, Code::Ok),
-            that_flaps(standing(Ok, Kind::Hard, 1, Ok, false, Some(300_000))),
-        ),
-    ];
-    answers_as(&rt, rt.alloc(), SERVICES_FLAP_AT_ONCE, &calls)
+    let host = standing(Up, Kind::Hard, 1, Up, false, Some(300_000));
+    let service = standing(Ok, Kind::Hard, 1, Ok, false, Some(300_000));
+    host_and_service(
+        &rt,
+        rt.alloc(),
+        HOSTS_FLAP_AT_ONCE,
+        Code::Ok,
+        that_flaps(host),
+        service,
+    )?;
+    host_and_service(
+        &rt,
+        rt.alloc(),
+        SERVICES_FLAP_AT_ONCE,
+        Code::Ok,
+        host,
+        that_flaps(service),
+    )
 }

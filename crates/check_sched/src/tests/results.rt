@@ -2,11 +2,13 @@
 
 use super::{
     BEHIND_A_PARENT, HOST_AND_SERVICE, ONE_AGGRESSIVE_HOST, ONE_ATTEMPT, ONE_HOST, ONE_SERVICE,
-    ONE_SERVICE_EACH_MINUTE, ONE_SERVICE_IN_SECONDS, answers_as, never_checked, opened, report,
-    standing, status,
+    ONE_SERVICE_EACH_MINUTE, ONE_SERVICE_IN_SECONDS, answers_as, host_and_service, never_checked,
+    opened, report, standing, status,
 };
 use crate::{Call, Refusal, Reply};
 use check_rules::{Code, Kind, State};
+use std::alloc::Global;
+use std::process::Abort;
 use std::test::Fail;
 
 #[test]
@@ -39,35 +41,60 @@ fn results_of_a_service(rt: HostRuntime) -> Result<(), Fail> {
     Result::Ok(())
 }
 
+/// The first check of an object that is due at the start, and what is answered to its result.
+fn first_result(
+    rt: &impl Abort,
+    alloc: Global,
+    document: &[u8],
+    object: u32,
+    code: Code,
+    want: Reply,
+) -> Result<(), Fail> {
+    let taken = (Call::Take { now: 0 }, Reply::Taken { object, run: 1 });
+    answers_as(
+        rt,
+        alloc,
+        document,
+        &[taken, (report(object, 1, code), want)],
+    )
+}
+
+/// A single attempt is hard at once; intervals count in units; a code 1 of a host is a problem where
+/// hosts are checked aggressively, and else none.
 #[test]
-fn a_single_attempt_is_hard_at_once(rt: HostRuntime) -> Result<(), Fail> {
-    use State::Critical;
-    let calls = [
-        (Call::Take { now: 0 }, Reply::Taken { object: 1, run: 1 }),
-        (
-            report(1, 1, Code::Critical),
-            standing(Critical, Kind::Hard, 1, Critical, true, Some(300_000)),
-        ),
-    ];
-    answers_as(&rt, rt.alloc(), ONE_ATTEMPT, &calls)
+fn first_results(rt: HostRuntime) -> Result<(), Fail> {
+    use Code::{Critical, Warning};
+    use Kind::{Hard, Soft};
+    let want = standing(
+        State::Critical,
+        Hard,
+        1,
+        State::Critical,
+        true,
+        Some(300_000),
+    );
+    first_result(&rt, rt.alloc(), ONE_ATTEMPT, 1, Critical, want)?;
+    let want = standing(State::Critical, Soft, 1, State::Ok, true, Some(1000));
+    first_result(&rt, rt.alloc(), ONE_SERVICE_IN_SECONDS, 1, Critical, want)?;
+    let want = standing(State::Down, Soft, 1, State::Up, true, Some(60_000));
+    first_result(&rt, rt.alloc(), ONE_AGGRESSIVE_HOST, 0, Warning, want)?;
+    let want = standing(State::Up, Hard, 1, State::Up, false, Some(300_000));
+    first_result(&rt, rt.alloc(), ONE_HOST, 0, Warning, want)
 }
 
 #[test]
 fn a_service_of_a_host_that_is_down(rt: HostRuntime) -> Result<(), Fail> {
     use State::{Critical, Down, Up};
-    let calls = [
-        (Call::Take { now: 0 }, Reply::Taken { object: 0, run: 1 }),
-        (
-            report(0, 1, Code::Critical),
-            standing(Down, Kind::Soft, 1, Up, true, Some(60_000)),
-        ),
-        (Call::Take { now: 0 }, Reply::Taken { object: 1, run: 2 }),
-        (
-            report(1, 2, Code::Critical),
-            standing(Critical, Kind::Hard, 4, Critical, true, Some(300_000)),
-        ),
-    ];
-    answers_as(&rt, rt.alloc(), HOST_AND_SERVICE, &calls)
+    let host = standing(Down, Kind::Soft, 1, Up, true, Some(60_000));
+    let service = standing(Critical, Kind::Hard, 4, Critical, true, Some(300_000));
+    host_and_service(
+        &rt,
+        rt.alloc(),
+        HOST_AND_SERVICE,
+        Code::Critical,
+        host,
+        service,
+    )
 }
 
 #[test]
@@ -95,31 +122,6 @@ fn a_host_behind_a_parent_that_is_down(rt: HostRuntime) -> Result<(), Fail> {
         ),
     ];
     answers_as(&rt, rt.alloc(), BEHIND_A_PARENT, &calls)
-}
-
-#[test]
-fn a_warning_of_a_host(rt: HostRuntime) -> Result<(), Fail> {
-    use State::{Down, Up};
-    let taken = (Call::Take { now: 0 }, Reply::Taken { object: 0, run: 1 });
-    let down = standing(Down, Kind::Soft, 1, Up, true, Some(60_000));
-    let calls = [taken, (report(0, 1, Code::Warning), down)];
-    answers_as(&rt, rt.alloc(), ONE_AGGRESSIVE_HOST, &calls)?;
-    let up = standing(Up, Kind::Hard, 1, Up, false, Some(300_000));
-    let calls = [taken, (report(0, 1, Code::Warning), up)];
-    answers_as(&rt, rt.alloc(), ONE_HOST, &calls)
-}
-
-#[test]
-fn intervals_count_in_units(rt: HostRuntime) -> Result<(), Fail> {
-    use State::{Critical, Ok};
-    let calls = [
-        (Call::Take { now: 0 }, Reply::Taken { object: 1, run: 1 }),
-        (
-            report(1, 1, Code::Critical),
-            standing(Critical, Kind::Soft, 1, Ok, true, Some(1000)),
-        ),
-    ];
-    answers_as(&rt, rt.alloc(), ONE_SERVICE_IN_SECONDS, &calls)
 }
 
 #[test]

@@ -18,18 +18,11 @@ fn opens_with_ample_memory(rt: HostRuntime) -> Result<(), Fail> {
 }
 
 #[test]
-fn takes_a_host_once(rt: HostRuntime) -> Result<(), Fail> {
-    let calls = [
-        (Call::Take { now: 0 }, Reply::Taken { object: 0, run: 1 }),
-        (Call::Take { now: 0 }, Reply::Idle { next: None }),
-    ];
-    answers_as(&rt, rt.alloc(), ONE_HOST, &calls)
-}
-
-#[test]
-fn an_empty_setup_is_idle(rt: HostRuntime) -> Result<(), Fail> {
-    let calls = [(Call::Take { now: 0 }, Reply::Idle { next: None })];
-    answers_as(&rt, rt.alloc(), b"{}", &calls)
+fn takes_a_host_once_and_nothing_where_nothing_is(rt: HostRuntime) -> Result<(), Fail> {
+    let taken = (Call::Take { now: 0 }, Reply::Taken { object: 0, run: 1 });
+    let idle = (Call::Take { now: 0 }, Reply::Idle { next: None });
+    answers_as(&rt, rt.alloc(), ONE_HOST, &[taken, idle])?;
+    answers_as(&rt, rt.alloc(), b"{}", &[idle])
 }
 
 #[test]

@@ -1,5 +1,5 @@
 use Rattle.std.proofs.Common.{◌≡◌, ◌+◌, ◌*◌, ◌≤◌, drop}
-use Rattle.check_rules.specs.Flapping.{weight_after}
+use Rattle.check_rules.specs.FlappingWalk.{weight_after}
 use Rattle.check_rules.proofs.flapping.weight_after.Given as goal
 
 -- what was added up and what is still to come are the whole, and no change weighs over 200

@@ -16,10 +16,14 @@ use Rattle.check_sched.proofs.roster.Roster.change.Goals as goal
 there : (r : Inside) (now : RosterState) (n : ℕ) → roster_of r ≡ now → n < length now.objects → n < length r.objects.items
 there r now n e l = let long = ap (λ (s : RosterState). length s.objects) e in omega (arith, long, l)
 
--- the objects that a change leaves
+-- a roster with so many hosts and these objects
+abbrev roster : ℕ → List Scheduling → RosterState
+roster hosts objects = record { hosts = hosts; objects = objects }
+
+-- the roster that a change leaves
 left : (r : Inside) (now : RosterState) (n : ℕ) (f : Scheduling → Scheduling) (old new : Scheduling) → roster_of r ≡ now → n < length now.objects
-    → new ≡ f old → old ≡ get_or r.objects.items n old → set r.objects.items n new ≡ update_at n f r.objects.items
-left r now n f old new e l g is = set_is_update n f r.objects.items old new (there r now n e l) (g ∙ ap f is)
+    → new ≡ f old → old ≡ get_or r.objects.items n old → roster r.hosts (set r.objects.items n new) ≡ roster now.hosts (update_at n f now.objects)
+left r now n f old new e l g is = rw (← e, set_is_update n f r.objects.items old new (there r now n e l) (g ∙ ap f is)) refl
 
 pub place-requires : goal.place-requires
 place-requires c =
@@ -82,16 +86,10 @@ invariant_of-self-else-index-self c =
 
 pub returns-then-index-self : goal.returns-then-index-self
 returns-then-index-self c =
-    rw (
-      ← c.self.view_is,
-      left c.self.inside c.args.self.now c.args.number (changed c.args.change) c.index_mut-object.result.now c.change.new.self
-          c.self.view_is c.requires c.change.ensures c.index_mut-object.ensures.value,
-    ) refl
+    left c.self.inside c.args.self.now c.args.number (changed c.args.change) c.index_mut-object.result.now c.change.new.self c.self.view_is c.requires
+    c.change.ensures c.index_mut-object.ensures.value
 
 pub returns-else-index-self : goal.returns-else-index-self
 returns-else-index-self c =
-    rw (
-      ← c.self.view_is,
-      left c.self.inside c.args.self.now c.args.number (changed c.args.change) c.index_mut-object.result.now c.change.new.self
-          c.self.view_is c.requires c.change.ensures c.index_mut-object.ensures.value,
-    ) refl
+    left c.self.inside c.args.self.now c.args.number (changed c.args.change) c.index_mut-object.result.now c.change.new.self c.self.view_is c.requires
+    c.change.ensures c.index_mut-object.ensures.value
