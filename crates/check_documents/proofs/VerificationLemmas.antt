@@ -1,11 +1,9 @@
 -- The first fault of a list, the parents counted, and the first key that stood before.
-use Rattle.std.proofs.Common.{◌≡◌, ℕ, Bor, bytes_eq, ◌||◌, ◌&&◌, ◌+◌, ◌<◌, ◌≤◌, not, Bool, true, false, cond, List, [], ◌∷◌, ◌++◌, map, length, drop}
-use Rattle.std.proofs.Common.{get_or, Option, Some, None, refl, sym, ap, ◌∙◌, Ok, Err, append_assoc, arith}
+use Rattle.std.proofs.Common.{◌≡◌, ℕ, Bor, bytes_eq, ◌||◌, ◌&&◌, ◌+◌, not, Bool, true, false, cond, List, [], ◌∷◌, ◌++◌, map, length, drop}
+use Rattle.std.proofs.Common.{Option, Some, None, refl, sym, ap, ◌∙◌, Ok, Err, append_assoc}
 use Rattle.std.specs.Prelude.{sum_by}
 use Rattle.std.specs.List.{list_any, position}
-use Rattle.std.proofs.lemmas.Grind.{common_steps}
-use Rattle.std.proofs.lemmas.List.{length-map, map-append, drop_all}
-use Rattle.std.proofs.lemmas.List.Sums.{sum_by-cons}
+use Rattle.std.proofs.lemmas.List.{map-append}
 use Rattle.check_drafts.specs.declared.draft.HostDraft.{HostDraft}
 use Rattle.check_drafts.specs.declared.error.LoadError.{LoadError}
 use Rattle.check_drafts.specs.LoadError.{refused_at}
@@ -17,9 +15,7 @@ use Rattle.check_drafts.specs.Place.{item_of_part}
 use Rattle.std.proofs.lemmas.List.Folds.{list_any-append}
 use Rattle.std.proofs.lemmas.Slice.Eq.{bytes_eq-Decides}
 use Rattle.check_drafts.specs.Drafted.{host, texts}
-use Rattle.check_drafts.specs.Text.{text}
 use Rattle.check_drafts.proofs.ListLemmas.{list_any-map, position-map, position-same}
-use Rattle.check_drafts.proofs.PastEnds.{no_host}
 use Rattle.check_drafts.proofs.RepeatLemmas.{repeat_after}
 
 pub refused_some : (fault : ℕ → LoadError) (o : Option ℕ) (i : ℕ) → Some i ≡ o → refused_at fault o ≡ Err (fault i)
@@ -42,16 +38,6 @@ refused_nowhere fault test view xs e = refused_none fault _ (e ∙ sym (position
 
 abbrev pub parents_from : ℕ → List HostDraft → ℕ
 parents_from i hs = sum_by (λ h. length h.parents) (map host (drop i hs))
-
-pub parents_next : (hs : List HostDraft) (i : ℕ) → i < length hs → parents_from i hs ≡ length (get_or hs i no_host).parents.now + parents_from (i + 1) hs
-parents_next hs i below =
-    let e : drop i hs ≡ get_or hs i no_host ∷ drop (i + 1) hs = grind (arith, common_steps) in
-    ap (λ l. sum_by (λ d. length d.parents) (map host l)) e
-    ∙ sum_by-cons (λ d. length d.parents) (host (get_or hs i no_host)) (map host (drop (i + 1) hs))
-    ∙ ap (λ n. n + parents_from (i + 1) hs) (length-map (get_or hs i no_host).parents.now text)
-
-pub parents_end : (hs : List HostDraft) (i : ℕ) → length hs ≤ i → parents_from i hs ≡ 0
-parents_end hs i past = ap (λ l. sum_by (λ d. length d.parents) (map host l)) (drop_all i hs past)
 
 -- ---- keys one after another: D are drafts of the code, K what its set holds of them, and L how the definitions see that
 

@@ -17,20 +17,21 @@ are_letters letters text = list_all (is_among letters) (pieces text)
 abbrev pub has_letter : List ℕ → List ℕ → Bool
 has_letter letter text = list_any (λ piece. bytes_eq piece letter) (pieces text)
 
+-- the letters that pieces of a text are
+abbrev pub criteria_in : List ℕ → Criteria
+criteria_in text = record {
+  ok = has_letter (codes "o") text;
+  warning = has_letter (codes "w") text;
+  unknown = has_letter (codes "u") text;
+  critical = has_letter (codes "c") text;
+  down = has_letter (codes "d") text;
+  pending = has_letter (codes "p") text;
+  none = has_letter (codes "n") text;
+}
+
 -- what a text says, whether it has these letters alone or not
 abbrev pub found_in : List (List ℕ) → List ℕ → Found
-found_in letters text = record {
-  known = are_letters letters text;
-  criteria = record {
-    ok = has_letter (codes "o") text;
-    warning = has_letter (codes "w") text;
-    unknown = has_letter (codes "u") text;
-    critical = has_letter (codes "c") text;
-    down = has_letter (codes "d") text;
-    pending = has_letter (codes "p") text;
-    none = has_letter (codes "n") text;
-  };
-}
+found_in letters text = record { known = are_letters letters text; criteria = criteria_in text }
 
 -- what is said with one more piece
 abbrev pub with_piece : List (List ℕ) → Found → List ℕ → Found
@@ -49,12 +50,4 @@ with_piece letters found piece = record {
 
 -- the criteria of a text that has these letters alone
 unfoldable pub criteria_of : List (List ℕ) → List ℕ → Option Criteria
-criteria_of letters text = if are_letters letters text then Some (record {
-  ok = has_letter (codes "o") text;
-  warning = has_letter (codes "w") text;
-  unknown = has_letter (codes "u") text;
-  critical = has_letter (codes "c") text;
-  down = has_letter (codes "d") text;
-  pending = has_letter (codes "p") text;
-  none = has_letter (codes "n") text;
-}) else None
+criteria_of letters text = if are_letters letters text then Some (criteria_in text) else None

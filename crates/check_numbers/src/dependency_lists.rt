@@ -1,5 +1,5 @@
 //! The dependencies of each object by number, and an order of the objects that they agree with.
-ghost use Rattle.std.specs.Prelude.{◌≡◌, ◌<◌, ◌≤◌, ◌++◌, ◌∷◌, [], length, map, replicate, slice_set, slice_index_or, vec_len, nat_lt, true, IfOk, OnOk, IsOkUnless, MatchOption};
+ghost use Rattle.std.specs.Prelude.{◌≡◌, ◌≤◌, ◌++◌, length, map, nat_lt, true, IfOk, OnOk, IsOkUnless, MatchOption};
 ghost use Rattle.std.specs.List.{list_all};
 ghost use Rattle.link_order.specs.Cycles.{are_within, has_cycle};
 ghost use Rattle.link_order.specs.Orders.{IsOrder};
@@ -11,7 +11,7 @@ ghost use Rattle.check_numbers.specs.Numbering.{numbered_dependency, all_depende
 use crate::numbering::{Host, Service, object_number};
 use check_drafts::{Dependency, DependencyDraft, Drafts, LoadError};
 use indexmap::IndexMap;
-use link_order::order_by_links;
+use link_order::{empty_lists, order_by_links, push_at};
 use smallvec::SmallVec;
 use std::alloc::{AllocError, Global};
 
@@ -91,38 +91,9 @@ fn list_by_dependent(
         ≡ dependency_lists count numbered.now) }
     ensures memory { IsOkUnless result LoadError.Memory }
 {
-    let mut lists = no_dependencies(alloc, count)?;
+    let mut lists = empty_lists(alloc, count)?;
     for (dependent, dependency) in numbered {
         push_at(&mut lists, *dependent, *dependency)?;
-    }
-    Ok(lists)
-}
-
-/// Adds a dependency to the list of one object.
-fn push_at(
-    lists: &mut Vec<Dependencies>,
-    object: u32,
-    dependency: Dependency,
-) -> Result<(), LoadError>
-    requires { object < vec_len lists.old }
-    ensures size { vec_len lists.new ≡ vec_len lists.old }
-    ensures pushed { OnOk result (map (λ list. list.items) lists.new.items ≡
-        slice_set (map (λ list. list.items) lists.old.items) object
-        (slice_index_or (map (λ list. list.items) lists.old.items) object [] ++ dependency ∷ [])) }
-    ensures memory { IsOkUnless result LoadError.Memory }
-{
-    lists[object as usize].push(dependency)?;
-    Ok(())
-}
-
-/// So many lists without a dependency.
-fn no_dependencies(alloc: Global, count: usize) -> Result<Vec<Dependencies>, LoadError>
-    ensures lists { IfOk result (λ lists. map (λ list. list.items) lists.items ≡ replicate count []) }
-    ensures memory { IsOkUnless result LoadError.Memory }
-{
-    let mut lists = Vec::with_capacity(alloc, count)?;
-    for _made in 0..count {
-        lists.push(SmallVec::new(alloc))?;
     }
     Ok(lists)
 }

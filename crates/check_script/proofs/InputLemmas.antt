@@ -13,17 +13,6 @@ use Rattle.std.specs.Io.KnownBytes.{Consumes, IsAtEnd}
 use Rattle.memchr.specs.Find.{IsFirstByte}
 use Rattle.std.proofs.lemmas.Grind.{common_steps}
 
-pub Consumes-none : (known : Option (List ℕ)) → Consumes known known []
-Consumes-none None = tt
-Consumes-none (Some xs) = refl
-
-pub Consumes-trans : (old mid new : Option (List ℕ)) (xs ys : List ℕ) → Consumes old mid xs → Consumes mid new ys
-    → Consumes old new (xs ++ ys)
-Consumes-trans None mid new xs ys h k = tt
-Consumes-trans (Some a) None new xs ys h k = absurd h
-Consumes-trans (Some a) (Some b) None xs ys h k = absurd k
-Consumes-trans (Some a) (Some b) (Some c) xs ys h k = h ∙ ap (λ v. xs ++ v) k ∙ sym (append_assoc xs ys c)
-
 suc_first : (n : ℕ) → suc (n + 1) ≡ suc n + 1
 suc_first n = omega arith
 

@@ -37,10 +37,6 @@ WroteUpTo-more old mid new text rest n w a = record {
   appended = Appends-trans old mid new w.front (take n rest) w.appended a;
 }
 
--- a write that failed
-pub WroteUpTo-keeps : (old mid new : Option (List ℕ)) (text rest : List ℕ) → WroteUpTo old mid text rest → Keeps mid new → WroteUpTo old new text rest
-WroteUpTo-keeps old mid new text rest w k = record { front = w.front; parts = w.parts; appended = Appends-Keeps old mid new w.front w.appended k }
-
 -- no rest is left
 pub WroteUpTo-all : (old new : Option (List ℕ)) (text : List ℕ) → WroteUpTo old new text [] → Appends old new text
 WroteUpTo-all old new text w = let e : w.front ≡ text = grind (arith, common_steps, w.parts) in rw (← e) w.appended

@@ -4,12 +4,15 @@
 //! The objects are numbers from 0 on, and all that is known of one is which others it links to. What
 //! an object is, and what a link means, its callers say.
 //!
-//! The modules: `order` makes the order, `laws` says what a cycle is.
+//! The modules: `order` makes the order, `lists` has the lists by number that it and its callers
+//! fill, `laws` says what a cycle is.
 #![tactic(auto)]
 
 pub mod laws;
+mod lists;
 mod order;
 #[cfg(test)]
 mod tests;
 
+pub use lists::{empty_lists, push_at};
 pub use order::order_by_links;

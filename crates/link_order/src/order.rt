@@ -1,11 +1,12 @@
 //! The order, made object by object: an object is placed when the last that it links to was looked
 //! at, and where some are never placed there is a cycle among them.
-ghost use Rattle.std.specs.Prelude.{◌≡◌, ℕ, ◌<◌, ◌≤◌, ◌==◌, ◌-◌, ◌^◌, ◌++◌, ◌∷◌, [], IfOk, OnOk, length, map, true, vec_len, slice_set, replicate, nat_lt, if◌then◌else◌, MatchOption};
+ghost use Rattle.std.specs.Prelude.{◌≡◌, ℕ, ◌<◌, ◌≤◌, ◌==◌, ◌-◌, ◌^◌, ◌++◌, ◌∷◌, [], IfOk, OnOk, length, map, true, vec_len, slice_set, nat_lt, if◌then◌else◌, MatchOption};
 ghost use Rattle.std.specs.List.{list_all};
-ghost use Rattle.link_order.specs.Cycles.{has_cycle, links_of, are_within};
+ghost use Rattle.link_order.specs.Cycles.{has_cycle, are_within};
 ghost use Rattle.link_order.specs.Orders.{IsOrder, times};
 ghost use Rattle.link_order.specs.Growth.{open_at, free_from, Closed, AddsDependent, HasDependents};
 
+use crate::lists::{empty_lists, push_at};
 use smallvec::SmallVec;
 use std::alloc::{AllocError, Global};
 
@@ -84,7 +85,10 @@ fn are_closed(left: &[usize]) -> bool
 }
 
 /// For each object those that link to it, once for each link.
-fn dependents_of(alloc: Global, links: &[SmallVec<u32, 4>]) -> Result<Vec<Vec<u32>>, AllocError>
+fn dependents_of(
+    alloc: Global,
+    links: &[SmallVec<u32, 4>],
+) -> Result<Vec<SmallVec<u32, 4>>, AllocError>
     requires few { length links.now ≤ 2 ^ 32 }
     requires within { are_within (length links.now) (map (λ list. list.items) links.now) ≡ true }
     ensures { IfOk result (λ dependents. HasDependents (length links.now)
@@ -97,20 +101,9 @@ fn dependents_of(alloc: Global, links: &[SmallVec<u32, 4>]) -> Result<Vec<Vec<u3
     Ok(dependents)
 }
 
-/// So many empty lists.
-fn empty_lists(alloc: Global, count: usize) -> Result<Vec<Vec<u32>>, AllocError>
-    ensures { IfOk result (λ lists. map (λ list. list.items) lists.items ≡ replicate count []) }
-{
-    let mut lists = Vec::new(alloc);
-    for _made in 0..count {
-        lists.push(Vec::new(alloc))?;
-    }
-    Ok(lists)
-}
-
 /// Adds an object to the list of each that it links to.
 fn add_dependent(
-    dependents: &mut Vec<Vec<u32>>,
+    dependents: &mut Vec<SmallVec<u32, 4>>,
     object: u32,
     links: &[u32],
 ) -> Result<(), AllocError>
@@ -122,18 +115,6 @@ fn add_dependent(
     for link in links {
         push_at(dependents, *link, object)?;
     }
-    Ok(())
-}
-
-/// Adds an object to one of the lists.
-fn push_at(lists: &mut Vec<Vec<u32>>, place: u32, object: u32) -> Result<(), AllocError>
-    requires { place < vec_len lists.old }
-    ensures size { vec_len lists.new ≡ vec_len lists.old }
-    ensures pushed { OnOk result (map (λ list. list.items) lists.new.items ≡
-        slice_set (map (λ list. list.items) lists.old.items) place
-        (links_of (map (λ list. list.items) lists.old.items) place ++ object ∷ [])) }
-{
-    lists[place as usize].push(object)?;
     Ok(())
 }
 

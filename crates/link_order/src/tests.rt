@@ -3,7 +3,7 @@
 ghost use Rattle.std.specs.Prelude.{◌≡◌, ◌≤◌, IfOk, length, map, true};
 ghost use Rattle.link_order.specs.Cycles.{are_within};
 
-use crate::order_by_links;
+use crate::{empty_lists, order_by_links, push_at};
 use smallvec::SmallVec;
 use std::alloc::{AllocError, Global};
 use std::test::Fail;
@@ -62,6 +62,30 @@ fn a_cycle_has_no_order(rt: HostRuntime) -> Result<(), Fail> {
 #[test]
 fn an_object_linked_to_itself_has_no_order(rt: HostRuntime) -> Result<(), Fail> {
     assert!(rt; order_of(rt.alloc(), &[&[], &[1]])?.is_none());
+    Ok(())
+}
+
+/// Adds an item to a list, where there is one at the place.
+fn add(lists: &mut Vec<SmallVec<u32, 2>>, place: u32, item: u32) -> Result<(), AllocError> {
+    if (place as usize) < lists.len() {
+        push_at(lists, place, item)?;
+    }
+    Ok(())
+}
+
+/// Items stand in the lists that they were put into, in the order in which they came.
+#[test]
+fn lists_have_their_items_in_order(rt: HostRuntime) -> Result<(), Fail> {
+    let mut lists = empty_lists(rt.alloc(), 3)?;
+    add(&mut lists, 2, 7)?;
+    add(&mut lists, 0, 8)?;
+    add(&mut lists, 2, 9)?;
+    add(&mut lists, 2, 7)?;
+    assert_eq!(rt; lists.len(), 3);
+    let wanted: [&[u32]; 3] = [&[8], &[], &[7, 9, 7]];
+    for (list, want) in lists.iter().zip(wanted.iter()) {
+        assert_eq!(rt; list.as_slice(), *want);
+    }
     Ok(())
 }
 

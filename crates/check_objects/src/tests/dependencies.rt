@@ -61,16 +61,6 @@ fn refuses_member(
     Ok(())
 }
 
-const NO_CRITERIA: Criteria = Criteria {
-    ok: false,
-    warning: false,
-    unknown: false,
-    critical: false,
-    down: false,
-    pending: false,
-    none: false,
-};
-
 #[test]
 fn reads_dependencies_of_both_sorts(rt: HostRuntime) -> Result<(), Fail> {
     let document = with_members(
@@ -90,7 +80,7 @@ fn reads_dependencies_of_both_sorts(rt: HostRuntime) -> Result<(), Fail> {
             unknown: true,
             critical: true,
             pending: true,
-            ..NO_CRITERIA
+            ..Criteria::default()
         },
         inherits: false,
     };
@@ -98,7 +88,7 @@ fn reads_dependencies_of_both_sorts(rt: HostRuntime) -> Result<(), Fail> {
         master: 3,
         criteria: Criteria {
             none: true,
-            ..NO_CRITERIA
+            ..Criteria::default()
         },
         inherits: true,
     };
@@ -107,7 +97,7 @@ fn reads_dependencies_of_both_sorts(rt: HostRuntime) -> Result<(), Fail> {
         criteria: Criteria {
             down: true,
             unknown: true,
-            ..NO_CRITERIA
+            ..Criteria::default()
         },
         inherits: false,
     };
@@ -171,14 +161,6 @@ const REFUSED_OF_SERVICES: [(&str, LoadError); 12] = [
     ),
 ];
 
-#[test]
-fn refuses_dependencies_of_services(rt: HostRuntime) -> Result<(), Fail> {
-    for (list, want) in &REFUSED_OF_SERVICES {
-        refuses_member(&rt, rt.alloc(), SERVICE_DEPENDENCIES, *list, *want)?;
-    }
-    Ok(())
-}
-
 /// A dependency of a service with these criteria is refused for its shape.
 fn refuses_criteria_of(rt: &impl Abort, alloc: Global, criteria: &str) -> Result<(), AllocError> {
     let list = format!(in alloc;
@@ -192,14 +174,6 @@ fn refuses_criteria_of(rt: &impl Abort, alloc: Global, criteria: &str) -> Result
 const REFUSED_CRITERIA: [&str; 11] = [
     "", ",", "o,", ",o", "o,,c", "oc", "o, c", " o", "O", "d", "x",
 ];
-
-#[test]
-fn refuses_criteria(rt: HostRuntime) -> Result<(), Fail> {
-    for criteria in &REFUSED_CRITERIA {
-        refuses_criteria_of(&rt, rt.alloc(), *criteria)?;
-    }
-    Ok(())
-}
 
 /// Lists of dependencies between hosts, and why each is refused.
 const REFUSED_OF_HOSTS: [(&str, LoadError); 6] = [
@@ -227,7 +201,13 @@ const REFUSED_OF_HOSTS: [(&str, LoadError); 6] = [
 ];
 
 #[test]
-fn refuses_dependencies_of_hosts(rt: HostRuntime) -> Result<(), Fail> {
+fn refuses_dependencies(rt: HostRuntime) -> Result<(), Fail> {
+    for (list, want) in &REFUSED_OF_SERVICES {
+        refuses_member(&rt, rt.alloc(), SERVICE_DEPENDENCIES, *list, *want)?;
+    }
+    for criteria in &REFUSED_CRITERIA {
+        refuses_criteria_of(&rt, rt.alloc(), *criteria)?;
+    }
     for (list, want) in &REFUSED_OF_HOSTS {
         refuses_member(&rt, rt.alloc(), HOST_DEPENDENCIES, *list, *want)?;
     }

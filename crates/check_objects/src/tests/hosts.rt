@@ -1,4 +1,4 @@
-//! Whole documents and their hosts: good ones, and what is refused.
+//! Whole documents and their hosts, with the links to parents: good ones, and what is refused.
 
 use super::{refuses, refuses_each, with_hosts};
 use crate::{DelayMethod, LoadError, Options, Part, Place, Setup};
@@ -12,6 +12,11 @@ const FIRST: Place = Place {
 const SECOND: Place = Place {
     part: Part::Hosts,
     index: Some(1),
+};
+
+const FIRST_SERVICE: Place = Place {
+    part: Part::Services,
+    index: Some(0),
 };
 
 #[test]
@@ -63,7 +68,7 @@ fn reads_a_document_without_hosts(rt: HostRuntime) -> Result<(), Fail> {
     Ok(())
 }
 
-const REFUSED_DOCUMENTS: [(&str, LoadError); 8] = [
+const REFUSED_DOCUMENTS: [(&str, LoadError); 10] = [
     ("", LoadError::NotJson),
     ("{", LoadError::NotJson),
     ("[]", LoadError::Shape(Place::DOCUMENT)),
@@ -71,6 +76,8 @@ const REFUSED_DOCUMENTS: [(&str, LoadError); 8] = [
     (r#"{"hosts":5}"#, LoadError::Shape(Place::HOSTS)),
     (r#"{"options":5}"#, LoadError::Shape(Place::OPTIONS)),
     (r#"{"hosts":[5]}"#, LoadError::Shape(FIRST)),
+    (r#"{"services":5}"#, LoadError::Shape(Place::SERVICES)),
+    (r#"{"services":[5]}"#, LoadError::Shape(FIRST_SERVICE)),
     (
         r#"{"options":{"interval_length":0}}"#,
         LoadError::Range(Place::OPTIONS),
@@ -82,7 +89,7 @@ fn refuses_whole_documents(rt: HostRuntime) {
     refuses_each(&rt, rt.alloc(), &REFUSED_DOCUMENTS);
 }
 
-const REFUSED_LISTS: [(&str, LoadError); 10] = [
+const REFUSED_LISTS: [(&str, LoadError); 13] = [
     ("[5]", LoadError::Shape(FIRST)),
     (r#"[{"name":"a"}]"#, LoadError::Shape(FIRST)),
     (
@@ -116,6 +123,18 @@ const REFUSED_LISTS: [(&str, LoadError); 10] = [
     (
         r#"[{"name":"a","max_check_attempts":3,"retry_interval":525601}]"#,
         LoadError::Range(FIRST),
+    ),
+    (
+        r#"[{"name":"a","max_check_attempts":3,"parents":["b"]},{"name":"b","max_check_attempts":3,"parents":["a"]}]"#,
+        LoadError::ParentCycle,
+    ),
+    (
+        r#"[{"name":"b","max_check_attempts":3},{"name":"a","max_check_attempts":3,"parents":["b","a"]}]"#,
+        LoadError::ParentCycle,
+    ),
+    (
+        r#"[{"name":"b","max_check_attempts":3},{"name":"a","max_check_attempts":3,"parents":["b","c"]}]"#,
+        LoadError::UnknownHost(SECOND),
     ),
 ];
 

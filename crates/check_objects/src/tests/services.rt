@@ -1,13 +1,8 @@
-//! Services behind their hosts, parents, and what is refused of them.
+//! Services behind their hosts, parents, and what is refused of services.
 
-use super::{refuses, refuses_each, with_hosts, with_service};
+use super::{refuses, with_service};
 use crate::{LoadError, Options, Part, Place, Setup};
 use std::test::Fail;
-
-const SECOND_HOST: Place = Place {
-    part: Part::Hosts,
-    index: Some(1),
-};
 
 const FIRST_SERVICE: Place = Place {
     part: Part::Services,
@@ -92,39 +87,4 @@ fn refuses_services(rt: HostRuntime) -> Result<(), Fail> {
         refuses(&rt, rt.alloc(), document.as_str(), *want);
     }
     Ok(())
-}
-
-/// Lists of hosts with parents, and why each is refused.
-const REFUSED_PARENTS: [(&str, LoadError); 3] = [
-    (
-        r#"[{"name":"a","max_check_attempts":3,"parents":["b"]},{"name":"b","max_check_attempts":3,"parents":["a"]}]"#,
-        LoadError::ParentCycle,
-    ),
-    (
-        r#"[{"name":"b","max_check_attempts":3},{"name":"a","max_check_attempts":3,"parents":["b","a"]}]"#,
-        LoadError::ParentCycle,
-    ),
-    (
-        r#"[{"name":"b","max_check_attempts":3},{"name":"a","max_check_attempts":3,"parents":["b","c"]}]"#,
-        LoadError::UnknownHost(SECOND_HOST),
-    ),
-];
-
-#[test]
-fn refuses_parents(rt: HostRuntime) -> Result<(), Fail> {
-    for (hosts, want) in &REFUSED_PARENTS {
-        let document = with_hosts(rt.alloc(), *hosts)?;
-        refuses(&rt, rt.alloc(), document.as_str(), *want);
-    }
-    Ok(())
-}
-
-const REFUSED_LISTS: [(&str, LoadError); 2] = [
-    (r#"{"services":5}"#, LoadError::Shape(Place::SERVICES)),
-    (r#"{"services":[5]}"#, LoadError::Shape(FIRST_SERVICE)),
-];
-
-#[test]
-fn refuses_lists_of_services(rt: HostRuntime) {
-    refuses_each(&rt, rt.alloc(), &REFUSED_LISTS);
 }

@@ -3,7 +3,7 @@ use Rattle.check_numbers.proofs.DependencyLemmas.{lists_none, lists_step}
 use Rattle.check_numbers.proofs.dependency_lists.list_by_dependent.Goals as goal
 
 pub loop-dependent-init : goal.loop-dependent-init
-loop-dependent-init c = c.in_ok-lists.ensures.lists ∙ lists_none c.args.count
+loop-dependent-init c = c.in_ok-lists.ensures ∙ lists_none c.args.count
 
 pub loop-dependent-preserved : goal.loop-dependent-preserved
 loop-dependent-preserved c =

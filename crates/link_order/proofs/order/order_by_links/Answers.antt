@@ -28,7 +28,7 @@ close_links-requires-clause-within c =
     let links = map (λ list. list.items) c.args.links.now in
     let size = length-map c.args.links.now (λ list. list.items) in
     let read = dependents_read (λ list. list.items) _ links _ _ _ _ _ _ _ c.in_ok-dependents.ensures c.loop-place.invariant (omega arith) size
-    c.index-object.ensures c.index.ensures c.as_slice.ensures.value in
+    c.index-object.ensures c.index.ensures c.as_slice.ensures in
     let left : length c.args.links.now ≡ length c.deref_mut.result.now = rw c.deref_mut.ensures.value (sym size ∙ sym c.loop-place.invariant.size) in
     all_below_same (length c.args.links.now) _ c.as_slice.result.now left
     (rw read.0 (links_within (length c.args.links.now) (map (λ list. list.items) c.in_ok-dependents.dependents.items) c.index-object.result.now
@@ -38,7 +38,7 @@ pub close_links-requires-clause-open : goal.close_links-requires-clause-open
 close_links-requires-clause-open c =
     let links = map (λ list. list.items) c.args.links.now in
     let read = dependents_read (λ list. list.items) _ links _ _ _ _ _ _ _ c.in_ok-dependents.ensures c.loop-place.invariant (omega arith)
-    (length-map c.args.links.now (λ list. list.items)) c.index-object.ensures c.index.ensures c.as_slice.ensures.value in
+    (length-map c.args.links.now (λ list. list.items)) c.index-object.ensures c.index.ensures c.as_slice.ensures in
     rw c.deref_mut.ensures.value (enough_open links c.loop-place.place c.loop-place.left.items c.loop-place.order.items c.as_slice.result.now
     c.index-object.result.now c.loop-place.invariant (omega arith) read.1)
 
@@ -46,7 +46,7 @@ pub loop-place-preserved : goal.loop-place-preserved
 loop-place-preserved c =
     let links = map (λ list. list.items) c.args.links.now in
     let read = dependents_read (λ list. list.items) _ links _ _ _ _ _ _ _ c.in_ok-dependents.ensures c.loop-place.invariant (omega arith)
-    (length-map c.args.links.now (λ list. list.items)) c.index-object.ensures c.index.ensures c.as_slice.ensures.value in
+    (length-map c.args.links.now (λ list. list.items)) c.index-object.ensures c.index.ensures c.as_slice.ensures in
     let closed = rw c.deref_mut.ensures.value at c.in_ok-close_links.ensures in
     rw (written_back c.loop-place.left.len c.close_links.new.left c.loop-place.left.items (omega (arith, closed.size, c.loop-place.left.ok.0)))
     (under_way_next links c.loop-place.place c.loop-place.left.items c.loop-place.order.items c.as_slice.result.now c.close_links.new.left

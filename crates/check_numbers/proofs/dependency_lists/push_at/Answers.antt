@@ -1,8 +1,0 @@
-use Rattle.std.proofs.Common.{arith}
-use Rattle.link_order.proofs.DependentLemmas.{push_in}
-use Rattle.check_numbers.proofs.dependency_lists.push_at.Goals as goal
-
-pub returns-clause-pushed : goal.returns-clause-pushed
-returns-clause-pushed c =
-    push_in (λ list. list.items) c.args.lists.now.items c.args.object c.args.dependency c.push.new.self c.index_mut.result.now c.index_mut.result.now
-    (omega (arith, c.args.lists.now.ok.0, c.requires)) c.index_mut.ensures.value c.in_ok-push.ensures.ok

@@ -1,5 +1,0 @@
-use Rattle.std.proofs.Common.{◌≡◌, map, replicate, []}
-use Rattle.link_order.proofs.order.empty_lists.Given as goal
-
-abbrev pub invariant-loop-made : goal.invariant-loop-made
-invariant-loop-made l = map (λ list. list.items) l.lists.items ≡ replicate l._made []
