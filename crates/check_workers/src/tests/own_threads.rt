@@ -8,7 +8,7 @@ ghost use Rattle.check_desk.specs.Desks.{IsPassOf};
 use crate::{Plugin, work};
 use check_desk::{Answer, Desk, Pass};
 use check_objects::Setup;
-use check_rules::{Code, State};
+use check_rules::{Code, Standing, State};
 use check_sched::{Book, Call, Reply};
 use std::process::Abort;
 use std::sync::Wait;
@@ -81,6 +81,14 @@ fn operate(rt: &impl Wait, desk: &Desk, pass: Pass) -> Pass
     pass
 }
 
+/// Whether a standing says that a door is open.
+fn is_open(standing: Option<Standing>) -> bool {
+    match standing {
+        Some(standing) => standing.state == State::Warning,
+        None => false,
+    }
+}
+
 /// The dashboard's thread: whether a look found the front door open. It takes no turn, and no call.
 fn watch(desk: &Desk, pass: Pass) -> (Pass, bool)
     requires { IsPassOf desk.now pass }
@@ -91,7 +99,9 @@ fn watch(desk: &Desk, pass: Pass) -> (Pass, bool)
     for _look in 0..1_000 {
         let (back, standing) = desk.glance(pass, 2);
         pass = back;
-        was_open |= standing.is_some_and(|standing| standing.state == State::Warning);
+        if is_open(standing) {
+            was_open = true;
+        }
     }
     (pass, was_open)
 }
