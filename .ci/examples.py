@@ -1,9 +1,10 @@
 #!/usr/bin/env python3
-"""Holds the files of examples/ to the texts that the tests of the program run.
+"""Holds the files of examples/ and the program of docs/EMBEDDING.md to the texts that the tests run.
 
 A test can't read a file of examples/, so each example stands in a test of its own as well: its input
 as the setup OFFICE of tests.rt and behind it the constant LINES, its output as the constant OUTPUT.
-Here they are compared, byte for byte.
+Here they are compared, byte for byte; and so is the whole program that the page on embedding shows,
+which is a test of check_workers.
 """
 import pathlib
 import re
@@ -15,6 +16,8 @@ EXAMPLES = {
     "office.rt": {"input": "office.txt", "output": "office.out"},
     "drill_example.rt": {"input": "drill.txt", "output": "drill.out"},
 }
+EMBEDDING = TOP / "docs" / "EMBEDDING.md"
+EMBEDDED = TOP / "crates" / "check_workers" / "src" / "tests" / "own_threads.rt"
 ESCAPES = {"n": "\n", "t": "\t", "\\": "\\", '"': '"'}
 
 
@@ -37,6 +40,9 @@ def main() -> int:
             if texts[name] != (TOP / "examples" / file).read_text(encoding="utf-8"):
                 print(f"examples: {file} is not the {name} of {test}")
                 wrong += 1
+    if f"```rust\n{EMBEDDED.read_text(encoding='utf-8')}```\n" not in EMBEDDING.read_text(encoding="utf-8"):
+        print(f"examples: {EMBEDDING.name} doesn't show {EMBEDDED.name}")
+        wrong += 1
     return 1 if wrong else 0
 
 

@@ -9,6 +9,7 @@ ghost use Rattle.check_sched.specs.Books.{entries_of, refused_of};
 ghost use Rattle.check_desk.specs.Desks.{IsPassOf};
 
 mod embedding;
+mod own_threads;
 mod spending;
 mod visiting;
 

@@ -4,7 +4,7 @@ ghost use Rattle.std.specs.List.{All};
 ghost use Rattle.check_desk.specs.Desks.{IsPassOf};
 
 use crate::random::mixed;
-use crate::sched_work::{INTERVAL, document};
+use crate::sched_work::{Moments, document};
 use check_desk::{Answer, Desk, Pass};
 use check_objects::Setup;
 use check_rules::Code;
@@ -126,11 +126,10 @@ fn glance_often(rt: &impl Clock, desk: &Desk, mut pass: Pass, objects: u32, coun
 fn report_often(rt: &impl Wait, desk: &Desk, mut pass: Pass, objects: u32, checks: u64) -> u64
     requires { IsPassOf desk.now pass }
 {
-    let services = u64::from(objects.max(2) - 1);
+    let mut moments = Moments::of(objects);
     let mut sum = 1;
-    let mut now = 0u64;
-    let mut left = services;
     for _check in 0..checks {
+        let now = moments.next();
         let (back, taken) = desk.ask(rt, pass, Call::Take { now });
         pass = back;
         if let Answer::Reply(Reply::Taken { object, run }) = taken {
@@ -138,11 +137,6 @@ fn report_often(rt: &impl Wait, desk: &Desk, mut pass: Pass, objects: u32, check
             let (back, _reported) = desk.ask(rt, pass, Call::Report { object, run, code });
             pass = back;
             sum = mixed(sum, u64::from(object));
-        }
-        left = left.saturating_sub(1);
-        if left == 0 {
-            now = now.wrapping_add(INTERVAL);
-            left = services;
         }
     }
     sum

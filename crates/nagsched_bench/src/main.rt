@@ -1,3 +1,4 @@
+#![tactic(auto)]
 //! The program `nagsched_bench`: makes a workload so many times, and tells how long it took. It is
 //! timed by hand, by the scripts of `bench/`.
 //!
@@ -18,7 +19,6 @@
 //!
 //! `queue_work` has the workloads of the queue, `sched_work` that of the scheduler, `glance_work` those
 //! of the desk's board, `random` the numbers.
-#![tactic(auto)]
 
 mod glance_work;
 mod queue_work;

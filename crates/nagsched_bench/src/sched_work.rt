@@ -9,7 +9,7 @@ use check_sched::{Call, Reply, Sched};
 use std::alloc::{AllocError, Global};
 
 /// The time between two checks of an object, in milliseconds.
-pub(crate) const INTERVAL: u64 = 300_000;
+const INTERVAL: u64 = 300_000;
 
 /// A scheduler over so many objects, one of them a host that is never due and the others its
 /// services, all due at 0. None where there is no memory, or there can't be so many objects.
@@ -38,23 +38,47 @@ pub(crate) fn document(alloc: Global, objects: u32) -> Result<String, AllocError
     Ok(document)
 }
 
+/// The moments of a scheduler's takes: each of its services is taken once, then an interval passes.
+#[derive(Drop)]
+pub(crate) struct Moments {
+    services: u64,
+    left: u64,
+    now: u64,
+}
+
+impl Moments {
+    /// The moments of a scheduler over so many objects.
+    pub(crate) fn of(objects: u32) -> Moments {
+        let services = u64::from(objects.max(2) - 1);
+        Moments {
+            services,
+            left: services,
+            now: 0,
+        }
+    }
+
+    /// The moment of the next take.
+    pub(crate) fn next(&mut self) -> u64 {
+        if self.left == 0 {
+            self.now = self.now.wrapping_add(INTERVAL);
+            self.left = self.services;
+        }
+        self.left = self.left.saturating_sub(1);
+        self.now
+    }
+}
+
 /// Takes a check at the time of the first of `objects` objects and reports that it is OK, so many
 /// times; tells a sum of what was taken.
 pub(crate) fn cycle(scheduler: &mut Sched, objects: u32, cycles: u64) -> u64 {
-    let services = u64::from(objects.max(2) - 1);
+    let mut moments = Moments::of(objects);
     let mut sum = 1;
-    let mut now = 0u64;
-    let mut left = services;
     for _cycle in 0..cycles {
+        let now = moments.next();
         if let Reply::Taken { object, run } = scheduler.apply(Call::Take { now }) {
             let code = Code::Ok;
             scheduler.apply(Call::Report { object, run, code });
             sum = mixed(sum, u64::from(object));
-        }
-        left = left.saturating_sub(1);
-        if left == 0 {
-            now = now.wrapping_add(INTERVAL);
-            left = services;
         }
     }
     sum

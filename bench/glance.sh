@@ -1,0 +1,47 @@
+#!/usr/bin/env bash
+# Times glances at the board of a desk, and prints one table. Run by hand; no part of the gate.
+#   bench/glance.sh [REPEATS]     the best of so many runs is told, 5 where no number is given
+# 1, 2 and 4 threads glance at 64 objects in turn, each so many times, while one thread more takes checks and
+# reports them. The ratio is to one thread, in the same run. Where valgrind is there, the instructions of a glance
+# are counted, with nobody reporting: the difference of two counts, so that reading the setup cancels.
+set -eu
+export GLIBC_TUNABLES=glibc.cpu.x86_rep_stosb_threshold=100000000:glibc.cpu.x86_rep_movsb_threshold=100000000
+repeats=${1:-5}
+objects=64
+glances=20000000
+crate=$(cd "$(dirname "$0")/../crates/nagsched_bench" && pwd)
+program=$crate/out/nagsched_bench
+work=$(mktemp -d)
+trap 'rm -rf "$work"' EXIT
+
+# Proves and builds the program where it isn't yet.
+mapfile -t words < "$crate/args"
+(cd "$crate" && rt run -- "${words[@]}" > "$work/build.log" 2>&1) || { cat "$work/build.log"; exit 1; }
+
+# The least time of the slowest thread, in nanoseconds, where so many threads glance.
+least() {
+    for _ in $(seq "$repeats"); do
+        "$program" "glance$1" "$objects" "$glances"
+    done | sed -n 's/^ns=\([0-9]*\) .*/\1/p' | sort -n | head -n 1
+}
+
+# The instructions of so many glances of one thread, with all that comes before.
+instructions() {
+    valgrind --tool=callgrind --callgrind-out-file=/dev/null "$program" glance "$objects" "$1" untimed 2>&1 > "$work/output" \
+        | sed -n 's/.*Collected : //p'
+}
+
+printf '%8s %8s %18s %10s %8s\n' threads ms 'glances a second' 'ns each' 'to one'
+one=''
+for threads in 1 2 4; do
+    ns=$(least "$threads")
+    one=${one:-$ns}
+    awk -v threads="$threads" -v ns="$ns" -v one="$one" -v glances="$glances" 'BEGIN {
+        printf "%8d %8d %18d %10.2f %8.2f\n", threads, ns / 1000000, threads * glances * 1000000000 / ns, ns / glances, threads * one / ns
+    }'
+done
+if command -v valgrind > "$work/output"; then
+    few=$(instructions 100000)
+    many=$(instructions 300000)
+    echo "instructions a glance: $(((many - few) / 200000))"
+fi
