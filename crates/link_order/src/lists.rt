@@ -5,7 +5,9 @@ ghost use Rattle.std.specs.List.{slice_index_or};
 use smallvec::SmallVec;
 use std::alloc::{AllocError, Global};
 
-/// So many empty lists.
+/// So many empty lists, one for each number below `count`.
+///
+/// The error comes where a request for memory is refused; then nothing is made. (Our own profile.)
 pub fn empty_lists<T: Copy + Default, const N: usize>(
     alloc: Global,
     count: usize,
@@ -19,7 +21,10 @@ pub fn empty_lists<T: Copy + Default, const N: usize>(
     Ok(lists)
 }
 
-/// Adds an item to one of the lists, behind those that it has.
+/// Adds an item to the list of the number `place`, behind those that it has; the others stay.
+///
+/// The error comes where a request for memory is refused. How many lists there are stays the same;
+/// what they hold then no clause says, and callers give them up. (Our own profile.)
 pub fn push_at<T: Copy + Default, const N: usize>(
     lists: &mut Vec<SmallVec<T, N>>,
     place: u32,
