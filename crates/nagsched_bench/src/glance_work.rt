@@ -3,12 +3,10 @@
 ghost use Rattle.std.specs.List.{All};
 ghost use Rattle.check_desk.specs.Desks.{IsPassOf};
 
+use crate::ask_work::{open_desk, report_often};
+use crate::made::{Made, nanos_since};
 use crate::random::mixed;
-use crate::sched_work::{Moments, document};
-use check_desk::{Answer, Desk, Pass};
-use check_objects::Setup;
-use check_rules::Code;
-use check_sched::{Book, Call, Reply};
+use check_desk::{Desk, Pass};
 use std::alloc::{AllocError, Global};
 use std::sync::Wait;
 use std::thread;
@@ -18,21 +16,11 @@ use std::time::{Clock, Instant};
 /// A thread makes so many glances for each check of the one that reports, so that it ends first.
 const GLANCES_A_CHECK: u64 = 20;
 
-/// What glances took and saw.
-#[derive(Clone, Copy)]
-pub(crate) struct Glanced {
-    /// The nanoseconds of the slowest thread.
-    pub(crate) nanos: u128,
-    pub(crate) sum: u64,
-}
-
-impl Glanced {
-    /// What two threads took and saw.
-    fn and(self, other: Glanced) -> Glanced {
-        Glanced {
-            nanos: self.nanos.max(other.nanos),
-            sum: mixed(self.sum, other.sum),
-        }
+/// What two threads took and saw.
+fn both(one: Made, other: Made) -> Made {
+    Made {
+        nanos: one.nanos.max(other.nanos),
+        sum: mixed(one.sum, other.sum),
     }
 }
 
@@ -45,18 +33,15 @@ pub(crate) fn glances<R: Threads + Wait + Clock + Sync>(
     threads: u32,
     objects: u32,
     count: u64,
-) -> Option<Glanced> {
+) -> Option<Made> {
     if threads > 64 {
         return None;
     }
-    let document = document(alloc, objects).ok()?;
-    let setup = Setup::read(alloc, document.as_bytes()).ok()?;
-    let book = Book::open(alloc, setup, 0, 0).ok()?;
-    let (desk, passes) = Desk::open(alloc, book, threads + 1).ok()?;
+    let (desk, passes) = open_desk(alloc, objects, 0, threads + 1)?;
     let all = glance_all(rt, &desk, passes, objects, count).ok()?;
-    let mut glanced = Glanced { nanos: 0, sum: 0 };
+    let mut glanced = Made { nanos: 0, sum: 0 };
     for one in all.iter() {
-        glanced = glanced.and(*one);
+        glanced = both(glanced, *one);
     }
     Some(glanced)
 }
@@ -68,7 +53,7 @@ fn glance_all<R: Threads + Wait + Clock + Sync>(
     passes: Vec<Pass>,
     objects: u32,
     count: u64,
-) -> Result<Vec<Glanced>, AllocError>
+) -> Result<Vec<Made>, AllocError>
     requires { All (IsPassOf desk.now) passes.items }
 {
     let alone = passes.len() == 1;
@@ -87,18 +72,18 @@ fn one(
     objects: u32,
     count: u64,
     alone: bool,
-) -> Glanced
+) -> Made
     requires { IsPassOf desk.now pass }
 {
     if alone || pass.number() > 0 {
         return glance_often(rt, desk, pass, objects, count);
     }
     let sum = report_often(rt, desk, pass, objects, count / GLANCES_A_CHECK);
-    Glanced { nanos: 0, sum }
+    Made { nanos: 0, sum }
 }
 
 /// The glances of one thread.
-fn glance_often(rt: &impl Clock, desk: &Desk, mut pass: Pass, objects: u32, count: u64) -> Glanced
+fn glance_often(rt: &impl Clock, desk: &Desk, mut pass: Pass, objects: u32, count: u64) -> Made
     requires { IsPassOf desk.now pass }
 {
     let start = Instant::now(rt);
@@ -115,29 +100,6 @@ fn glance_often(rt: &impl Clock, desk: &Desk, mut pass: Pass, objects: u32, coun
             object = 0;
         }
     }
-    let nanos = match start {
-        Ok(start) => start.elapsed(rt).map_or(0, |took| took.as_nanos()),
-        Err(_) => 0,
-    };
-    Glanced { nanos, sum }
-}
-
-/// The checks of one thread, each taken and reported: a sum of what was taken.
-fn report_often(rt: &impl Wait, desk: &Desk, mut pass: Pass, objects: u32, checks: u64) -> u64
-    requires { IsPassOf desk.now pass }
-{
-    let mut moments = Moments::of(objects);
-    let mut sum = 1;
-    for _check in 0..checks {
-        let now = moments.next();
-        let (back, taken) = desk.ask(rt, pass, Call::Take { now });
-        pass = back;
-        if let Answer::Reply(Reply::Taken { object, run }) = taken {
-            let code = Code::Ok;
-            let (back, _reported) = desk.ask(rt, pass, Call::Report { object, run, code });
-            pass = back;
-            sum = mixed(sum, u64::from(object));
-        }
-    }
-    sum
+    let nanos = nanos_since(rt, start);
+    Made { nanos, sum }
 }

@@ -14,25 +14,34 @@
 //! | `remove` | removes a random entry of n, and puts it back at a random time; at the end all are taken out |
 //! | `xremove` | the same without the end |
 //! | `cycle` | takes a check of one of n objects, and reports that it is OK |
+//! | `depend` | the same, where every service but the first depends on the first |
+//! | `inherit` | the same, where these dependencies inherit, and the first service depends on the second |
+//! | `lines` | the same, and the replies are written as lines of text |
+//! | `ask` | the same calls, by the only pass of a desk |
 //! | `glance` | glances at one of n objects of a desk |
 //! | `glance1`, `glance2`, `glance4` | the same by 1, 2 or 4 threads, each so many times, while another thread reports; the time is the slowest thread's |
 //!
-//! `queue_work` has the workloads of the queue, `sched_work` that of the scheduler, `glance_work` those
-//! of the desk's board, `random` the numbers.
+//! `queue_work` has the workloads of the queue, `sched_work` those of the scheduler, `ask_work` that of
+//! the desk, `glance_work` those of the desk's board, `random` the numbers.
 
+mod ask_work;
 mod glance_work;
+mod made;
 mod queue_work;
 mod random;
 mod sched_work;
 
-use check_sched::Sched;
+use ask_work::asks;
 use glance_work::glances;
+use made::{Made, nanos_since};
 use queue_work::{QueueWork, QueueWorkload};
-use sched_work::{cycle, scheduler};
+use sched_work::{Masters, cycle, lines, scheduler};
 use std::alloc::Global;
 use std::env;
 use std::process::ExitCode;
-use std::time::Instant;
+use std::sync::Wait;
+use std::thread::Threads;
+use std::time::{Clock, Instant};
 
 /// The most numbers of a workload.
 const MAX_NUMBERS: u32 = 1_000_000;
@@ -41,7 +50,11 @@ const MAX_NUMBERS: u32 = 1_000_000;
 #[derive(Clone, Copy)]
 enum Workload {
     Queue(QueueWorkload),
-    Scheduler,
+    Scheduler(Masters),
+    /// The scheduler's, with the lines of its replies.
+    Lines,
+    /// One pass asks.
+    Desk,
     /// So many threads glance while another reports; with 0 the only one glances.
     Board(u32),
 }
@@ -55,13 +68,6 @@ struct Job {
     timed: bool,
 }
 
-/// A workload that is about to be made.
-#[derive(Drop)]
-enum Work {
-    Queue(QueueWork),
-    Cycle(Sched),
-}
-
 fn main(rt: HostRuntime) -> ExitCode {
     let Ok(args) = env::args(&rt) else {
         return ExitCode::from(2);
@@ -72,34 +78,38 @@ fn main(rt: HostRuntime) -> ExitCode {
     let Some(job) = job_of(&words) else {
         return ExitCode::from(2);
     };
-    if let Workload::Board(threads) = job.workload {
-        return match glances(&rt, rt.alloc(), threads, job.numbers, job.cycles) {
-            Some(glanced) => tell(&rt, &job, glanced.nanos, job.cycles, glanced.sum),
-            None => ExitCode::from(2),
-        };
+    match work_on(&rt, rt.alloc(), &job) {
+        Some((made, cycles)) => tell(&rt, &job, made, cycles),
+        None => ExitCode::from(2),
     }
-    let Some(mut work) = prepare(rt.alloc(), &job) else {
-        return ExitCode::from(2);
-    };
-    let Ok(start) = Instant::now(&rt) else {
-        return ExitCode::from(2);
-    };
-    let (made, mut sum) = make(&mut work, &job);
-    let Ok(took) = start.elapsed(&rt) else {
-        return ExitCode::from(2);
-    };
-    if let Work::Queue(queue) = &mut work {
-        sum = queue.sum();
-    }
-    tell(&rt, &job, took.as_nanos(), made, sum)
 }
 
-/// Writes the line.
-fn tell(rt: &HostRuntime, job: &Job, nanos: u128, made: u64, sum: u64) -> ExitCode {
+/// Makes what is asked for; tells what it took and saw, and how many cycles were made. None where there
+/// is no memory, or it can't be made of so many numbers.
+fn work_on<R: Threads + Wait + Clock + Sync>(
+    rt: &R,
+    alloc: Global,
+    job: &Job,
+) -> Option<(Made, u64)> {
+    match job.workload {
+        Workload::Queue(workload) => queue_cycles(rt, alloc, workload, job),
+        Workload::Scheduler(masters) => scheduler_cycles(rt, alloc, masters, job),
+        Workload::Lines => line_cycles(rt, alloc, job),
+        Workload::Desk => Some((asks(rt, alloc, job.numbers, job.cycles)?, job.cycles)),
+        Workload::Board(threads) => {
+            let made = glances(rt, alloc, threads, job.numbers, job.cycles)?;
+            Some((made, job.cycles))
+        }
+    }
+}
+
+/// Writes the line of so many cycles.
+fn tell(rt: &HostRuntime, job: &Job, made: Made, cycles: u64) -> ExitCode {
+    let Made { nanos, sum } = made;
     let written = if job.timed {
-        println!(rt; "ns={nanos} ops={made} sum={sum:016x}")
+        println!(rt; "ns={nanos} ops={cycles} sum={sum:016x}")
     } else {
-        println!(rt; "ops={made} sum={sum:016x}")
+        println!(rt; "ops={cycles} sum={sum:016x}")
     };
     ExitCode::from(if written.is_ok() { 0 } else { 2 })
 }
@@ -133,7 +143,11 @@ fn workload_of(word: &str) -> Option<Workload> {
         "mixed" => Some(Workload::Queue(QueueWorkload::Mixed)),
         "remove" => Some(Workload::Queue(QueueWorkload::Remove)),
         "xremove" => Some(Workload::Queue(QueueWorkload::RemoveAlone)),
-        "cycle" => Some(Workload::Scheduler),
+        "cycle" => Some(Workload::Scheduler(Masters::None)),
+        "depend" => Some(Workload::Scheduler(Masters::First)),
+        "inherit" => Some(Workload::Scheduler(Masters::FirstAndItsMasters)),
+        "lines" => Some(Workload::Lines),
+        "ask" => Some(Workload::Desk),
         "glance" => Some(Workload::Board(0)),
         "glance1" => Some(Workload::Board(1)),
         "glance2" => Some(Workload::Board(2)),
@@ -142,25 +156,41 @@ fn workload_of(word: &str) -> Option<Workload> {
     }
 }
 
-/// A workload as it begins. None where there is no memory, or it can't be made of so many numbers.
-fn prepare(alloc: Global, job: &Job) -> Option<Work> {
+fn queue_cycles(
+    rt: &impl Clock,
+    alloc: Global,
+    workload: QueueWorkload,
+    job: &Job,
+) -> Option<(Made, u64)> {
     if job.numbers == 0 {
         return None;
     }
-    match job.workload {
-        Workload::Queue(workload) => {
-            Some(Work::Queue(QueueWork::new(alloc, workload, job.numbers).ok()?))
-        }
-        Workload::Scheduler | Workload::Board(_) => {
-            Some(Work::Cycle(scheduler(alloc, job.numbers)?))
-        }
-    }
+    let mut queue = QueueWork::new(alloc, workload, job.numbers).ok()?;
+    let start = Instant::now(rt);
+    let cycles = queue.make(job.cycles);
+    let nanos = nanos_since(rt, start);
+    let sum = queue.sum();
+    Some((Made { nanos, sum }, cycles))
 }
 
-/// Makes the workload; tells how many cycles were made, and the sum so far.
-fn make(work: &mut Work, job: &Job) -> (u64, u64) {
-    match work {
-        Work::Queue(queue) => (queue.make(job.cycles), 0),
-        Work::Cycle(scheduler) => (job.cycles, cycle(scheduler, job.numbers, job.cycles)),
-    }
+fn scheduler_cycles(
+    rt: &impl Clock,
+    alloc: Global,
+    masters: Masters,
+    job: &Job,
+) -> Option<(Made, u64)> {
+    let mut scheduler = scheduler(alloc, job.numbers, masters)?;
+    let start = Instant::now(rt);
+    let sum = cycle(&mut scheduler, job.numbers, job.cycles);
+    let nanos = nanos_since(rt, start);
+    Some((Made { nanos, sum }, job.cycles))
+}
+
+fn line_cycles(rt: &impl Clock, alloc: Global, job: &Job) -> Option<(Made, u64)> {
+    let mut scheduler = scheduler(alloc, job.numbers, Masters::None)?;
+    let mut text = String::new(alloc);
+    let start = Instant::now(rt);
+    let sum = lines(&mut scheduler, &mut text, job.numbers, job.cycles).ok()?;
+    let nanos = nanos_since(rt, start);
+    Some((Made { nanos, sum }, job.cycles))
 }

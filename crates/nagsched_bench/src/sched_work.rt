@@ -1,4 +1,4 @@
-//! The workload of the scheduler: checks that are taken and reported, again and again.
+//! The workloads of the scheduler: checks that are taken and reported, again and again.
 
 ghost use Rattle.std.specs.Prelude.{◌≤◌};
 
@@ -6,36 +6,95 @@ use crate::random::mixed;
 use check_objects::Setup;
 use check_rules::Code;
 use check_sched::{Call, Reply, Sched};
+use check_text::push_reply;
 use std::alloc::{AllocError, Global};
 
 /// The time between two checks of an object, in milliseconds.
 const INTERVAL: u64 = 300_000;
 
-/// A scheduler over so many objects, one of them a host that is never due and the others its
-/// services, all due at 0. None where there is no memory, or there can't be so many objects.
-pub(crate) fn scheduler(alloc: Global, objects: u32) -> Option<Sched> {
-    let document = document(alloc, objects).ok()?;
-    let setup = Setup::read(alloc, document.as_bytes()).ok()?;
-    Sched::new(alloc, setup, 0).ok()
+/// What the services of a setup depend on. No dependency holds a check back, since all are OK.
+#[derive(Clone, Copy)]
+pub(crate) enum Masters {
+    None,
+    /// Each but the first depends on the first.
+    First,
+    /// Each but the first two depends on the first and inherits, and the first depends on the second.
+    FirstAndItsMasters,
 }
 
-/// A document of so many objects.
-pub(crate) fn document(alloc: Global, objects: u32) -> Result<String, AllocError> {
+/// A scheduler over so many objects, one of them a host that is never due and the others its
+/// services, all due at 0. None where there is no memory, or there can't be so many objects.
+pub(crate) fn scheduler(alloc: Global, objects: u32, masters: Masters) -> Option<Sched> {
+    Sched::new(alloc, setup(alloc, objects, masters)?, 0).ok()
+}
+
+/// The setup of so many objects. None where there is no memory, or there can't be so many.
+pub(crate) fn setup(alloc: Global, objects: u32, masters: Masters) -> Option<Setup> {
+    let document = document(alloc, objects, masters).ok()?;
+    Setup::read(alloc, document.as_bytes()).ok()
+}
+
+/// A document of so many objects, with the dependencies of their masters.
+fn document(alloc: Global, objects: u32, masters: Masters) -> Result<String, AllocError> {
     let mut document = String::new(alloc);
     document.push_str("{\"options\":{\"service_inter_check_delay_method\":\"n\"},")?;
     document.push_str(
         "\"hosts\":[{\"name\":\"h\",\"check_interval\":0,\"max_check_attempts\":3}],",
     )?;
+    push_services(&mut document, objects)?;
+    match masters {
+        Masters::None => {}
+        Masters::First => push_dependencies(&mut document, 2, objects, false)?,
+        Masters::FirstAndItsMasters => push_dependencies(&mut document, 3, objects, true)?,
+    }
+    document.push_str("}")?;
+    Ok(document)
+}
+
+/// The services, behind the host.
+fn push_services(document: &mut String, objects: u32) -> Result<(), AllocError> {
     document.push_str("\"services\":[")?;
     for service in 1..objects {
         let comma = if service == 1 { "" } else { "," };
         write!(
-            document,
+            *document,
             "{comma}{{\"host\":\"h\",\"description\":\"s{service:06}\",\"max_check_attempts\":3}}"
         )?;
     }
-    document.push_str("]}")?;
-    Ok(document)
+    document.push_str("]")
+}
+
+/// Dependencies of the services from `first` on, on the first; where they inherit, it depends on the second.
+fn push_dependencies(
+    document: &mut String,
+    first: u32,
+    objects: u32,
+    inherits: bool,
+) -> Result<(), AllocError> {
+    document.push_str(",\"service_dependencies\":[")?;
+    if inherits {
+        push_dependency(document, 1, 2, false)?;
+    }
+    for service in first..objects {
+        if inherits || service > first {
+            document.push_str(",")?;
+        }
+        push_dependency(document, service, 1, inherits)?;
+    }
+    document.push_str("]")
+}
+
+/// A dependency that holds its dependent back where the master is CRITICAL.
+fn push_dependency(
+    document: &mut String,
+    dependent: u32,
+    master: u32,
+    inherits: bool,
+) -> Result<(), AllocError> {
+    write!(
+        *document,
+        "{{\"dependent\":\"h;s{dependent:06}\",\"master\":\"h;s{master:06}\",\"criteria\":\"c\",\"inherits_parent\":{inherits}}}"
+    )
 }
 
 /// The moments of a scheduler's takes: each of its services is taken once, then an interval passes.
@@ -82,4 +141,36 @@ pub(crate) fn cycle(scheduler: &mut Sched, objects: u32, cycles: u64) -> u64 {
         }
     }
     sum
+}
+
+/// The same, and writes the lines of both replies into `text`, each in place of the one before.
+pub(crate) fn lines(
+    scheduler: &mut Sched,
+    text: &mut String,
+    objects: u32,
+    cycles: u64,
+) -> Result<u64, AllocError> {
+    let mut moments = Moments::of(objects);
+    let mut sum = 1;
+    for _cycle in 0..cycles {
+        let take = Call::Take {
+            now: moments.next(),
+        };
+        let taken = scheduler.apply(take);
+        put_line(text, scheduler.setup(), take, taken)?;
+        if let Reply::Taken { object, run } = taken {
+            let code = Code::Ok;
+            let report = Call::Report { object, run, code };
+            let reported = scheduler.apply(report);
+            put_line(text, scheduler.setup(), report, reported)?;
+            sum = mixed(sum, u64::from(object));
+        }
+    }
+    Ok(sum)
+}
+
+/// The line of a reply, in place of the text.
+fn put_line(text: &mut String, setup: &Setup, call: Call, reply: Reply) -> Result<(), AllocError> {
+    text.clear();
+    push_reply(text, setup, call, reply)
 }

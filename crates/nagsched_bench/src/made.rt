@@ -1,0 +1,20 @@
+//! What a workload took and saw.
+
+use std::io;
+use std::time::{Clock, Instant};
+
+/// What a thread, or all of a workload's together, took and saw.
+#[derive(Clone, Copy)]
+pub(crate) struct Made {
+    /// The nanoseconds of the slowest thread.
+    pub(crate) nanos: u128,
+    pub(crate) sum: u64,
+}
+
+/// The nanoseconds since then, 0 where the clock can't be read.
+pub(crate) fn nanos_since(rt: &impl Clock, start: io::Result<Instant>) -> u128 {
+    match start {
+        Ok(start) => start.elapsed(rt).map_or(0, |took| took.as_nanos()),
+        Err(_) => 0,
+    }
+}
