@@ -1,7 +1,7 @@
 #!/usr/bin/env bash
 # Times the workers of `nagsched drill`, and prints one table. Run by hand; no part of the gate.
 #   bench/drill.sh [REPEATS]     the best of so many runs is told, 3 where no number is given
-#   BEFORE=PROGRAM bench/drill.sh [REPEATS]     beside drills on 4 hosts another build's, run by turns with ours
+#   BEFORE=PROGRAM bench/drill.sh [REPEATS]     beside drills on 4 and on 16 hosts another build's, run by turns with ours
 # 4,096 hosts are taken and reported 500,000 times: a million asks, which fill the largest room. So many
 # moments are made here that 1, 2 and 4 workers share the takes equally, each taking once at each moment.
 # Moments are 5 minutes apart, the hosts' check interval, so that each host which doesn't run is due,
@@ -107,19 +107,25 @@ least_after() {
     echo $((ms < least ? ms : least))
 }
 
-# Drills on 4 hosts, where callers wait for each other most: calls a second, also those that find nothing due.
-hosts=4
-printf '\n%-16s %14s %14s %8s\n' '4 hosts' 'calls a second' before ratio
-for workers in 1 2 4 16; do
-    moments $((takes / workers)) > "$work/moments"
-    ms=999999999 before_ms=999999999
-    for _ in $(seq "$repeats"); do
-        before_ms=$(least_after "$before_ms" "${BEFORE:-}" "$workers")
-        ms=$(least_after "$ms" "$program" "$workers")
+# Drills on so few hosts that callers wait for each other: calls a second, also those that find nothing due, and the
+# microseconds of one.
+on_few() {
+    hosts=$1
+    printf '\n%-16s %14s %12s %14s %8s\n' "$hosts hosts" 'calls a second' microseconds before ratio
+    for workers in 1 2 4 16; do
+        moments $((takes / workers)) > "$work/moments"
+        ms=999999999 before_ms=999999999
+        for _ in $(seq "$repeats"); do
+            before_ms=$(least_after "$before_ms" "${BEFORE:-}" "$workers")
+            ms=$(least_after "$ms" "$program" "$workers")
+        done
+        calls=$(($(wc -l < "$work/output") - 1))
+        awk -v workers="$workers" -v calls="$calls" -v ms="$ms" -v before="$before_ms" 'BEGIN {
+            printf "%-16s %14d %12.2f %14s %8s\n", "drill, " workers, calls * 1000 / ms, ms * 1000 / calls,
+                before ? sprintf("%d", calls * 1000 / before) : "-", before ? sprintf("%.2f", before / ms) : "-"
+        }'
     done
-    calls=$(($(wc -l < "$work/output") - 1))
-    awk -v workers="$workers" -v calls="$calls" -v ms="$ms" -v before="$before_ms" 'BEGIN {
-        printf "%-16s %14d %14s %8s\n", "drill, " workers, calls * 1000 / ms, before ? sprintf("%d", calls * 1000 / before) : "-",
-            before ? sprintf("%.2f", before / ms) : "-"
-    }'
-done
+}
+
+on_few 4
+on_few 16

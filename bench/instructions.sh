@@ -6,6 +6,11 @@
 #   queue    the first of n entries is taken out and put back 5 minutes later
 #   calls    a check of one of n objects is taken and reported, by the scheduler alone
 #   run      the same by the whole program: two lines read, two written
+# and, without the instructions of `calls` at as many objects:
+#   ask      a call by a pass of a desk: its lock, its turn and its history
+#   depend   a check of a service that depends on the first service: what looking for masters that hold it back costs
+#   inherit  the same, where the dependency inherits, and the first service depends on the second
+#   lines    a check whose two replies are written as lines of text
 set -eu
 # Valgrind counts a string store byte by byte; the C library is told to store by words.
 export GLIBC_TUNABLES=glibc.cpu.x86_rep_stosb_threshold=100000000:glibc.cpu.x86_rep_movsb_threshold=100000000
@@ -28,12 +33,17 @@ instructions() {
         | sed -n 's/.*Collected : //p'
 }
 
-# A cycle's instructions: of WORKLOAD at n numbers.
+# A cycle's instructions: of WORKLOAD at n numbers, once 21 results of each object are kept.
 by_workload() {
     local few many
-    few=$(instructions "$crates/nagsched_bench/out/nagsched_bench" "$1" "$2" 20000)
-    many=$(instructions "$crates/nagsched_bench/out/nagsched_bench" "$1" "$2" 60000)
+    few=$(instructions "$crates/nagsched_bench/out/nagsched_bench" "$1" "$2" 100000)
+    many=$(instructions "$crates/nagsched_bench/out/nagsched_bench" "$1" "$2" 140000)
     echo $(((many - few) / 40000))
+}
+
+# A cycle's instructions of WORKLOAD at n numbers, without those of `calls`.
+beyond_calls() {
+    echo $(($(by_workload "$1" "$2") - $(by_workload cycle "$2")))
 }
 
 # A setup of so many hosts, and so many takes with their reports.
@@ -69,4 +79,13 @@ for numbers in 64 512 4096; do
 done
 for numbers in 64 512 4096; do
     printf '%8s %8d %14d\n' run "$numbers" "$(by_run "$numbers")"
+done
+# A cycle has two calls.
+for numbers in 64 4096; do
+    printf '%8s %8d %14d\n' ask "$numbers" "$(($(beyond_calls ask "$numbers") / 2))"
+done
+for workload in depend inherit lines; do
+    for numbers in 64 512 4096; do
+        printf '%8s %8d %14d\n' "$workload" "$numbers" "$(beyond_calls "$workload" "$numbers")"
+    done
 done

@@ -1,0 +1,97 @@
+#!/usr/bin/env bash
+# Counts instructions of reading by valgrind's callgrind, and prints them. Run by hand; no part of the gate.
+#   bench/reading.sh [PROFILE]     PROFILE: a file for the functions that reading a setup spends most in
+# Line feeds: the program looks for them in a first line of 20 MB and in one of 60 MB, both refused as too long;
+# the difference, by the bytes. A setup: at its limits of objects and dependencies, with names so long that it has nearly
+# 16 MiB, read by the program, and the same bytes read by Rust's serde_json into a tree. That is built by cargo of
+# Debian's librust-serde-json-dev; where it isn't there, its line is left out.
+set -eu
+export GLIBC_TUNABLES=glibc.cpu.x86_rep_stosb_threshold=100000000:glibc.cpu.x86_rep_movsb_threshold=100000000
+profile=${1:-}
+crate=$(cd "$(dirname "$0")/../crates/nagsched" && pwd)
+program=$crate/out/nagsched
+registry=/usr/share/cargo/registry
+work=$(mktemp -d)
+trap 'rm -rf "$work"' EXIT
+
+# Proves and builds the program where it isn't yet.
+(cd "$crate" && rt run < stdin > "$work/build.log" 2>&1) || { cat "$work/build.log"; exit 1; }
+
+# The instructions of a program, from its words and standard input. A refused input ends in status 1.
+instructions() {
+    valgrind --tool=callgrind --callgrind-out-file="${profile:-/dev/null}" "$@" 2>&1 > "$work/output" \
+        | sed -n 's/.*Collected : //p'
+}
+
+# One line of so many bytes.
+line() {
+    head -c "$1" /dev/zero | tr '\0' ' '
+}
+
+# A host and 4,095 services, and 16,384 dependencies of two names of `letters` and some bytes more each.
+setup() {
+    awk -v objects=4096 -v dependencies=16384 -v letters="$1" 'BEGIN {
+        for (more = 0; more < letters; more++)
+            long = long "x"
+        host = "h" substr(long, 1, letters / 2)
+        service = "s" substr(long, 1, letters - length(host))
+        printf "{\"hosts\":[{\"name\":\"%s\",\"max_check_attempts\":3}],\"services\":[", host
+        for (s = 1; s < objects; s++)
+            printf "%s{\"host\":\"%s\",\"description\":\"%s%04d\",\"max_check_attempts\":3}", (s > 1 ? "," : ""), host, service, s
+        printf "],\"service_dependencies\":["
+        # Each depends on some before it, so that there is no cycle.
+        for (d = 0; d < dependencies; d++) {
+            dependent = 2 + d % (objects - 2)
+            master = 1 + (d * 7919) % (dependent - 1)
+            printf "%s{\"dependent\":\"%s;%s%04d\",\"master\":\"%s;%s%04d\",\"criteria\":\"c\"}", d ? "," : "",
+                host, service, dependent, host, service, master
+        }
+        print "]}"
+    }'
+}
+
+# Builds a program that reads its input into a tree of serde_json, of the sources that are installed.
+build_serde() {
+    mkdir -p "$work/tree/src" "$work/tree/.cargo"
+    cat > "$work/tree/Cargo.toml" <<'T'
+[package]
+name = "tree"
+version = "0.1.0"
+edition = "2021"
+[dependencies]
+serde_json = "1"
+T
+    cat > "$work/tree/.cargo/config.toml" <<T
+[source.crates-io]
+replace-with = "installed"
+[source.installed]
+directory = "$registry"
+T
+    cat > "$work/tree/src/main.rs" <<'R'
+fn main() {
+    let mut bytes = Vec::new();
+    std::io::Read::read_to_end(&mut std::io::stdin(), &mut bytes).unwrap();
+    let tree: serde_json::Value = serde_json::from_slice(&bytes).unwrap();
+    println!("{}", tree.as_object().unwrap().len());
+}
+R
+    (cd "$work/tree" && cargo build --release --offline)
+}
+
+line 20000000 > "$work/short"
+line 60000000 > "$work/long"
+short=$(instructions "$program" < "$work/short")
+long=$(instructions "$program" < "$work/long")
+awk -v short="$short" -v long="$long" 'BEGIN { printf "line feeds: %.2f instructions a byte\n", (long - short) / 40000000 }'
+
+setup 423 > "$work/setup"
+bytes=$(wc -c < "$work/setup")
+((bytes <= 16777217)) || { echo "the setup has $bytes bytes"; exit 1; }
+read=$(instructions "$program" < "$work/setup")
+[[ ! -s $work/output ]] || { cat "$work/output"; exit 1; }
+printf 'a setup of %d bytes: %d instructions\n' "$bytes" "$read"
+if ls "$registry"/serde_json-1* > "$work/output" 2>&1 && build_serde 2> "$work/build.log"; then
+    profile=''
+    tree=$(instructions "$work/tree/target/release/tree" < "$work/setup")
+    awk -v read="$read" -v tree="$tree" 'BEGIN { printf "serde_json: %d instructions; the program to it: %.2f\n", tree, read / tree }'
+fi
