@@ -1,5 +1,5 @@
 //! A model of how callers wait for a ticket lock: several ways to wait between two looks at the grant word, each
-//! timed with 2, 4, 8 and 16 threads. A line a way and number of threads: `WAY THREADS MICROSECONDS`, microseconds a call.
+//! timed with 1, 2, 4, 8 and 16 threads. A line a way and number of threads: `WAY THREADS MICROSECONDS`, microseconds a call.
 //!
 //! Ticket t waits until grant word t mod 4 holds t, and leaves by storing t + 1 into word (t + 1) mod 4. Each word
 //! stands on a cache line of its own. A holder changes a word on each of 16 cache lines, and works on.
@@ -13,7 +13,7 @@ use std::time::Instant;
 const CALLS: u64 = 200_000;
 const WORDS: usize = 4;
 const OBJECTS: usize = 16;
-/// The steps of a hold, one behind the other; with the objects' lines some 150 ns.
+/// The steps of a hold, one behind the other; with the objects' lines some 120 ns.
 const STEPS: u64 = 60;
 /// `Backoff::snooze` pauses 2^k times at its k-th call, and yields from the one after this k on.
 const LAST_PAUSE: u32 = 6;

@@ -14,10 +14,10 @@
 //! | `remove` | removes a random entry of n, and puts it back at a random time; at the end all are taken out |
 //! | `xremove` | the same without the end |
 //! | `cycle` | takes a check of one of n objects, and reports that it is OK |
-//! | `depend` | the same, where every service but the first depends on the first |
-//! | `inherit` | the same, where these dependencies inherit, and the first service depends on the second |
-//! | `lines` | the same, and the replies are written as lines of text |
-//! | `ask` | the same calls, by the only pass of a desk |
+//! | `depend` | as `cycle`, where every service but the first depends on the first |
+//! | `inherit` | as `depend`, where these dependencies inherit, and the first service depends on the second |
+//! | `lines` | as `cycle`, and the replies are written as lines of text |
+//! | `ask` | the calls of `cycle`, by the only pass of a desk |
 //! | `glance` | glances at one of n objects of a desk |
 //! | `glance1`, `glance2`, `glance4` | the same by 1, 2 or 4 threads, each so many times, while another thread reports; the time is the slowest thread's |
 //!
