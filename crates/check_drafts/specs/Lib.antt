@@ -6,3 +6,4 @@ pub mod Text
 pub mod Draft
 pub mod Drafted
 pub mod Keys
+pub mod Ends
