@@ -13,10 +13,12 @@ use Rattle.check_drafts.specs.Agreement.{◌>>=◌}
 use Rattle.check_drafts.specs.LoadError.{refused_at}
 use Rattle.check_drafts.specs.Name.{is_name}
 use Rattle.check_drafts.specs.Place.{host_at, service_at, item_of_part}
-use Rattle.check_documents.specs.Verification.{is_faultless, few_items, few_dependencies, full_names, known_ends, known_links, is_known, few_objects}
+use Rattle.check_drafts.specs.Ends.{full_names, has_known_ends, is_known, known_dependencies, known_ends}
+use Rattle.check_documents.specs.Verification.{is_faultless, few_items, few_dependencies, known_links, few_objects}
 use Rattle.check_drafts.specs.Keys.{names_of, key_of, same_key, first_repeat}
 use Rattle.check_documents.specs.Verification.{has_few_parents, good_names, good_host_names, good_descriptions, host_names}
 use Rattle.check_documents.specs.Verification.{no_repeated_services, known_parents, known_hosts, good_ranges}
+use Rattle.check_documents.specs.Verification.{behind, is_faultless_but_ends, ranges_behind_ends}
 
 -- ---- nothing was refused
 
@@ -59,7 +61,7 @@ all_by_position p xs e =
 
 -- the dependents and masters of these dependencies have one of these names
 abbrev pub have_known_ends : List (List ℕ) → List DependencyDraft → Bool
-have_known_ends names ds = list_all (λ d. is_known names d.dependent && is_known names d.master) ds
+have_known_ends names ds = list_all (has_known_ends names) ds
 
 -- what the tests say of a document that passed them
 pub record IsFaultless (ds : Drafts) : Type 0 where
@@ -100,12 +102,10 @@ abbrev pub repeats_and_more : Drafts → List (List ℕ) → Result (Unit {0}) L
 repeats_and_more ds names = no_repeated_services ds.services >>= λ _. links_and_limits ds names
 
 abbrev pub both_ends : Drafts → List (List ℕ) → Result (Unit {0}) LoadError
-both_ends ds names =
-    known_ends part.ServiceDependencies (full_names ds.services) ds.service_dependencies >>= λ _. known_ends part.HostDependencies names ds.host_dependencies
+both_ends ds names = known_dependencies (full_names ds.services) names ds
 
 ends_ok : (p : Part) (names : List (List ℕ)) (ds : List DependencyDraft) → known_ends p names ds ≡ Ok tt → have_known_ends names ds ≡ true
-ends_ok p names ds e =
-    all_by_position (λ d. is_known names d.dependent && is_known names d.master) ds (nowhere (λ i. errors.UnknownMaster (item_of_part p i)) _ e)
+ends_ok p names ds e = all_by_position (has_known_ends names) ds (nowhere (λ i. errors.UnknownMaster (item_of_part p i)) _ e)
 
 pub faultless : (ds : Drafts) → is_faultless ds ≡ Ok tt → IsFaultless ds
 unfolding is_faultless
@@ -172,3 +172,95 @@ once d e =
       nowhere (λ i. errors.Duplicate (service_at i)) (first_repeat same_key (map key_of d.services))
           (first_ok (no_repeated_services d.services) (λ _. known_links (names_of d.hosts) d >>= λ _. good_ranges d.options d.hosts d.services) tt hosts.1),
     )
+
+-- ---- the ends of dependencies asked last
+
+-- what refuses first may be asked last
+asked_last : (first last : Result (Unit {0}) LoadError) → (first >>= λ _. last) ≡ (behind first last >>= λ _. first)
+asked_last (Ok u) (Ok v) = refl
+asked_last (Ok u) (Err e) = refl
+asked_last (Err d) (Ok v) = refl
+asked_last (Err d) (Err e) = refl
+
+more_last : {A : Type 0} (test : Result A LoadError) (rest but_last : A → Result (Unit {0}) LoadError) (last : Result (Unit {0}) LoadError)
+    → ((x : A) → test ≡ Ok x → rest x ≡ (but_last x >>= λ _. last)) → (test >>= rest) ≡ ((test >>= but_last) >>= λ _. last)
+more_last (Ok x) rest but_last last same = same x refl
+more_last (Err e) rest but_last last same = refl
+
+links_last : (parents hosts ends ranges : Result (Unit {0}) LoadError)
+    → ((parents >>= λ _. (hosts >>= λ _. ends)) >>= λ _. ranges) ≡ ((parents >>= λ _. (hosts >>= λ _. behind ends ranges)) >>= λ _. ends)
+links_last (Ok u) (Ok v) ends ranges = asked_last ends ranges
+links_last (Ok u) (Err e) ends ranges = refl
+links_last (Err d) hosts ends ranges = refl
+
+names_are : (o : Option ℕ) (fault : ℕ → LoadError) (names others : List (List ℕ)) → (refused_at fault o >>= λ _. Ok names) ≡ Ok others → names ≡ others
+names_are None fault names others e = let same : names ≡ others = cc in same
+names_are (Some i) fault names others e = cc
+
+-- the tests but for the ends of dependencies: those after the repeats, after the names and after the counts
+abbrev pub links_but_ends : Drafts → List (List ℕ) → Result (Unit {0}) LoadError
+links_but_ends ds names = known_parents names ds.hosts >>= λ _. (known_hosts names ds.services >>= λ _. ranges_behind_ends names ds)
+
+abbrev pub repeats_but_ends : Drafts → List (List ℕ) → Result (Unit {0}) LoadError
+repeats_but_ends ds names = no_repeated_services ds.services >>= λ _. links_but_ends ds names
+
+abbrev pub names_but_ends : Drafts → Unit {0} → Result (Unit {0}) LoadError
+names_but_ends ds u = good_names ds.hosts ds.services >>= λ _. (host_names ds.hosts >>= repeats_but_ends ds)
+
+-- a document is without a fault where it is but for the ends of dependencies, and these are there
+pub ends_asked_last : (ds : Drafts) → is_faultless ds ≡ (is_faultless_but_ends ds >>= λ _. both_ends ds (names_of ds.hosts))
+unfolding is_faultless is_faultless_but_ends
+ends_asked_last ds =
+    let ends = both_ends ds (names_of ds.hosts) in
+    more_last (few_items ds) (λ _. good_names ds.hosts ds.services >>= λ _. (host_names ds.hosts >>= repeats_and_more ds)) (names_but_ends ds) ends (λ u e.
+    more_last (good_names ds.hosts ds.services) (λ _. host_names ds.hosts >>= repeats_and_more ds) (λ _. host_names ds.hosts >>= repeats_but_ends ds) ends
+    (λ v f. more_last (host_names ds.hosts) (repeats_and_more ds) (repeats_but_ends ds) ends (λ names g.
+    more_last (no_repeated_services ds.services) (λ _. links_and_limits ds names) (λ _. links_but_ends ds names) ends (λ w h.
+    links_last (known_parents names ds.hosts) (known_hosts names ds.services) (both_ends ds names) (good_ranges ds.options ds.hosts ds.services)
+    ∙ ap (λ ns. links_but_ends ds names >>= λ _. both_ends ds ns)
+    (sym (names_are (first_repeat bytes_eq (names_of ds.hosts)) (λ i. errors.Duplicate (host_at i)) (names_of ds.hosts) names g))))))
+
+-- what is refused but for the ends of dependencies is refused
+pub refused_but_ends : (ds : Drafts) (e : LoadError) → is_faultless_but_ends ds ≡ Err e → is_faultless ds ≡ Err e
+refused_but_ends ds e refused = ends_asked_last ds ∙ ap (λ r. r >>= λ _. both_ends ds (names_of ds.hosts)) refused
+
+-- where all is well but for the ends of dependencies, these alone are left to ask
+pub ends_are_left : (ds : Drafts) → is_faultless_but_ends ds ≡ Ok tt → is_faultless ds ≡ both_ends ds (names_of ds.hosts)
+ends_are_left ds well = ends_asked_last ds ∙ ap (λ r. r >>= λ _. both_ends ds (names_of ds.hosts)) well
+
+-- ---- a document without its dependencies
+
+abbrev pub without_dependencies : Drafts → Drafts
+without_dependencies ds =
+    record { options = ds.options; hosts = ds.hosts; services = ds.services; service_dependencies = []; host_dependencies = [] }
+
+still_ok : {A : Type 0} (test : Result A LoadError) (rest others : A → Result (Unit {0}) LoadError) → ((x : A) → rest x ≡ Ok tt → others x ≡ Ok tt)
+    → (test >>= rest) ≡ Ok tt → (test >>= others) ≡ Ok tt
+still_ok (Ok x) rest others more e = more x e
+still_ok (Err d) rest others more e = cc
+
+few_alone : (objects : Result (Unit {0}) LoadError) (dependencies : Unit {0} → Result (Unit {0}) LoadError) (rest others : Unit {0} → Result (Unit {0}) LoadError)
+    → (rest tt ≡ Ok tt → others tt ≡ Ok tt) → ((objects >>= dependencies) >>= rest) ≡ Ok tt → ((objects >>= λ _. Ok tt) >>= others) ≡ Ok tt
+few_alone (Err d) dependencies rest others more e = cc
+few_alone (Ok u) dependencies rest others more e = more (rest_ok (dependencies tt) rest tt e)
+
+ranges_alone : (ends ranges : Result (Unit {0}) LoadError) → behind ends ranges ≡ Ok tt → behind (Ok tt) ranges ≡ Ok tt
+ranges_alone ends (Ok u) e = e
+ranges_alone (Ok v) (Err d) e = cc
+ranges_alone (Err c) (Err d) e = cc
+
+-- where all is well but for the ends of dependencies, it is well without the dependencies
+pub faultless_alone : (ds : Drafts) → is_faultless_but_ends ds ≡ Ok tt → is_faultless (without_dependencies ds) ≡ Ok tt
+unfolding is_faultless_but_ends
+faultless_alone ds well =
+    let bare = without_dependencies ds in
+    let ranges = good_ranges ds.options ds.hosts ds.services in
+    ends_are_left bare (few_alone (few_objects ds.hosts ds.services) (λ _. few_dependencies ds.service_dependencies ds.host_dependencies)
+    (names_but_ends ds) (names_but_ends bare)
+    (still_ok (good_names ds.hosts ds.services) (λ _. host_names ds.hosts >>= repeats_but_ends ds) (λ _. host_names ds.hosts >>= repeats_but_ends bare) (λ u.
+    still_ok (host_names ds.hosts) (repeats_but_ends ds) (repeats_but_ends bare) (λ names.
+    still_ok (no_repeated_services ds.services) (λ _. links_but_ends ds names) (λ _. links_but_ends bare names) (λ v.
+    still_ok (known_parents names ds.hosts) (λ _. known_hosts names ds.services >>= λ _. ranges_behind_ends names ds)
+    (λ _. known_hosts names ds.services >>= λ _. ranges_behind_ends names bare) (λ w.
+    still_ok (known_hosts names ds.services) (λ _. ranges_behind_ends names ds) (λ _. ranges_behind_ends names bare) (λ x.
+    ranges_alone (both_ends ds names) ranges)))))) well)

@@ -7,7 +7,7 @@ use Rattle.std.proofs.lemmas.List.{map-append}
 use Rattle.check_drafts.specs.declared.draft.HostDraft.{HostDraft}
 use Rattle.check_drafts.specs.declared.error.LoadError.{LoadError}
 use Rattle.check_drafts.specs.LoadError.{refused_at}
-use Rattle.check_documents.specs.Verification.{is_known, known_ends}
+use Rattle.check_drafts.specs.Ends.{has_known_ends, is_known, known_ends}
 use Rattle.check_drafts.specs.declared.error.LoadError.TheVariants as errors
 use Rattle.check_drafts.specs.declared.place.Part.{Part}
 use Rattle.check_drafts.specs.Draft as spec
@@ -104,5 +104,4 @@ pub same_ends : (p : Part) (names others : List (List ℕ)) (ds : List spec.Depe
     → ((name : List ℕ) → is_known names name ≡ is_known others name) → known_ends p names ds ≡ known_ends p others ds
 same_ends p names others ds same =
     ap (refused_at (λ i. errors.UnknownMaster (item_of_part p i)))
-    (position-same (λ (d : spec.DependencyDraft). not (is_known names d.dependent && is_known names d.master))
-    (λ d. not (is_known others d.dependent && is_known others d.master)) (λ d i. not (same d.dependent i && same d.master i)) ds)
+    (position-same (λ d. not (has_known_ends names d)) (λ d. not (has_known_ends others d)) (λ d i. not (same d.dependent i && same d.master i)) ds)

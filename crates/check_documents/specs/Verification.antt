@@ -1,7 +1,7 @@
 -- Verifying drafts, which are in the right shape: one test after another, each over all drafts.
 use Rattle.std.specs.Prelude.{ℕ, ◌+◌, ◌&&◌, ◌||◌, Bool, true, not, List, length, map, sum_by, position, Result, Ok, Err, bytes_eq, nat_lt, nat_le}
 use Rattle.std.specs.Prelude.{if◌then◌else◌}
-use Rattle.std.specs.List.{list_any, list_all}
+use Rattle.std.specs.List.{list_all}
 use Rattle.check_drafts.specs.declared.draft.CheckDraft.{CheckDraft}
 use Rattle.check_drafts.specs.declared.error.LoadError.{LoadError}
 use Rattle.check_drafts.specs.declared.error.LoadError.TheVariants as errors
@@ -12,12 +12,11 @@ use Rattle.check_drafts.specs.declared.options.InterleaveFactor.TheVariants as f
 use Rattle.check_drafts.specs.declared.options.Options.{Options}
 use Rattle.check_drafts.specs.Agreement.{◌>>=◌}
 use Rattle.check_drafts.specs.LoadError.{refused_at}
-use Rattle.check_drafts.specs.declared.place.Part.{Part}
-use Rattle.check_drafts.specs.declared.place.Part.TheVariants as part
 use Rattle.check_drafts.specs.Keys.{first_repeat, names_of, key_of, same_key}
-use Rattle.check_drafts.specs.Name.{full_name, is_name}
-use Rattle.check_drafts.specs.Place.{the_options, host_at, service_at, item_of_part}
+use Rattle.check_drafts.specs.Name.{is_name}
+use Rattle.check_drafts.specs.Place.{the_options, host_at, service_at}
 use Rattle.check_drafts.specs.Draft.{HostDraft, ServiceDraft, DependencyDraft, Drafts}
+use Rattle.check_drafts.specs.Ends.{is_known, full_names, known_dependencies}
 
 -- ---- counts
 
@@ -61,10 +60,6 @@ no_repeated_services services = refused_at (λ i. errors.Duplicate (service_at i
 
 -- ---- links
 
--- whether the name is one of these
-abbrev pub is_known : List (List ℕ) → List ℕ → Bool
-is_known names name = list_any (bytes_eq name) names
-
 -- every parent of every host is there; else the first host with one that isn't
 abbrev pub known_parents : List (List ℕ) → List HostDraft → Result (Unit {0}) LoadError
 known_parents names hosts = refused_at (λ i. errors.UnknownHost (host_at i)) (position (λ h. not (list_all (is_known names) h.parents)) hosts)
@@ -73,22 +68,11 @@ known_parents names hosts = refused_at (λ i. errors.UnknownHost (host_at i)) (p
 abbrev pub known_hosts : List (List ℕ) → List ServiceDraft → Result (Unit {0}) LoadError
 known_hosts names services = refused_at (λ i. errors.UnknownHost (service_at i)) (position (λ s. not (is_known names s.host)) services)
 
--- the full names of services
-abbrev pub full_names : List ServiceDraft → List (List ℕ)
-full_names services = map (λ s. full_name (key_of s)) services
-
--- the dependent and the master of every dependency have one of these names; else the first dependency with one that hasn't
-abbrev pub known_ends : Part → List (List ℕ) → List DependencyDraft → Result (Unit {0}) LoadError
-known_ends p names ds =
-    refused_at (λ i. errors.UnknownMaster (item_of_part p i)) (position (λ d. not (is_known names d.dependent && is_known names d.master)) ds)
-
 -- what is named is there: parents, the hosts of services, and what depends and is depended on
 abbrev pub known_links : List (List ℕ) → Drafts → Result (Unit {0}) LoadError
 known_links names drafts =
     known_parents names drafts.hosts >>= λ _.
-    (known_hosts names drafts.services >>= λ _.
-    (known_ends part.ServiceDependencies (full_names drafts.services) drafts.service_dependencies >>= λ _.
-    known_ends part.HostDependencies names drafts.host_dependencies))
+    (known_hosts names drafts.services >>= λ _. known_dependencies (full_names drafts.services) names drafts)
 
 -- ---- limits
 
@@ -152,3 +136,27 @@ is_faultless drafts =
     (no_repeated_services drafts.services >>= λ _.
     (known_links names drafts >>= λ _.
     good_ranges drafts.options drafts.hosts drafts.services))))
+
+-- ---- all of them but the ends of dependencies
+
+-- what a later test refuses, where an earlier one that is asked only then refuses nothing
+abbrev pub behind : Result (Unit {0}) LoadError → Result (Unit {0}) LoadError → Result (Unit {0}) LoadError
+behind earlier (Ok u) = Ok u
+behind earlier (Err e) = earlier >>= λ _. Err e
+
+-- the first number beyond its limits, if there is one; an unknown end of a dependency is told before it
+abbrev pub ranges_behind_ends : List (List ℕ) → Drafts → Result (Unit {0}) LoadError
+ranges_behind_ends names drafts =
+    behind (known_dependencies (full_names drafts.services) names drafts) (good_ranges drafts.options drafts.hosts drafts.services)
+
+-- The first refusal after the shape, if there is one that isn't of an unknown end alone: where nothing else is at fault, the
+-- ends of dependencies are asked when they are numbered.
+unfoldable pub is_faultless_but_ends : Drafts → Result (Unit {0}) LoadError
+is_faultless_but_ends drafts =
+    few_items drafts >>= λ _.
+    (good_names drafts.hosts drafts.services >>= λ _.
+    (host_names drafts.hosts >>= λ names.
+    (no_repeated_services drafts.services >>= λ _.
+    (known_parents names drafts.hosts >>= λ _.
+    (known_hosts names drafts.services >>= λ _.
+    ranges_behind_ends names drafts)))))

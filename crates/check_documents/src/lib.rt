@@ -1,8 +1,9 @@
 //! A setup document: from its bytes to a tree, from the tree to drafts, and whether these are without
 //! a fault.
 //!
-//! [`read_tree`] refuses what is no JSON, [`read_drafts`] what hasn't the right shape, and [`verify`]
-//! what else is wrong with a document but for cycles.
+//! [`read_tree`] refuses what is no JSON, [`read_drafts`] what hasn't the right shape, and
+//! [`verify_but_ends`] what else is wrong with a document but for dependencies on what isn't there,
+//! and for cycles.
 #![tactic(auto)]
 
 mod criteria;
@@ -13,4 +14,4 @@ mod verification;
 
 pub use reading::read_drafts;
 pub use tree::read_tree;
-pub use verification::verify;
+pub use verification::verify_but_ends;

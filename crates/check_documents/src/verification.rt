@@ -3,7 +3,8 @@
 ghost use Rattle.std.specs.Prelude.{◌≡◌, ◌≤◌, ◌+◌, ◌&&◌, ℕ, List, string_bytes, IfOk, IsOkUnless, map, length, not, position, IfNone, OnOk, IsTrue, All};
 ghost use Rattle.std.specs.List.{list_all};
 ghost use Rattle.check_drafts.specs.LoadError.{Gives};
-ghost use Rattle.check_documents.specs.Verification.{few_objects, has_few_parents, good_names, good_host_names, good_descriptions, host_names, no_repeated_services, known_parents, known_hosts, full_names, known_ends, known_links, few_dependencies, few_items, good_ranges, good_options, good_host_ranges, good_service_ranges, is_faultless, is_known, is_in_range, is_within, is_delay_in_range, is_factor_in_range, are_thresholds_in_range, are_options_in_range};
+ghost use Rattle.check_drafts.specs.Ends.{full_names, has_known_ends, known_dependencies, known_ends, is_known};
+ghost use Rattle.check_documents.specs.Verification.{few_objects, has_few_parents, good_names, good_host_names, good_descriptions, host_names, no_repeated_services, known_parents, known_hosts, few_dependencies, few_items, good_ranges, good_options, good_host_ranges, good_service_ranges, ranges_behind_ends, is_faultless_but_ends, is_in_range, is_within, is_delay_in_range, is_factor_in_range, are_thresholds_in_range, are_options_in_range};
 ghost use Rattle.check_drafts.specs.Name.{is_name_byte, is_name};
 ghost use Rattle.check_drafts.specs.Drafted.{host, service, dependency, drafts_view, texts, HasFewAttempts};
 ghost use Rattle.check_drafts.specs.Text.{text};
@@ -18,11 +19,14 @@ use indexmap::IndexSet;
 use serde_json::Value;
 use std::alloc::Global;
 
-/// Whether drafts are without a fault, or the first one after the shape, in the order of [`LoadError`].
-/// `Memory` may come in place of either.
-#[tactic(auto, unfolding(crate::specs::Verification::is_faultless))]
-pub fn verify(alloc: Global, drafts: &Drafts<'_>) -> Result<(), LoadError>
-    ensures exact { Gives (λ u. u) result (is_faultless (drafts_view drafts.now)) }
+/// Whether drafts are without a fault but for the ends of dependencies, or the first one after the
+/// shape, in the order of [`LoadError`]. `Memory` may come in place of either.
+///
+/// An unknown end is told here only where a number is beyond its limits too, since it comes before
+/// that. Where nothing is told, whoever numbers the dependencies looks their ends up.
+#[tactic(auto, unfolding(crate::specs::Verification::is_faultless_but_ends))]
+pub fn verify_but_ends(alloc: Global, drafts: &Drafts<'_>) -> Result<(), LoadError>
+    ensures exact { Gives (λ u. u) result (is_faultless_but_ends (drafts_view drafts.now)) }
     ensures few { OnOk result
         (length drafts.now.hosts.items + length drafts.now.services.items ≤ 4096) }
     ensures hosts { OnOk result (All (λ h. HasFewAttempts h.check) drafts.now.hosts.items) }
@@ -32,8 +36,9 @@ pub fn verify(alloc: Global, drafts: &Drafts<'_>) -> Result<(), LoadError>
     verify_names(&drafts.hosts, &drafts.services)?;
     let names = distinct_names(alloc, &drafts.hosts)?;
     verify_distinct_services(alloc, &drafts.services)?;
-    verify_links(alloc, drafts, &names)?;
-    verify_ranges(&drafts.options, &drafts.hosts, &drafts.services)
+    verify_parents(&drafts.hosts, &names)?;
+    verify_hosts(&drafts.services, &names)?;
+    verify_ranges_behind_ends(alloc, drafts, &names)
 }
 
 fn verify_counts(drafts: &Drafts<'_>) -> Result<(), LoadError>
@@ -43,16 +48,6 @@ fn verify_counts(drafts: &Drafts<'_>) -> Result<(), LoadError>
 {
     verify_object_counts(&drafts.hosts, &drafts.services)?;
     verify_dependency_counts(&drafts.service_dependencies, &drafts.host_dependencies)
-}
-
-/// Whether all that is named is there.
-fn verify_links(alloc: Global, drafts: &Drafts<'_>, names: &IndexSet<&str>) -> Result<(), LoadError>
-    ensures { Gives (λ u. u) result (known_links (texts names.now.keys) (drafts_view drafts.now)) }
-{
-    verify_parents(&drafts.hosts, names)?;
-    verify_hosts(&drafts.services, names)?;
-    verify_service_dependencies(alloc, &drafts.services, &drafts.service_dependencies)?;
-    verify_dependencies(Part::HostDependencies, &drafts.host_dependencies, names)
 }
 
 fn verify_object_counts(
@@ -240,6 +235,18 @@ fn unknown_host(services: &[ServiceDraft<'_>], names: &IndexSet<&str>) -> Option
         .position(|service| !knows(names, service.host))
 }
 
+// ---- the ends of dependencies
+
+/// Whether the ends of all dependencies are there.
+fn verify_ends(alloc: Global, drafts: &Drafts<'_>, names: &IndexSet<&str>) -> Result<(), LoadError>
+    ensures { Gives (λ u. u) result
+        (known_dependencies (full_names (drafts_view drafts.now).services)
+        (texts names.now.keys) (drafts_view drafts.now)) }
+{
+    verify_service_dependencies(alloc, &drafts.services, &drafts.service_dependencies)?;
+    verify_dependencies(Part::HostDependencies, &drafts.host_dependencies, names)
+}
+
 fn verify_service_dependencies(
     alloc: Global,
     services: &[ServiceDraft<'_>],
@@ -295,8 +302,8 @@ fn verify_dependencies(
 }
 
 fn unknown_end(dependencies: &[DependencyDraft<'_>], names: &IndexSet<&str>) -> Option<usize>
-    ensures { result ≡ position (λ d. not (is_known (texts names.now.keys) d.dependent.now
-        && is_known (texts names.now.keys) d.master.now)) dependencies.now }
+    ensures { result ≡ position (λ d. not (has_known_ends (texts names.now.keys) (dependency d)))
+        dependencies.now }
 {
     dependencies.iter().position(|dependency| {
         !(knows(names, dependency.dependent) && knows(names, dependency.master))
@@ -305,13 +312,32 @@ fn unknown_end(dependencies: &[DependencyDraft<'_>], names: &IndexSet<&str>) -> 
 
 // ---- limits
 
+/// Whether all numbers are within their limits; where one isn't, an unknown end of a dependency is
+/// told before it.
+fn verify_ranges_behind_ends(
+    alloc: Global,
+    drafts: &Drafts<'_>,
+    names: &IndexSet<&str>,
+) -> Result<(), LoadError>
+    ensures exact { Gives (λ u. u) result
+        (ranges_behind_ends (texts names.now.keys) (drafts_view drafts.now)) }
+    ensures hosts { OnOk result (All (λ h. HasFewAttempts h.check) drafts.now.hosts.items) }
+    ensures services { OnOk result (All (λ s. HasFewAttempts s.check) drafts.now.services.items) }
+{
+    let ranges = verify_ranges(&drafts.options, &drafts.hosts, &drafts.services);
+    if ranges.is_err() {
+        verify_ends(alloc, drafts, names)?;
+    }
+    ranges
+}
+
 fn verify_ranges(
     options: &Options,
     hosts: &[HostDraft<'_>],
     services: &[ServiceDraft<'_>],
 ) -> Result<(), LoadError>
-    ensures exact { Gives (λ u. u) result
-        (good_ranges options.now (map host hosts.now) (map service services.now)) }
+    ensures exact { result
+        ≡ good_ranges options.now (map host hosts.now) (map service services.now) }
     ensures hosts { OnOk result (All (λ h. HasFewAttempts h.check) hosts.now) }
     ensures services { OnOk result (All (λ s. HasFewAttempts s.check) services.now) }
 {
@@ -321,7 +347,7 @@ fn verify_ranges(
 }
 
 fn verify_options(options: &Options) -> Result<(), LoadError>
-    ensures { Gives (λ u. u) result (good_options options.now) }
+    ensures { result ≡ good_options options.now }
 {
     if are_options_in_range(options) {
         Ok(())
@@ -382,7 +408,7 @@ fn is_factor_in_range(factor: InterleaveFactor) -> bool
 }
 
 fn verify_host_ranges(hosts: &[HostDraft<'_>]) -> Result<(), LoadError>
-    ensures exact { Gives (λ u. u) result (good_host_ranges (map host hosts.now)) }
+    ensures exact { result ≡ good_host_ranges (map host hosts.now) }
     ensures in_range { OnOk result (All (λ h. HasFewAttempts h.check) hosts.now) }
 {
     match host_out_of_range(hosts) {
@@ -399,7 +425,7 @@ fn host_out_of_range(hosts: &[HostDraft<'_>]) -> Option<usize>
 }
 
 fn verify_service_ranges(services: &[ServiceDraft<'_>]) -> Result<(), LoadError>
-    ensures exact { Gives (λ u. u) result (good_service_ranges (map service services.now)) }
+    ensures exact { result ≡ good_service_ranges (map service services.now) }
     ensures in_range { OnOk result (All (λ s. HasFewAttempts s.check) services.now) }
 {
     match service_out_of_range(services) {

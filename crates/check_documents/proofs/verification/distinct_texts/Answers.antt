@@ -1,6 +1,6 @@
 use Rattle.std.proofs.Common.{sym, ap, ◌∙◌, map, take, string_bytes, refl, arith}
 use Rattle.std.proofs.lemmas.List.{take_all}
-use Rattle.check_documents.specs.Verification.{is_known}
+use Rattle.check_drafts.specs.Ends.{is_known}
 use Rattle.check_drafts.proofs.ListLemmas.{mapped_next}
 use Rattle.check_documents.proofs.VerificationLemmas.{known_more}
 use Rattle.check_documents.proofs.verification.distinct_texts.Goals as goal

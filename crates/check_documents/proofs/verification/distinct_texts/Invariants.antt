@@ -1,6 +1,6 @@
 use Rattle.std.proofs.Common.{◌≡◌, ℕ, List, map, take, string_bytes}
 use Rattle.check_drafts.specs.Drafted.{texts}
-use Rattle.check_documents.specs.Verification.{is_known}
+use Rattle.check_drafts.specs.Ends.{is_known}
 use Rattle.check_documents.proofs.verification.distinct_texts.Given as goal
 
 abbrev pub invariant-loop-text : goal.invariant-loop-text

@@ -1,6 +1,6 @@
 use Rattle.std.proofs.Common.{◌≡◌, map, take, string_bytes}
 use Rattle.check_drafts.specs.Drafted.{service}
-use Rattle.check_documents.specs.Verification.{full_names}
+use Rattle.check_drafts.specs.Ends.{full_names}
 use Rattle.check_documents.proofs.verification.full_names.Given as goal
 
 abbrev pub invariant-loop-service : goal.invariant-loop-service

@@ -1,5 +1,5 @@
-use Rattle.std.proofs.Common.{sym, ap, ◌∙◌, ◌&&◌, not, Err}
-use Rattle.check_documents.specs.Verification.{is_known}
+use Rattle.std.proofs.Common.{sym, ap, ◌∙◌, not, Err}
+use Rattle.check_drafts.specs.Ends.{has_known_ends}
 use Rattle.check_drafts.specs.declared.error.LoadError.TheVariants as errors
 use Rattle.check_drafts.specs.Place.{item_of_part}
 use Rattle.check_drafts.specs.Drafted.{dependency, texts}
@@ -10,11 +10,11 @@ pub returns-in-Some : goal.returns-in-Some
 returns-in-Some c =
     let names = texts c.args.names.now.keys in
     refused_there (λ i. errors.UnknownMaster (item_of_part c.args.part i))
-    (λ d. not (is_known names d.dependent && is_known names d.master)) dependency c.args.dependencies.now c.in-Some.index c.in-Some.ensures
+    (λ d. not (has_known_ends names d)) dependency c.args.dependencies.now c.in-Some.index c.in-Some.ensures
     ∙ ap (λ p. Err (errors.UnknownMaster p)) (sym c.item.ensures)
 
 pub returns-in-None : goal.returns-in-None
 returns-in-None c =
     let names = texts c.args.names.now.keys in
     refused_nowhere (λ i. errors.UnknownMaster (item_of_part c.args.part i))
-    (λ d. not (is_known names d.dependent && is_known names d.master)) dependency c.args.dependencies.now c.in-None.ensures
+    (λ d. not (has_known_ends names d)) dependency c.args.dependencies.now c.in-None.ensures

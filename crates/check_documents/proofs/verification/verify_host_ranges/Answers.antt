@@ -8,8 +8,9 @@ use Rattle.check_documents.proofs.verification.verify_host_ranges.Goals as goal
 
 pub returns-in-Some-clause-exact : goal.returns-in-Some-clause-exact
 returns-in-Some-clause-exact c =
-    refused_there (λ i. errors.Range (host_at i)) (λ h. not (is_in_range h.check)) host c.args.hosts.now c.in-Some.index c.in-Some.ensures.place
-    ∙ ap (λ p. Err (errors.Range p)) (sym c.host.ensures)
+    sym (refused_there (λ i. errors.Range (host_at i)) (λ x. not (is_in_range x.check)) host c.args.hosts.now c.in-Some.index c.in-Some.ensures.place
+    ∙ ap (λ p. Err (errors.Range p)) (sym c.host.ensures))
 
 pub returns-in-None-clause-exact : goal.returns-in-None-clause-exact
-returns-in-None-clause-exact c = refused_nowhere (λ i. errors.Range (host_at i)) (λ h. not (is_in_range h.check)) host c.args.hosts.now c.in-None.ensures.place
+returns-in-None-clause-exact c =
+    sym (refused_nowhere (λ i. errors.Range (host_at i)) (λ x. not (is_in_range x.check)) host c.args.hosts.now c.in-None.ensures.place)

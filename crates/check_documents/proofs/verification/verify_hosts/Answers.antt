@@ -1,5 +1,5 @@
 use Rattle.std.proofs.Common.{sym, ap, ◌∙◌, not, Err}
-use Rattle.check_documents.specs.Verification.{is_known}
+use Rattle.check_drafts.specs.Ends.{is_known}
 use Rattle.check_drafts.specs.declared.error.LoadError.TheVariants as errors
 use Rattle.check_drafts.specs.Place.{service_at}
 use Rattle.check_drafts.specs.Drafted.{service, texts}

@@ -1,6 +1,6 @@
 use Rattle.std.proofs.Common.{sym, ap, ◌∙◌, not, Err}
 use Rattle.std.specs.List.{list_all}
-use Rattle.check_documents.specs.Verification.{is_known}
+use Rattle.check_drafts.specs.Ends.{is_known}
 use Rattle.check_drafts.specs.declared.draft.HostDraft.{HostDraft}
 use Rattle.check_drafts.specs.declared.error.LoadError.TheVariants as errors
 use Rattle.check_drafts.specs.Place.{host_at}

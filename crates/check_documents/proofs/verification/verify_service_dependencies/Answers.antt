@@ -1,7 +1,7 @@
 use Rattle.std.proofs.Common.{ap, subst, ◌∙◌, map, string_bytes}
 use Rattle.check_drafts.specs.declared.place.Part.TheVariants as part
 use Rattle.check_drafts.specs.Drafted.{service, dependency, texts}
-use Rattle.check_documents.specs.Verification.{full_names, is_known}
+use Rattle.check_drafts.specs.Ends.{full_names, is_known}
 use Rattle.check_drafts.specs.LoadError.{Gives}
 use Rattle.check_documents.proofs.VerificationLemmas.{same_ends}
 use Rattle.check_documents.proofs.verification.verify_service_dependencies.Goals as goal

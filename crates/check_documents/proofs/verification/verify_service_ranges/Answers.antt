@@ -8,9 +8,9 @@ use Rattle.check_documents.proofs.verification.verify_service_ranges.Goals as go
 
 pub returns-in-Some-clause-exact : goal.returns-in-Some-clause-exact
 returns-in-Some-clause-exact c =
-    refused_there (λ i. errors.Range (service_at i)) (λ s. not (is_in_range s.check)) service c.args.services.now c.in-Some.index c.in-Some.ensures.place
-    ∙ ap (λ p. Err (errors.Range p)) (sym c.service.ensures)
+    sym (refused_there (λ i. errors.Range (service_at i)) (λ x. not (is_in_range x.check)) service c.args.services.now c.in-Some.index c.in-Some.ensures.place
+    ∙ ap (λ p. Err (errors.Range p)) (sym c.service.ensures))
 
 pub returns-in-None-clause-exact : goal.returns-in-None-clause-exact
 returns-in-None-clause-exact c =
-    refused_nowhere (λ i. errors.Range (service_at i)) (λ s. not (is_in_range s.check)) service c.args.services.now c.in-None.ensures.place
+    sym (refused_nowhere (λ i. errors.Range (service_at i)) (λ x. not (is_in_range x.check)) service c.args.services.now c.in-None.ensures.place)
