@@ -6,3 +6,4 @@ pub mod BucketLemmas
 pub mod RankLemmas
 pub mod NumberLaws
 pub mod DependencyLemmas
+pub mod EndLemmas

@@ -35,3 +35,7 @@ named name object = record { name = name; object = object }
 -- the objects of both maps, by number
 abbrev pub objects_in : List (String Global × Host) → List (String Global × Service) → List spec.Named
 objects_in hosts services = map spec.named_host (map host_entry hosts) ++ map spec.named_service (map service_entry services)
+
+-- the names that a map has, in its order
+abbrev pub names_in : {T : Type 0} → List (String Global × T) → List (List ℕ)
+names_in entries = map (λ e. string_bytes e.0) entries

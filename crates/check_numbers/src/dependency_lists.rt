@@ -1,15 +1,17 @@
 //! The dependencies of each object by number, and an order of the objects that they agree with.
-ghost use Rattle.std.specs.Prelude.{◌≡◌, ◌≤◌, ◌++◌, length, map, nat_lt, true, IfOk, OnOk, IsOkUnless, MatchOption};
+ghost use Rattle.std.specs.Prelude.{◌≡◌, ◌≤◌, ◌+◌, ◌++◌, ℕ, List, length, map, nat_lt, true, false, if◌then◌else◌, Some, None, IfOk, OnOk, IsOkUnless, MatchOption};
 ghost use Rattle.std.specs.List.{list_all};
 ghost use Rattle.link_order.specs.Cycles.{are_within, has_cycle};
 ghost use Rattle.link_order.specs.Orders.{IsOrder};
 ghost use Rattle.check_numbers.specs.Configuration.{masters_in};
 ghost use Rattle.check_drafts.specs.Drafted.{dependency, drafts_view};
-ghost use Rattle.check_numbers.specs.Entries.{objects_in};
-ghost use Rattle.check_numbers.specs.Numbering.{numbered_dependency, all_dependencies, dependencies_by_number, dependency_lists};
+ghost use Rattle.check_drafts.specs.Ends.{is_known, has_known_ends, known_ends};
+ghost use Rattle.check_drafts.specs.LoadError.{Gives};
+ghost use Rattle.check_numbers.specs.Entries.{names_in, objects_in};
+ghost use Rattle.check_numbers.specs.Numbering.{number_in, numbered_behind, listed_dependencies, dependency_lists};
 
-use crate::numbering::{Host, Service, object_number};
-use check_drafts::{Dependency, DependencyDraft, Drafts, LoadError};
+use crate::numbering::{Host, Service};
+use check_drafts::{Dependency, DependencyDraft, Drafts, LoadError, Part, Place};
 use indexmap::IndexMap;
 use link_order::{empty_lists, order_by_links, push_at};
 use smallvec::SmallVec;
@@ -20,8 +22,9 @@ pub type Dependencies = SmallVec<Dependency, 2>;
 
 // ---- numbers
 
-/// The dependencies of each object by number, in the document's order. `Memory` where they can't be
-/// made.
+/// The dependencies of each object by number, in the document's order; or the first dependency with
+/// an end that isn't there, those of services before those of hosts. `Memory` may come in place of
+/// either.
 pub fn list_dependencies(
     alloc: Global,
     drafts: &Drafts<'_>,
@@ -29,55 +32,85 @@ pub fn list_dependencies(
     services: &IndexMap<String, Service>,
 ) -> Result<Vec<Dependencies>, LoadError>
     requires few { length (objects_in hosts.now.entries services.now.entries) ≤ 4096 }
-    requires within { list_all (λ d. nat_lt d.0 (length (objects_in hosts.now.entries services.now.entries)))
-        (map (numbered_dependency (objects_in hosts.now.entries services.now.entries))
-        (all_dependencies (drafts_view drafts.now))) ≡ true }
-    ensures lists { IfOk result (λ lists. map (λ list. list.items) lists.items
-        ≡ dependencies_by_number (objects_in hosts.now.entries services.now.entries) (drafts_view drafts.now)) }
-    ensures memory { IsOkUnless result LoadError.Memory }
+    requires apart { (name : List ℕ) → is_known (names_in services.now.entries) name ≡ true
+        → is_known (names_in hosts.now.entries) name ≡ false }
+    ensures exact { Gives (λ lists. map (λ list. list.items) lists.items) result
+        (listed_dependencies (names_in services.now.entries) (names_in hosts.now.entries)
+        (objects_in hosts.now.entries services.now.entries) (drafts_view drafts.now)) }
 {
     let mut numbered = Vec::new(alloc);
-    number_dependencies(&mut numbered, &drafts.service_dependencies, hosts, services)?;
-    number_dependencies(&mut numbered, &drafts.host_dependencies, hosts, services)?;
-    list_by_dependent(alloc, hosts.len() + services.len(), &numbered)
+    let host_count = hosts.len();
+    number_dependencies(
+        &mut numbered,
+        Part::ServiceDependencies,
+        &drafts.service_dependencies,
+        host_count as u32,
+        services,
+    )?;
+    number_dependencies(
+        &mut numbered,
+        Part::HostDependencies,
+        &drafts.host_dependencies,
+        0,
+        hosts,
+    )?;
+    list_by_dependent(alloc, host_count + services.len(), &numbered)
 }
 
-/// Adds each dependency, by the numbers of its dependent and its master.
-fn number_dependencies(
+/// Adds each dependency, by the numbers of its dependent and its master, which are among these
+/// objects, behind so many others.
+fn number_dependencies<T>(
     numbered: &mut Vec<(u32, Dependency)>,
+    part: Part,
     drafts: &[DependencyDraft<'_>],
-    hosts: &IndexMap<String, Host>,
-    services: &IndexMap<String, Service>,
+    others: u32,
+    objects: &IndexMap<String, T>,
 ) -> Result<(), LoadError>
-    requires few { length (objects_in hosts.now.entries services.now.entries) ≤ 4096 }
+    requires few { others + length objects.now.entries ≤ 4096 }
+    ensures exact { Gives (λ u. u) result
+        (known_ends part (names_in objects.now.entries) (map dependency drafts.now)) }
     ensures numbers { OnOk result (numbered.new.items ≡ numbered.old.items
-        ++ map (numbered_dependency (objects_in hosts.now.entries services.now.entries))
-        (map dependency drafts.now)) }
-    ensures memory { IsOkUnless result LoadError.Memory }
+        ++ map (numbered_behind others (names_in objects.now.entries)) (map dependency drafts.now)) }
 {
-    for draft in drafts {
-        numbered.push(number_dependency(*draft, hosts, services))?;
+    for (index, draft) in drafts.iter().enumerate() {
+        match number_dependency(*draft, others, objects) {
+            Some(dependency) => numbered.push(dependency)?,
+            None => return Err(LoadError::UnknownMaster(Place::item(part, index))),
+        }
     }
     Ok(())
 }
 
-fn number_dependency(
+/// The dependency by numbers behind so many others, or None where an end of it isn't among these
+/// objects.
+fn number_dependency<T>(
     draft: DependencyDraft<'_>,
-    hosts: &IndexMap<String, Host>,
-    services: &IndexMap<String, Service>,
-) -> (u32, Dependency)
-    requires { length (objects_in hosts.now.entries services.now.entries) ≤ 4096 }
-    ensures { result
-        ≡ numbered_dependency (objects_in hosts.now.entries services.now.entries) (dependency draft.entry) }
+    others: u32,
+    objects: &IndexMap<String, T>,
+) -> Option<(u32, Dependency)>
+    requires { others + length objects.now.entries ≤ 4096 }
+    ensures { result ≡ if has_known_ends (names_in objects.now.entries) (dependency draft.entry)
+        then Some (numbered_behind others (names_in objects.now.entries) (dependency draft.entry))
+        else None }
 {
-    let dependent = object_number(hosts, services, draft.dependent).unwrap_or(0);
-    let master = object_number(hosts, services, draft.master).unwrap_or(0);
+    let dependent = number_behind(others, objects, draft.dependent)?;
+    let master = number_behind(others, objects, draft.master)?;
     let dependency = Dependency {
         master,
         criteria: draft.criteria,
         inherits: draft.inherits,
     };
-    (dependent, dependency)
+    Some((dependent, dependency))
+}
+
+/// The number of a name among these objects, behind so many others, or None where it isn't there.
+fn number_behind<T>(others: u32, objects: &IndexMap<String, T>, name: &str) -> Option<u32>
+    requires { others + length objects.now.entries ≤ 4096 }
+    ensures { result ≡ if is_known (names_in objects.now.entries) name.now
+        then Some (others + number_in (names_in objects.now.entries) name.now) else None }
+{
+    let index = objects.get_index_of(name)?;
+    Some(others + index as u32)
 }
 
 /// The dependencies of each of so many objects, those of an object in the order in which they stand.

@@ -1,0 +1,191 @@
+-- The ends of dependencies by number: each name is looked up among the names of its own sort.
+use Rattle.std.proofs.Common.{◌≡◌, append_assoc, ℕ, ◌+◌, ◌<◌, ◌&&◌, not, Bool, true, false, cond, List, [], ◌∷◌, ◌++◌, map, drop, length, Option, Some, None}
+use Rattle.std.proofs.Common.{option_map, String, Global, string_bytes, bytes_eq, refl, sym, ap, ◌∙◌, Result, Ok, Err, arith}
+use Rattle.std.specs.Prelude.{nat_lt, unwrap_or}
+use Rattle.std.specs.List.{list_all, position}
+use Rattle.std.specs.Map.{keys_of}
+use Rattle.std.proofs.lemmas.List.{length-map, length-append, map-append}
+use Rattle.check_drafts.specs.declared.error.LoadError.{LoadError}
+use Rattle.check_drafts.specs.declared.error.LoadError.TheVariants as errors
+use Rattle.check_drafts.specs.declared.place.Part.{Part}
+use Rattle.check_drafts.specs.Agreement.{◌>>=◌}
+use Rattle.check_drafts.specs.Draft.{DependencyDraft}
+use Rattle.check_drafts.specs.Ends.{is_known, has_known_ends, known_ends}
+use Rattle.check_drafts.specs.LoadError.{Gives, refused_at}
+use Rattle.check_drafts.specs.Place.{item_of_part}
+use Rattle.check_drafts.proofs.ListLemmas.{position-map, position-front, position-back, one_found, one_missed}
+use Rattle.link_order.proofs.TestLemmas.{and_first, and_second, and_both}
+use Rattle.check_numbers.specs.declared.numbering.Host.{Host}
+use Rattle.check_numbers.specs.declared.numbering.Service.{Service}
+use Rattle.check_numbers.specs.Configuration.{Named, named_host, named_service, number_among}
+use Rattle.check_numbers.specs.Entries.{host_entry, service_entry, names_in, objects_in}
+use Rattle.check_numbers.specs.Numbering.{number_in, numbered_behind, numbered_dependency}
+use Rattle.check_numbers.proofs.DependencyLemmas.{dependents_below}
+use Rattle.check_numbers.proofs.NameLemmas.{found, nowhere}
+use Rattle.check_numbers.proofs.ObjectLemmas.{number_front, number_back}
+
+-- ---- one name
+
+pub place_of_name : {T : Type 0} (entries : List (String Global × T)) (name : List ℕ)
+    → position (λ k. bytes_eq name (string_bytes k)) (keys_of entries) ≡ position (bytes_eq name) (names_in entries)
+place_of_name entries name =
+    position-map (λ k. bytes_eq name (string_bytes k)) (λ e. e.0) entries ∙ sym (position-map (bytes_eq name) (λ e. string_bytes e.0) entries)
+
+number_known_by : (others : ℕ) (names : List (List ℕ)) (name : List ℕ) (b : Bool) → is_known names name ≡ b
+    → option_map (λ i. others + i) (position (bytes_eq name) names) ≡ cond b (Some (others + number_in names name)) None
+number_known_by others names name true e =
+    let f = found (bytes_eq name) names e in
+    ap (option_map (λ i. others + i)) f.place ∙ ap (λ o. Some (others + unwrap_or o 0)) (sym f.place)
+number_known_by others names name false e = ap (option_map (λ i. others + i)) (nowhere (bytes_eq name) names e)
+
+-- a name that is known has a number, and no other name has
+pub number_known : (others : ℕ) (names : List (List ℕ)) (name : List ℕ)
+    → option_map (λ i. others + i) (position (bytes_eq name) names) ≡ cond (is_known names name) (Some (others + number_in names name)) None
+number_known others names name = number_known_by others names name (is_known names name) refl
+
+pub was_unknown : {A : Type 0} (b : Bool) (x : A) → None ≡ cond b (Some x) None → b ≡ false
+was_unknown true x e = cc
+was_unknown false x e = refl
+
+pub was_known : {A : Type 0} (b : Bool) (x y : A) → Some y ≡ cond b (Some x) None → (b ≡ true) × (y ≡ x)
+was_known true x y e = (refl, cc)
+was_known false x y e = cc
+
+-- ---- one dependency after another
+
+counted_on : (i : ℕ) (o : Option ℕ) → option_map (λ j. i + j) (option_map (λ j. 1 + j) o) ≡ option_map (λ j. (i + 1) + j) o
+counted_on i None = refl
+counted_on i (Some j) = ap Some (omega arith)
+
+module _ {A B : Type 0} (test : B → Bool) (view : A → B) (xs : List A) (i : ℕ) (x : A) (rest : drop i xs ≡ x ∷ drop (i + 1) xs)
+    (so_far : position test (map view xs) ≡ option_map (λ j. i + j) (position test (map view (drop i xs)))) where
+  -- the place is here, where the test holds and did not before
+  pub place_is_here : test (view x) ≡ true → position test (map view xs) ≡ Some i
+  place_is_here e =
+      so_far ∙ ap (λ l. option_map (λ j. i + j) (position test (map view l))) rest
+      ∙ ap (option_map (λ j. i + j)) (position-front test (view x ∷ []) (map view (drop (i + 1) xs)) 0 (one_found test (view x) e))
+      ∙ ap Some (let h : i + 0 ≡ i = omega arith in h)
+
+  -- the place is further on, where the test does not hold here
+  pub place_is_later : test (view x) ≡ false → position test (map view xs) ≡ option_map (λ j. (i + 1) + j) (position test (map view (drop (i + 1) xs)))
+  place_is_later e =
+      so_far ∙ ap (λ l. option_map (λ j. i + j) (position test (map view l))) rest
+      ∙ ap (option_map (λ j. i + j)) (position-back test (view x ∷ []) (map view (drop (i + 1) xs)) (one_missed test (view x) e))
+      ∙ counted_on i (position test (map view (drop (i + 1) xs)))
+
+-- ---- nothing was refused
+
+none_before : (o : Option ℕ) → option_map (λ j. 1 + j) o ≡ None → o ≡ None
+none_before None e = refl
+none_before (Some i) e = cc
+
+refused_nowhere : (fault : ℕ → LoadError) (o : Option ℕ) → refused_at fault o ≡ Ok tt → o ≡ None
+refused_nowhere fault None e = refl
+refused_nowhere fault (Some i) e = cc
+
+abbrev fails : {A : Type 0} → (A → Bool) → A → Bool
+fails p x = not (p x)
+
+all_pass_by : {A : Type 0} (p : A → Bool) (x : A) (xs : List A) (b : Bool) → p x ≡ b → position (fails p) (x ∷ xs) ≡ None
+    → (position (fails p) xs ≡ None → list_all p xs ≡ true) → list_all p (x ∷ xs) ≡ true
+all_pass_by p x xs true e none more =
+    and_both (p x) (list_all p xs) e (more (none_before (position (fails p) xs)
+    (sym (position-back (fails p) (x ∷ []) xs (one_missed (fails p) x (ap not e))) ∙ none)))
+all_pass_by p x xs false e none more =
+    let here : position (fails p) (x ∷ xs) ≡ Some 0 = position-front (fails p) (x ∷ []) xs 0 (one_found (fails p) x (ap not e)) in
+    cc
+
+all_pass : {A : Type 0} (p : A → Bool) (xs : List A) → position (fails p) xs ≡ None → list_all p xs ≡ true
+all_pass p [] e = refl
+all_pass p (x ∷ xs) e = all_pass_by p x xs (p x) refl e (all_pass p xs)
+
+-- where no dependency is refused, the ends of each are known
+pub ends_known : (p : Part) (names : List (List ℕ)) (ds : List DependencyDraft) → known_ends p names ds ≡ Ok tt → list_all (has_known_ends names) ds ≡ true
+ends_known p names ds e = all_pass (has_known_ends names) ds (refused_nowhere (λ i. errors.UnknownMaster (item_of_part p i)) _ e)
+
+-- ---- numbers of one sort, and those among all objects
+
+from_zero : (n : ℕ) → 0 + n ≡ n
+from_zero n = omega arith
+
+some_name : (names : List (List ℕ)) (ds : List DependencyDraft) → list_all (has_known_ends names) ds ≡ true → 0 < length ds → 0 < length names
+some_name [] [] h some = some
+some_name [] (d ∷ ds) h some = cc
+some_name (name ∷ names) ds h some = omega arith
+
+module _ (hosts : List (String Global × Host)) (services : List (String Global × Service)) where
+  abbrev pub objects : List Named
+  objects = objects_in hosts services
+
+  number_of_host : (name : List ℕ) → is_known (names_in hosts) name ≡ true → 0 + number_in (names_in hosts) name ≡ unwrap_or (number_among objects name) 0
+  number_of_host name e =
+      let f = found (bytes_eq name) (names_in hosts) e in
+      from_zero (number_in (names_in hosts) name)
+      ∙ ap (λ o. unwrap_or o 0) (f.place ∙ number_front hosts services name f.index (sym (place_of_name hosts name ∙ f.place)))
+
+  number_of_service : (name : List ℕ) → is_known (names_in services) name ≡ true → is_known (names_in hosts) name ≡ false
+      → length hosts + number_in (names_in services) name ≡ unwrap_or (number_among objects name) 0
+  number_of_service name e apart =
+      let f = found (bytes_eq name) (names_in services) e in
+      let none = nowhere (bytes_eq name) (names_in hosts) apart in
+      ap (λ o. length hosts + unwrap_or o 0) f.place
+      ∙ ap (λ o. unwrap_or o 0)
+      (ap (option_map (λ j. length hosts + j)) (sym (place_of_name services name ∙ f.place))
+      ∙ number_back hosts services name (sym (place_of_name hosts name ∙ none)))
+
+  host_dependencies_numbered : (ds : List DependencyDraft) → list_all (has_known_ends (names_in hosts)) ds ≡ true
+      → map (numbered_behind 0 (names_in hosts)) ds ≡ map (numbered_dependency objects) ds
+  host_dependencies_numbered [] h = refl
+  host_dependencies_numbered (d ∷ ds) h =
+      let ends = and_first (has_known_ends (names_in hosts) d) _ h in
+      let dependent = number_of_host d.dependent (and_first (is_known (names_in hosts) d.dependent) _ ends) in
+      let master = number_of_host d.master (and_second (is_known (names_in hosts) d.dependent) _ ends) in
+      let more = host_dependencies_numbered ds (and_second (has_known_ends (names_in hosts) d) _ h) in
+      λ i. (dependent i, record { master = master i; criteria = d.criteria; inherits = d.inherits }) ∷ more i
+
+  service_dependencies_numbered : ((name : List ℕ) → is_known (names_in services) name ≡ true → is_known (names_in hosts) name ≡ false)
+      → (ds : List DependencyDraft) → list_all (has_known_ends (names_in services)) ds ≡ true
+      → map (numbered_behind (length hosts) (names_in services)) ds ≡ map (numbered_dependency objects) ds
+  service_dependencies_numbered apart [] h = refl
+  service_dependencies_numbered apart (d ∷ ds) h =
+      let ends = and_first (has_known_ends (names_in services) d) _ h in
+      let known = and_first (is_known (names_in services) d.dependent) _ ends in
+      let known_master = and_second (is_known (names_in services) d.dependent) _ ends in
+      let dependent = number_of_service d.dependent known (apart d.dependent known) in
+      let master = number_of_service d.master known_master (apart d.master known_master) in
+      let more = service_dependencies_numbered apart ds (and_second (has_known_ends (names_in services) d) _ h) in
+      λ i. (dependent i, record { master = master i; criteria = d.criteria; inherits = d.inherits }) ∷ more i
+
+  objects_counted : length objects ≡ length hosts + length services
+  objects_counted =
+      length-append (map named_host (map host_entry hosts)) (map named_service (map service_entry services))
+      ∙ (let h = length-map (map host_entry hosts) named_host in
+      let k = length-map hosts host_entry in
+      let l = length-map (map service_entry services) named_service in
+      let m = length-map services service_entry in
+      omega (arith, h, k, l, m))
+
+  some_host : (ds : List DependencyDraft) → list_all (has_known_ends (names_in hosts)) ds ≡ true → 0 < length ds → 0 < length objects
+  some_host ds h some = let k = some_name (names_in hosts) ds h some in omega (arith, k, objects_counted, length-map hosts (λ e. string_bytes e.0))
+
+  some_service : (ds : List DependencyDraft) → list_all (has_known_ends (names_in services)) ds ≡ true → 0 < length ds → 0 < length objects
+  some_service ds h some = let k = some_name (names_in services) ds h some in omega (arith, k, objects_counted, length-map services (λ e. string_bytes e.0))
+
+  some_object : (ss hs : List DependencyDraft) → list_all (has_known_ends (names_in services)) ss ≡ true → list_all (has_known_ends (names_in hosts)) hs ≡ true
+      → 0 < length (ss ++ hs) → 0 < length objects
+  some_object [] hs h k some = some_host hs k some
+  some_object (d ∷ ss) hs h k some = some_service (d ∷ ss) h (omega arith)
+
+  -- where both ends of each dependency are known, the numbers among the names of a sort are those of objects
+  pub all_numbered : ((name : List ℕ) → is_known (names_in services) name ≡ true → is_known (names_in hosts) name ≡ false)
+      → (ss hs : List DependencyDraft) → list_all (has_known_ends (names_in services)) ss ≡ true → list_all (has_known_ends (names_in hosts)) hs ≡ true
+      → map (numbered_behind (length hosts) (names_in services)) ss ++ map (numbered_behind 0 (names_in hosts)) hs
+      ≡ map (numbered_dependency objects) (ss ++ hs)
+  all_numbered apart ss hs h k =
+      (λ i. service_dependencies_numbered apart ss h i ++ host_dependencies_numbered hs k i) ∙ sym (map-append (numbered_dependency objects) ss hs)
+
+  -- and each dependent is an object
+  pub all_dependents_below : (ss hs : List DependencyDraft) → list_all (has_known_ends (names_in services)) ss ≡ true
+      → list_all (has_known_ends (names_in hosts)) hs ≡ true
+      → list_all (λ d. nat_lt d.0 (length objects)) (map (numbered_dependency objects) (ss ++ hs)) ≡ true
+  all_dependents_below ss hs h k = dependents_below objects (ss ++ hs) (some_object ss hs h k)
