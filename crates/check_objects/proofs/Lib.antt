@@ -4,4 +4,5 @@ pub mod GetterLemmas
 pub mod CycleLemmas
 pub mod CountLaws
 pub mod NumberedLemmas
+pub mod EndLemmas
 pub mod LinkLemmas

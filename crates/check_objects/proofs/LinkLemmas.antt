@@ -10,7 +10,8 @@ use Rattle.std.proofs.lemmas.List.Sorted.{IsPermutation-map}
 use Rattle.std.proofs.lemmas.Slice.Eq.{bytes_eq-Decides}
 use Rattle.check_numbers.specs.Configuration.{Configuration, named_host, named_service, objects_of, object_count, number_of, name_of}
 use Rattle.check_drafts.specs.Draft.{Drafts, HostDraft, DependencyDraft}
-use Rattle.check_documents.specs.Verification.{is_faultless, is_known, full_names}
+use Rattle.check_drafts.specs.Ends.{full_names, has_known_ends, is_known}
+use Rattle.check_documents.specs.Verification.{is_faultless}
 use Rattle.check_drafts.specs.Keys.{names_of}
 use Rattle.check_objects.specs.Links.{named_parents, named_dependency, named_dependencies, all_named_dependencies}
 use Rattle.check_numbers.specs.Numbering.{number_in, numbered_host, numbered_dependency, all_dependencies, dependencies_among, body_of, object_of}
@@ -77,7 +78,8 @@ service_is_object ds e name known =
     let c = configuration ds in
     let there : list_any (λ o. bytes_eq name o.name) (map named_service c.services) ≡ true =
     list_any-map (λ o. bytes_eq name o.name) named_service c.services
-    ∙ full_name_in_order ds.services (λ s. object_of s.check) (services_in_order ds.services) (services_all ds e) (names_in_order ds.hosts) name known in
+    ∙ full_name_in_order ds.services (λ s. object_of s.check) (services_in_order ds.services) (services_all ds e) (names_in_order ds.hosts) name
+    ∙ known in
     list_any-append (λ o. bytes_eq name o.name) (map named_host c.hosts) (map named_service c.services) ∙ or_second _ _ there
 
 -- both ends of the dependency are objects
@@ -85,8 +87,7 @@ abbrev pub has_ends : Configuration → DependencyDraft → Bool
 has_ends c d = is_object c d.dependent && is_object c d.master
 
 ends_are_objects : (c : Configuration) (names : List (List ℕ)) → ((name : List ℕ) → is_known names name ≡ true → is_object c name ≡ true)
-    → (ds : List DependencyDraft)
-    → list_all (λ d. is_known names d.dependent && is_known names d.master) ds ≡ true → list_all (has_ends c) ds ≡ true
+    → (ds : List DependencyDraft) → list_all (has_known_ends names) ds ≡ true → list_all (has_ends c) ds ≡ true
 ends_are_objects c names known [] h = refl
 ends_are_objects c names known (d ∷ ds) h =
     let here = and_first _ _ h in

@@ -16,7 +16,7 @@ use Rattle.check_drafts.specs.declared.object.Object.{Object}
 use Rattle.check_numbers.specs.Configuration.{Configuration, Host, Service, Named, named_host, named_service, host_count, number_of, name_of, pair_of}
 use Rattle.check_drafts.specs.Name.{full_name, is_host_name}
 use Rattle.check_drafts.specs.Draft.{HostDraft, ServiceDraft, DependencyDraft}
-use Rattle.check_documents.specs.Verification.{is_known, full_names}
+use Rattle.check_drafts.specs.Ends.{full_names, has_known_ends, is_known}
 use Rattle.check_drafts.specs.Keys.{names_of, key_of}
 use Rattle.check_numbers.specs.Numbering.{number_in, numbered_host, numbered_service, numbered_dependency, dependencies_among, dependency_lists}
 use Rattle.check_drafts.proofs.ListLemmas.{list_any-map, position-map, sum_by-map, position-front, position-back}
@@ -75,14 +75,14 @@ module _ (hosts : List HostDraft) (body : HostDraft → Object × List (List ℕ
 
 module _ (services : List ServiceDraft) (body : ServiceDraft → Object) (ss : List ServiceEntry)
     (moved : IsPermutation (map (λ s. (key_of s, body s)) services) ss) where
-  -- a full name of the document is one of those in order
-  pub full_name_in_order : (ns : List (List ℕ)) (name : List ℕ) → is_known (full_names services) name ≡ true
-      → list_any (λ s. bytes_eq name s.name) (map (numbered_service ns) ss) ≡ true
-  full_name_in_order ns name known =
+  -- a full name is a service's of those in order where it is one's of the document
+  pub full_name_in_order : (ns : List (List ℕ)) (name : List ℕ)
+      → list_any (λ s. bytes_eq name s.name) (map (numbered_service ns) ss) ≡ is_known (full_names services) name
+  full_name_in_order ns name =
       list_any-map (λ s. bytes_eq name s.name) (numbered_service ns) ss
       ∙ sym (list_any-IsPermutation (λ (e : ServiceEntry). bytes_eq name (full_name e.0)) (map (λ s. (key_of s, body s)) services) ss moved)
       ∙ list_any-map (λ (e : ServiceEntry). bytes_eq name (full_name e.0)) (λ (s : ServiceDraft). (key_of s, body s)) services
-      ∙ sym (list_any-map (bytes_eq name) (λ s. full_name (key_of s)) services) ∙ known
+      ∙ sym (list_any-map (bytes_eq name) (λ s. full_name (key_of s)) services)
 
 -- ---- counts
 
@@ -177,7 +177,7 @@ AreAlike n d = nat_lt d.1.master n ≡ nat_lt d.0 n
 -- where the ends of each dependency are among names whose numbers are all below n, or all aren't, the numbers are alike
 pub ends_alike : (objects : List Named) (names : List (List ℕ)) (n : ℕ) (b : Bool)
     → ((name : List ℕ) → is_known names name ≡ true → nat_lt (unwrap_or (position (λ o. bytes_eq name o.name) objects) 0) n ≡ b)
-    → (ds : List DependencyDraft) → list_all (λ d. is_known names d.dependent && is_known names d.master) ds ≡ true
+    → (ds : List DependencyDraft) → list_all (has_known_ends names) ds ≡ true
     → AllByRecursion (AreAlike n) (map (numbered_dependency objects) ds)
 ends_alike objects names n b number [] h = tt
 ends_alike objects names n b number (d ∷ ds) h =

@@ -25,7 +25,8 @@ use Rattle.check_drafts.specs.Name.{full_name, is_host_name, is_name, text_order
 use Rattle.check_numbers.specs.Configuration.{pair_of, IsSameSort}
 use Rattle.link_order.specs.Cycles.{has_cycle, are_within}
 use Rattle.check_drafts.specs.Draft.{Drafts, HostDraft, ServiceDraft, DependencyDraft}
-use Rattle.check_documents.specs.Verification.{is_faultless, full_names, is_known}
+use Rattle.check_drafts.specs.Ends.{full_names, is_known}
+use Rattle.check_documents.specs.Verification.{is_faultless}
 use Rattle.check_drafts.specs.Keys.{names_of, key_of}
 use Rattle.check_documents.specs.Verification.{good_ranges, good_host_ranges, good_options, good_service_ranges}
 use Rattle.check_documents.specs.Verification.{is_in_range, is_within, is_delay_in_range, is_factor_in_range, are_thresholds_in_range, are_options_in_range}
@@ -328,7 +329,7 @@ described_in_order ds e =
     all_moved (λ x. is_name x.0.1) (map (λ s. (key_of s, object_of s.check)) ds.services) (services_in_order ds.services) (services_all ds e)
     (list_all-map (λ x. is_name x.0.1) (λ (s : ServiceDraft). (key_of s, object_of s.check)) ds.services ∙ (faultless ds e).described)
 
-parted_hosts : (ds : Drafts) → is_faultless ds ≡ Ok tt → list_all (λ h. is_host_name h.name) (configuration ds).hosts ≡ true
+pub parted_hosts : (ds : Drafts) → is_faultless ds ≡ Ok tt → list_all (λ h. is_host_name h.name) (configuration ds).hosts ≡ true
 parted_hosts ds e =
     list_all-map (λ h. is_host_name h.name) (numbered_host (names_in_order ds.hosts)) (hosts_in_order ds.hosts)
     ∙ all_weaker (λ x. is_name x.0) (λ x. is_host_name x.0) (λ x h. parted_name x.0 h) (hosts_in_order ds.hosts) (named_in_order ds e)
@@ -347,7 +348,7 @@ same_sorts_of ds e =
     let at = found (λ (s : ServiceDraft). bytes_eq name (full_name (key_of s))) ds.services
     (sym (list_any-map (bytes_eq name) (λ s. full_name (key_of s)) ds.services) ∙ known) in
     service_end c name (key_of at.item) ((bytes_eq-Decides name (full_name (key_of at.item))).0 at.passes) (parted_hosts ds e)
-    (full_name_in_order ds.services (λ s. object_of s.check) (services_in_order ds.services) (services_all ds e) ns name known))
+    (full_name_in_order ds.services (λ s. object_of s.check) (services_in_order ds.services) (services_all ds e) ns name ∙ known))
     ds.service_dependencies f.service_ends in
     let hosts = ends_alike objects (names_of ds.hosts) n true (λ name known.
     host_end c name (ap (λ l. is_known l name) (host_names_are ns hs) ∙ sym (known_in_order ds.hosts body_of hs (hosts_all ds e) name) ∙ known))

@@ -1,4 +1,5 @@
 pub use Rattle.check_drafts.specs.Draft
+pub use Rattle.check_drafts.specs.Ends
 pub use Rattle.check_drafts.specs.Keys
 pub use Rattle.check_drafts.specs.LoadError
 pub use Rattle.check_drafts.specs.Name

@@ -7,6 +7,7 @@ use Rattle.check_drafts.specs.declared.error.LoadError.TheVariants as errors
 use Rattle.check_numbers.specs.Configuration.{Configuration, Host, masters_of, parents_by_host}
 use Rattle.link_order.specs.Cycles.{has_cycle}
 use Rattle.check_drafts.specs.Agreement.{◌>>=◌}
+use Rattle.check_drafts.specs.Draft.{Drafts}
 use Rattle.check_documents.specs.Tree.{tree_of}
 use Rattle.check_documents.specs.Reading.{drafts_of}
 use Rattle.check_documents.specs.Verification.{is_faultless}
@@ -28,9 +29,13 @@ without_parent_cycle c = if has_cycle (parents_by_host c) then Err errors.Parent
 abbrev pub without_cycles : Configuration → Result Configuration LoadError
 without_cycles c = without_dependency_cycle c >>= without_parent_cycle
 
+-- the setup of drafts, or their first fault after the shape
+abbrev pub setup_of_drafts : Drafts → Result Configuration LoadError
+setup_of_drafts drafts = is_faultless drafts >>= λ _. without_cycles (configuration drafts)
+
 -- the setup of a tree
 unfoldable pub setup_of_tree : Data → Result Configuration LoadError
-setup_of_tree d = drafts_of d >>= λ drafts. (is_faultless drafts >>= λ _. without_cycles (configuration drafts))
+setup_of_tree d = drafts_of d >>= setup_of_drafts
 
 -- the setup of a document's bytes
 unfoldable pub setup_of : List ℕ → Result Configuration LoadError

@@ -5,13 +5,13 @@ ghost use Rattle.check_numbers.specs.Configuration.{Configuration, object_count,
 ghost use Rattle.link_order.specs.Orders.{IsOrder};
 ghost use Rattle.check_numbers.specs.Numbering.{configuration};
 ghost use Rattle.check_objects.specs.Kept.{configuration_of, IsKept};
-ghost use Rattle.check_objects.specs.Setup.{setup_of, without_cycles, no_parent_cycle};
-ghost use Rattle.check_documents.specs.Verification.{is_faultless};
+ghost use Rattle.check_objects.specs.Setup.{setup_of, setup_of_drafts, without_cycles, no_parent_cycle};
+ghost use Rattle.check_documents.specs.Verification.{is_faultless, is_faultless_but_ends};
 ghost use Rattle.check_drafts.specs.Drafted.{HasFewAttempts};
-ghost use Rattle.check_numbers.specs.Entries.{host_entry, named};
+ghost use Rattle.check_numbers.specs.Entries.{host_entry, named, service_entry};
 ghost use Rattle.check_drafts.specs.LoadError.{Gives};
 
-use check_documents::{read_drafts, read_tree, verify};
+use check_documents::{read_drafts, read_tree, verify_but_ends};
 use check_drafts::{Dependency, Drafts, LoadError, MAX_DOCUMENT_BYTES, Object, Options};
 use check_numbers::{
     Dependencies, Host, Parents, Service, list_dependencies, number_objects, object_number,
@@ -62,21 +62,43 @@ impl Setup {
         }
         let tree = read_tree(alloc, bytes)?;
         let drafts = read_drafts(alloc, &tree)?;
-        verify(alloc, &drafts)?;
+        verify_but_ends(alloc, &drafts)?;
         Setup::of_drafts(alloc, &drafts)
     }
 
-    /// The setup of drafts without a fault, unless some object depends on itself through one
-    /// dependency or more, or some host is its own parent through one parent or more.
+    /// The setup of drafts without a fault but for the ends of dependencies, unless one of these isn't
+    /// there, some object depends on itself through one dependency or more, or some host is its own
+    /// parent through one parent or more.
     fn of_drafts(alloc: Global, drafts: &Drafts<'_>) -> Result<Setup, LoadError>
-        requires faultless { is_faultless (drafts_view drafts.now) ≡ Ok tt }
+        requires but_ends { is_faultless_but_ends (drafts_view drafts.now) ≡ Ok tt }
         requires hosts { All (λ h. HasFewAttempts h.check) drafts.now.hosts.items }
         requires services { All (λ s. HasFewAttempts s.check) drafts.now.services.items }
-        ensures { Gives (λ s. s) result
-            (without_cycles (configuration (drafts_view drafts.now))) }
+        ensures { Gives (λ s. s) result (setup_of_drafts (drafts_view drafts.now)) }
     {
         let (hosts, services) = number_objects(alloc, drafts)?;
         let dependencies = list_dependencies(alloc, drafts, &hosts, &services)?;
+        Setup::without_cycles(alloc, drafts, hosts, services, dependencies)
+    }
+
+    /// The setup of drafts without a fault, whose objects and dependencies were numbered, unless it
+    /// has a cycle.
+    fn without_cycles(
+        alloc: Global,
+        drafts: &Drafts<'_>,
+        hosts: IndexMap<String, Host>,
+        services: IndexMap<String, Service>,
+        dependencies: Vec<Dependencies>,
+    ) -> Result<Setup, LoadError>
+        requires faultless { is_faultless (drafts_view drafts.now) ≡ Ok tt }
+        requires hosts { map host_entry hosts.entries
+            ≡ (configuration (drafts_view drafts.now)).hosts }
+        requires services { map service_entry services.entries
+            ≡ (configuration (drafts_view drafts.now)).services }
+        requires dependencies { map (λ list. list.items) dependencies.items
+            ≡ (configuration (drafts_view drafts.now)).dependencies }
+        ensures { Gives (λ s. s) result
+            (without_cycles (configuration (drafts_view drafts.now))) }
+    {
         match order_by_masters(alloc, &dependencies)? {
             Some(order) => {
                 verify_no_parent_cycle(alloc, &hosts)?;

@@ -1,0 +1,103 @@
+use Rattle.std.proofs.Common.{◌≡◌, ◌≤◌, List, sym, ap, subst, ◌∙◌, length, map, true, false, Ok, arith, rules}
+use Rattle.std.proofs.lemmas.List.{length-map}
+use Rattle.std.specs.Prelude.{nat_lt, ℕ}
+use Rattle.std.specs.List.{list_all}
+use Rattle.link_order.specs.Cycles.{are_within, has_cycle}
+use Rattle.link_order.specs.Orders.{IsOrder}
+use Rattle.link_order.proofs.ChainLemmas.{order_has_no_cycle}
+use Rattle.check_drafts.specs.declared.dependency.Dependency.{Dependency}
+use Rattle.check_numbers.specs.Configuration.{Host, Service, IsSetup, masters_of, masters_in}
+use Rattle.check_drafts.specs.Draft.{Drafts}
+use Rattle.check_drafts.specs.Drafted.{drafts_view}
+use Rattle.check_drafts.specs.LoadError.{refusal}
+use Rattle.check_numbers.specs.Entries.{host_entry}
+use Rattle.check_numbers.specs.Numbering.{configuration}
+use Rattle.check_objects.specs.Setup.{without_cycles}
+use Rattle.check_documents.specs.Verification.{is_faultless}
+use Rattle.check_objects.proofs.CycleLemmas.{fails_later, cyclic_parents, no_cycle_of, acyclic_setup, cyclic_dependencies}
+use Rattle.check_objects.proofs.SetupLemmas.{configuration_is_setup, has_lists, few_lists, masters_within, few_host_entries, hosts_are_linked}
+use Rattle.check_objects.proofs.setup.Setup.without_cycles.Goals as goal
+
+-- ---- what was numbered is what the definitions number
+
+same_setup : (ds : Drafts) (hosts : List Host) (services : List Service) (lists : List (List Dependency)) → hosts ≡ (configuration ds).hosts
+    → services ≡ (configuration ds).services → lists ≡ (configuration ds).dependencies
+    → configuration ds ≡ record { options = ds.options; hosts = hosts; services = services; dependencies = lists }
+same_setup ds hosts services lists h s l =
+    λ i. record { options = ds.options; hosts = sym h i; services = sym s i; dependencies = sym l i }
+
+-- a slice of the lists, as few as an order asks for, and of masters that there are
+seen_lists : {L : Type 0} (items : L → List Dependency) (ds : Drafts) (lists seen : List L) → is_faultless ds ≡ Ok tt → seen ≡ lists
+    → map items lists ≡ (configuration ds).dependencies → (length seen ≤ 4096) × (are_within (length seen) (map masters_in (map items seen)) ≡ true)
+seen_lists items ds lists seen e same l =
+    let are = ap (map items) same ∙ l in
+    (few_lists items seen (configuration ds) (has_lists ds e) are, masters_within items seen (configuration ds) (has_lists ds e) are)
+
+acyclic : (ds : Drafts) (lists : List (List Dependency)) (order : List ℕ) → lists ≡ (configuration ds).dependencies → IsOrder (map masters_in lists) order
+    → has_cycle (masters_of (configuration ds)) ≡ false
+acyclic ds lists order same is = ap (λ l. has_cycle (map masters_in l)) (sym same) ∙ order_has_no_cycle _ _ is
+
+few_entries : {A : Type 0} (entry : A → Host) (entries : List A) (ds : Drafts) → map entry entries ≡ (configuration ds).hosts → is_faultless ds ≡ Ok tt
+    → length entries ≤ 4096
+few_entries entry entries ds hosts e = omega (arith, few_host_entries ds e, length-map entries entry, ap length hosts)
+
+linked_entries : {A : Type 0} (entry : A → Host) (entries : List A) (ds : Drafts) → map entry entries ≡ (configuration ds).hosts
+    → list_all (λ h. list_all (λ p. nat_lt p (length entries)) h.parents) (map entry entries) ≡ true
+linked_entries entry entries ds hosts =
+    ap (λ n. list_all (λ h. list_all (λ p. nat_lt p n) h.parents) (map entry entries)) (sym (length-map entries entry))
+    ∙ ap (λ l. list_all (λ h. list_all (λ p. nat_lt p (length l)) h.parents) l) hosts
+    ∙ hosts_are_linked ds
+
+-- ---- the answers
+
+pub order_by_masters-requires-clause-few : goal.order_by_masters-requires-clause-few
+order_by_masters-requires-clause-few c =
+    (seen_lists (λ list. list.items) (drafts_view c.args.drafts.now) _ _ c.requires.faultless c.deref.ensures.value c.requires.dependencies).0
+
+pub order_by_masters-requires-clause-within : goal.order_by_masters-requires-clause-within
+order_by_masters-requires-clause-within c =
+    (seen_lists (λ list. list.items) (drafts_view c.args.drafts.now) _ _ c.requires.faultless c.deref.ensures.value c.requires.dependencies).1
+
+pub verify_no_parent_cycle-requires-clause-few : goal.verify_no_parent_cycle-requires-clause-few
+verify_no_parent_cycle-requires-clause-few c =
+    few_entries host_entry _ (drafts_view c.args.drafts.now) c.requires.hosts c.requires.faultless
+
+pub verify_no_parent_cycle-requires-clause-linked : goal.verify_no_parent_cycle-requires-clause-linked
+verify_no_parent_cycle-requires-clause-linked c = linked_entries host_entry _ (drafts_view c.args.drafts.now) c.requires.hosts
+
+pub returns-in_err-verify_no_parent_cycle-in-Some : goal.returns-in_err-verify_no_parent_cycle-in-Some
+returns-in_err-verify_no_parent_cycle-in-Some c =
+    let ds = drafts_view c.args.drafts.now in
+    let free = acyclic ds _ _ (ap (map (λ list. list.items)) c.deref.ensures.value ∙ c.requires.dependencies) (rw c.in-Some.is at c.in_ok-order.ensures.order) in
+    let fails = fails_later (refusal c.in_err-verify_no_parent_cycle-in-Some.field-0.0) _ (without_cycles (configuration ds))
+    c.in_err-verify_no_parent_cycle-in-Some.ensures (λ x h. cyclic_parents (configuration ds) _ x c.requires.hosts free h) in
+    search (rules, fails)
+
+pub invariant_of-result : goal.invariant_of-result
+invariant_of-result c =
+    let ds = drafts_view c.args.drafts.now in
+    let order = rw c.in-Some.is at c.in_ok-order.ensures.order in
+    let free = acyclic ds _ _ (ap (map (λ list. list.items)) c.deref.ensures.value ∙ c.requires.dependencies) order in
+    let no_parents = no_cycle_of (configuration ds) _ c.in_ok-verify_no_parent_cycle-in-Some.field-0 c.requires.hosts
+    c.in_ok-verify_no_parent_cycle-in-Some.ensures in
+    record {
+      setup =
+          subst IsSetup (same_setup ds _ _ _ c.requires.hosts c.requires.services c.requires.dependencies)
+          (configuration_is_setup ds c.requires.faultless free no_parents);
+      order = rw (← c.deref.ensures.value) order;
+    }
+
+pub returns-in_ok-verify_no_parent_cycle-in-Some : goal.returns-in_ok-verify_no_parent_cycle-in-Some
+returns-in_ok-verify_no_parent_cycle-in-Some c =
+    let ds = drafts_view c.args.drafts.now in
+    let free = acyclic ds _ _ (ap (map (λ list. list.items)) c.deref.ensures.value ∙ c.requires.dependencies) (rw c.in-Some.is at c.in_ok-order.ensures.order) in
+    let no_parents = no_cycle_of (configuration ds) _ c.in_ok-verify_no_parent_cycle-in-Some.field-0 c.requires.hosts
+    c.in_ok-verify_no_parent_cycle-in-Some.ensures in
+    acyclic_setup (configuration ds) free no_parents ∙ ap Ok (same_setup ds _ _ _ c.requires.hosts c.requires.services c.requires.dependencies)
+
+pub returns-in-None : goal.returns-in-None
+returns-in-None c =
+    let ds = drafts_view c.args.drafts.now in
+    let seen = ap (map (λ list. list.items)) c.deref.ensures.value ∙ c.requires.dependencies in
+    let cyclic = rw c.in-None.is at c.in_ok-order.ensures.order in
+    cyclic_dependencies (configuration ds) (ap (λ l. has_cycle (map masters_in l)) (sym seen) ∙ cyclic)
