@@ -1,17 +1,19 @@
 -- The ends of dependencies by number: each name is looked up among the names of its own sort.
-use Rattle.std.proofs.Common.{◌≡◌, append_assoc, ℕ, ◌+◌, ◌<◌, ◌&&◌, not, Bool, true, false, cond, List, [], ◌∷◌, ◌++◌, map, drop, length, Option, Some, None}
-use Rattle.std.proofs.Common.{option_map, String, Global, string_bytes, bytes_eq, refl, sym, ap, ◌∙◌, Result, Ok, Err, arith}
-use Rattle.std.specs.Prelude.{nat_lt, unwrap_or}
+use Rattle.std.proofs.Common.{◌≡◌, ℕ, ◌+◌, ◌<◌, not, Bool, true, false, cond, List, [], ◌∷◌, ◌++◌, map, drop, length, Option, Some, None}
+use Rattle.std.proofs.Common.{option_map, String, Global, string_bytes, bytes_eq, refl, sym, ap, subst, ◌∙◌, Result, Ok, Err, arith}
+use Rattle.std.specs.Prelude.{nat_lt, unwrap_or, IfOk, IsOkUnless}
 use Rattle.std.specs.List.{list_all, position}
 use Rattle.std.specs.Map.{keys_of}
 use Rattle.std.proofs.lemmas.List.{length-map, length-append, map-append}
+use Rattle.check_drafts.specs.declared.dependency.Dependency.{Dependency}
 use Rattle.check_drafts.specs.declared.error.LoadError.{LoadError}
 use Rattle.check_drafts.specs.declared.error.LoadError.TheVariants as errors
 use Rattle.check_drafts.specs.declared.place.Part.{Part}
-use Rattle.check_drafts.specs.Agreement.{◌>>=◌}
-use Rattle.check_drafts.specs.Draft.{DependencyDraft}
-use Rattle.check_drafts.specs.Ends.{is_known, has_known_ends, known_ends}
-use Rattle.check_drafts.specs.LoadError.{Gives, refused_at}
+use Rattle.check_drafts.specs.declared.place.Part.TheVariants as part
+use Rattle.check_drafts.specs.Agreement.{◌>>=◌, Fails}
+use Rattle.check_drafts.specs.Draft.{DependencyDraft, Drafts}
+use Rattle.check_drafts.specs.Ends.{is_known, has_known_ends, known_ends, known_dependencies}
+use Rattle.check_drafts.specs.LoadError.{Gives, refusal, refused_at}
 use Rattle.check_drafts.specs.Place.{item_of_part}
 use Rattle.check_drafts.proofs.ListLemmas.{position-map, position-front, position-back, one_found, one_missed}
 use Rattle.link_order.proofs.TestLemmas.{and_first, and_second, and_both}
@@ -19,13 +21,14 @@ use Rattle.check_numbers.specs.declared.numbering.Host.{Host}
 use Rattle.check_numbers.specs.declared.numbering.Service.{Service}
 use Rattle.check_numbers.specs.Configuration.{Named, named_host, named_service, number_among}
 use Rattle.check_numbers.specs.Entries.{host_entry, service_entry, names_in, objects_in}
-use Rattle.check_numbers.specs.Numbering.{number_in, numbered_behind, numbered_dependency}
+use Rattle.check_numbers.specs.Numbering.{number_in, numbered_behind, numbered_dependency, dependency_lists, dependencies_by_number, listed_dependencies}
 use Rattle.check_numbers.proofs.DependencyLemmas.{dependents_below}
 use Rattle.check_numbers.proofs.NameLemmas.{found, nowhere}
 use Rattle.check_numbers.proofs.ObjectLemmas.{number_front, number_back}
 
 -- ---- one name
 
+-- the place of a name in a map
 pub place_of_name : {T : Type 0} (entries : List (String Global × T)) (name : List ℕ)
     → position (λ k. bytes_eq name (string_bytes k)) (keys_of entries) ≡ position (bytes_eq name) (names_in entries)
 place_of_name entries name =
@@ -43,10 +46,7 @@ pub number_known : (others : ℕ) (names : List (List ℕ)) (name : List ℕ)
     → option_map (λ i. others + i) (position (bytes_eq name) names) ≡ cond (is_known names name) (Some (others + number_in names name)) None
 number_known others names name = number_known_by others names name (is_known names name) refl
 
-pub was_unknown : {A : Type 0} (b : Bool) (x : A) → None ≡ cond b (Some x) None → b ≡ false
-was_unknown true x e = cc
-was_unknown false x e = refl
-
+-- a value that is there only where a test holds: it held
 pub was_known : {A : Type 0} (b : Bool) (x y : A) → Some y ≡ cond b (Some x) None → (b ≡ true) × (y ≡ x)
 was_known true x y e = (refl, cc)
 was_known false x y e = cc
@@ -57,21 +57,14 @@ counted_on : (i : ℕ) (o : Option ℕ) → option_map (λ j. i + j) (option_map
 counted_on i None = refl
 counted_on i (Some j) = ap Some (omega arith)
 
-module _ {A B : Type 0} (test : B → Bool) (view : A → B) (xs : List A) (i : ℕ) (x : A) (rest : drop i xs ≡ x ∷ drop (i + 1) xs)
-    (so_far : position test (map view xs) ≡ option_map (λ j. i + j) (position test (map view (drop i xs)))) where
-  -- the place is here, where the test holds and did not before
-  pub place_is_here : test (view x) ≡ true → position test (map view xs) ≡ Some i
-  place_is_here e =
-      so_far ∙ ap (λ l. option_map (λ j. i + j) (position test (map view l))) rest
-      ∙ ap (option_map (λ j. i + j)) (position-front test (view x ∷ []) (map view (drop (i + 1) xs)) 0 (one_found test (view x) e))
-      ∙ ap Some (let h : i + 0 ≡ i = omega arith in h)
-
-  -- the place is further on, where the test does not hold here
-  pub place_is_later : test (view x) ≡ false → position test (map view xs) ≡ option_map (λ j. (i + 1) + j) (position test (map view (drop (i + 1) xs)))
-  place_is_later e =
-      so_far ∙ ap (λ l. option_map (λ j. i + j) (position test (map view l))) rest
-      ∙ ap (option_map (λ j. i + j)) (position-back test (view x ∷ []) (map view (drop (i + 1) xs)) (one_missed test (view x) e))
-      ∙ counted_on i (position test (map view (drop (i + 1) xs)))
+-- the first place where the test holds is further on, where it does not hold here and did not before
+pub place_is_later : {A B : Type 0} (test : B → Bool) (view : A → B) (xs : List A) (i : ℕ) (x : A) → drop i xs ≡ x ∷ drop (i + 1) xs
+    → position test (map view xs) ≡ option_map (λ j. i + j) (position test (map view (drop i xs))) → test (view x) ≡ false
+    → position test (map view xs) ≡ option_map (λ j. (i + 1) + j) (position test (map view (drop (i + 1) xs)))
+place_is_later test view xs i x rest so_far e =
+    so_far ∙ ap (λ l. option_map (λ j. i + j) (position test (map view l))) rest
+    ∙ ap (option_map (λ j. i + j)) (position-back test (view x ∷ []) (map view (drop (i + 1) xs)) (one_missed test (view x) e))
+    ∙ counted_on i (position test (map view (drop (i + 1) xs)))
 
 -- ---- nothing was refused
 
@@ -103,11 +96,18 @@ all_pass p (x ∷ xs) e = all_pass_by p x xs (p x) refl e (all_pass p xs)
 pub ends_known : (p : Part) (names : List (List ℕ)) (ds : List DependencyDraft) → known_ends p names ds ≡ Ok tt → list_all (has_known_ends names) ds ≡ true
 ends_known p names ds e = all_pass (has_known_ends names) ds (refused_nowhere (λ i. errors.UnknownMaster (item_of_part p i)) _ e)
 
+-- a value that is made of what is defined, unless memory ran out
+gives_or_memory : {X Y : Type 0} (view : X → Y) (result : Result X LoadError) (expected : Result Y LoadError) (value : Y)
+    → IfOk result (λ x. view x ≡ value) → IsOkUnless result errors.Memory → expected ≡ Ok value → Gives view result expected
+gives_or_memory view (Ok x) expected value is memory e = e ∙ ap Ok (sym is)
+gives_or_memory view (Err x) expected value is memory e = subst (λ f. Fails (refusal f) expected) (sym memory) tt
+
 -- ---- numbers of one sort, and those among all objects
 
 from_zero : (n : ℕ) → 0 + n ≡ n
 from_zero n = omega arith
 
+-- where the ends of some dependency are known, there is some name
 some_name : (names : List (List ℕ)) (ds : List DependencyDraft) → list_all (has_known_ends names) ds ≡ true → 0 < length ds → 0 < length names
 some_name [] [] h some = some
 some_name [] (d ∷ ds) h some = cc
@@ -176,16 +176,41 @@ module _ (hosts : List (String Global × Host)) (services : List (String Global 
   some_object [] hs h k some = some_host hs k some
   some_object (d ∷ ss) hs h k some = some_service (d ∷ ss) h (omega arith)
 
-  -- where both ends of each dependency are known, the numbers among the names of a sort are those of objects
-  pub all_numbered : ((name : List ℕ) → is_known (names_in services) name ≡ true → is_known (names_in hosts) name ≡ false)
-      → (ss hs : List DependencyDraft) → list_all (has_known_ends (names_in services)) ss ≡ true → list_all (has_known_ends (names_in hosts)) hs ≡ true
-      → map (numbered_behind (length hosts) (names_in services)) ss ++ map (numbered_behind 0 (names_in hosts)) hs
-      ≡ map (numbered_dependency objects) (ss ++ hs)
-  all_numbered apart ss hs h k =
-      (λ i. service_dependencies_numbered apart ss h i ++ host_dependencies_numbered hs k i) ∙ sym (map-append (numbered_dependency objects) ss hs)
+  -- what numbers of dependencies are where no end is unknown: those of objects, in the order of the drafts
+  pub record AreNumbered (drafts : Drafts) (count : ℕ) (all : List (ℕ × Dependency)) : Type 0 where
+    pub known : known_dependencies (names_in services) (names_in hosts) drafts ≡ Ok tt
+    pub dependents : list_all (λ d. nat_lt d.0 count) all ≡ true
+    pub lists : dependency_lists count all ≡ dependencies_by_number objects drafts
 
-  -- and each dependent is an object
-  pub all_dependents_below : (ss hs : List DependencyDraft) → list_all (has_known_ends (names_in services)) ss ≡ true
-      → list_all (has_known_ends (names_in hosts)) hs ≡ true
-      → list_all (λ d. nat_lt d.0 (length objects)) (map (numbered_dependency objects) (ss ++ hs)) ≡ true
-  all_dependents_below ss hs h k = dependents_below objects (ss ++ hs) (some_object ss hs h k)
+  pub all_numbered : (drafts : Drafts) (host_count service_count : ℕ) (ss hs : List DependencyDraft) (none of_services all : List (ℕ × Dependency))
+      → ((name : List ℕ) → is_known (names_in services) name ≡ true → is_known (names_in hosts) name ≡ false)
+      → ss ≡ drafts.service_dependencies → hs ≡ drafts.host_dependencies → host_count ≡ length hosts → service_count ≡ length services
+      → known_ends part.ServiceDependencies (names_in services) ss ≡ Ok tt → known_ends part.HostDependencies (names_in hosts) hs ≡ Ok tt
+      → none ≡ [] → of_services ≡ none ++ map (numbered_behind host_count (names_in services)) ss
+      → all ≡ of_services ++ map (numbered_behind 0 (names_in hosts)) hs → AreNumbered drafts (host_count + service_count) all
+  all_numbered drafts host_count service_count ss hs none of_services all apart of_ss of_hs hosts_are services_are service_ends host_ends start first then =
+      let known_ss = ends_known part.ServiceDependencies (names_in services) ss service_ends in
+      let known_hs = ends_known part.HostDependencies (names_in hosts) hs host_ends in
+      let numbers : all ≡ map (numbered_dependency objects) (ss ++ hs) =
+      then
+      ∙ ap (λ l. l ++ map (numbered_behind 0 (names_in hosts)) hs)
+      (first ∙ (λ i. start i ++ map (numbered_behind (hosts_are i) (names_in services)) ss) ∙ service_dependencies_numbered apart ss known_ss)
+      ∙ ap (λ l. map (numbered_dependency objects) ss ++ l) (host_dependencies_numbered hs known_hs)
+      ∙ sym (map-append (numbered_dependency objects) ss hs) in
+      let count : host_count + service_count ≡ length objects = omega (arith, hosts_are, services_are, objects_counted) in
+      record {
+        known =
+            (λ i. known_ends part.ServiceDependencies (names_in services) (sym of_ss i) >>= λ _.
+            known_ends part.HostDependencies (names_in hosts) (sym of_hs i))
+            ∙ (λ i. service_ends i >>= λ _. host_ends i);
+        dependents = (λ i. list_all (λ d. nat_lt d.0 (count i)) (numbers i)) ∙ dependents_below objects (ss ++ hs) (some_object ss hs known_ss known_hs);
+        lists = (λ i. dependency_lists (count i) (numbers i)) ∙ (λ i. dependency_lists (length objects) (map (numbered_dependency objects) (of_ss i ++ of_hs i)));
+      }
+
+  -- lists of them are what is defined, unless memory ran out
+  pub lists_given : {X : Type 0} (view : X → List (List Dependency)) (result : Result X LoadError) (drafts : Drafts) (count : ℕ) (all : List (ℕ × Dependency))
+      → AreNumbered drafts count all → IfOk result (λ x. view x ≡ dependency_lists count all) → IsOkUnless result errors.Memory
+      → Gives view result (listed_dependencies (names_in services) (names_in hosts) objects drafts)
+  lists_given view result drafts count all are lists memory =
+      gives_or_memory view result _ (dependency_lists count all) lists memory
+      (ap (λ r. r >>= λ _. Ok (dependencies_by_number objects drafts)) are.known ∙ ap Ok (sym are.lists))

@@ -100,8 +100,8 @@ all_dependencies drafts = drafts.service_dependencies ++ drafts.host_dependencie
 abbrev pub dependencies_by_number : List Named → Drafts → List (List Dependency)
 dependencies_by_number objects drafts = dependency_lists (length objects) (map (numbered_dependency objects) (all_dependencies drafts))
 
--- The dependencies of each of these objects, where both ends of each are there: those of services among the first names and those of hosts among
--- the others. Else the first dependency with an end that isn't there.
+-- of each of these objects its dependencies, where both ends of each are there: of a service's among the first names, of a host's among the others;
+-- else the first dependency with an end that isn't there
 abbrev pub listed_dependencies : List (List ℕ) → List (List ℕ) → List Named → Drafts → Result (List (List Dependency)) LoadError
 listed_dependencies services hosts objects drafts = known_dependencies services hosts drafts >>= λ _. Ok (dependencies_by_number objects drafts)
 

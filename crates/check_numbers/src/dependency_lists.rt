@@ -57,8 +57,8 @@ pub fn list_dependencies(
     list_by_dependent(alloc, host_count + services.len(), &numbered)
 }
 
-/// Adds each dependency, by the numbers of its dependent and its master, which are among these
-/// objects, behind so many others.
+/// Adds each dependency by the numbers of its dependent and its master among these objects, which
+/// stand behind so many others; or tells the first one with an end that isn't among them.
 fn number_dependencies<T>(
     numbered: &mut Vec<(u32, Dependency)>,
     part: Part,
@@ -81,8 +81,8 @@ fn number_dependencies<T>(
     Ok(())
 }
 
-/// The dependency by numbers behind so many others, or None where an end of it isn't among these
-/// objects.
+/// The dependency behind the number of its dependent, both ends among these objects, which stand
+/// behind so many others. None where an end isn't among them.
 fn number_dependency<T>(
     draft: DependencyDraft<'_>,
     others: u32,
@@ -103,7 +103,8 @@ fn number_dependency<T>(
     Some((dependent, dependency))
 }
 
-/// The number of a name among these objects, behind so many others, or None where it isn't there.
+/// The number of the object with this name among these, which stand behind so many others. None where
+/// there is no such object.
 fn number_behind<T>(others: u32, objects: &IndexMap<String, T>, name: &str) -> Option<u32>
     requires { others + length objects.now.entries ≤ 4096 }
     ensures { result ≡ if is_known (names_in objects.now.entries) name.now
