@@ -13,7 +13,8 @@ use Rattle.check_drafts.specs.Agreement.{◌>>=◌}
 use Rattle.check_drafts.specs.LoadError.{refused_at}
 use Rattle.check_drafts.specs.Name.{is_name}
 use Rattle.check_drafts.specs.Place.{host_at, service_at, item_of_part}
-use Rattle.check_drafts.specs.Ends.{full_names, has_known_ends, is_known, known_dependencies, known_ends}
+use Rattle.check_drafts.specs.Ends.{full_names, is_known, known_dependencies, known_ends}
+use Rattle.check_drafts.proofs.RefusalLemmas.{all_by_position, ends_known, have_known_ends, nowhere}
 use Rattle.check_documents.specs.Verification.{is_faultless, few_items, few_dependencies, known_links, few_objects}
 use Rattle.check_drafts.specs.Keys.{names_of, key_of, same_key, first_repeat}
 use Rattle.check_documents.specs.Verification.{has_few_parents, good_names, good_host_names, good_descriptions, host_names}
@@ -30,38 +31,7 @@ pub rest_ok : {B : Type 0} (a : Result (Unit {0}) LoadError) (f : Unit {0} → R
 rest_ok (Ok u) f y e = e
 rest_ok (Err x) f y e = cc
 
-pub nowhere : (fault : ℕ → LoadError) (o : Option ℕ) → refused_at fault o ≡ Ok tt → o ≡ None
-nowhere fault None e = refl
-nowhere fault (Some i) e = cc
-
-prefix_all_by : {A : Type 0} (p : A → Bool) (x : A) (xs : List A) (b : Bool) → p x ≡ b → (nat_lt (prefix_len p xs) (length xs) ≡ false → list_all p xs ≡ true)
-    → nat_lt (cond b (1 + prefix_len p xs) 0) (suc (length xs)) ≡ false → (b && list_all p xs) ≡ true
-prefix_all_by p x xs true t more e = more (let h : nat_lt (1 + prefix_len p xs) (suc (length xs)) ≡ false = e in grind (arith, nat_tests, h))
-prefix_all_by p x xs false t more e = absurd (let h : nat_lt 0 (suc (length xs)) ≡ false = e in grind (arith, nat_tests, h))
-
-prefix_all : {A : Type 0} (p : A → Bool) (xs : List A) → nat_lt (prefix_len p xs) (length xs) ≡ false → list_all p xs ≡ true
-prefix_all p [] e = refl
-prefix_all p (x ∷ xs) e = prefix_all_by p x xs (p x) refl (prefix_all p xs) e
-
-none_by : (b : Bool) (i : ℕ) → cond b (Some i) None ≡ None → b ≡ false
-none_by true i e = cc
-none_by false i e = refl
-
-twice_not : (b : Bool) → not (not b) ≡ b
-twice_not true = refl
-twice_not false = refl
-
--- where no element fails a test, all pass it
-pub all_by_position : {A : Type 0} (p : A → Bool) (xs : List A) → position (λ x. not (p x)) xs ≡ None → list_all p xs ≡ true
-all_by_position p xs e =
-    let agree : (λ x. not (not (p x))) ≡ p = λ i x. twice_not (p x) i in
-    ap (λ q. list_all q xs) (sym agree) ∙ prefix_all (λ x. not (not (p x))) xs (none_by _ _ e)
-
 -- ---- a document without a fault
-
--- the dependents and masters of these dependencies have one of these names
-abbrev pub have_known_ends : List (List ℕ) → List DependencyDraft → Bool
-have_known_ends names ds = list_all (has_known_ends names) ds
 
 -- what the tests say of a document that passed them
 pub record IsFaultless (ds : Drafts) : Type 0 where
@@ -104,9 +74,6 @@ repeats_and_more ds names = no_repeated_services ds.services >>= λ _. links_and
 abbrev pub both_ends : Drafts → List (List ℕ) → Result (Unit {0}) LoadError
 both_ends ds names = known_dependencies (full_names ds.services) names ds
 
-ends_ok : (p : Part) (names : List (List ℕ)) (ds : List DependencyDraft) → known_ends p names ds ≡ Ok tt → have_known_ends names ds ≡ true
-ends_ok p names ds e = all_by_position (has_known_ends names) ds (nowhere (λ i. errors.UnknownMaster (item_of_part p i)) _ e)
-
 pub faultless : (ds : Drafts) → is_faultless ds ≡ Ok tt → IsFaultless ds
 unfolding is_faultless
 faultless ds e =
@@ -147,8 +114,8 @@ faultless ds e =
           (nowhere (λ i. errors.UnknownHost (host_at i)) _ (first_ok (known_parents names ds.hosts)
           (λ _. known_hosts names ds.services >>= λ _. both_ends ds names) tt links));
       known = all_by_position (λ s. is_known names s.host) ds.services (nowhere (λ i. errors.UnknownHost (service_at i)) _ known);
-      service_ends = ends_ok part.ServiceDependencies (full_names ds.services) ds.service_dependencies (first_ok services (λ _. hosts) tt ended);
-      host_ends = ends_ok part.HostDependencies names ds.host_dependencies (rest_ok services (λ _. hosts) tt ended);
+      service_ends = ends_known part.ServiceDependencies (full_names ds.services) ds.service_dependencies (first_ok services (λ _. hosts) tt ended);
+      host_ends = ends_known part.HostDependencies names ds.host_dependencies (rest_ok services (λ _. hosts) tt ended);
       ranged = rest_ok (known_links names ds) (λ _. good_ranges ds.options ds.hosts ds.services) tt linked;
     }
 

@@ -1,3 +1,4 @@
 pub mod ListLemmas
 pub mod RepeatLemmas
 pub mod PastEnds
+pub mod RefusalLemmas

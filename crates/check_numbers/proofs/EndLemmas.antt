@@ -15,6 +15,7 @@ use Rattle.check_drafts.specs.Draft.{DependencyDraft, Drafts}
 use Rattle.check_drafts.specs.Ends.{is_known, has_known_ends, known_ends, known_dependencies}
 use Rattle.check_drafts.specs.LoadError.{Gives, refusal, refused_at}
 use Rattle.check_drafts.specs.Place.{item_of_part}
+use Rattle.check_drafts.proofs.RefusalLemmas.{ends_known}
 use Rattle.check_drafts.proofs.ListLemmas.{position-map, position-front, position-back, one_found, one_missed}
 use Rattle.link_order.proofs.TestLemmas.{and_first, and_second, and_both}
 use Rattle.check_numbers.specs.declared.numbering.Host.{Host}
@@ -66,35 +67,7 @@ place_is_later test view xs i x rest so_far e =
     ∙ ap (option_map (λ j. i + j)) (position-back test (view x ∷ []) (map view (drop (i + 1) xs)) (one_missed test (view x) e))
     ∙ counted_on i (position test (map view (drop (i + 1) xs)))
 
--- ---- nothing was refused
-
-none_before : (o : Option ℕ) → option_map (λ j. 1 + j) o ≡ None → o ≡ None
-none_before None e = refl
-none_before (Some i) e = cc
-
-refused_nowhere : (fault : ℕ → LoadError) (o : Option ℕ) → refused_at fault o ≡ Ok tt → o ≡ None
-refused_nowhere fault None e = refl
-refused_nowhere fault (Some i) e = cc
-
-abbrev fails : {A : Type 0} → (A → Bool) → A → Bool
-fails p x = not (p x)
-
-all_pass_by : {A : Type 0} (p : A → Bool) (x : A) (xs : List A) (b : Bool) → p x ≡ b → position (fails p) (x ∷ xs) ≡ None
-    → (position (fails p) xs ≡ None → list_all p xs ≡ true) → list_all p (x ∷ xs) ≡ true
-all_pass_by p x xs true e none more =
-    and_both (p x) (list_all p xs) e (more (none_before (position (fails p) xs)
-    (sym (position-back (fails p) (x ∷ []) xs (one_missed (fails p) x (ap not e))) ∙ none)))
-all_pass_by p x xs false e none more =
-    let here : position (fails p) (x ∷ xs) ≡ Some 0 = position-front (fails p) (x ∷ []) xs 0 (one_found (fails p) x (ap not e)) in
-    cc
-
-all_pass : {A : Type 0} (p : A → Bool) (xs : List A) → position (fails p) xs ≡ None → list_all p xs ≡ true
-all_pass p [] e = refl
-all_pass p (x ∷ xs) e = all_pass_by p x xs (p x) refl e (all_pass p xs)
-
--- where no dependency is refused, the ends of each are known
-pub ends_known : (p : Part) (names : List (List ℕ)) (ds : List DependencyDraft) → known_ends p names ds ≡ Ok tt → list_all (has_known_ends names) ds ≡ true
-ends_known p names ds e = all_pass (has_known_ends names) ds (refused_nowhere (λ i. errors.UnknownMaster (item_of_part p i)) _ e)
+-- ---- what was listed, or memory
 
 -- a value that is made of what is defined, unless memory ran out
 gives_or_memory : {X Y : Type 0} (view : X → Y) (result : Result X LoadError) (expected : Result Y LoadError) (value : Y)
