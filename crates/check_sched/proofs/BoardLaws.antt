@@ -169,8 +169,8 @@ opened_read setup start room history object h there =
 -- A book's board has at most 4,096 words.
 pub few_words : (book : Book) → length (book_board (state_of book)) ≤ 4096
 few_words book =
-    let setup = book.sched.value.setup in
-    let words = ap (λ s. length (book_board s)) book.replayed ∙ opened_words setup book.sched.value.start book.room book.entries.items in
+    let setup = book.log.value.sched.setup in
+    let words = ap (λ s. length (book_board s)) book.replayed ∙ opened_words setup book.log.value.sched.start book.log.value.room book.log.value.entries.items in
     let count = count_is setup in
     let few = book.valid_setup.few in
     omega (arith, words, count, few)

@@ -8,6 +8,7 @@ pub mod Report
 pub mod Step
 pub mod Sched
 pub mod BookState
+pub mod Logs
 pub mod Books
 pub mod Runs
 pub mod Results

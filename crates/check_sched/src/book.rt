@@ -3,7 +3,8 @@
 ghost use Rattle.std.specs.Prelude.{◌≡◌, ◌+◌, ◌^◌, ◌<◌, ◌≤◌, [], ◌∷◌, ◌++◌, length};
 ghost use Rattle.std.specs.Prelude.{IfOk, IfErr, OnOk, OnErr, vec_capacity, vec_len};
 ghost use Rattle.check_objects.specs.Configuration.{IsSetup};
-ghost use Rattle.check_sched.specs.BookState.{BookState, book_opening, book_step};
+ghost use Rattle.check_sched.specs.BookState.{BookState, book_step};
+ghost use Rattle.check_sched.specs.Logs.{log_opening, log_state};
 ghost use Rattle.check_sched.specs.Board.{book_board, book_place};
 ghost use Rattle.check_sched.specs.BoardLaws.{board_within, board_unposted, board_posted};
 ghost use Rattle.check_sched.specs.SetupLaws.{IsSetup-prop};
@@ -30,17 +31,23 @@ mod tests;
 /// whose entry there is no memory isn't made, but counted.
 #[derive(Drop)]
 pub struct Book {
-    /// Behind a box, so that a book that is handed over moves a pointer in its place.
-    sched: Box<Sched>,
-    entries: Vec<Entry<Call, Reply>>,
-    refused: u64,
-    room: usize,
-    ghost reserved: { room ≤ vec_capacity entries },
-    ghost valid_setup: { IsSetup sched.value.setup } by { IsSetup-prop sched.value.setup },
-    ghost legal: { IsLegal book_step (book_opening sched.value.setup sched.value.start room) entries.items } by { IsLegal-prop book_step (λ a b. Prim.hlevel props)
-        (book_opening sched.value.setup sched.value.start room) entries.items },
-    ghost replayed: { record { sched = sched.value; room = room }
-        ≡ replay book_step (book_opening sched.value.setup sched.value.start room) entries.items },
+    /// Behind a box, so that a book that is handed over moves a pointer.
+    log: Box<Log>,
+    ghost reserved: { log.value.room ≤ vec_capacity log.value.entries },
+    ghost valid_setup: { IsSetup log.value.sched.setup } by { IsSetup-prop log.value.sched.setup },
+    ghost legal: { IsLegal book_step (log_opening log.value) log.value.entries.items } by { IsLegal-prop book_step (λ a b. Prim.hlevel props)
+        (log_opening log.value) log.value.entries.items },
+    ghost replayed: { log_state log.value
+        ≡ replay book_step (log_opening log.value) log.value.entries.items },
+}
+
+/// What a book keeps: the scheduler, and the calls that led to its state.
+#[derive(Drop)]
+pub(crate) struct Log {
+    pub(crate) sched: Sched,
+    pub(crate) entries: Vec<Entry<Call, Reply>>,
+    pub(crate) refused: u64,
+    pub(crate) room: usize,
 }
 
 impl Book {
@@ -62,30 +69,30 @@ impl Book {
             return Err(setup);
         };
         let sched = Sched::new(alloc, setup, start)?;
-        let sched = match Box::new(alloc, sched) {
-            Ok(sched) => sched,
-            Err(refused) => return Err(refused.value.into_setup()),
-        };
-        Ok(Book {
+        let log = Log {
             sched,
             entries,
             refused: 0,
             room,
-        })
+        };
+        match Box::new(alloc, log) {
+            Ok(log) => Ok(Book { log }),
+            Err(refused) => Err(refused.value.sched.into_setup()),
+        }
     }
 
     /// The scheduler, in the state that the entries' calls leave.
     pub fn sched(&self) -> &Sched
         ensures { result.now ≡ sched_of self.now }
     {
-        &self.sched
+        &self.log.sched
     }
 
     /// For how many entries there was room from the start.
     pub fn room(&self) -> usize
         ensures { result ≡ room_of self.now }
     {
-        self.room
+        self.log.room
     }
 }
 
@@ -140,39 +147,40 @@ impl Kept for Book {
         ensures full { OnErr result (room_of self.old ≤ length (entries_of self.old)) }
         ensures used_up { OnErr result (capacity_of self.old ≤ length (entries_of self.old)) }
     {
-        if grow(&mut self.entries, self.room).is_err() {
-            self.refused += 1;
+        let log = &mut *self.log;
+        if grow(&mut log.entries, log.room).is_err() {
+            log.refused += 1;
             return Err(NoMemory);
         }
-        let reply = self.sched.apply(call);
-        self.entries.push_reserved(Entry { pass, call, reply });
+        let reply = log.sched.apply(call);
+        log.entries.push_reserved(Entry { pass, call, reply });
         Ok(reply)
     }
 
     fn entries(&self) -> &[Entry<Call, Reply>] {
-        self.entries.as_slice()
+        self.log.entries.as_slice()
     }
 
     fn refused(&self) -> u64 {
-        self.refused
+        self.log.refused
     }
 
     /// The number of the setup's objects, at most 4,096.
     fn words(&self) -> u32 {
-        self.sched.words()
+        self.log.sched.words()
     }
 
     /// The [`code`](check_rules::code) of the standing of the object with this number, which
     /// [`decode`](check_rules::decode) reads: see
     /// [`board_shows_standings`](crate::laws::board_shows_standings).
     fn word(&self, place: u32) -> u64 {
-        self.sched.word(place)
+        self.log.sched.word(place)
     }
 
     /// The object's number for a report of the run under which the object is being checked. No other
     /// call is posted: neither a report that will be refused, nor what changes no standing.
     fn posts(&self, call: Call) -> Option<u32> {
-        self.sched.place_of(call)
+        self.log.sched.place_of(call)
     }
 }
 

@@ -1,15 +1,22 @@
-use Rattle.std.proofs.Common.{ap, arith, subst, sym, ◌∙◌}
+use Rattle.std.proofs.Common.{◌≡◌, ◌≤◌, ap, arith, subst, sym}
+use Rattle.std.specs.Prelude.{vec_capacity}
 use Rattle.check_objects.specs.Configuration.{IsSetup}
+use Rattle.ticket_steps.specs.History.{replay, IsLegal}
+use Rattle.check_sched.specs.declared.book.Log.{Log}
+use Rattle.check_sched.specs.BookState.{book_step}
+use Rattle.check_sched.specs.Logs.{log_opening, log_state}
 use Rattle.check_sched.specs.State.{State}
 use Rattle.check_sched.proofs.BookLemmas.{book_opened}
 use Rattle.check_sched.proofs.book.Book.open.Goals as goal
 
 pub invariant_of-result : goal.invariant_of-result
 invariant_of-result c =
-    let s = c.in-Ok-new.sched.value in
+    let boxed = sym c.in-Ok-new.ensures.ok in
+    let made = c.in_ok-sched.ensures in
+    let opened = book_opened c.in_ok-sched.sched c.args.setup c.args.start c.args.room made.ok in
     record {
-      reserved = omega (arith, c.in-Ok.ensures.capacity);
-      valid_setup = subst IsSetup (sym (ap (λ (z : State). z.setup) (c.in-Ok-new.ensures.ok ∙ c.in_ok-sched.ensures.ok))) c.in_ok-sched.ensures.valid_setup;
-      legal = rw c.in-Ok.ensures.items tt;
-      replayed = rw c.in-Ok.ensures.items (book_opened s c.args.setup c.args.start c.args.room (c.in-Ok-new.ensures.ok ∙ c.in_ok-sched.ensures.ok));
+      reserved = subst (λ (l : Log). l.room ≤ vec_capacity l.entries) boxed (omega (arith, c.in-Ok.ensures.capacity));
+      valid_setup = subst (λ (l : Log). IsSetup l.sched.setup) boxed (subst IsSetup (sym (ap (λ (z : State). z.setup) made.ok)) made.valid_setup);
+      legal = subst (λ (l : Log). IsLegal book_step (log_opening l) l.entries.items) boxed (rw c.in-Ok.ensures.items tt);
+      replayed = subst (λ (l : Log). log_state l ≡ replay book_step (log_opening l) l.entries.items) boxed (rw c.in-Ok.ensures.items opened);
     }

@@ -1,28 +1,30 @@
-use Rattle.std.proofs.Common.{◌≡◌, ◌∷◌, ◌++◌, [], ap, sym, subst, ◌∙◌, arith}
+use Rattle.std.proofs.Common.{◌≡◌, ◌≤◌, ◌∷◌, ◌++◌, [], ap, sym, subst, ◌∙◌, arith}
+use Rattle.std.specs.Prelude.{vec_capacity}
 use Rattle.check_objects.specs.Configuration.{IsSetup}
-use Rattle.ticket_steps.specs.History.{entry}
-use Rattle.check_sched.specs.State.{State}
-use Rattle.check_sched.specs.Step.{step}
+use Rattle.ticket_steps.specs.History.{entry, replay, IsLegal}
+use Rattle.check_sched.specs.BookState.{book_step}
+use Rattle.check_sched.specs.Logs.{log_opening, log_state}
+use Rattle.check_sched.specs.declared.book.Log.{Log}
 use Rattle.check_sched.proofs.BookLemmas.{book_legal, book_replayed}
 use Rattle.check_sched.proofs.book.BookKept.record.Goals as goal
 
 pub invariant_of-self-2 : goal.invariant_of-self-2
 invariant_of-self-2 c =
     let b = c.args.self.now in
-    let boxed = c.deref_mut.ensures.value in
-    let state = c.apply-reply.ensures.state ∙ ap (λ s. (step s c.args.call).0) boxed in
-    let reply = c.apply-reply.ensures.reply ∙ ap (λ s. (step s c.args.call).1) boxed in
-    let setup = c.apply-reply.ensures.setup ∙ ap (λ (s : State). s.setup) boxed in
-    let start = c.apply-reply.ensures.start ∙ ap (λ (s : State). s.start) boxed in
-    let more : c.push_reserved.new.self.items ≡ b.entries.items ++ entry c.args.pass c.args.call c.apply-reply.result
-    ∷ [] = c.push_reserved.ensures.items ∙ ap (λ es. es ++ entry c.args.pass c.args.call c.apply-reply.result ∷ []) c.grow.ensures.same in
+    let log = c.deref_mut-log.result.now in
+    let boxed : log ≡ b.log.value = c.deref_mut-log.ensures.value in
+    let was_legal = subst (λ (l : Log). IsLegal book_step (log_opening l) l.entries.items) (sym boxed) b.legal in
+    let was_replayed = subst (λ (l : Log). log_state l ≡ replay book_step (log_opening l) l.entries.items) (sym boxed) b.replayed in
+    let was_reserved = subst (λ (l : Log). l.room ≤ vec_capacity l.entries) (sym boxed) b.reserved in
+    let more = c.push_reserved.ensures.items ∙ ap (λ es. es ++ entry c.args.pass c.args.call c.apply-reply.result ∷ []) c.grow.ensures.same in
+    let made = c.apply-reply.ensures in
     record {
-      reserved = omega (arith, c.push_reserved.ensures.capacity, c.grow.ensures.capacity, b.reserved);
-      valid_setup = subst IsSetup (sym setup) b.valid_setup;
+      reserved = omega (arith, c.push_reserved.ensures.capacity, c.grow.ensures.capacity, was_reserved);
+      valid_setup = subst IsSetup (sym (made.setup ∙ ap (λ (l : Log). l.sched.setup) boxed)) b.valid_setup;
       legal =
-          book_legal b.sched.value c.apply-reply.new.self b.room c.args.pass c.args.call c.apply-reply.result b.entries.items
-          c.push_reserved.new.self.items state reply setup start more b.replayed b.legal;
+          book_legal log.sched c.apply-reply.new.self log.room c.args.pass c.args.call c.apply-reply.result log.entries.items
+          c.push_reserved.new.self.items made.state made.reply made.setup made.start more was_replayed was_legal;
       replayed =
-          book_replayed b.sched.value c.apply-reply.new.self b.room c.args.pass c.args.call c.apply-reply.result b.entries.items
-          c.push_reserved.new.self.items state reply setup start more b.replayed;
+          book_replayed log.sched c.apply-reply.new.self log.room c.args.pass c.args.call c.apply-reply.result log.entries.items
+          c.push_reserved.new.self.items made.state made.reply made.setup made.start more was_replayed;
     }

@@ -1,0 +1,11 @@
+-- What the log behind a book tells.
+use Rattle.check_sched.specs.declared.book.Log.{Log}
+use Rattle.check_sched.specs.BookState.{BookState, book_opening}
+
+-- the state that it began with
+abbrev pub log_opening : Log → BookState
+log_opening log = book_opening log.sched.setup log.sched.start log.room
+
+-- its present state
+abbrev pub log_state : Log → BookState
+log_state log = record { sched = log.sched; room = log.room }
