@@ -2,6 +2,7 @@
 # Times the workers of `nagsched drill`, and prints one table. Run by hand; no part of the gate.
 #   bench/drill.sh [REPEATS]     the best of so many runs is told, 3 where no number is given
 #   BEFORE=PROGRAM bench/drill.sh [REPEATS]     beside drills on 4 and on 16 hosts another build's, run by turns with ours
+# At the end drills on 16 hosts keep to two cores, so that waiting workers stand in the way of the one whose turn it is.
 # 4,096 hosts are taken and reported 500,000 times: a million asks, which fill the largest room. So many
 # moments are made here that 1, 2 and 4 workers share the takes equally, each taking once at each moment.
 # Moments are 5 minutes apart, the hosts' check interval, so that each host which doesn't run is due,
@@ -99,11 +100,14 @@ for workers in 1 2 4; do
     tell "drill, $workers" $((takes + found)) "$ms" "$found"
 done
 
+# The words before a program that keep it to some cores: none for all.
+on_cores=()
+
 # The least time in milliseconds in which a program drills on the moments so far, or 0 where there is no program.
 least_after() {
     local least=$1 program=$2 workers=$3 repeats=1 ms
     [[ -n $program ]] || { echo 0; return; }
-    ms=$(best "$work/moments" "$program" drill --workers "$workers" --room 1000000 --start 0)
+    ms=$(best "$work/moments" ${on_cores[@]+"${on_cores[@]}"} "$program" drill --workers "$workers" --room 1000000 --start 0)
     echo $((ms < least ? ms : least))
 }
 
@@ -111,8 +115,8 @@ least_after() {
 # microseconds of one.
 on_few() {
     hosts=$1
-    printf '\n%-16s %14s %12s %14s %8s\n' "$hosts hosts" 'calls a second' microseconds before ratio
-    for workers in 1 2 4 16; do
+    printf '\n%-16s %14s %12s %14s %8s\n' "$hosts hosts$2" 'calls a second' microseconds before ratio
+    for workers in 1 2 4 16 64; do
         moments $((takes / workers)) > "$work/moments"
         ms=999999999 before_ms=999999999
         for _ in $(seq "$repeats"); do
@@ -127,5 +131,9 @@ on_few() {
     done
 }
 
-on_few 4
-on_few 16
+on_few 4 ''
+on_few 16 ''
+if command -v taskset > /dev/null; then
+    on_cores=(taskset -c 0,1)
+    on_few 16 ', 2 cores'
+fi

@@ -1,18 +1,17 @@
 -- What the tests say of drafts that passed them: few objects, names, links to what is there, no key twice.
-use Rattle.std.proofs.Common.{◌≡◌, ℕ, suc, ◌+◌, ◌≤◌, ◌&&◌, ◌||◌, not, Bool, true, false, cond, List, [], ◌∷◌, map, length, Option, Some}
+use Rattle.std.proofs.Common.{◌≡◌, ℕ, ◌+◌, ◌≤◌, ◌||◌, not, Bool, true, false, cond, List, [], map, length, Option, Some}
 use Rattle.std.proofs.Common.{None, bytes_eq, refl, sym, ap, ◌∙◌, Result, Ok, Err, arith}
 use Rattle.std.specs.Prelude.{nat_lt}
-use Rattle.std.specs.List.{list_all, position, prefix_len}
+use Rattle.std.specs.List.{list_all}
 use Rattle.std.proofs.lemmas.Bool.Decides.{nat_tests}
-use Rattle.check_drafts.specs.declared.place.Part.{Part}
 use Rattle.check_drafts.specs.declared.place.Part.TheVariants as part
 use Rattle.check_drafts.specs.declared.error.LoadError.{LoadError}
 use Rattle.check_drafts.specs.declared.error.LoadError.TheVariants as errors
-use Rattle.check_drafts.specs.Draft.{Drafts, DependencyDraft}
+use Rattle.check_drafts.specs.Draft.{Drafts}
 use Rattle.check_drafts.specs.Agreement.{◌>>=◌}
 use Rattle.check_drafts.specs.LoadError.{refused_at}
 use Rattle.check_drafts.specs.Name.{is_name}
-use Rattle.check_drafts.specs.Place.{host_at, service_at, item_of_part}
+use Rattle.check_drafts.specs.Place.{host_at, service_at}
 use Rattle.check_drafts.specs.Ends.{full_names, is_known, known_dependencies, known_ends}
 use Rattle.check_drafts.proofs.RefusalLemmas.{all_by_position, ends_known, have_known_ends, nowhere}
 use Rattle.check_documents.specs.Verification.{is_faultless, few_items, few_dependencies, known_links, few_objects}

@@ -1,5 +1,5 @@
 -- The ends of dependencies by number: each name is looked up among the names of its own sort.
-use Rattle.std.proofs.Common.{◌≡◌, ℕ, ◌+◌, ◌<◌, not, Bool, true, false, cond, List, [], ◌∷◌, ◌++◌, map, drop, length, Option, Some, None}
+use Rattle.std.proofs.Common.{◌≡◌, ℕ, ◌+◌, ◌<◌, Bool, true, false, cond, List, [], ◌∷◌, ◌++◌, map, drop, length, Option, Some, None}
 use Rattle.std.proofs.Common.{option_map, String, Global, string_bytes, bytes_eq, refl, sym, ap, subst, ◌∙◌, Result, Ok, Err, arith}
 use Rattle.std.specs.Prelude.{nat_lt, unwrap_or, IfOk, IsOkUnless}
 use Rattle.std.specs.List.{list_all, position}
@@ -8,16 +8,14 @@ use Rattle.std.proofs.lemmas.List.{length-map, length-append, map-append}
 use Rattle.check_drafts.specs.declared.dependency.Dependency.{Dependency}
 use Rattle.check_drafts.specs.declared.error.LoadError.{LoadError}
 use Rattle.check_drafts.specs.declared.error.LoadError.TheVariants as errors
-use Rattle.check_drafts.specs.declared.place.Part.{Part}
 use Rattle.check_drafts.specs.declared.place.Part.TheVariants as part
 use Rattle.check_drafts.specs.Agreement.{◌>>=◌, Fails}
 use Rattle.check_drafts.specs.Draft.{DependencyDraft, Drafts}
 use Rattle.check_drafts.specs.Ends.{is_known, has_known_ends, known_ends, known_dependencies}
-use Rattle.check_drafts.specs.LoadError.{Gives, refusal, refused_at}
-use Rattle.check_drafts.specs.Place.{item_of_part}
+use Rattle.check_drafts.specs.LoadError.{Gives, refusal}
 use Rattle.check_drafts.proofs.RefusalLemmas.{ends_known}
-use Rattle.check_drafts.proofs.ListLemmas.{position-map, position-front, position-back, one_found, one_missed}
-use Rattle.link_order.proofs.TestLemmas.{and_first, and_second, and_both}
+use Rattle.check_drafts.proofs.ListLemmas.{position-map, position-back, one_missed}
+use Rattle.link_order.proofs.TestLemmas.{and_first, and_second}
 use Rattle.check_numbers.specs.declared.numbering.Host.{Host}
 use Rattle.check_numbers.specs.declared.numbering.Service.{Service}
 use Rattle.check_numbers.specs.Configuration.{Named, named_host, named_service, number_among}

@@ -43,11 +43,11 @@ pub struct Book {
 
 /// What a book keeps: the scheduler, and the calls that led to its state.
 #[derive(Drop)]
-pub(crate) struct Log {
-    pub(crate) sched: Sched,
-    pub(crate) entries: Vec<Entry<Call, Reply>>,
-    pub(crate) refused: u64,
-    pub(crate) room: usize,
+struct Log {
+    sched: Sched,
+    entries: Vec<Entry<Call, Reply>>,
+    refused: u64,
+    room: usize,
 }
 
 impl Book {
