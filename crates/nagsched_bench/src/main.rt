@@ -18,13 +18,15 @@
 //! | `inherit` | as `depend`, where these dependencies inherit, and the first service depends on the second |
 //! | `lines` | as `cycle`, and the replies are written as lines of text |
 //! | `ask` | the calls of `cycle`, by the only pass of a desk |
+//! | `ask1`, `ask2`, `ask4`, `ask16`, `ask64` | a take at a desk of n objects and its report, divided among 1, 2, 4, 16 or 64 threads; the line tells their calls in place of the cycles, and the slowest thread's time |
 //! | `glance` | glances at one of n objects of a desk |
 //! | `glance1`, `glance2`, `glance4` | the same by 1, 2 or 4 threads, each so many times, while another thread reports; the time is the slowest thread's |
 //!
-//! `queue_work` has the workloads of the queue, `sched_work` those of the scheduler, `ask_work` that of
-//! the desk, `glance_work` those of the desk's board, `random` the numbers.
+//! `queue_work` has the workloads of the queue, `sched_work` those of the scheduler, `ask_work` and
+//! `crowd_work` those of the desk, `glance_work` those of its board, `random` the numbers.
 
 mod ask_work;
+mod crowd_work;
 mod glance_work;
 mod made;
 mod queue_work;
@@ -32,6 +34,7 @@ mod random;
 mod sched_work;
 
 use ask_work::asks;
+use crowd_work::asks_of_a_crowd;
 use glance_work::glances;
 use made::{Made, nanos_since};
 use queue_work::{QueueWork, QueueWorkload};
@@ -55,6 +58,8 @@ enum Workload {
     Lines,
     /// One pass asks.
     Desk,
+    /// So many threads ask.
+    Crowd(u32),
     /// So many threads glance while another reports; with 0 the only one glances.
     Board(u32),
 }
@@ -96,6 +101,7 @@ fn work_on<R: Threads + Wait + Clock + Sync>(
         Workload::Scheduler(masters) => scheduler_cycles(rt, alloc, masters, job),
         Workload::Lines => line_cycles(rt, alloc, job),
         Workload::Desk => Some((asks(rt, alloc, job.numbers, job.cycles)?, job.cycles)),
+        Workload::Crowd(threads) => { asks_of_a_crowd(rt, alloc, threads, job.numbers, job.cycles) }
         Workload::Board(threads) => {
             let made = glances(rt, alloc, threads, job.numbers, job.cycles)?;
             Some((made, job.cycles))
@@ -148,6 +154,11 @@ fn workload_of(word: &str) -> Option<Workload> {
         "inherit" => Some(Workload::Scheduler(Masters::FirstAndItsMasters)),
         "lines" => Some(Workload::Lines),
         "ask" => Some(Workload::Desk),
+        "ask1" => Some(Workload::Crowd(1)),
+        "ask2" => Some(Workload::Crowd(2)),
+        "ask4" => Some(Workload::Crowd(4)),
+        "ask16" => Some(Workload::Crowd(16)),
+        "ask64" => Some(Workload::Crowd(64)),
         "glance" => Some(Workload::Board(0)),
         "glance1" => Some(Workload::Board(1)),
         "glance2" => Some(Workload::Board(2)),

@@ -10,7 +10,7 @@ use check_text::push_reply;
 use std::alloc::{AllocError, Global};
 
 /// The time between two checks of an object, in milliseconds.
-const INTERVAL: u64 = 300_000;
+pub(crate) const INTERVAL: u64 = 300_000;
 
 /// What the services of a setup depend on. No dependency holds a check back, since all are OK.
 #[derive(Clone, Copy)]
