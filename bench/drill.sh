@@ -1,7 +1,7 @@
 #!/usr/bin/env bash
 # Times the workers of `nagsched drill`, and prints one table. Run by hand; no part of the gate.
 #   bench/drill.sh [REPEATS]     the best of so many runs is told, 3 where no number is given
-#   BEFORE=PROGRAM bench/drill.sh [REPEATS]     beside drills on 4 and on 16 hosts another build's, run by turns with ours
+#   BEFORE=PROGRAM bench/drill.sh [REPEATS]     beside drills on 4, 16 and 4,096 hosts another build's, run by turns with ours
 # At the end drills on 16 hosts keep to two cores, so that waiting workers stand in the way of the one whose turn it is.
 # 4,096 hosts are taken and reported 500,000 times: a million asks, which fill the largest room. So many
 # moments are made here that 1, 2 and 4 workers share the takes equally, each taking once at each moment.
@@ -111,9 +111,9 @@ least_after() {
     echo $((ms < least ? ms : least))
 }
 
-# Drills on so few hosts that callers wait for each other: calls a second, also those that find nothing due, and the
-# microseconds of one.
-on_few() {
+# Drills with up to 64 workers, who on few hosts wait for each other: calls a second, also those that find nothing due,
+# and the microseconds of one.
+drills() {
     hosts=$1
     printf '\n%-16s %14s %12s %14s %8s\n' "$hosts hosts$2" 'calls a second' microseconds before ratio
     for workers in 1 2 4 16 64; do
@@ -131,9 +131,10 @@ on_few() {
     done
 }
 
-on_few 4 ''
-on_few 16 ''
+drills 4 ''
+drills 16 ''
+drills 4096 ''
 if command -v taskset > /dev/null; then
     on_cores=(taskset -c 0,1)
-    on_few 16 ', 2 cores'
+    drills 16 ', 2 cores'
 fi

@@ -19,8 +19,12 @@ use check_sched::{Book, Call, Reply};
 use crossbeam_utils::Backoff;
 use std::alloc::Global;
 use std::sync::Wait;
+use std::thread::yield_now;
 use ticket_lock::{Look, Seat, TicketLock};
 use ticket_steps::{DRAWS, Kept};
+
+/// How often a waiting call pauses between polls, twice as long each time, before it yields.
+const PAUSES: u32 = 3;
 
 /// A book behind a lock, for up to 1,024 callers in any threads.
 ///
@@ -252,7 +256,8 @@ impl Desk {
         }
     }
 
-    /// Polls again and again until the turn has come, less and less often.
+    /// Polls again and again until the turn has come. Between the first polls it pauses, each time longer;
+    /// between all others it yields, so that a caller ahead that has no processor gets one.
     fn wait(&self, rt: &impl Wait, turn: Turn) -> Hold
         requires { IsWaitingAt self.now turn }
         ensures desk { IsHolderAt self.now result }
@@ -262,13 +267,19 @@ impl Desk {
             ≡ having_seen (holder_of result).seen (waiting_of turn) }
     {
         let backoff = Backoff::new();
+        let mut pauses = 0u32;
         let mut turn = turn;
         for _ in rt.forever() {
             turn = match self.poll(turn) {
                 Poll::Mine(hold) => return hold,
                 Poll::NotYet(turn) => turn,
             };
-            backoff.snooze();
+            if pauses < PAUSES {
+                backoff.spin();
+                pauses += 1;
+            } else {
+                yield_now();
+            }
         }
         unreachable!()
     }

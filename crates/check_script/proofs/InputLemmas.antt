@@ -1,6 +1,6 @@
 -- Reads one after another, and the first line of an input.
-use Rattle.std.proofs.Common.{◌≡◌, ℕ, suc, ◌+◌, ◌-◌, min, ◌==◌, Bool, true, false, not, cond, length, List, [], ◌∷◌, ◌++◌, take, drop, Option, None, Some}
-use Rattle.std.proofs.Common.{refl, sym, ◌∙◌, ap, append_assoc, arith, ◌≤◌, get_or}
+use Rattle.std.proofs.Common.{◌≡◌, ℕ, suc, ◌+◌, ◌-◌, min, ◌==◌, Bool, true, false, not, cond, length, List, [], ◌∷◌, take, drop, Option, None, Some}
+use Rattle.std.proofs.Common.{refl, sym, ◌∙◌, ap, arith, ◌≤◌, get_or}
 use Rattle.std.specs.List.{position_or_len, position}
 use Rattle.std.proofs.lemmas.Bool.Decides.{nat_tests}
 use Rattle.std.proofs.lemmas.List.{take_rest, take_all, drop_min}

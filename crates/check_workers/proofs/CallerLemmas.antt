@@ -7,7 +7,7 @@ use Rattle.ticket_steps.proofs.Ofs.{of-append}
 use Rattle.ticket_lock.specs.Callers.{Caller}
 use Rattle.check_sched.specs.declared.call.Call.{Call}
 use Rattle.check_sched.specs.declared.call.Reply.{Reply}
-use Rattle.check_desk.specs.Desks.{HasNoMemory, HasRecorded}
+use Rattle.check_desk.specs.Desks.{HasRecorded}
 use Rattle.check_workers.specs.Shifts.{HasMade}
 
 -- ---- beginnings of histories

@@ -23,7 +23,7 @@ const TAKE: Call = Call::Take { now: 0 };
 const FIRST_TAKEN: Answer = Answer::Reply(Reply::Taken { object: 1, run: 1 });
 
 /// Records calls past the room, each again where it was refused.
-pub fn record(alloc: Global) -> Result<Outcome, Wrong> {
+pub(crate) fn record(alloc: Global) -> Result<Outcome, Wrong> {
     let mut book = book_of(alloc, ONE_SERVICE, 0)?;
     let mut outcome = Outcome::Answered;
     for made in 0..CALLS {
@@ -69,7 +69,7 @@ fn is_unchecked(reply: Reply) -> bool {
 }
 
 /// A desk without room, and its one pass.
-pub fn desk_of(alloc: Global, room: usize) -> Result<(Desk, Pass), Wrong>
+pub(crate) fn desk_of(alloc: Global, room: usize) -> Result<(Desk, Pass), Wrong>
     ensures { IfOk result (λ made. IsPassOf made.0 made.1) }
 {
     let (desk, mut passes) = match Desk::open(alloc, book_of(alloc, ONE_SERVICE, room)?, 1) {
@@ -83,7 +83,7 @@ pub fn desk_of(alloc: Global, room: usize) -> Result<(Desk, Pass), Wrong>
 }
 
 /// Finishes a turn with a take past the room, and makes it again where it was refused.
-pub fn finish(rt: &impl Wait, alloc: Global) -> Result<Outcome, Wrong> {
+pub(crate) fn finish(rt: &impl Wait, alloc: Global) -> Result<Outcome, Wrong> {
     let (desk, pass) = desk_of(alloc, 0)?;
     let (pass, answer) = finish_once(rt, &desk, pass)?;
     if answer != Answer::NoMemory {
@@ -123,7 +123,7 @@ fn wait(rt: &impl Wait, desk: &Desk, turn: Turn) -> Hold
 }
 
 /// Asks for a take past the room, and again where it was refused.
-pub fn ask(rt: &impl Wait, alloc: Global) -> Result<Outcome, Wrong> {
+pub(crate) fn ask(rt: &impl Wait, alloc: Global) -> Result<Outcome, Wrong> {
     let (desk, pass) = desk_of(alloc, 0)?;
     let (pass, answer) = desk.ask(rt, pass, TAKE);
     if answer != Answer::NoMemory {

@@ -30,7 +30,7 @@ impl Plugin for AlwaysOk {
 }
 
 /// One worker without room, and another where it was stopped.
-pub fn work_one(rt: &(impl Wait + Sync), alloc: Global) -> Result<Outcome, Wrong> {
+pub(crate) fn work_one(rt: &(impl Wait + Sync), alloc: Global) -> Result<Outcome, Wrong> {
     match work_once(rt, alloc)? {
         Outcome::Answered => Ok(Outcome::Answered),
         Outcome::Refused => match work_once(rt, alloc)? {
@@ -74,7 +74,7 @@ fn outcome_of(book: &Book, tally: &Tally, workers: u64) -> Result<Outcome, Wrong
 }
 
 /// A crew of two over two services with so much room, and another where it was refused memory.
-pub fn crew_of_two<R: Threads + Wait + Sync>(
+pub(crate) fn crew_of_two<R: Threads + Wait + Sync>(
     rt: &R,
     alloc: Global,
     room: usize,

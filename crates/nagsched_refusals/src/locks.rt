@@ -17,7 +17,7 @@ use ticket_lock::{Seat, TicketLock};
 use ticket_steps::Core;
 
 /// Makes a core of two numbers over a book.
-pub fn open_core(alloc: Global) -> Result<Outcome, Wrong> {
+pub(crate) fn open_core(alloc: Global) -> Result<Outcome, Wrong> {
     // for the proof: a book's board has few words
     board_shows_standings();
     match Core::open(alloc, book_of(alloc, ONE_SERVICE, 4)?, 2) {
@@ -27,7 +27,7 @@ pub fn open_core(alloc: Global) -> Result<Outcome, Wrong> {
 }
 
 /// The same with three draws for each number.
-pub fn open_core_with_draws(alloc: Global) -> Result<Outcome, Wrong> {
+pub(crate) fn open_core_with_draws(alloc: Global) -> Result<Outcome, Wrong> {
     // for the proof: a book's board has few words
     board_shows_standings();
     match Core::open_with(alloc, book_of(alloc, ONE_SERVICE, 4)?, 2, 3) {
@@ -48,7 +48,7 @@ fn open_core_again(alloc: Global, back: Book) -> Result<Outcome, Wrong>
 }
 
 /// Makes a lock of two numbers over a book, and closes it.
-pub fn open_lock(alloc: Global) -> Result<Outcome, Wrong> {
+pub(crate) fn open_lock(alloc: Global) -> Result<Outcome, Wrong> {
     // for the proof: a book's board has few words
     board_shows_standings();
     match TicketLock::open(alloc, book_of(alloc, ONE_SERVICE, 4)?, 2) {
@@ -58,7 +58,7 @@ pub fn open_lock(alloc: Global) -> Result<Outcome, Wrong> {
 }
 
 /// The same with three draws for each number.
-pub fn open_lock_with_draws(alloc: Global) -> Result<Outcome, Wrong> {
+pub(crate) fn open_lock_with_draws(alloc: Global) -> Result<Outcome, Wrong> {
     // for the proof: a book's board has few words
     board_shows_standings();
     match TicketLock::open_with(alloc, book_of(alloc, ONE_SERVICE, 4)?, 2, 3) {
@@ -94,7 +94,7 @@ fn close_lock(
 }
 
 /// Makes a desk with one pass over a book, and closes it.
-pub fn open_desk(alloc: Global) -> Result<Outcome, Wrong> {
+pub(crate) fn open_desk(alloc: Global) -> Result<Outcome, Wrong> {
     match Desk::open(alloc, book_of(alloc, ONE_SERVICE, 4)?, 1) {
         Ok((desk, passes)) => close_desk(alloc, desk, passes, Outcome::Answered),
         Err(back) => open_desk_again(alloc, back),
@@ -102,7 +102,7 @@ pub fn open_desk(alloc: Global) -> Result<Outcome, Wrong> {
 }
 
 /// The same with a pass of three calls.
-pub fn open_desk_with_calls(alloc: Global) -> Result<Outcome, Wrong> {
+pub(crate) fn open_desk_with_calls(alloc: Global) -> Result<Outcome, Wrong> {
     match Desk::open_with(alloc, book_of(alloc, ONE_SERVICE, 4)?, 1, 3) {
         Ok((desk, passes)) => close_desk(alloc, desk, passes, Outcome::Answered),
         Err(back) => open_desk_again(alloc, back),

@@ -13,7 +13,11 @@ use ticket_steps::Kept;
 use ticket_steps::counter::CounterBook;
 
 /// Finds the first times of the objects of a setup.
-pub fn find_times(alloc: Global, text: &[u8], expected: &[Option<u64>]) -> Result<Outcome, Wrong> {
+pub(crate) fn find_times(
+    alloc: Global,
+    text: &[u8],
+    expected: &[Option<u64>],
+) -> Result<Outcome, Wrong> {
     let setup = setup_of(alloc, text)?;
     let (times, outcome) = match initial_times(alloc, &setup, 0) {
         Ok(times) => (times, Outcome::Answered),
@@ -23,7 +27,7 @@ pub fn find_times(alloc: Global, text: &[u8], expected: &[Option<u64>]) -> Resul
 }
 
 /// Makes a scheduler.
-pub fn open_sched(alloc: Global, text: &[u8]) -> Result<Outcome, Wrong> {
+pub(crate) fn open_sched(alloc: Global, text: &[u8]) -> Result<Outcome, Wrong> {
     match Sched::new(alloc, setup_of(alloc, text)?, 0) {
         Ok(sched) => where_opening(alloc, &sched, text, Outcome::Answered),
         Err(back) => open_sched_again(alloc, back, text),
@@ -49,7 +53,7 @@ fn where_opening(
 }
 
 /// Whether service 1 is due at 0, was never checked and doesn't run.
-pub fn is_at_opening(sched: &Sched) -> bool {
+pub(crate) fn is_at_opening(sched: &Sched) -> bool {
     sched.setup().len() > 1
         && sched.next_of(1) == Some(0)
         && sched.running(1).is_none()
@@ -57,7 +61,7 @@ pub fn is_at_opening(sched: &Sched) -> bool {
 }
 
 /// Makes a counter book with room.
-pub fn open_counter(alloc: Global) -> Result<Outcome, Wrong> {
+pub(crate) fn open_counter(alloc: Global) -> Result<Outcome, Wrong> {
     let (book, outcome) = match CounterBook::open(alloc, 4) {
         Ok(book) => (book, Outcome::Answered),
         Err(_refused) => (second(CounterBook::open(alloc, 4))?, Outcome::Refused),
@@ -66,7 +70,7 @@ pub fn open_counter(alloc: Global) -> Result<Outcome, Wrong> {
 }
 
 /// Asks for a counter book with more room than there can be, and then for one with some.
-pub fn open_counter_of_any_room(alloc: Global) -> Result<Outcome, Wrong> {
+pub(crate) fn open_counter_of_any_room(alloc: Global) -> Result<Outcome, Wrong> {
     match CounterBook::open(alloc, usize::MAX) {
         Ok(_book) => Err(Wrong),
         Err(_refused) => {
@@ -77,12 +81,12 @@ pub fn open_counter_of_any_room(alloc: Global) -> Result<Outcome, Wrong> {
 }
 
 /// Makes a book.
-pub fn open_book(alloc: Global, text: &[u8]) -> Result<Outcome, Wrong> {
+pub(crate) fn open_book(alloc: Global, text: &[u8]) -> Result<Outcome, Wrong> {
     open_book_on(alloc, setup_of(alloc, text)?, text)
 }
 
 /// Asks for a book with more room than there can be, and then for one with some.
-pub fn open_book_of_any_room(alloc: Global) -> Result<Outcome, Wrong> {
+pub(crate) fn open_book_of_any_room(alloc: Global) -> Result<Outcome, Wrong> {
     match Book::open(alloc, setup_of(alloc, ONE_SERVICE)?, 0, usize::MAX) {
         Ok(_book) => Err(Wrong),
         Err(back) => {
@@ -109,7 +113,7 @@ fn open_book_again(alloc: Global, back: Setup, text: &[u8]) -> Result<Outcome, W
 }
 
 /// The outcome, where a book with room for 4 entries is as it is made on the setup of this text.
-pub fn where_new(
+pub(crate) fn where_new(
     alloc: Global,
     book: &Book,
     text: &[u8],
@@ -125,7 +129,7 @@ fn is_empty(book: &Book) -> bool {
 }
 
 /// An empty book with so much room, at the second try where the first runs out of memory.
-pub fn book_of(alloc: Global, text: &[u8], room: usize) -> Result<Book, Wrong>
+pub(crate) fn book_of(alloc: Global, text: &[u8], room: usize) -> Result<Book, Wrong>
     ensures { IfOk result (λ book. (entries_of book ≡ []) × (refused_of book ≡ 0)) }
 {
     match Book::open(alloc, setup_of(alloc, text)?, 0, room) {

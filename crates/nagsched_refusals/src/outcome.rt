@@ -6,7 +6,7 @@ use std::fmt;
 
 /// What a call came to that went as it should.
 #[derive(Clone, Copy, Debug, PartialEq, Eq)]
-pub enum Outcome {
+pub(crate) enum Outcome {
     /// It gave the answer of ample memory.
     Answered,
     /// It was refused memory and said so, left all as it was, and answered at the second try.
@@ -15,7 +15,7 @@ pub enum Outcome {
 
 /// A call went another way: a wrong answer, something lost, or out of memory twice.
 #[derive(Clone, Copy, Debug, PartialEq, Eq)]
-pub struct Wrong;
+pub(crate) struct Wrong;
 
 impl fmt::Display for Outcome {
     fn fmt<W: fmt::Write>(&self, f: &mut fmt::Formatter<W>) -> fmt::Result {
@@ -27,12 +27,12 @@ impl fmt::Display for Outcome {
 }
 
 /// The outcome, where its answer is right.
-pub fn where_right(is_right: bool, outcome: Outcome) -> Result<Outcome, Wrong> {
+pub(crate) fn where_right(is_right: bool, outcome: Outcome) -> Result<Outcome, Wrong> {
     if is_right { Ok(outcome) } else { Err(Wrong) }
 }
 
 /// What the second try of a call gave.
-pub fn second<T, E: Drop>(answer: Result<T, E>) -> Result<T, Wrong>
+pub(crate) fn second<T, E: Drop>(answer: Result<T, E>) -> Result<T, Wrong>
     ensures { IfOk result (λ value. answer ≡ Ok value) }
 {
     match answer {

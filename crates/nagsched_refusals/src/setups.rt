@@ -8,19 +8,19 @@ use check_objects::{LoadError, Setup};
 use std::alloc::Global;
 
 /// A host that is never due, and its service 1, due at 0, with 3 attempts.
-pub const ONE_SERVICE: &[u8] =
+pub(crate) const ONE_SERVICE: &[u8] =
     br#"{"options":{"service_inter_check_delay_method":"n","host_inter_check_delay_method":"n"},"hosts":[{"name":"h","check_interval":0,"max_check_attempts":3}],"services":[{"host":"h","description":"s","max_check_attempts":3}]}"#;
 
 /// The same with the services 1 to 3, of which 2 depends on 1, and 3 on 2 and on what that depends on.
-pub const CHAIN: &[u8] =
+pub(crate) const CHAIN: &[u8] =
     br#"{"options":{"service_inter_check_delay_method":"n","host_inter_check_delay_method":"n"},"hosts":[{"name":"h","check_interval":0,"max_check_attempts":3}],"services":[{"host":"h","description":"a","max_check_attempts":3},{"host":"h","description":"b","max_check_attempts":3},{"host":"h","description":"c","max_check_attempts":3}],"service_dependencies":[{"dependent":"h;b","master":"h;a","criteria":"c"},{"dependent":"h;c","master":"h;b","criteria":"c","inherits_parent":true}]}"#;
 
 /// The same as the first with the services 1 and 2, both due at 0.
-pub const TWO_SERVICES: &[u8] =
+pub(crate) const TWO_SERVICES: &[u8] =
     br#"{"options":{"service_inter_check_delay_method":"n","host_inter_check_delay_method":"n"},"hosts":[{"name":"h","check_interval":0,"max_check_attempts":3}],"services":[{"host":"h","description":"a","max_check_attempts":3},{"host":"h","description":"b","max_check_attempts":3}]}"#;
 
 /// Reads a setup of so many objects.
-pub fn read(alloc: Global, text: &[u8], objects: usize) -> Result<Outcome, Wrong> {
+pub(crate) fn read(alloc: Global, text: &[u8], objects: usize) -> Result<Outcome, Wrong> {
     let (setup, outcome) = match Setup::read(alloc, text) {
         Ok(setup) => (setup, Outcome::Answered),
         Err(LoadError::Memory) => (second(Setup::read(alloc, text))?, Outcome::Refused),
@@ -31,7 +31,7 @@ pub fn read(alloc: Global, text: &[u8], objects: usize) -> Result<Outcome, Wrong
 }
 
 /// The setup of this text, at the second try where the first runs out of memory.
-pub fn setup_of(alloc: Global, text: &[u8]) -> Result<Setup, Wrong> {
+pub(crate) fn setup_of(alloc: Global, text: &[u8]) -> Result<Setup, Wrong> {
     match Setup::read(alloc, text) {
         Ok(setup) => Ok(setup),
         Err(_refused) => second(Setup::read(alloc, text)),
@@ -39,7 +39,7 @@ pub fn setup_of(alloc: Global, text: &[u8]) -> Result<Setup, Wrong> {
 }
 
 /// The outcome, where a setup tells all that the setup of this text does.
-pub fn where_same(
+pub(crate) fn where_same(
     alloc: Global,
     setup: &Setup,
     text: &[u8],

@@ -6,7 +6,7 @@ use check_words::words::{Job, WordsError};
 use std::alloc::Global;
 
 /// Reads the words of a run.
-pub fn read(alloc: Global) -> Result<Outcome, Wrong> {
+pub(crate) fn read(alloc: Global) -> Result<Outcome, Wrong> {
     let words = ["nagsched", "run", "--start", "7"];
     let (asked, outcome) = match job(alloc, &words) {
         Ok(asked) => (asked, Outcome::Answered),

@@ -1,5 +1,5 @@
 -- What a call leaves of the book and its board, whether it was recorded or refused.
-use Rattle.std.proofs.Common.{◌≡◌, ℕ, ◌+◌, ◌<◌, List, [], ◌∷◌, ◌++◌, length, length-set, get_or, set, sym, ap, ◌∙◌, subst, arith, Result, Ok, Err, Some, None, IfOk, OnErr}
+use Rattle.std.proofs.Common.{◌≡◌, ℕ, ◌+◌, [], ◌∷◌, ◌++◌, length, length-set, get_or, set, sym, ap, ◌∙◌, subst, Result, Ok, Err, Some, None, IfOk, OnErr}
 use lib.Seq.{set-get_or}
 use Rattle.ticket_steps.specs.declared.kept.Kept.{Ghosts}
 use Rattle.ticket_steps.specs.declared.kept.NoMemory.{NoMemory}

@@ -1,4 +1,4 @@
-use Rattle.std.proofs.Common.{refl, sym, arith, ◌∙◌}
+use Rattle.std.proofs.Common.{refl, sym, arith}
 use Rattle.ticket_steps.specs.declared.seats.CoreSeat.{CoreSeat}
 use Rattle.ticket_steps.proofs.ScheduleLemmas.{schedule_lawful, schedule_made, schedule_of, schedule_strangers}
 use Rattle.ticket_steps.proofs.SeatLemmas.{alone, posts, unnumbered_calls, unnumbered_posts}

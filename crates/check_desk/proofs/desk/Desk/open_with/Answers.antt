@@ -1,4 +1,4 @@
-use Rattle.std.proofs.Common.{◌≡◌, ◌∙◌, sym, ap}
+use Rattle.std.proofs.Common.{◌∙◌, sym, ap}
 use Rattle.check_objects.specs.Configuration.{object_count}
 use Rattle.check_sched.specs.declared.book.Book.{Book}
 use Rattle.check_sched.specs.Books.{opening_of}
