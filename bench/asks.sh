@@ -23,10 +23,7 @@ one() {
     ${on_cores[@]+"${on_cores[@]}"} "$1" "ask$2" "$3" "$takes" | tr '=' ' ' | awk '{ printf "%.3f\n", $2 / $4 / 1000 }'
 }
 
-# The middle one of the numbers that it reads.
-middle() {
-    sort -n | awk '{ numbers[NR] = $1 } END { print numbers[int((NR + 1) / 2)] }'
-}
+. "$(dirname "$0")/best.sh"
 
 # A row of the table: over so many objects.
 over() {

@@ -13,3 +13,8 @@ best() {
     done
     echo "$least"
 }
+
+# The middle one of the numbers that it reads.
+middle() {
+    sort -n | awk '{ numbers[NR] = $1 } END { print numbers[int((NR + 1) / 2)] }'
+}

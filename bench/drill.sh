@@ -1,6 +1,6 @@
 #!/usr/bin/env bash
 # Times the workers of `nagsched drill`, and prints one table. Run by hand; no part of the gate.
-#   bench/drill.sh [REPEATS]     the best of so many runs is told, 3 where no number is given
+#   bench/drill.sh [REPEATS]     of so many runs, 3 where no number is given, the best is told, and the middle one where workers wait for each other
 #   BEFORE=PROGRAM bench/drill.sh [REPEATS]     beside drills on 4, 16 and 4,096 hosts another build's, run by turns with ours
 # At the end drills on 16 hosts keep to two cores, so that waiting workers stand in the way of the one whose turn it is.
 # 4,096 hosts are taken and reported 500,000 times: a million asks, which fill the largest room. So many
@@ -103,30 +103,27 @@ done
 # The words before a program that keep it to some cores: none for all.
 on_cores=()
 
-# The least time in milliseconds in which a program drills on the moments so far, or 0 where there is no program.
-least_after() {
-    local least=$1 program=$2 workers=$3 repeats=1 ms
-    [[ -n $program ]] || { echo 0; return; }
+# The microseconds of a call, also one that finds nothing due: of a program that drills on the moments so far.
+one_drill() {
+    local program=$1 workers=$2 repeats=1 ms
     ms=$(best "$work/moments" ${on_cores[@]+"${on_cores[@]}"} "$program" drill --workers "$workers" --room 1000000 --start 0)
-    echo $((ms < least ? ms : least))
+    awk -v ms="$ms" -v calls=$(($(wc -l < "$work/output") - 1)) 'BEGIN { printf "%.3f\n", ms * 1000 / calls }'
 }
 
-# Drills with up to 64 workers, who on few hosts wait for each other: calls a second, also those that find nothing due,
-# and the microseconds of one.
+# Drills with up to 64 workers, who on few hosts wait for each other: the microseconds of a call.
 drills() {
     hosts=$1
-    printf '\n%-16s %14s %12s %14s %8s\n' "$hosts hosts$2" 'calls a second' microseconds before ratio
+    printf '\n%-24s %12s %12s %8s\n' "$hosts hosts$2" microseconds before ratio
     for workers in 1 2 4 16 64; do
         moments $((takes / workers)) > "$work/moments"
-        ms=999999999 before_ms=999999999
+        : > "$work/before"
         for _ in $(seq "$repeats"); do
-            before_ms=$(least_after "$before_ms" "${BEFORE:-}" "$workers")
-            ms=$(least_after "$ms" "$program" "$workers")
-        done
-        calls=$(($(wc -l < "$work/output") - 1))
-        awk -v workers="$workers" -v calls="$calls" -v ms="$ms" -v before="$before_ms" 'BEGIN {
-            printf "%-16s %14d %12.2f %14s %8s\n", "drill, " workers, calls * 1000 / ms, ms * 1000 / calls,
-                before ? sprintf("%d", calls * 1000 / before) : "-", before ? sprintf("%.2f", before / ms) : "-"
+            [[ -z ${BEFORE:-} ]] || one_drill "$BEFORE" "$workers" >> "$work/before"
+            one_drill "$program" "$workers"
+        done > "$work/ours"
+        awk -v workers="$workers" -v ours="$(middle < "$work/ours")" -v before="$(middle < "$work/before")" 'BEGIN {
+            printf "%-24s %12.2f %12s %8s\n", "drill, " workers, ours,
+                before ? sprintf("%.2f", before) : "-", before ? sprintf("%.2f", before / ours) : "-"
         }'
     done
 }
