@@ -129,33 +129,58 @@ class Scheduler:
         self.process.wait()
 
 
-def run_plugin(name, run, command, limit):
-    """Runs a plugin, and gives its code; UNKNOWN where it gave none that a plugin may give."""
-    host, _, service = name.partition(";")
-    words = [word.replace("$HOST$", host).replace("$SERVICE$", service) for word in shlex.split(command)]
-    try:
-        plugin = subprocess.Popen(words, stdin=subprocess.DEVNULL, stdout=subprocess.PIPE, stderr=subprocess.DEVNULL, start_new_session=True)
-    except OSError as error:
-        return Result(name, run, UNKNOWN, f"not started: {error}")
-    try:
-        output, _ = plugin.communicate(timeout=limit)
-    except subprocess.TimeoutExpired:
-        os.killpg(plugin.pid, signal.SIGKILL)
-        plugin.communicate()
-        return Result(name, run, UNKNOWN, f"killed after {limit} seconds")
-    told = output.decode(errors="replace").partition("\n")[0]
-    if plugin.returncode in CODES:
-        return Result(name, run, plugin.returncode, told)
-    return Result(name, run, UNKNOWN, f"ended with {plugin.returncode}: {told}")
+class Plugins:
+    """Plugins that run in threads of a pool. Each result comes into a queue."""
+
+    def __init__(self, workers, limit):
+        self.pool = concurrent.futures.ThreadPoolExecutor(workers)
+        self.free, self.limit = workers, limit
+        self.running, self.results = set(), queue.Queue()
+
+    def start(self, name, run, command):
+        self.free -= 1
+        self.pool.submit(lambda: self.results.put(Result(name, run, *self.made(name, command))))
+
+    def next(self, seconds):
+        """The next result that comes within so long; queue.Empty where none does."""
+        result = self.results.get(timeout=seconds)
+        self.free += 1
+        return result
+
+    def made(self, name, command):
+        """Runs a plugin, and gives its code and its words; UNKNOWN where it gave no code that a plugin may give."""
+        host, _, service = name.partition(";")
+        words = [word.replace("$HOST$", host).replace("$SERVICE$", service) for word in shlex.split(command)]
+        try:
+            plugin = subprocess.Popen(words, stdin=subprocess.DEVNULL, stdout=subprocess.PIPE, stderr=subprocess.DEVNULL, start_new_session=True)
+        except OSError as error:
+            return UNKNOWN, f"not started: {error}"
+        self.running.add(plugin)
+        try:
+            output, _ = plugin.communicate(timeout=self.limit)
+        except subprocess.TimeoutExpired:
+            os.killpg(plugin.pid, signal.SIGKILL)
+            plugin.communicate()
+            return UNKNOWN, f"killed after {self.limit:g} seconds"
+        finally:
+            self.running.discard(plugin)
+        told = output.decode(errors="replace").partition("\n")[0]
+        if plugin.returncode in CODES:
+            return plugin.returncode, told
+        return UNKNOWN, f"ended with {plugin.returncode}: {told}"
+
+    def end(self):
+        """Starts none any more, and kills those that run."""
+        self.pool.shutdown(wait=False, cancel_futures=True)
+        for plugin in list(self.running):
+            os.killpg(plugin.pid, signal.SIGKILL)
 
 
 class Monitor:
     """Takes what is due, runs it, and reports it."""
 
-    def __init__(self, scheduler, commands, names, workers, limit):
-        self.scheduler, self.commands, self.names, self.limit = scheduler, commands, names, limit
-        self.pool = concurrent.futures.ThreadPoolExecutor(workers)
-        self.free, self.results = workers, queue.Queue()
+    def __init__(self, scheduler, plugins, commands, names):
+        self.scheduler, self.plugins, self.commands, self.names = scheduler, plugins, commands, names
         self.made = self.behind = 0
         self.ended = False
 
@@ -168,33 +193,32 @@ class Monitor:
         self.scheduler.ask(*(["status", name] for name in self.names if name not in self.scheduler.next))
 
     def take(self):
-        """Takes what is due while there is a free worker. Gives the time of the next check, if it is known."""
-        while self.free and not self.ended:
+        """Takes what is due while a worker is free. Gives the time of the next check, if it is known."""
+        while self.plugins.free and not self.ended:
             moment = now()
             (answer,) = self.scheduler.ask(["take", moment])
             word, _, rest = answer.partition(" ")
             if word == "taken":
                 run, _, name = rest.partition(" ")
-                due = self.scheduler.next.get(name, "none")
-                self.behind = max(self.behind, moment - int(due)) if due != "none" else self.behind
-                self.free -= 1
-                self.pool.submit(lambda *given: self.results.put(run_plugin(*given)), name, int(run), self.command(name), self.limit)
+                self.late(moment, self.scheduler.next.get(name, "none"))
+                self.plugins.start(name, int(run), self.commands.get(name, self.commands.get("*", "/bin/false")))
             elif word != "putoff":
-                return None if word != "idle" or rest == "none" else int(rest)
+                return int(rest) if word == "idle" and rest != "none" else None
         return None
 
-    def command(self, name):
-        return self.commands.get(name, self.commands.get("*", "/bin/false"))
+    def late(self, moment, due):
+        if due != "none":
+            self.behind = max(self.behind, moment - int(due))
 
     def report(self, result):
         """Reports a result, and writes a line where the state has changed."""
         (answer,) = self.scheduler.ask(["report", result.name, result.run, result.code])
-        self.free, self.made = self.free + 1, self.made + 1
+        self.made += 1
         words = answer.split(" ")
-        if words[0] == "standing" and words[4] == "yes":
-            print(f"{time.strftime('%H:%M:%S')} {result.name} is {words[1]} {words[2].lower()} {words[3]}: {result.told}", flush=True)
-        elif words[0] != "standing":
+        if words[0] != "standing":
             print(f"{result.name}: the result of run {result.run} came too late ({answer})", flush=True)
+        elif words[4] == "yes":
+            print(f"{time.strftime('%H:%M:%S')} {result.name} is {words[1]} {words[2].lower()} {words[3]}: {result.told}", flush=True)
 
     def work(self, until):
         """Works until that moment, or until it is told to end."""
@@ -202,16 +226,14 @@ class Monitor:
             wake = self.take()
             wait = min(until, wake or until) - now()
             try:
-                self.report(self.results.get(timeout=max(0, min(wait, 1000)) / 1000))
-                while True:
-                    self.report(self.results.get_nowait())
+                self.report(self.plugins.next(max(0, min(wait, 1000)) / 1000))
             except queue.Empty:
                 pass
 
     def end(self):
+        self.plugins.end()
         print(f"{self.made} checks made; the latest began {self.behind} ms behind its time; {len(self.scheduler.out)} still out", flush=True)
         self.scheduler.close()
-        self.pool.shutdown(wait=False, cancel_futures=True)
 
 
 def names_of(setup):
@@ -233,7 +255,8 @@ def main():
     setup = words.setup.read_bytes().replace(b"\n", b"").replace(b"\r", b"")
     commands = json.loads(words.commands.read_bytes())
     journal = Journal(words.journal, setup) if words.journal else NoJournal()
-    monitor = Monitor(Scheduler(words.program, setup, journal), commands, names_of(setup), words.workers, words.limit)
+    scheduler = Scheduler(words.program, setup, journal)
+    monitor = Monitor(scheduler, Plugins(words.workers, words.limit), commands, names_of(setup))
     for name in (signal.SIGINT, signal.SIGTERM):
         signal.signal(name, lambda *_: setattr(monitor, "ended", True))
     monitor.begin()
