@@ -72,12 +72,7 @@ fn tells_the_last_run(rt: HostRuntime) -> Result<(), Fail> {
 }
 
 /// A refused call is told so.
-fn tells(
-    rt: &impl Abort,
-    alloc: Global,
-    refusal: Refusal,
-    wanted: &str,
-) -> Result<(), Fail> {
+fn tells(rt: &impl Abort, alloc: Global, refusal: Refusal, wanted: &str) -> Result<(), Fail> {
     let line = line_of(alloc, Reply::Refused(refusal))?;
     assert_eq!(rt; line.as_str(), wanted);
     Ok(())
