@@ -1,5 +1,5 @@
 -- What the workers of a drill leave in the history, and what a drill writes.
-use Rattle.std.specs.Prelude.{◌≡◌, ◌⊎◌, ℕ, ◌+◌, ◌<◌, ◌≤◌, ⊤, List, [], ◌∷◌, filter_map, length, Option, Some, None, Result, Ok, Err, IfOk, OnErr, OnOk}
+use Rattle.std.specs.Prelude.{◌≡◌, ◌≢◌, ◌⊎◌, ℕ, ◌+◌, ◌<◌, ◌≤◌, ⊤, List, [], ◌∷◌, filter_map, length, Option, Some, None, Result, Ok, Err, IfOk, OnErr, OnOk}
 use Rattle.std.specs.Io.KnownBytes.{Appends, Keeps}
 use Rattle.ticket_steps.specs.declared.kept.Entry.{Entry}
 use Rattle.ticket_steps.specs.History.{of, IsLegal}
@@ -15,7 +15,7 @@ use Rattle.check_session.specs.declared.drive.Outcome.{Outcome}
 use Rattle.check_script.specs.declared.refusal.InputRefusal.{InputRefusal}
 use Rattle.check_script.specs.DrillScript.{DrillScript, drill_script_of}
 use Rattle.check_session.specs.Drive.{HasRead, IsInput, outcome_by}
-use Rattle.check_text.specs.Output.{WroteFront}
+use Rattle.check_text.specs.Output.{WroteFront, WroteUpTo}
 use Rattle.check_session.specs.ScriptedCodes.{scripted_code}
 use Rattle.check_text.specs.Text.{drill_text, refusal_line}
 
@@ -86,6 +86,18 @@ pub record WroteDrillFront (start workers room : ℕ) (input : List ℕ) (held h
   pub text : List ℕ
   pub is_text : IsTextOf start workers room input text
   pub written : WroteFront held holds text
+
+-- a front of such a text was, and not all of it
+pub record WroteDrillPart (start workers room : ℕ) (input : List ℕ) (held holds : Option (List ℕ)) : Type 0 where
+  pub text : List ℕ
+  pub is_text : IsTextOf start workers room input text
+  pub rest : List ℕ
+  pub is_missing : rest ≢ []
+  pub written : WroteUpTo held holds text rest
+
+-- nothing was written, or a front of such a text that isn't all of it
+abbrev pub WroteDrillShort : ℕ → ℕ → ℕ → List ℕ → Option (List ℕ) → Option (List ℕ) → Type 0
+WroteDrillShort start workers room input held holds = Keeps held holds ⊎ WroteDrillPart start workers room input held holds
 
 -- What an error of a drill leaves, as `AfterFault` says it of a run: after a fault of the reader nothing was written. After
 -- any other error nothing was, or the input was read and a front of a text that a drill can write on it was written.

@@ -4,11 +4,11 @@ ghost use Rattle.std.specs.Prelude.{◌≡◌, ◌≢◌, ◌<◌, ◌≤◌, �
 ghost use Rattle.std.specs.Io.KnownBytes.{Appends, Keeps};
 ghost use Rattle.check_sched.specs.Books.{entries_of, refused_of, sched_of};
 ghost use Rattle.check_session.specs.Drill.{AfterDrillFault, IsDrill, IsDrillOnInput};
-ghost use Rattle.check_session.specs.Drill.{WroteDrill, WroteDrillFront, drill_outcome};
+ghost use Rattle.check_session.specs.Drill.{WroteDrill, WroteDrillFront, WroteDrillShort, drill_outcome};
 ghost use Rattle.check_script.specs.DrillScript.{drill_script_of};
 ghost use Rattle.check_script.specs.DrillScripted.{drill_script};
 ghost use Rattle.check_session.specs.Drive.{HasRead};
-ghost use Rattle.check_text.specs.Output.{WroteFront};
+ghost use Rattle.check_text.specs.Output.{WroteFront, WroteShort};
 ghost use Rattle.check_text.specs.Text.{drill_text, entry_line, total_line};
 
 use crate::drive::Outcome;
@@ -16,7 +16,7 @@ use crate::scripted::Scripted;
 use check_desk::Desk;
 use check_objects::Setup;
 use check_sched::{Book, Call, LAST_MOMENT, Reply};
-use check_script::{DrillScript, DriveError, MAX_INPUT_BYTES, ScriptError, read_input};
+use check_script::{DrillScript, DriveError, MAX_INPUT_BYTES, read_input};
 use check_text::{flush, push_entry, push_total, write_refusal, write_text};
 use check_workers::crew;
 use std::alloc::Global;
@@ -36,7 +36,7 @@ use ticket_steps::{Entry, Kept};
 /// at its first call without memory, which the total tells. The error `Memory` comes where there is
 /// no memory elsewhere, as for a thread, `Read` where the reader fails, `Write` where the writer or
 /// its flush fails. After `Read` nothing was written, after the others nothing or a front of a text
-/// that the drill can write.
+/// that the drill can write, after `Memory` never the whole of it.
 pub fn drill<H: Threads + Wait + Sync, R: Read, W: Write>(
     rt: &H,
     alloc: Global,
@@ -57,6 +57,9 @@ pub fn drill<H: Threads + Wait + Sync, R: Read, W: Write>(
     ensures fault { IfErr result (λ e.
         AfterDrillFault e start workers room (R.remaining reader.old) (R.remaining reader.new)
         (W.contents writer.old) (W.contents writer.new)) }
+    ensures memory { IfErr result (λ e. e ≡ DriveError.Memory
+        → IfSome (R.remaining reader.old) (λ input. WroteDrillShort start workers room input
+        (W.contents writer.old) (W.contents writer.new))) }
     ensures input { IsDrillOnInput start workers room result (R.remaining reader.old)
         (W.contents writer.old) (W.contents writer.new) }
 {
@@ -86,17 +89,19 @@ fn answer<H: Threads + Wait + Sync, W: Write>(
         ⊎ WroteDrillFront start workers room input.now
         (W.contents writer.old) (W.contents writer.new)) }
     ensures kind { IfErr result (λ e. e ≢ DriveError.Read) }
+    ensures memory { IfErr result (λ e. e ≡ DriveError.Memory
+        → WroteDrillShort start workers room input.now
+        (W.contents writer.old) (W.contents writer.new)) }
 {
     match DrillScript::read(alloc, input) {
         Ok(script) => {
             let book = work_all(rt, alloc, start, workers, room, script)?;
             write_book(alloc, &book, writer)
         }
-        Err(ScriptError::Refused(refusal)) => {
-            write_refusal(alloc, refusal, writer)?;
+        Err(error) => {
+            write_refusal(alloc, error.refusal()?, writer)?;
             Ok(Outcome::Refused)
         }
-        Err(ScriptError::Memory) => Err(DriveError::Memory),
     }
 }
 
@@ -142,6 +147,9 @@ fn write_book<W: Write>(alloc: Global, book: &Book, writer: &mut W) -> Result<Ou
     ensures fault { OnErr result (WroteFront (W.contents writer.old) (W.contents writer.new)
         (drill_text (sched_of book.now).setup (entries_of book.now) (refused_of book.now))) }
     ensures kind { IfErr result (λ e. e ≢ DriveError.Read) }
+    ensures memory { IfErr result (λ e. e ≡ DriveError.Memory
+        → WroteShort (W.contents writer.old) (W.contents writer.new)
+        (drill_text (sched_of book.now).setup (entries_of book.now) (refused_of book.now))) }
 {
     write_history(
         alloc,
@@ -171,6 +179,9 @@ pub fn write_history<W: Write>(
     ensures fault { OnErr result (WroteFront (W.contents writer.old) (W.contents writer.new)
         (drill_text setup.now entries.now refused)) }
     ensures kind { IfErr result (λ e. e ≢ DriveError.Read) }
+    ensures memory { IfErr result (λ e. e ≡ DriveError.Memory
+        → WroteShort (W.contents writer.old) (W.contents writer.new)
+        (drill_text setup.now entries.now refused)) }
 {
     let mut line = String::new(alloc);
     for entry in entries {
@@ -191,6 +202,8 @@ fn write_entry<W: Write>(
     ensures fault { OnErr result (WroteFront (W.contents writer.old) (W.contents writer.new)
         (entry_line setup.now entry.now)) }
     ensures kind { IfErr result (λ e. e ≢ DriveError.Read) }
+    ensures memory { IfErr result (λ e. e ≡ DriveError.Memory
+        → Keeps (W.contents writer.old) (W.contents writer.new)) }
 {
     line.clear();
     push_entry(line, setup, entry)?;
@@ -209,6 +222,8 @@ fn write_total<W: Write>(
     ensures fault { OnErr result (WroteFront (W.contents writer.old) (W.contents writer.new)
         (total_line entries refused)) }
     ensures kind { IfErr result (λ e. e ≢ DriveError.Read) }
+    ensures memory { IfErr result (λ e. e ≡ DriveError.Memory
+        → Keeps (W.contents writer.old) (W.contents writer.new)) }
 {
     line.clear();
     push_total(line, entries, refused)?;

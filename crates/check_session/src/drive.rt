@@ -1,14 +1,15 @@
 //! A run: reads an input, makes its calls on one scheduler, and writes the lines of the replies.
-ghost use Rattle.std.specs.Prelude.{◌≡◌, ◌≤◌, IfOk, IfErr, IfSome, OnOk, OnErr, ◌≢◌};
-ghost use Rattle.std.specs.Io.KnownBytes.{Appends};
+ghost use Rattle.std.specs.Prelude.{◌≡◌, ◌≤◌, IfOk, IfErr, IfSome, IsOkUnless, OnOk, OnErr, ◌≢◌};
+ghost use Rattle.std.specs.Io.KnownBytes.{Appends, Keeps};
 ghost use Rattle.check_sched.specs.State.{opening};
 ghost use Rattle.check_sched.specs.Step.{step};
-ghost use Rattle.check_text.specs.Output.{WroteFront};
+ghost use Rattle.check_text.specs.Output.{WroteFront, WroteShort};
 ghost use Rattle.check_text.specs.Text.{text, text_from, line_from};
 ghost use Rattle.check_session.specs.Drive.{outcome_of, HasRead, AfterFault, IsRunOnInput};
 
+use check_objects::Setup;
 use check_sched::{Call, LAST_MOMENT, Sched};
-use check_script::{DriveError, Script, ScriptError, read_input};
+use check_script::{DriveError, Script, read_input};
 use check_text::{flush, push_reply, write_refusal, write_text};
 use std::alloc::Global;
 use std::io::{Read, Write};
@@ -31,7 +32,7 @@ pub enum Outcome {
 /// writer, an interruption among them, and a write that takes no byte, ends the run: `Read` comes
 /// where the reader fails, and nothing was written then; `Write` where the writer or its flush fails,
 /// and `Memory` where there is no memory, and a front of the text was written then, which is empty
-/// where the input wasn't read.
+/// where the input wasn't read, and after `Memory` never is the whole of a text that has a line.
 pub fn drive<R: Read, W: Write>(
     alloc: Global,
     start: u64,
@@ -48,6 +49,9 @@ pub fn drive<R: Read, W: Write>(
     ensures fault { IfErr result (λ e.
         AfterFault e start (R.remaining reader.old) (R.remaining reader.new)
         (W.contents writer.old) (W.contents writer.new)) }
+    ensures memory { IfErr result (λ e. e ≡ DriveError.Memory
+        → IfSome (R.remaining reader.old) (λ input.
+        WroteShort (W.contents writer.old) (W.contents writer.new) (text start input))) }
     ensures input { IsRunOnInput start result (R.remaining reader.old)
         (W.contents writer.old) (W.contents writer.new) }
 {
@@ -72,14 +76,15 @@ fn answer<W: Write>(
     ensures fault { OnErr result
         (WroteFront (W.contents writer.old) (W.contents writer.new) (text start input.now)) }
     ensures kind { IfErr result (λ e. e ≢ DriveError.Read) }
+    ensures memory { IfErr result (λ e. e ≡ DriveError.Memory
+        → WroteShort (W.contents writer.old) (W.contents writer.new) (text start input.now)) }
 {
     match Script::read(alloc, input) {
         Ok(script) => run(alloc, start, script, writer),
-        Err(ScriptError::Refused(refusal)) => {
-            write_refusal(alloc, refusal, writer)?;
+        Err(error) => {
+            write_refusal(alloc, error.refusal()?, writer)?;
             Ok(Outcome::Refused)
         }
-        Err(ScriptError::Memory) => Err(DriveError::Memory),
     }
 }
 
@@ -97,16 +102,29 @@ fn run<W: Write>(
     ensures fault { OnErr result (WroteFront (W.contents writer.old) (W.contents writer.new)
         (text_from (opening script.setup start) script.commands.items)) }
     ensures kind { IfErr result (λ e. e ≢ DriveError.Read) }
+    ensures memory { IfErr result (λ e. e ≡ DriveError.Memory
+        → WroteShort (W.contents writer.old) (W.contents writer.new)
+        (text_from (opening script.setup start) script.commands.items)) }
 {
     let Script { setup, commands } = script;
-    let Ok(mut sched) = Sched::new(alloc, setup, start) else {
-        return Err(DriveError::Memory);
-    };
+    let mut sched = open(alloc, setup, start)?;
     let mut line = String::new(alloc);
     for call in &commands {
         make_call(&mut sched, *call, &mut line, writer)?;
     }
     Ok(Outcome::Ran)
+}
+
+/// A new scheduler that starts at this moment. An Err is `Memory`.
+fn open(alloc: Global, setup: Setup, start: u64) -> Result<Sched, DriveError>
+    requires { start ≤ LAST_MOMENT }
+    ensures new { IfOk result (λ sched. sched ≡ opening setup start) }
+    ensures kind { IsOkUnless result DriveError.Memory }
+{
+    match Sched::new(alloc, setup, start) {
+        Ok(sched) => Ok(sched),
+        Err(_) => Err(DriveError::Memory),
+    }
 }
 
 /// Makes one call, and writes the line of its reply by way of the buffer `line`.
@@ -123,6 +141,8 @@ fn make_call<W: Write>(
     ensures fault { OnErr result
         (WroteFront (W.contents writer.old) (W.contents writer.new) (line_from sched.old call)) }
     ensures kind { IfErr result (λ e. e ≢ DriveError.Read) }
+    ensures memory { IfErr result (λ e. e ≡ DriveError.Memory
+        → Keeps (W.contents writer.old) (W.contents writer.new)) }
 {
     let reply = sched.apply(call);
     line.clear();

@@ -1,9 +1,18 @@
 -- Writes one after another, and what a writer holds where one of them fails.
-use Rattle.std.proofs.Common.{◌≡◌, ℕ, List, [], ◌++◌, take, drop, Option, None, Some, refl, sym, ◌∙◌, ap, append_assoc, append-nil, arith}
+use Rattle.std.proofs.Common.{◌≡◌, ◌≢◌, ℕ, List, [], ◌∷◌, ◌++◌, take, drop, Option, None, Some, refl, sym, ◌∙◌, ap, append_assoc, append-nil, arith, inl, inr}
 use Rattle.std.specs.Prelude.{OnErr, Result, Ok, Err}
 use Rattle.std.specs.Io.KnownBytes.{Appends, Keeps}
 use Rattle.std.proofs.lemmas.Grind.{common_steps}
-use Rattle.check_text.specs.Output.{WroteUpTo, WroteFront}
+use Rattle.check_text.specs.Output.{WroteUpTo, WroteFront, WroteShort}
+
+-- a text with something in it, with more behind it or before it
+pub some_append : (xs ys : List ℕ) → xs ≢ [] → xs ++ ys ≢ []
+some_append [] ys some e = some refl
+some_append (x ∷ xs) ys some e = cc
+
+pub append_some : (xs ys : List ℕ) → ys ≢ [] → xs ++ ys ≢ []
+append_some [] ys some e = some e
+append_some (x ∷ xs) ys some e = cc
 
 -- nothing was appended
 pub Appends-none : (known : Option (List ℕ)) → Appends known known []
@@ -89,6 +98,15 @@ front_none known text = (text, WroteUpTo-none known text)
 -- all of a text was written
 pub front_all : (old new : Option (List ℕ)) (bytes : List ℕ) → Appends old new bytes → WroteFront old new bytes
 front_all old new bytes a = ([], record { front = bytes; parts = sym (append-nil bytes); appended = a })
+
+-- ---- want of memory
+
+-- what is next in the text has something in it, and it is missing
+pub WroteShort-next : (old mid new : Option (List ℕ)) (text left line rest : List ℕ) → WroteUpTo old mid text left → left ≡ line ++ rest → line ≢ []
+    → Keeps mid new → WroteShort old new text
+WroteShort-next old mid new text left line rest w e some k = inr
+    (left, (λ none. some_append line rest some (sym e ∙ none)),
+    record { front = w.front; parts = w.parts; appended = Appends-Keeps old mid new w.front w.appended k })
 
 -- ---- faults
 
