@@ -30,7 +30,7 @@ DAMAGES = {
     "doubled": lambda byte, bit: bytes([byte, byte]),
     "dropped": lambda byte, bit: b"",
 }
-WRITTEN = re.compile(rb"((\d+ )?(taken|putoff|idle|atlimit|standing|freed|done|refused C\d|total) ?[^\n]*\n)*")
+ANSWER = re.compile(rb"(taken|putoff|idle|atlimit|standing|freed|done|refused C\d)( [^\n]*)?\n")
 REFUSED = re.compile(rb"refused [LS]\d+ [^\n]*\n")
 
 
@@ -64,9 +64,16 @@ def cuts(held, several, name, words, given, answers, written):
     held.compare(f"{name}, cut after so many bytes", [], otherwise)
 
 
-def is_whole(written, status):
-    """Whether a damaged input was run, or refused by one line."""
-    return (WRITTEN if status == 0 else REFUSED).fullmatch(written) is not None if status in (0, 1) else False
+def is_whole(copy, written, status):
+    """Whether a damaged input was refused by one line, or run: a line for each of its commands, or a history and its total."""
+    if status == 1:
+        return REFUSED.fullmatch(written) is not None
+    answers = written.splitlines(keepends=True)
+    if answers and answers[-1].startswith(b"total "):
+        history = [answer.removeprefix(b"0 ") for answer in answers[:-1]]
+        return status == 0 and answers[-1] == b"total %d 0\n" % len(history) and all(map(ANSWER.fullmatch, history))
+    commands = [line for line in copy.split(b"\n")[1:] if line.strip(b" \t\r")]
+    return status == 0 and len(answers) == len(commands) and all(map(ANSWER.fullmatch, answers))
 
 
 def damages(held, several, name, words, given, chance):
@@ -75,7 +82,8 @@ def damages(held, several, name, words, given, chance):
         places = [(chance.randrange(len(given)), chance.randrange(8)) for _ in range(EACH)]
         copies = [given[:at] + damage(given[at], bit) + given[at + 1 :] for at, bit in places]
         came = several(lambda copy: held.run(words, copy), copies)
-        held.compare(f"{name}, a byte {kind}", [], [place for place, it in zip(places, came) if not is_whole(*it)])
+        otherwise = [place for place, copy, it in zip(places, copies, came) if not is_whole(copy, *it)]
+        held.compare(f"{name}, a byte {kind}", [], otherwise)
 
 
 def main():

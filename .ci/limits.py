@@ -159,6 +159,8 @@ def long_inputs(held):
     held.compare("an input at its limit", (b"", 0, WHOLE_INPUT), run_file(held, b"{}", b"\n", WHOLE_INPUT))
     held.compare("an input past its limit", (*too_long, WHOLE_INPUT + 1), run_file(held, b"{}", b"\n", WHOLE_INPUT + 1))
     held.compare("an input far past its limit", (*too_long, WHOLE_INPUT + 1), run_file(held, b"{}", b"\n", WHOLE_INPUT + 5_000_000))
+    late = b"{}" + b"\n" * 999_999 + b"5"
+    held.compare("a refusal of line 1,000,000", (lines("refused S3 Shape 1000000"), 1), held.run([], late))
     with subprocess.Popen(["yes", "{}"], stdout=subprocess.PIPE, stderr=subprocess.DEVNULL) as endless:
         held.compare("an input without an end", too_long, held.run([], endless.stdout.fileno()))
         endless.stdout.close()

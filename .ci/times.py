@@ -3,9 +3,8 @@
 
     .ci/times.py [COMMAND..]     rt ci --anew where no command is named
 
-By hand, and no part of the gate. It runs the command, looks at its processes a few times a second, and sums what each check used,
-with all that it started. The last line tells what is known of no crate: programs and tests that run, links, and what ended between
-two looks.
+By hand, and no part of the gate. It runs the command, looks at its processes twice a second, and sums what each check used,
+with all that it started. What is told as no crate's check is programs and tests that run, links, and what ended between two looks.
 """
 import collections
 import os
@@ -17,7 +16,7 @@ import sys
 import time
 
 CRATES = pathlib.Path(__file__).resolve().parent.parent / "crates"
-EVERY = 0.2
+EVERY = 0.5
 TICKS = os.sysconf("SC_CLK_TCK")
 # A try of an edit runs in a folder of this name, on a copy of the crate.
 EDIT_FOLDER = re.compile(r"/rt-edit-[^/]*$")
@@ -25,12 +24,13 @@ EDIT_FOLDER = re.compile(r"/rt-edit-[^/]*$")
 
 def processes():
     """Each process: its number and start, its parent, and what it and the children that it waited for used, in ticks."""
-    for folder in pathlib.Path("/proc").glob("[0-9]*"):
+    for number in filter(str.isdecimal, os.listdir("/proc")):
         try:
-            fields = (folder / "stat").read_text().rpartition(")")[2].split()
+            with open(f"/proc/{number}/stat", encoding="utf-8", errors="replace") as file:
+                fields = file.read().rpartition(")")[2].split()
         except OSError:
             continue
-        yield int(folder.name), int(fields[19]), int(fields[1]), sum(map(int, fields[11:15]))
+        yield int(number), int(fields[19]), int(fields[1]), sum(map(int, fields[11:15]))
 
 
 def edit_pairs(edit):
@@ -79,22 +79,25 @@ class Times:
         seen = {number: (start, parent, ticks) for number, start, parent, ticks in processes()}
         sums = collections.Counter()
         for number in seen:
-            check = self.check_above(number, seen)
-            if check:
-                sums[check] += seen[number][2]
+            checks = [name for name in self.line(number, seen) if self.is_check(name)]
+            if checks:
+                sums[checks[-1]] += seen[number][2]
         for check, ticks in sums.items():
             self.used[check] = max(self.used.get(check, 0), ticks)
 
-    def check_above(self, number, seen):
-        """The check that a process belongs to: the highest one above it, below the command."""
-        found = None
+    def line(self, number, seen):
+        """A process and those above it, up to the command and without it; nothing where it isn't below the command."""
+        found = []
         while number in seen and number != self.root:
-            name = number, seen[number][0]
-            if self.works.get(name) is None:
-                self.works[name] = work_of(number)
-            found = name if self.works[name] else found
+            found.append((number, seen[number][0]))
             number = seen[number][1]
-        return found if number == self.root else None
+        return found if number == self.root else []
+
+    def is_check(self, name):
+        """Whether a process is a check. One that isn't may still become one."""
+        if self.works.get(name) is None:
+            self.works[name] = work_of(name[0])
+        return self.works[name] is not None
 
     def minutes(self):
         """The minutes of each crate and kind of work."""
@@ -113,7 +116,7 @@ def tell(minutes, whole):
         sums[crate][2] += used
     for crate, parts in sorted(sums.items(), key=lambda row: -sum(row[1])):
         print(f"| {crate} |" + "".join(f" {part:.1f} |" for part in (*parts, sum(parts))))
-    every = [sum(column) for column in zip(*sums.values())] or [0.0]
+    every = [sum(column) for column in zip(*sums.values())] or [0.0] * 3
     print("| all |" + "".join(f" {part:.1f} |" for part in (*every, sum(every))))
     print("\n| Edit | Minutes |\n|---|---|")
     for (crate, edit), used in sorted(of_edits.items(), key=lambda row: -row[1]):
