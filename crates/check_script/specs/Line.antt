@@ -6,7 +6,6 @@ use Rattle.serde_json.specs.Data.{Data, Items, no_items, item}
 use Rattle.serde_json.specs.Find.{as_array, as_str}
 use Rattle.check_objects.specs.Tree.{◌>=>◌, tree_of}
 pub use Rattle.check_drafts.specs.Agreement.{◌>>=◌}
-use Rattle.check_script.specs.declared.line.TheConstants.{MAX_LINE_BYTES}
 use Rattle.check_script.specs.declared.refusal.LineFault.{LineFault}
 use Rattle.check_script.specs.declared.refusal.LineFault.TheVariants as fault
 use Rattle.check_script.specs.declared.refusal.InputRefusal.{InputRefusal}
@@ -34,7 +33,7 @@ at_line n (Err e) = Err (refusal.Line e n)
 abbrev pub command_in : {K : Type 0} → (List ℕ → Items → Result K LineFault) → Data → Result K LineFault
 command_in meaning d = ok_or (word_and_members d) fault.Shape >>= λ p. meaning p.0 p.1
 
--- the command of the line with number n, or its first fault: too long, then no JSON, then those of the command
+-- the command of the line with number n, or its first fault: more than 4,096 bytes, then no JSON, then those of the command
 unfoldable pub command_of : {K : Type 0} → (List ℕ → Items → Result K LineFault) → ℕ → List ℕ → Result K InputRefusal
-command_of meaning n line = if nat_lt MAX_LINE_BYTES (length line) then Err (refusal.Line fault.TooLong n)
+command_of meaning n line = if nat_lt 4096 (length line) then Err (refusal.Line fault.TooLong n)
     else (ok_or (tree_of line) (refusal.Line fault.NotJson n) >>= λ d. at_line n (command_in meaning d))

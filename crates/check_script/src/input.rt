@@ -1,5 +1,6 @@
 //! The bytes of an input and its lines. What a line says is read in `script` and `command`.
-ghost use Rattle.std.specs.Prelude.{◌≡◌, ◌==◌, ◌<◌, ℕ, List, length, position, ◌≢◌, take, IfOk, IfErr, IfSome};
+ghost use Rattle.std.specs.Prelude.{◌≡◌, ◌==◌, ◌<◌, ◌++◌, ℕ, List, length, position, ◌≢◌, take};
+ghost use Rattle.std.specs.Prelude.{IfOk, IfErr, IfSome, IsOkUnless, OnOk};
 ghost use Rattle.std.specs.Io.KnownBytes.{Consumes};
 ghost use Rattle.std.specs.Iterator.{YieldsFirstRef, item_count};
 ghost use Rattle.check_script.specs.Input.{AreLines, lines_of, first_line_of};
@@ -38,9 +39,18 @@ pub fn read_input<R: Read>(alloc: Global, reader: &mut R) -> Result<Vec<u8>, Dri
         if count == 0 {
             break;
         }
-        input.extend_from_slice(&chunk[..count])?;
+        append(&mut input, &chunk[..count])?;
     }
     Ok(input)
+}
+
+/// Appends bytes that were read. An Err is `Memory`, and never the reader's.
+fn append(input: &mut Vec<u8>, bytes: &[u8]) -> Result<(), DriveError>
+    ensures added { OnOk result (input.new.items ≡ input.old.items ++ bytes.now) }
+    ensures kind { IsOkUnless result DriveError.Memory }
+{
+    input.extend_from_slice(bytes)?;
+    Ok(())
 }
 
 /// The lines of an input, each without its line feed. A last line needs none, and a line feed at

@@ -7,13 +7,14 @@
 //! its tree, its word; the trait [`Command`], which each vocabulary implements). The vocabularies are
 //! `command`, the words of `run`, and `drill_command`, the words of `drill`, whose commands
 //! `drill_script` puts together. `refusal` has the errors of an input, and `drive_error` why a run or
-//! a drill ends early.
+//! a drill ends early. `laws` says the limits of an input as numbers.
 
 mod command;
 mod drill_command;
 mod drill_script;
 mod drive_error;
 mod input;
+pub mod laws;
 mod line;
 mod refusal;
 mod script;

@@ -1,7 +1,9 @@
 //! What an input can be refused for. The text of a refusal is in `text`.
 ghost use Rattle.std.specs.Prelude.{◌≡◌};
 ghost use Rattle.check_script.specs.declared.refusal.ScriptError.TheVariants.{Memory};
+ghost use Rattle.check_script.specs.Refusals.{refusal_met};
 
+use crate::drive_error::DriveError;
 use check_objects::LoadError;
 use std::alloc::{AllocError, AllocFailed};
 
@@ -37,6 +39,19 @@ pub enum ScriptError {
     Refused(InputRefusal),
     /// Out of memory, which says nothing of the input.
     Memory,
+}
+
+impl ScriptError {
+    /// The refusal that the input met, which is to be written. Out of memory there is none, and the
+    /// run ends as `Memory`.
+    pub fn refusal(self) -> Result<InputRefusal, DriveError>
+        ensures { result ≡ refusal_met self }
+    {
+        match self {
+            ScriptError::Refused(refusal) => Ok(refusal),
+            ScriptError::Memory => Err(DriveError::Memory),
+        }
+    }
 }
 
 impl From<AllocError> for ScriptError {

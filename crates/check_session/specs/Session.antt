@@ -76,7 +76,7 @@ Ends words (Ok ending) had left held holds = Did words ending had left held hold
 Ends words (Err e) had left held holds = Failed words e had left held holds
 
 -- The exit status: 0 ran or told its help, 1 input refused, 2 words refused, 3 a fault of the
--- reader or the writer, 4 out of memory, or a thread that couldn't be had.
+-- reader or the writer, 4 out of memory.
 abbrev pub exit_status : Result Ending DriveError → ℕ
 exit_status (Ok (ending.Drove outcome.Ran)) = 0
 exit_status (Ok ending.Helped) = 0

@@ -1,6 +1,6 @@
 -- What a writer holds after writes that a fault may have cut short.
-use Rattle.std.specs.Prelude.{◌≡◌, ℕ, List, Option, ◌++◌}
-use Rattle.std.specs.Io.KnownBytes.{Appends}
+use Rattle.std.specs.Prelude.{◌≡◌, ◌≢◌, ◌⊎◌, ℕ, List, [], Option, ◌++◌}
+use Rattle.std.specs.Io.KnownBytes.{Appends, Keeps}
 
 -- the writer took the text up to where `rest` begins, and no more
 pub record WroteUpTo (old new : Option (List ℕ)) (text rest : List ℕ) : Type 0 where
@@ -11,3 +11,7 @@ pub record WroteUpTo (old new : Option (List ℕ)) (text rest : List ℕ) : Type
 -- the writer took some front of the text, and no more
 abbrev pub WroteFront : Option (List ℕ) → Option (List ℕ) → List ℕ → Type 0
 WroteFront old new text = (rest : List ℕ) × WroteUpTo old new text rest
+
+-- the writer took nothing, or a front of the text that isn't all of it
+abbrev pub WroteShort : Option (List ℕ) → Option (List ℕ) → List ℕ → Type 0
+WroteShort old new text = Keeps old new ⊎ ((rest : List ℕ) × (rest ≢ []) × WroteUpTo old new text rest)

@@ -1,6 +1,6 @@
 //! Bytes to a writer: a text, the line of a refusal, and the flush at the end. The lines that are
 //! written are made in `text`.
-ghost use Rattle.std.specs.Prelude.{OnOk, OnErr, IfErr, IsOkUnless, ◌≢◌};
+ghost use Rattle.std.specs.Prelude.{OnOk, OnErr, IfErr, IsOkUnless, ◌≡◌, ◌≢◌};
 ghost use Rattle.std.specs.Io.KnownBytes.{Appends, Keeps};
 ghost use Rattle.check_text.specs.Output.{WroteFront};
 ghost use Rattle.check_text.specs.Text.{refusal_line};
@@ -33,8 +33,8 @@ pub fn write_text<W: Write>(writer: &mut W, text: &[u8]) -> Result<(), DriveErro
     Ok(())
 }
 
-/// Writes the line of a refusal. An Err is `Write` or `Memory`, and a front of the line was written
-/// then. Nothing is flushed.
+/// Writes the line of a refusal. An Err is `Write`, and a front of the line was written then, or
+/// `Memory`, and nothing was. Nothing is flushed.
 pub fn write_refusal<W: Write>(
     alloc: Global,
     refusal: InputRefusal,
@@ -45,6 +45,8 @@ pub fn write_refusal<W: Write>(
     ensures fault { OnErr result
         (WroteFront (W.contents writer.old) (W.contents writer.new) (refusal_line refusal)) }
     ensures kind { IfErr result (λ e. e ≢ DriveError.Read) }
+    ensures memory { IfErr result (λ e. e ≡ DriveError.Memory
+        → Keeps (W.contents writer.old) (W.contents writer.new)) }
 {
     let mut line = String::new(alloc);
     push_refusal(&mut line, refusal)?;

@@ -1,9 +1,10 @@
 //! The lines of replies, as they are written.
 
-use crate::push_reply;
+use crate::{push_refusal, push_reply};
 use check_objects::Setup;
 use check_rules::{Kind, Standing, State};
-use check_sched::{Call, Reply};
+use check_sched::{Call, Refusal, Reply};
+use check_script::{InputRefusal, LineFault};
 use std::alloc::Global;
 use std::test::Fail;
 
@@ -67,5 +68,59 @@ fn tells_the_last_run(rt: HostRuntime) -> Result<(), Fail> {
     let freed = Reply::Freed { next: 0 };
     let line = line_of(rt.alloc(), freed)?;
     assert_eq!(rt; line.as_str(), "before freed 0 h;s\n");
+    Ok(())
+}
+
+/// A refused call is told so.
+fn tells(rt: &impl Abort, alloc: Global, refusal: Refusal, wanted: &str) -> Result<(), Fail> {
+    let line = line_of(alloc, Reply::Refused(refusal))?;
+    assert_eq!(rt; line.as_str(), wanted);
+    Ok(())
+}
+
+#[test]
+fn tells_each_refusal_of_a_call(rt: HostRuntime) -> Result<(), Fail> {
+    let alloc = rt.alloc();
+    tells(
+        &rt,
+        alloc,
+        Refusal::UnknownObject,
+        "before refused C1 UnknownObject\n",
+    )?;
+    tells(
+        &rt,
+        alloc,
+        Refusal::TimeRange,
+        "before refused C2 TimeRange\n",
+    )?;
+    tells(
+        &rt,
+        alloc,
+        Refusal::NotRunning,
+        "before refused C3 NotRunning\n",
+    )?;
+    tells(
+        &rt,
+        alloc,
+        Refusal::WrongRun,
+        "before refused C4 WrongRun\n",
+    )?;
+    tells(
+        &rt,
+        alloc,
+        Refusal::RunsSpent,
+        "before refused C5 RunsSpent\n",
+    )
+}
+
+#[test]
+fn tells_a_late_line(rt: HostRuntime) -> Result<(), Fail> {
+    let mut line = String::new(rt.alloc());
+    let refusal = InputRefusal::Line {
+        fault: LineFault::Shape,
+        line: 1_000_000,
+    };
+    push_refusal(&mut line, refusal)?;
+    assert_eq!(rt; line.as_str(), "refused S3 Shape 1000000\n");
     Ok(())
 }

@@ -1,5 +1,5 @@
 -- What the program's words ask for, as `clap` reads them.
-use Rattle.std.specs.Prelude.{ℕ, ◌≤◌, ◌≡◌, ◌≢◌, ◌⊎◌, ⊤, List, [], ◌∷◌, if◌then◌else◌}
+use Rattle.std.specs.Prelude.{ℕ, ◌^◌, ◌≤◌, ◌≡◌, ◌≢◌, ◌⊎◌, ⊤, List, [], ◌∷◌, if◌then◌else◌}
 use Rattle.std.specs.Prelude.{Option, Some, None, Result, Ok, Err, codes, option_map, option_and_then}
 use Rattle.std.specs.Str.{bytes_eq}
 use Rattle.std.specs.Str.Parse.{digits_value, without_leading_plus}
@@ -7,7 +7,6 @@ use Rattle.clap.specs.ValueTests.{is_unsigned_in}
 use Rattle.clap.specs.Words.{App, IsAmong, Row, Rule, Text, fault_of, first_of, new_app, new_rule, subcommand_of, with_rule, with_subcommand}
 use Rattle.clap.specs.declared.error.kind.ErrorKind.{ErrorKind}
 use Rattle.clap.specs.declared.error.kind.ErrorKind.TheVariants as kind
-use Rattle.check_words.specs.declared.job.TheConstants.{LAST_MOMENT, MAX_ROOM, MAX_WORKERS}
 use Rattle.check_words.specs.declared.words.Job.{Job}
 use Rattle.check_words.specs.declared.words.Job.TheVariants as job
 use Rattle.check_words.specs.declared.words.WordsError.{WordsError}
@@ -57,17 +56,17 @@ number_between least most text = if is_unsigned_in least most text then Some (di
 abbrev pub number_of : Text → ℕ → ℕ → List Row → Option ℕ
 number_of name least most options = option_and_then (number_between least most) (first_of name options)
 
--- the moment at which the scheduler starts, by the options that were read
+-- the moment at which the scheduler starts, 0 to 2^60, by the options that were read
 abbrev pub start_of : List Row → Option ℕ
-start_of = number_of (codes "start") 0 LAST_MOMENT
+start_of = number_of (codes "start") 0 (2 ^ 60)
 
--- how many workers there are, by the options that were read
+-- how many workers there are, 1 to 64, by the options that were read
 abbrev pub workers_of : List Row → Option ℕ
-workers_of = number_of (codes "workers") 1 MAX_WORKERS
+workers_of = number_of (codes "workers") 1 64
 
--- for how many entries there is room, by the options that were read
+-- for how many entries there is room, 0 to 1,000,000, by the options that were read
 abbrev pub room_of : List Row → Option ℕ
-room_of = number_of (codes "room") 0 MAX_ROOM
+room_of = number_of (codes "room") 0 1000000
 
 -- `run`, by the options that were read for it
 abbrev pub run_of : List Row → Option Job
@@ -94,8 +93,8 @@ job_asked words = job_of (subcommand_of program words)
 
 -- the numbers of a job are within their limits
 abbrev pub IsWithinLimits : Job → Type 0
-IsWithinLimits (job.Run start) = start ≤ LAST_MOMENT
-IsWithinLimits (job.Drill start workers room) = (start ≤ LAST_MOMENT) × (1 ≤ workers) × (workers ≤ MAX_WORKERS) × (room ≤ MAX_ROOM)
+IsWithinLimits (job.Run start) = start ≤ 2 ^ 60
+IsWithinLimits (job.Drill start workers room) = (start ≤ 2 ^ 60) × (1 ≤ workers) × (workers ≤ 64) × (room ≤ 1000000)
 
 -- ---- where the words are no job
 
@@ -125,8 +124,8 @@ Reads (Ok job) expected = expected ≡ Some job
 Reads (Err error.Refused) expected = expected ≡ None
 Reads (Err e) expected = ⊥
 
--- what an error of this kind says
+-- what an error of this kind says; the help's text may want memory too
 abbrev pub Tells : ErrorKind → WordsError → Type 0
 Tells k (error.Help text) = k ≡ kind.DisplayHelp
 Tells k error.Refused = (k ≢ kind.DisplayHelp) × (k ≢ kind.OutOfMemory)
-Tells k error.Memory = ⊤
+Tells k error.Memory = (k ≡ kind.OutOfMemory) ⊎ (k ≡ kind.DisplayHelp)

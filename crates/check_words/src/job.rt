@@ -1,6 +1,6 @@
 //! What the program's words ask for, as `clap` reads them. What the program then does is no
 //! matter of this crate.
-ghost use Rattle.std.specs.Prelude.{◌≡◌, ◌≤◌, Some, [], false, IfOk, OnOk, IfErr, IfSome};
+ghost use Rattle.std.specs.Prelude.{◌≡◌, ◌≤◌, ◌^◌, Some, [], false, IfOk, OnOk, IfErr, IfSome};
 ghost use Rattle.clap.specs.declared.builder.command.Command.TheViews.{out-Command};
 ghost use Rattle.clap.specs.Words.{app_of, fault_of, kind_of, rows_of, rule_of, found_of, subcommand_rows_of};
 ghost use Rattle.clap.specs.Walk.{texts};
@@ -225,7 +225,7 @@ fn read_drill(options: &ArgMatches<'_>) -> Option<Job>
 /// The number of the option `--start`, where a scheduler may start then.
 fn read_start(options: &ArgMatches<'_>) -> Option<u64>
     ensures value { result ≡ start_of (rows_of (found_of options.now)) }
-    ensures limits { IfSome result (λ start. start ≤ LAST_MOMENT) }
+    ensures limits { IfSome result (λ start. start ≤ 2 ^ 60) }
 {
     read_number(options, "start", 0, LAST_MOMENT)
 }
@@ -233,7 +233,7 @@ fn read_start(options: &ArgMatches<'_>) -> Option<u64>
 /// The number of the option `--workers`, where a drill may have so many.
 fn read_workers(options: &ArgMatches<'_>) -> Option<u32>
     ensures value { result ≡ workers_of (rows_of (found_of options.now)) }
-    ensures limits { IfSome result (λ workers. (1 ≤ workers) × (workers ≤ MAX_WORKERS)) }
+    ensures limits { IfSome result (λ workers. (1 ≤ workers) × (workers ≤ 64)) }
 {
     let workers = read_number(options, "workers", 1, MAX_WORKERS)?;
     Some(workers as u32)
@@ -242,7 +242,7 @@ fn read_workers(options: &ArgMatches<'_>) -> Option<u32>
 /// The number of the option `--room`, where a drill may have that room.
 fn read_room(options: &ArgMatches<'_>) -> Option<usize>
     ensures value { result ≡ room_of (rows_of (found_of options.now)) }
-    ensures limits { IfSome result (λ room. room ≤ MAX_ROOM) }
+    ensures limits { IfSome result (λ room. room ≤ 1000000) }
 {
     let room = read_number(options, "room", 0, MAX_ROOM)?;
     Some(room as usize)

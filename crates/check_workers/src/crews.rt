@@ -39,8 +39,8 @@ pub enum CrewError {
     NoThread(Desk),
 }
 
-/// One worker for each pass of the list, each in a thread of its own, works at each moment of the
-/// whole list ([`work`]). When all have returned, the passes are gathered and the desk is closed;
+/// One worker for each pass of the list works at each moment of the whole list ([`work`]): one in
+/// the caller's thread, and each other in one of its own. When all have returned, the passes are gathered and the desk is closed;
 /// the tallies are added up. Where a thread can't be made, its worker works in the caller's.
 ///
 /// The book begins with what each pass had seen, and each pass's entries in it are those that it

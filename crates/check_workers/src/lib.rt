@@ -3,7 +3,7 @@
 //!
 //! What runs a check is a [`Plugin`], a type of the caller's own. [`work`] is one worker: at each
 //! moment of a list it takes the next check, runs it with no lock held, and reports the result.
-//! [`crew`] lets many work at once, each in a thread of its own, and closes the desk when all have
+//! [`crew`] lets many work at once, N of them in N - 1 threads, and closes the desk when all have
 //! returned. A [`Tally`] counts the answers.
 //!
 //! Whatever the threads do, each worker's calls stand in the history once, in its order: a take for

@@ -1,6 +1,6 @@
 #![tactic(auto)]
-//! The program `nagsched`: reads a setup and a script of calls from standard input, makes the calls
-//! on one scheduler, and writes the line of each reply to standard output.
+//! The program `nagsched`: reads a setup and a script from standard input, and writes to standard
+//! output what came of it: the line of each reply to the calls of a run, or the history of a drill.
 //!
 //! Here are the program's own words and its streams. What it does with them, and the exit status, is
 //! `session` of `check_session`.

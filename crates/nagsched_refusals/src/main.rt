@@ -52,8 +52,9 @@ fn make_setups(rt: &impl Print, alloc: Global) -> Result<(), Wrong> {
     tell(rt, "initial_times of a chain", times)
 }
 
-/// Makes schedulers and books.
+/// Makes a queue, schedulers and books.
 fn make_schedulers(rt: &impl Print, alloc: Global) -> Result<(), Wrong> {
+    tell(rt, "Queue::new", openings::open_queue(alloc))?;
     tell(rt, "Sched::new", openings::open_sched(alloc, ONE_SERVICE))?;
     tell(
         rt,

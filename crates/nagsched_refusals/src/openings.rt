@@ -6,6 +6,7 @@ ghost use Rattle.check_sched.specs.Books.{entries_of, refused_of};
 use crate::outcome::{Outcome, Wrong, second, where_right};
 use crate::setups::{ONE_SERVICE, setup_of, where_same};
 use check_objects::Setup;
+use check_queue::Queue;
 use check_sched::{Book, Sched};
 use check_spread::initial_times;
 use std::alloc::Global;
@@ -24,6 +25,15 @@ pub(crate) fn find_times(
         Err(_refused) => (second(initial_times(alloc, &setup, 0))?, Outcome::Refused),
     };
     where_right(times.as_slice() == expected, outcome)
+}
+
+/// Makes a queue of three numbers, without a time.
+pub(crate) fn open_queue(alloc: Global) -> Result<Outcome, Wrong> {
+    let (queue, outcome) = match Queue::new(alloc, 3) {
+        Ok(queue) => (queue, Outcome::Answered),
+        Err(_refused) => (second(Queue::new(alloc, 3))?, Outcome::Refused),
+    };
+    where_right(queue.first().is_none(), outcome)
 }
 
 /// Makes a scheduler.

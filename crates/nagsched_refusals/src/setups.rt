@@ -11,9 +11,10 @@ use std::alloc::Global;
 pub(crate) const ONE_SERVICE: &[u8] =
     br#"{"options":{"service_inter_check_delay_method":"n","host_inter_check_delay_method":"n"},"hosts":[{"name":"h","check_interval":0,"max_check_attempts":3}],"services":[{"host":"h","description":"s","max_check_attempts":3}]}"#;
 
-/// The same with the services 1 to 3, of which 2 depends on 1, and 3 on 2 and on what that depends on.
+/// The same with the services 1 to 3, of which 2 depends on 1, and 3 on 2 and on what that depends on;
+/// a problem of service 1 is hard at once.
 pub(crate) const CHAIN: &[u8] =
-    br#"{"options":{"service_inter_check_delay_method":"n","host_inter_check_delay_method":"n"},"hosts":[{"name":"h","check_interval":0,"max_check_attempts":3}],"services":[{"host":"h","description":"a","max_check_attempts":3},{"host":"h","description":"b","max_check_attempts":3},{"host":"h","description":"c","max_check_attempts":3}],"service_dependencies":[{"dependent":"h;b","master":"h;a","criteria":"c"},{"dependent":"h;c","master":"h;b","criteria":"c","inherits_parent":true}]}"#;
+    br#"{"options":{"service_inter_check_delay_method":"n","host_inter_check_delay_method":"n"},"hosts":[{"name":"h","check_interval":0,"max_check_attempts":3}],"services":[{"host":"h","description":"a","max_check_attempts":1},{"host":"h","description":"b","max_check_attempts":3},{"host":"h","description":"c","max_check_attempts":3}],"service_dependencies":[{"dependent":"h;b","master":"h;a","criteria":"c"},{"dependent":"h;c","master":"h;b","criteria":"c","inherits_parent":true}]}"#;
 
 /// The same as the first with the services 1 and 2, both due at 0.
 pub(crate) const TWO_SERVICES: &[u8] =

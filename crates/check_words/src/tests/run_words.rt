@@ -43,6 +43,7 @@ fn refuses_other_words(rt: HostRuntime) {
         ["nagsched", "run", "help"].as_slice(),
         ["nagsched", "drill", "help"].as_slice(),
         ["nagsched", ""].as_slice(),
+        ["nagsched", "--help=x"].as_slice(),
     ] {
         assert!(rt; matches!(&job(rt.alloc(), words), Err(WordsError::Refused)));
     }

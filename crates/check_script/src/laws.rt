@@ -1,0 +1,13 @@
+//! Laws of the limits of an input: functions without code, whose contracts speak of the constants
+//! that clauses and definitions cite.
+ghost use Rattle.std.specs.Prelude.{◌≡◌};
+ghost use Rattle.check_script.specs.declared.input.TheConstants.{MAX_READ_BYTES};
+ghost use Rattle.check_script.specs.declared.line.TheConstants.{MAX_LINE_BYTES};
+ghost use Rattle.check_script.specs.declared.script.TheConstants.{MAX_INPUT_BYTES};
+
+/// An input has at most 64 MiB, of which one byte more is read, and a line at most 4,096 bytes.
+pub fn limits_of_an_input()
+    ensures input { MAX_INPUT_BYTES ≡ 67108864 }
+    ensures read { MAX_READ_BYTES ≡ 67108865 }
+    ensures line { MAX_LINE_BYTES ≡ 4096 }
+{}

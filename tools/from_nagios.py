@@ -1,0 +1,443 @@
+#!/usr/bin/env python3
+"""Makes a setup of a configuration of Nagios Core 4.
+
+    tools/from_nagios.py [--parts DIRECTORY] nagios.cfg objects.precache > setup.json
+
+The second file is what Nagios makes of its object files, with templates, groups and inheritance written out:
+`nagios4 -vp nagios.cfg` writes it where `precached_object_file` says, and a running Nagios keeps the same as its
+`object_cache_file`. The setup is one line, as `nagsched run` wants it. What has no counterpart is named on standard
+error, each kind once; what can't be taken over is an error with its file and line, and then there is no setup.
+
+With --parts the objects go into few setups, DIRECTORY/part-1.json and on, such that no parent, no dependency and no
+service's host stands in another part.
+"""
+import argparse
+import collections
+import fractions
+import json
+import math
+import pathlib
+import sys
+
+MOST_OBJECTS, MOST_LINKS, MOST_UNITS = 4_096, 16_384, 525_600
+MINUTES, MILLISECONDS = 525_600, 86_400_000
+
+
+class CannotTakeOver(Exception):
+    """Something that a setup can't say."""
+
+
+class Value(str):
+    """The text of a member, with the place where it stands."""
+
+    def __new__(cls, text, place):
+        value = super().__new__(cls, text)
+        value.place = place
+        return value
+
+    def refuse(self, why):
+        raise CannotTakeOver(f"{self.place}: {why}")
+
+
+class LeftOut:
+    """What has no counterpart here, by kind: how often it was met, and what that means."""
+
+    def __init__(self):
+        self.kinds = collections.Counter()
+        self.meanings = {}
+
+    def add(self, kind, meaning):
+        self.kinds[kind] += 1
+        self.meanings[kind] = meaning
+
+    def tell(self):
+        for kind, count in sorted(self.kinds.items()):
+            print(f"left out: {kind} ({count}): {self.meanings[kind]}", file=sys.stderr)
+
+
+# ---- reading
+
+
+def lines_of(path):
+    """The lines of a file that say something, each with its place."""
+    try:
+        text = path.read_text(encoding="utf-8")
+    except (OSError, UnicodeDecodeError) as error:
+        raise CannotTakeOver(f"{path}: {error}") from None
+    for number, line in enumerate(text.split("\n"), 1):
+        line = line.strip()
+        if line and line[0] not in "#;":
+            yield f"{path}:{number}", line
+
+
+def read_options(path):
+    """The options of nagios.cfg; of one that stands twice the last counts."""
+    options = {}
+    for place, line in lines_of(path):
+        name, equals, value = line.partition("=")
+        if not equals:
+            raise CannotTakeOver(f"{place}: no option: {line}")
+        options[name.strip()] = Value(value.strip(), place)
+    return options
+
+
+def read_objects(path):
+    """The definitions of an object file: the kind of each, its place and its members."""
+    objects, members = [], None
+    for place, line in lines_of(path):
+        if members is None:
+            words = line.replace("{", " { ").split()
+            if len(words) != 3 or words[0] != "define" or words[2] != "{":
+                raise CannotTakeOver(f"{place}: no definition: {line}")
+            members = {}
+            objects.append((words[1], place, members))
+        elif line == "}":
+            members = None
+        else:
+            name, _, value = line.partition("\t") if "\t" in line else line.partition(" ")
+            members[name] = Value(value.strip(), place)
+    if members is not None:
+        raise CannotTakeOver(f"{path}: its last definition has no end")
+    return objects
+
+
+def required(members, name, place):
+    if name not in members:
+        raise CannotTakeOver(f"{place}: no {name}")
+    return members[name]
+
+
+def number(value):
+    """A number that is written with or without a point, exactly."""
+    try:
+        return fractions.Fraction(value)
+    except (ValueError, ZeroDivisionError):
+        value.refuse(f"no number: {value}")
+
+
+def whole(value, of, least, most):
+    """That number, where it is whole and within its limits."""
+    if of.denominator != 1 or not least <= of <= most:
+        value.refuse(f"{value} is {float(of):g} here; it can be a whole number from {least} to {most}")
+    return int(of)
+
+
+def switch(value):
+    if value not in ("0", "1"):
+        value.refuse(f"no switch: {value}")
+    return value == "1"
+
+
+# ---- options
+
+
+def delay(value):
+    """A delay method: a letter, or seconds there and milliseconds here."""
+    return str(value) if value in ("n", "d", "s") else whole(value, number(value) * 1000, 0, MILLISECONDS)
+
+
+def factor(value):
+    return "s" if value == "s" else whole(value, number(value), 1, MOST_OBJECTS)
+
+
+def percent(value):
+    """A percent, rounded up: they are whole here."""
+    return whole(value, fractions.Fraction(math.ceil(number(value))), 0, 100)
+
+
+def between(least, most):
+    return lambda value: whole(value, number(value), least, most)
+
+
+# Each option with a counterpart: how it is read, and what Nagios takes where it isn't there.
+OPTIONS = {
+    "interval_length": (between(1, 86_400), "60"),
+    "service_inter_check_delay_method": (delay, "s"),
+    "max_service_check_spread": (between(1, MINUTES), "30"),
+    "service_interleave_factor": (factor, "s"),
+    "host_inter_check_delay_method": (delay, "s"),
+    "max_host_check_spread": (between(1, MINUTES), "30"),
+    "max_concurrent_checks": (between(0, 1_000_000), "0"),
+    "soft_state_dependencies": (switch, "0"),
+    "use_aggressive_host_checking": (switch, "0"),
+    "low_service_flap_threshold": (percent, "20"),
+    "high_service_flap_threshold": (percent, "30"),
+    "low_host_flap_threshold": (percent, "20"),
+    "high_host_flap_threshold": (percent, "30"),
+}
+# Options that change what Nagios schedules: the value at which they don't, and what leaving them out means.
+TELLING = {
+    "enable_flap_detection": ("1", "flapping is told of every object"),
+    "execute_service_checks": ("1", "services are checked all the same"),
+    "execute_host_checks": ("1", "hosts are checked all the same"),
+    "auto_reschedule_checks": ("0", "no check is moved to even out the load"),
+}
+
+
+def options_of(read, left_out):
+    for name, value in read.items():
+        if name in TELLING and value != TELLING[name][0]:
+            left_out.add(f"{name}={value}", TELLING[name][1])
+        elif name not in OPTIONS and name not in TELLING:
+            left_out.add("other options of nagios.cfg", "files, logs, commands and other parts of Nagios")
+    return {name: how(read.get(name, Value(default, f"the default of {name}"))) for name, (how, default) in OPTIONS.items()}
+
+
+# ---- hosts and services
+
+TAKEN = {"host_name", "service_description", "parents", "check_interval", "retry_interval", "max_check_attempts", "active_checks_enabled"}
+# Members without a counterpart: the values at which they change nothing, their kind, and what that means here.
+MEMBERS = {
+    "check_period": ((), "check_period", "a check is due at any time of the day"),
+    "check_command": ((), "check_command", "whoever takes a check runs its plugin"),
+    "passive_checks_enabled": (("0", "1"), "", ""),
+    "initial_state": (("o",), "initial_state", "an object begins as OK or UP, never checked"),
+    "flap_detection_enabled": (("1",), "flap_detection_enabled 0", "flapping is told of every object"),
+    "flap_detection_options": (("a",), "flap_detection_options", "every result counts"),
+    "low_flap_threshold": (("0.000000", "0"), "flap thresholds of an object", "those of all hosts or all services hold"),
+    "high_flap_threshold": (("0.000000", "0"), "flap thresholds of an object", "those of all hosts or all services hold"),
+    "check_freshness": (("0",), "check_freshness", "nothing is checked for being stale"),
+    "freshness_threshold": (("0",), "check_freshness", "nothing is checked for being stale"),
+    "is_volatile": (("0",), "is_volatile", "a problem that comes again is no new one"),
+    "obsess": (("0", "1"), "", ""),
+    "parallelize_check": (("1",), "parallelize_check 0", "its check runs beside others"),
+}
+OTHER = ("other members of hosts and services", "names, addresses, contacts, notifications, events and what is shown")
+
+
+def tell_members(members, left_out):
+    for name, value in members.items():
+        if name in ("use", "register", "name"):
+            value.refuse("a template; let Nagios write them out: nagios4 -vp nagios.cfg")
+        if name in MEMBERS:
+            neutral, kind, meaning = MEMBERS[name]
+            if value not in neutral:
+                left_out.add(kind, meaning)
+        elif name not in TAKEN:
+            left_out.add(*OTHER)
+
+
+def name_of(value):
+    size = len(value.encode())
+    if not 1 <= size <= 255 or ";" in value or any(ord(letter) < 32 or ord(letter) == 127 for letter in value):
+        value.refuse("a name has 1 to 255 bytes, no `;` and no control character")
+    return str(value)
+
+
+def timing(members, place, left_out):
+    """What hosts and services have alike; intervals are still those of Nagios."""
+    tell_members(members, left_out)
+    attempts = required(members, "max_check_attempts", place)
+    taken = {
+        "check_interval": members.get("check_interval", Value("5", place)),
+        "retry_interval": members.get("retry_interval", Value("1", place)),
+        "max_check_attempts": whole(attempts, number(attempts), 1, 255),
+    }
+    if not switch(members.get("active_checks_enabled", Value("1", place))):
+        taken["enabled"] = False
+        left_out.add("objects without active checks", "switched off here; a passive result has no way in")
+    return taken
+
+
+def host_of(members, place, left_out):
+    host = {"name": name_of(required(members, "host_name", place))}
+    parents = [parent.strip() for parent in members.get("parents", "").split(",") if parent.strip()]
+    if parents:
+        host["parents"] = parents
+    return host | timing(members, place, left_out)
+
+
+def service_of(members, place, left_out):
+    host = required(members, "host_name", place)
+    description = name_of(required(members, "service_description", place))
+    return {"host": str(host), "description": description} | timing(members, place, left_out)
+
+
+# ---- dependencies
+
+
+def end_of(members, place, before, service):
+    """The full name of the dependent (before is `dependent_`) or of the master."""
+    host = required(members, before + "host_name", place)
+    return f"{host};{required(members, before + 'service_description', place)}" if service else str(host)
+
+
+def dependency_of(members, place, service, left_out):
+    """A dependency of execution; none where it is one of notifications alone."""
+    letters = "owucpn" if service else "odupn"
+    criteria = members.get("execution_failure_options", members.get("execution_failure_criteria"))
+    if "dependency_period" in members:
+        left_out.add("dependency_period", "a dependency holds at any time")
+    if any(name.startswith("notification_failure") for name in members):
+        left_out.add("dependencies of notifications", "no notifications are sent")
+    if criteria is None:
+        return None
+    named = [letter.strip() for letter in criteria.split(",")]
+    if named == ["a"]:
+        named = list(letters.replace("n", ""))
+    for letter in named:
+        if len(letter) != 1 or letter not in letters:
+            criteria.refuse(f"no criteria: {criteria}")
+    dependency = {"dependent": end_of(members, place, "dependent_", service), "master": end_of(members, place, "", service)}
+    dependency["criteria"] = ",".join(named)
+    if switch(members.get("inherits_parent", Value("0", place))):
+        dependency["inherits_parent"] = True
+    return dependency
+
+
+# ---- the whole
+
+NOTHING_HERE = {
+    "timeperiod": "a check is due at any time of the day",
+    "command": "whoever takes a check runs its plugin",
+    "contact": "no notifications are sent",
+    "contactgroup": "no notifications are sent",
+    "hostescalation": "no notifications are sent",
+    "serviceescalation": "no notifications are sent",
+    "hostgroup": "Nagios has written out what they stand for",
+    "servicegroup": "Nagios has written out what they stand for",
+    "hostextinfo": "nothing is shown",
+    "serviceextinfo": "nothing is shown",
+}
+
+
+def documents_of(options, objects, left_out):
+    """One setup of all: its options, and each object and dependency in the order of the file."""
+    setup = {"options": options_of(options, left_out), "hosts": [], "services": [], "service_dependencies": [], "host_dependencies": []}
+    for kind, place, members in objects:
+        if kind == "host":
+            setup["hosts"].append(host_of(members, place, left_out))
+        elif kind == "service":
+            setup["services"].append(service_of(members, place, left_out))
+        elif kind in ("servicedependency", "hostdependency"):
+            service = kind == "servicedependency"
+            dependency = dependency_of(members, place, service, left_out)
+            if dependency is not None:
+                setup["service_dependencies" if service else "host_dependencies"].append(dependency)
+        elif kind in NOTHING_HERE:
+            left_out.add(f"{kind} definitions", NOTHING_HERE[kind])
+        else:
+            raise CannotTakeOver(f"{place}: a definition of a kind that isn't known: {kind}")
+    in_whole_units(setup)
+    return setup
+
+
+def in_whole_units(setup):
+    """Makes every interval whole: where one isn't, the unit becomes the longest that divides them all."""
+    timed = setup["hosts"] + setup["services"]
+    length = setup["options"]["interval_length"]
+    unit = length
+    if any(number(it[name]).denominator != 1 for it in timed for name in ("check_interval", "retry_interval")):
+        for it in timed:
+            for name in ("check_interval", "retry_interval"):
+                seconds = number(it[name]) * length
+                if seconds.denominator != 1:
+                    it[name].refuse(f"{it[name]} units of {length} seconds are no whole seconds")
+                unit = math.gcd(unit, int(seconds))
+    setup["options"]["interval_length"] = unit
+    for it in timed:
+        for name in ("check_interval", "retry_interval"):
+            it[name] = whole(it[name], number(it[name]) * length / unit, 0, MOST_UNITS)
+
+
+# ---- parts
+
+DEPENDENCIES = ("service_dependencies", "host_dependencies")
+
+
+def pieces_of(setup):
+    """The pieces that hang together by parents, dependencies and hosts of services, the largest first."""
+    above = {host["name"]: host["name"] for host in setup["hosts"]}
+
+    def top(name):
+        while above[name] != name:
+            above[name] = above[above[name]]
+            name = above[name]
+        return name
+
+    def join(one, other):
+        for name in (one, other):
+            if name not in above:
+                raise CannotTakeOver(f"no host {name}")
+        above[top(one)] = top(other)
+
+    for host in setup["hosts"]:
+        for parent in host.get("parents", ()):
+            join(host["name"], parent)
+    for kind in DEPENDENCIES:
+        for dependency in setup[kind]:
+            join(dependency["dependent"].partition(";")[0], dependency["master"].partition(";")[0])
+    pieces = collections.defaultdict(lambda: {"hosts": [], "services": [], "service_dependencies": [], "host_dependencies": []})
+    for host in setup["hosts"]:
+        pieces[top(host["name"])]["hosts"].append(host)
+    for service in setup["services"]:
+        join(service["host"], service["host"])
+        pieces[top(service["host"])]["services"].append(service)
+    for kind in DEPENDENCIES:
+        for dependency in setup[kind]:
+            pieces[top(dependency["dependent"].partition(";")[0])][kind].append(dependency)
+    return sorted(pieces.values(), key=sizes, reverse=True)
+
+
+def sizes(part):
+    """How many objects, dependencies and parents there are."""
+    objects = len(part["hosts"]) + len(part["services"])
+    parents = sum(len(host.get("parents", ())) for host in part["hosts"])
+    return objects, sum(len(part[kind]) for kind in DEPENDENCIES), parents
+
+
+def has_room(part, piece):
+    return all(a + b <= most for a, b, most in zip(sizes(part), sizes(piece), (MOST_OBJECTS, MOST_LINKS, MOST_LINKS)))
+
+
+def parts_of(setup):
+    """Few setups: each piece, the largest first, into the first with room."""
+    parts = []
+    for piece in pieces_of(setup):
+        empty = {"hosts": [], "services": [], "service_dependencies": [], "host_dependencies": []}
+        if not has_room(empty, piece):
+            objects, dependencies, parents = sizes(piece)
+            raise CannotTakeOver(
+                f"the piece with host {piece['hosts'][0]['name']} is too large for one setup: {objects} objects, "
+                f"{dependencies} dependencies, {parents} parents (at most {MOST_OBJECTS}, {MOST_LINKS}, {MOST_LINKS})")
+        part = next((part for part in parts if has_room(part, piece)), None)
+        if part is None:
+            part = empty
+            parts.append(part)
+        for kind in empty:
+            part[kind].extend(piece[kind])
+    return [{"options": setup["options"]} | part for part in parts]
+
+
+def written(setup):
+    return json.dumps(setup, ensure_ascii=False, separators=(",", ":")) + "\n"
+
+
+def main():
+    arguments = argparse.ArgumentParser(description=__doc__, formatter_class=argparse.RawDescriptionHelpFormatter)
+    arguments.add_argument("--parts", metavar="DIRECTORY", type=pathlib.Path, help="write few setups into this folder")
+    arguments.add_argument("options", metavar="nagios.cfg", type=pathlib.Path)
+    arguments.add_argument("objects", metavar="objects.precache", type=pathlib.Path)
+    words = arguments.parse_args()
+    left_out = LeftOut()
+    try:
+        setup = documents_of(read_options(words.options), read_objects(words.objects), left_out)
+        if words.parts is None and not has_room({"hosts": [], "services": [], "service_dependencies": [], "host_dependencies": []}, setup):
+            raise CannotTakeOver("more than one setup can have ({} objects, {} dependencies, {} parents): --parts makes several".format(*sizes(setup)))
+        parts = [] if words.parts is None else parts_of(setup)
+    except CannotTakeOver as error:
+        print(f"from_nagios: {error}", file=sys.stderr)
+        return 1
+    left_out.tell()
+    if words.parts is None:
+        sys.stdout.write(written(setup))
+        return 0
+    words.parts.mkdir(parents=True, exist_ok=True)
+    for number_of_part, part in enumerate(parts, 1):
+        (words.parts / f"part-{number_of_part}.json").write_text(written(part), encoding="utf-8")
+    print(f"{len(parts)} parts: the limit of concurrent checks and the spread of first checks hold for each apart", file=sys.stderr)
+    return 0
+
+
+if __name__ == "__main__":
+    sys.exit(main())
