@@ -2,7 +2,7 @@ use Rattle.std.proofs.Common.{subst}
 use Rattle.check_desk.specs.Desks.{AreNewPasses}
 use Rattle.check_desk.specs.Passes.{opening_calls}
 use Rattle.check_desk.proofs.PassLemmas.{new_last}
-use Rattle.check_desk.proofs.tests.a_desk_of_1024_passes.Goals as goal
+use Rattle.check_desk.proofs.tests.sizes.a_desk_of_1024_passes.Goals as goal
 
 pub ask-last-requires : goal.ask-last-requires
 ask-last-requires g c =
