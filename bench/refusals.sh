@@ -16,52 +16,13 @@ done
 program=$top/crates/nagsched/out/nagsched
 calls=$top/crates/nagsched_refusals/out/nagsched_refusals
 
-cat > "$work/refuse.c" <<'C'
-#define _GNU_SOURCE
-#include <dlfcn.h>
-#include <stdatomic.h>
-#include <stdio.h>
-#include <stdlib.h>
-#include <sys/syscall.h>
-#include <unistd.h>
-
-static atomic_long requests;
-
-/* Counts a request, and tells whether it is the one to be refused. */
-static int is_refused(void) {
-    const char *at = getenv("REFUSE_AT");
-    return atomic_fetch_add(&requests, 1) + 1 == (at ? atol(at) : 0);
-}
-
-void *malloc(size_t size) {
-    static void *(*real)(size_t);
-    if (!real) real = dlsym(RTLD_NEXT, "malloc");
-    return is_refused() ? NULL : real(size);
-}
-
-void *realloc(void *old, size_t size) {
-    static void *(*real)(void *, size_t);
-    if (!real) real = dlsym(RTLD_NEXT, "realloc");
-    return is_refused() ? NULL : real(old, size);
-}
-
-/* The program ends so: leaves the count of requests for the script. */
-void _exit(int status) {
-    FILE *file = fopen(getenv("REQUESTS"), "w");
-    if (file) {
-        fprintf(file, "%ld\n", atomic_load(&requests));
-        fclose(file);
-    }
-    syscall(SYS_exit_group, status);
-    __builtin_unreachable();
-}
-C
-cc -O2 -shared -fPIC -o "$work/refuse.so" "$work/refuse.c" -ldl
+cc -O2 -shared -fPIC -o "$work/refuse.so" "$top/.ci/refuse.c" -ldl
 
 # Runs a command on an input with its Nth request refused: its status is printed, its output kept.
 refused_at() {
     local number=$1 input=$2 status=0
     shift 2
+    head -c 8 /dev/zero > "$work/requests"
     REFUSE_AT=$number REQUESTS=$work/requests LD_PRELOAD=$work/refuse.so "$@" < "$input" > "$work/output" || status=$?
     echo "$status"
 }
@@ -89,7 +50,7 @@ sweep() {
     [[ $(refused_at 0 "$input" "$@") == 0 ]] || { echo "$name fails with ample memory"; exit 1; }
     cp "$work/output" "$work/ample"
     local requests ample=0 memory=0 counted=0 other=''
-    requests=$(< "$work/requests")
+    requests=$(od -An -td8 "$work/requests")
     for ((n = 1; n <= requests; n += n < dense ? 1 : 61)); do
         status=$(refused_at "$n" "$input" "$@")
         if [[ $status == 4 ]]; then

@@ -18,23 +18,26 @@ use std::test::Fail;
 use std::thread::join;
 use ticket_steps::Kept;
 
+mod sizes;
+
 /// A host that is never due, and its service 1, due at 0.
 const ONE_SERVICE: &[u8] =
     br#"{"options":{"service_inter_check_delay_method":"n","host_inter_check_delay_method":"n"},"hosts":[{"name":"h","check_interval":0,"max_check_attempts":3}],"services":[{"host":"h","description":"s","max_check_attempts":3}]}"#;
 
 const STATUS: Call = Call::Status { object: 1 };
 
-fn setup_of(alloc: Global) -> Result<Setup, LoadError> {
-    match Setup::read(alloc, ONE_SERVICE) {
-        Err(LoadError::Memory) => Setup::read(alloc, ONE_SERVICE),
+fn setup_of(alloc: Global, document: &[u8]) -> Result<Setup, LoadError> {
+    match Setup::read(alloc, document) {
+        Err(LoadError::Memory) => Setup::read(alloc, document),
         answer => answer,
     }
 }
 
-fn empty_book(alloc: Global) -> Result<Book, Fail>
+/// An empty book over the setup of a document.
+fn empty_book(alloc: Global, document: &[u8]) -> Result<Book, Fail>
     ensures { IfOk result (λ book. (entries_of book ≡ []) × (refused_of book ≡ 0)) }
 {
-    match Book::open(alloc, setup_of(alloc)?, 0, 400) {
+    match Book::open(alloc, setup_of(alloc, document)?, 0, 400) {
         Ok(book) => Ok(book),
         Err(setup) => Ok(
             Book::open(alloc, setup, 0, 400)
@@ -44,13 +47,13 @@ fn empty_book(alloc: Global) -> Result<Book, Fail>
     }
 }
 
-/// A desk on that setup, and its passes.
+/// A desk on the setup of one service, and its passes.
 fn opened(alloc: Global, passes: u32) -> Result<(Desk, Vec<Pass>), Fail>
     requires { (0 < passes) × (passes ≤ 1024) }
     ensures passes { IfOk result (λ made. length made.1.items ≡ passes) }
     ensures new { IfOk result (λ made. AreNewPasses made.0 0 made.1.items) }
 {
-    match Desk::open(alloc, empty_book(alloc)?, passes) {
+    match Desk::open(alloc, empty_book(alloc, ONE_SERVICE)?, passes) {
         Ok(made) => Ok(made),
         Err(book) => Ok(
             Desk::open(alloc, book, passes)
@@ -66,7 +69,7 @@ fn opened_with(alloc: Global, passes: u32, calls: u32) -> Result<(Desk, Vec<Pass
     ensures passes { IfOk result (λ made. length made.1.items ≡ passes) }
     ensures new { IfOk result (λ made. AreNewPassesWith calls made.0 0 made.1.items) }
 {
-    match Desk::open_with(alloc, empty_book(alloc)?, passes, calls) {
+    match Desk::open_with(alloc, empty_book(alloc, ONE_SERVICE)?, passes, calls) {
         Ok(made) => Ok(made),
         Err(book) => Ok(
             Desk::open_with(alloc, book, passes, calls)
@@ -462,23 +465,4 @@ fn a_spent_pass_makes_no_call(rt: HostRuntime) -> Result<(), Fail> {
     let book = closed(&rt, desk, pass);
     assert_eq!(rt; (book.entries().len(), book.refused()), (2, 0));
     Ok(())
-}
-
-/// As many passes as there can be.
-#[test]
-fn a_desk_of_1024_passes(rt: HostRuntime) -> Result<(), Fail> {
-    let (desk, mut passes) = opened(rt.alloc(), 1024)?;
-    assert_eq!(rt; passes.len(), 1024);
-    let Some(last) = passes.pop() else {
-        return Err(Fail::from("no pass"));
-    };
-    assert_eq!(rt; (last.number(), last.gathered()), (1023, 1));
-    assert_eq!(rt; (last.left(), last.calls()), (4_294_967_295, 0));
-    let (last, answer) = desk.ask(&rt, last, Call::Take { now: 0 });
-    assert_eq!(rt; answer, Answer::Reply(Reply::Taken { object: 1, run: 1 }));
-    assert_eq!(rt; (last.left(), last.calls()), (4_294_967_294, 1));
-    match desk.close(last) {
-        Ok(_book) => Err(Fail::from("closed with 1,023 passes missing")),
-        Err((_desk, _pass)) => Ok(()),
-    }
 }

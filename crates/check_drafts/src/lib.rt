@@ -3,12 +3,13 @@
 //!
 //! Drafts are the document's, in its order and by its names; nothing in them is verified. The values
 //! that a setup keeps, [`Options`], [`Object`], [`Criteria`] and [`Dependency`], stand here too, with
-//! the limits of a setup.
+//! the limits of a setup, which `laws` says as numbers.
 #![tactic(auto)]
 
 mod dependency;
 mod draft;
 mod error;
+pub mod laws;
 mod limits;
 mod name;
 mod object;

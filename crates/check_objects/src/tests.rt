@@ -1,4 +1,4 @@
-//! What no clause says: that good documents are read, and refusals at documents from outside.
+//! What no clause says: that good documents are read.
 
 mod dependencies;
 mod hosts;
@@ -6,9 +6,8 @@ mod options;
 mod services;
 mod sizes;
 
-use crate::{LoadError, Setup};
+use crate::{Part, Place};
 use std::alloc::{AllocError, Global};
-use std::process::Abort;
 
 const ONE_HOST: &str =
     r#"{"options":{"host_inter_check_delay_method":"n"},"hosts":[{"name":"h","max_check_attempts":3}]}"#;
@@ -20,16 +19,16 @@ fn with_hosts(alloc: Global, hosts: &str) -> Result<String, AllocError> {
     )
 }
 
-/// The document is refused, and for this reason.
-fn refuses(rt: &impl Abort, alloc: Global, document: &str, want: LoadError) {
-    let refused = Setup::read(alloc, document.as_bytes());
-    assert!(rt; matches!(&refused, Err(e) if *e == want), "{document}");
-}
-
-/// Each document is refused, and for the reason beside it.
-fn refuses_each(rt: &impl Abort, alloc: Global, documents: &[(&str, LoadError)]) {
-    for (document, want) in documents {
-        refuses(rt, alloc, *document, *want);
+/// The places of whole parts are the parts that they are named after.
+#[test]
+fn places_of_whole_parts(rt: HostRuntime) {
+    for (place, part) in [
+        (Place::DOCUMENT, Part::Document),
+        (Place::OPTIONS, Part::Options),
+        (Place::HOSTS, Part::Hosts),
+        (Place::SERVICES, Part::Services),
+    ] {
+        assert_eq!(rt; place, Place { part, index: None });
     }
 }
 

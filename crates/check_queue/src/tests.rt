@@ -1,6 +1,10 @@
 //! The queue of four numbers, step by step, and a queue of many.
 
+ghost use Rattle.std.specs.Prelude.{◌<◌};
+
 use crate::Queue;
+use std::alloc::Global;
+use std::process::Abort;
 use std::test::Fail;
 
 #[test]
@@ -37,6 +41,24 @@ fn a_number_past_the_bound_has_no_time(rt: HostRuntime) -> Result<(), Fail> {
     }
     assert_eq!(rt; queue.first(), Some((10, 3)));
     Ok(())
+}
+
+/// A queue of so many numbers, of which the last alone has a time.
+fn has_room_for(rt: &impl Abort, alloc: Global, numbers: u32) -> Result<(), Fail>
+    requires { 0 < numbers }
+{
+    let last = numbers - 1;
+    let mut queue = Queue::new(alloc, numbers)?;
+    queue.put(last, 7);
+    assert_eq!(rt; queue.first(), Some((7, last)));
+    assert!(rt; queue.remove(last));
+    assert_eq!(rt; queue.first(), None);
+    Ok(())
+}
+
+#[test]
+fn a_queue_of_a_million_numbers(rt: HostRuntime) -> Result<(), Fail> {
+    has_room_for(&rt, rt.alloc(), 1_000_000)
 }
 
 /// How many numbers Nagios's own test of its event queue puts in.

@@ -4,7 +4,6 @@
 use Rattle.std.specs.Prelude.{ℕ, ◌+◌, ◌*◌, ◌==◌, Bool, not, List, [], ◌∷◌, ◌++◌, length, zip, drop, nat_lt, nat_le, if◌then◌else◌, ◌/◌}
 use Rattle.std.specs.List.{enumerate_from, sum_by}
 use Rattle.circular_buffer.specs.Buffer.{keep_last}
-use Rattle.check_rules.specs.declared.flapping.TheConstants.{KEPT_RESULTS}
 use Rattle.check_rules.specs.declared.state.State.{State}
 use Rattle.check_rules.specs.State.{is_another_state}
 
@@ -12,7 +11,7 @@ use Rattle.check_rules.specs.State.{is_another_state}
 
 -- the results that are kept after one more: the last 21, the oldest first
 abbrev pub kept_after : List State → State → List State
-kept_after results found = keep_last KEPT_RESULTS (results ++ found ∷ [])
+kept_after results found = keep_last 21 (results ++ found ∷ [])
 
 -- ---- the percent
 
@@ -38,7 +37,7 @@ changes_weight results = sum_by weight_between (pairs_of results)
 
 -- how much of all that could change did, in whole percents; 0 before there are 21 results
 abbrev pub percent_of : List State → ℕ
-percent_of results = if length results == KEPT_RESULTS then 100 * changes_weight results / weight_of_all else 0
+percent_of results = if length results == 21 then 100 * changes_weight results / weight_of_all else 0
 
 -- ---- whether an object flaps
 

@@ -5,6 +5,7 @@ ghost use Rattle.std.specs.List.{list_any};
 ghost use Rattle.check_objects.specs.Configuration.{Configuration, dependencies_of, masters_of, object_count};
 ghost use Rattle.link_order.specs.Cycles.{has_cycle};
 ghost use Rattle.check_rules.specs.Dependencies.{fails, is_blocked};
+ghost use Rattle.check_rules.specs.declared.flapping.TheConstants.{KEPT_RESULTS};
 ghost use Rattle.check_rules.specs.declared.standing.Standing.{Standing};
 
 /// Which objects are blocked, in a setup whose dependencies have no cycle: exactly those of which some
@@ -22,4 +23,10 @@ pub fn blocked_where_a_dependency_fails()
         → ((object : ℕ) → answer object
         ≡ list_any (fails answer setup standings) (dependencies_of setup object))
         → (object : ℕ) → answer object ≡ is_blocked setup standings object }
+{}
+
+/// How many of an object's results are kept, as a number: 21, between which there are 20 changes. (Our
+/// own profile.)
+pub fn results_that_are_kept()
+    ensures { KEPT_RESULTS ≡ 21 }
 {}

@@ -2,12 +2,11 @@
 //! in which our table says what Nagios does, and worked examples of our own profile.
 
 mod board;
+mod dependencies;
 mod flapping;
 
-use crate::laws::blocked_where_a_dependency_fails;
-use crate::{
-    Code, Kind, Standing, State, blocked, host_state, lawful, pending, service_state, verdict,
-};
+use crate::laws::{blocked_where_a_dependency_fails, results_that_are_kept};
+use crate::{Code, Kind, Standing, State, host_state, lawful, pending, service_state, verdict};
 use check_objects::Setup;
 use std::process::Abort;
 use std::test::Fail;
@@ -280,50 +279,9 @@ fn aggressive_checking(rt: HostRuntime) -> Result<(), Fail> {
     Ok(())
 }
 
-/// A host and its services `a`, `b` and `c`: `b` depends on `a`, and `c` on `b`, inheriting, both
-/// where the master is CRITICAL.
-const CHAIN: &[u8] =
-    br#"{"hosts":[{"name":"h","max_check_attempts":3}],"services":[{"host":"h","description":"a","max_check_attempts":1},{"host":"h","description":"b","max_check_attempts":3},{"host":"h","description":"c","max_check_attempts":3}],"service_dependencies":[{"dependent":"h;b","master":"h;a","criteria":"c"},{"dependent":"h;c","master":"h;b","criteria":"c","inherits_parent":true}]}"#;
-
-/// The same without inheriting, and with `b` held back until `a` is checked too.
-const LOOSE_CHAIN: &[u8] =
-    br#"{"hosts":[{"name":"h","max_check_attempts":3}],"services":[{"host":"h","description":"a","max_check_attempts":1},{"host":"h","description":"b","max_check_attempts":3},{"host":"h","description":"c","max_check_attempts":3}],"service_dependencies":[{"dependent":"h;b","master":"h;a","criteria":"c"},{"dependent":"h;c","master":"h;b","criteria":"c"},{"dependent":"h;b","master":"h;a","criteria":"p"}]}"#;
-
-/// Whether the object with this number is blocked, where service 1 has this standing and the others
-/// were never checked. The scratch is full of marks at first.
-fn is_blocked(rt: &impl Abort, setup: &Setup, first: Standing, number: u32) -> bool {
-    let standings = [pending(true), first, pending(false), pending(false)];
-    let mut marks = [true; 4];
-    assert!(rt; setup.len() == 4 && number < 4);
-    blocked(setup, &standings, &mut marks, number)
-}
-
+/// The laws have no parameters.
 #[test]
-fn a_failing_dependency_is_inherited(rt: HostRuntime) -> Result<(), Fail> {
-    let chain = Setup::read(rt.alloc(), CHAIN)?;
-    let hard = standing(State::Critical, Kind::Hard, 1, State::Critical);
-    let soft = standing(State::Critical, Kind::Soft, 1, State::Ok);
-    assert!(rt; !is_blocked(&rt, &chain, hard, 1));
-    assert!(rt; is_blocked(&rt, &chain, hard, 2));
-    assert!(rt; is_blocked(&rt, &chain, hard, 3));
-    assert!(rt; !is_blocked(&rt, &chain, soft, 2));
-    assert!(rt; !is_blocked(&rt, &chain, soft, 3));
-    Ok(())
-}
-
-#[test]
-fn a_dependency_that_does_not_inherit(rt: HostRuntime) -> Result<(), Fail> {
-    let chain = Setup::read(rt.alloc(), LOOSE_CHAIN)?;
-    let hard = standing(State::Critical, Kind::Hard, 1, State::Critical);
-    assert!(rt; is_blocked(&rt, &chain, hard, 2));
-    assert!(rt; !is_blocked(&rt, &chain, hard, 3));
-    assert!(rt; is_blocked(&rt, &chain, pending(false), 2));
-    assert!(rt; !is_blocked(&rt, &chain, pending(false), 3));
-    Ok(())
-}
-
-/// The law has no parameters.
-#[test]
-fn the_law_can_be_called(_rt: HostRuntime) {
+fn the_laws_can_be_called(_rt: HostRuntime) {
     blocked_where_a_dependency_fails();
+    results_that_are_kept();
 }

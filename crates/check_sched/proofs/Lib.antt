@@ -8,11 +8,13 @@ pub mod LimitLaws
 pub mod OpeningLaws
 pub mod OperatorLaws
 pub mod PendingLaws
+pub mod PublicLaws
 pub mod ReplyLaws
 pub mod ReportLaws
 pub mod ResultsLaws
 pub mod RosterLaws
 pub mod RunLaws
+pub mod StandingLaws
 pub mod StepLaws
 pub mod TakeLaws
 pub mod UpdateLaws

@@ -59,6 +59,13 @@ standings_opening setup k os h n t e =
       until_checked = λ never. refl;
     })
 
+-- each object can have the standing that it opens with
+pub first_standings : (setup : Configuration) → IsSetup setup → (n : ℕ) (t : Standing)
+    → slice_get (opening_standings setup) n ≡ Some t → IsStandingOf setup n t
+first_standings setup h n t e =
+    let z : 0 + n ≡ n = omega arith in
+    subst (λ j. IsStandingOf setup j t) z (standings_opening setup 0 (objects_of setup) h n t e)
+
 pub length-objects_at : (setup : Configuration) (times : List (Option ℕ)) → length times ≡ object_count setup
     → length (objects_at setup times) ≡ object_count setup
 length-objects_at setup times e =
@@ -87,7 +94,7 @@ opening_is_state setup start valid count within = record {
   runs = omega arith;
   times = times_in_time (initial_times setup start) (objects_of setup) within;
   limit = opening_limit setup start;
-  standings = λ n t e. let z : 0 + n ≡ n = omega arith in subst (λ j. IsStandingOf setup j t) z (standings_opening setup 0 (objects_of setup) valid n t e);
+  standings = first_standings setup valid;
 }
 
 -- the same of what the code opens with, by the times that it was given

@@ -1,7 +1,6 @@
 -- The results of all objects, as contracts see them.
 use Rattle.std.specs.Prelude.{◌≡◌, ◌==◌, true, List, map}
 use Rattle.std.specs.List.{list_all}
-use Rattle.check_rules.specs.declared.flapping.TheConstants.{KEPT_RESULTS}
 use Rattle.check_rules.specs.declared.state.State.{State}
 use Rattle.check_sched.specs.declared.results.Results.TheInside.{Inside}
 
@@ -12,4 +11,4 @@ results_of r = map (λ ring. ring.items) r.rings.items
 -- what is true of the fields of all results
 pub record IsKept (r : Inside) : Type 0 where
   -- each ring has room for as many results as are kept
-  pub rooms : list_all (λ ring. ring.capacity == KEPT_RESULTS) r.rings.items ≡ true
+  pub rooms : list_all (λ ring. ring.capacity == 21) r.rings.items ≡ true

@@ -1,5 +1,5 @@
 -- The state of a scheduler as contracts see it, and the state that it opens with.
-use Rattle.std.specs.Prelude.{ℕ, ◌<◌, ◌≤◌, ◌≡◌, ◌&&◌, ◌||◌, ◌==◌, Bool, true, false, List, [], length, map, zip, drop, replicate, count_by, Option, Some}
+use Rattle.std.specs.Prelude.{ℕ, ◌^◌, ◌<◌, ◌≤◌, ◌≡◌, ◌&&◌, ◌||◌, ◌==◌, Bool, true, false, List, [], length, map, zip, drop, replicate, count_by, Option, Some}
 use Rattle.std.specs.Prelude.{None, is_some, option_map, option_and_then, slice_get, nat_le, nat_lt, unwrap_or, if◌then◌else◌}
 use Rattle.std.specs.List.{list_all, enumerate_from}
 use Rattle.std.specs.Option.{option_map_or}
@@ -9,9 +9,7 @@ use Rattle.check_rules.specs.declared.state.State as rules
 use Rattle.check_rules.specs.State.{is_host_state}
 use Rattle.check_rules.specs.Standing.{pending_standing, is_lawful}
 use Rattle.check_sched.specs.Scheduling.{OpenRun, Scheduling, opening_object}
-use Rattle.check_sched.specs.declared.sched.TheConstants.{MAX_RUNS}
 use Rattle.check_spread.specs.Spread.{initial_times}
-use Rattle.check_spread.specs.declared.limits.TheConstants.{LAST_MOMENT, LAST_TIME}
 
 pub record State : Type 0 where
   pub setup : Configuration
@@ -115,12 +113,12 @@ opening setup start = record {
 -- a next time, if there is one, is at most 2^61 milliseconds
 abbrev pub is_time : Option ℕ → Bool
 is_time None = true
-is_time (Some time) = nat_le time LAST_TIME
+is_time (Some time) = nat_le time (2 ^ 61)
 
 -- a run, if there is one, began at 2^60 milliseconds at the latest
 abbrev pub is_moment : Option OpenRun → Bool
 is_moment None = true
-is_moment (Some run) = nat_le run.start LAST_MOMENT
+is_moment (Some run) = nat_le run.start (2 ^ 60)
 
 -- the next time of an object, and the start of its run, are within their limits
 abbrev pub is_in_time : Scheduling → Bool
@@ -143,7 +141,7 @@ pub record IsState (s : State) : Type 0 where
   pub one_each : length s.objects ≡ object_count s.setup
   pub one_standing_each : length s.standings ≡ object_count s.setup
   pub results_each : length s.results ≡ object_count s.setup
-  pub runs : s.runs ≤ MAX_RUNS
+  pub runs : s.runs ≤ 2 ^ 60
   pub times : list_all is_in_time s.objects ≡ true
   pub limit : IsWithinLimit s
   pub standings : (number : ℕ) (standing : Standing) → slice_get s.standings number ≡ Some standing → IsStandingOf s.setup number standing

@@ -1,5 +1,5 @@
 -- The sequential step: what a call answers in a state, and the state that it leaves.
-use Rattle.std.specs.Prelude.{ℕ, zero, suc, ◌+◌, Bool, false, not, ◌&&◌, ◌||◌, List, [], ◌∷◌, filter, Option, Some, None, Result, Ok, Err, ok_or}
+use Rattle.std.specs.Prelude.{ℕ, zero, suc, ◌+◌, ◌^◌, Bool, false, not, ◌&&◌, ◌||◌, List, [], ◌∷◌, filter, Option, Some, None, Result, Ok, Err, ok_or}
 use Rattle.std.specs.Prelude.{option_map, slice_get, nat_lt, if◌then◌else◌}
 use Rattle.std.specs.List.{list_any}
 use Rattle.std.specs.Option.{option_map_or}
@@ -9,8 +9,6 @@ use Rattle.check_sched.specs.declared.call.Reply.{Reply}
 use Rattle.check_sched.specs.declared.call.Reply.TheVariants as reply
 use Rattle.check_sched.specs.declared.call.Refusal.{Refusal}
 use Rattle.check_sched.specs.declared.call.Refusal.TheVariants as refusal
-use Rattle.check_sched.specs.declared.sched.TheConstants.{MAX_RUNS}
-use Rattle.check_spread.specs.declared.limits.TheConstants.{LAST_MOMENT}
 use Rattle.check_sched.specs.Scheduling.{Scheduling, running_from, ended, run_under, freed_time, put_off_to, rescheduled, enabled_as}
 use Rattle.check_sched.specs.Candidate.{Candidate, candidates_among, due_among}
 use Rattle.check_queue.specs.Order.{least}
@@ -54,11 +52,11 @@ known number s = ok_or (slice_get s.objects number) refusal.UnknownObject
 
 -- a moment above 2^60 is refused
 abbrev pub within_range : ℕ → Result (Unit {0}) Refusal
-within_range moment = if nat_lt LAST_MOMENT moment then Err refusal.TimeRange else Ok tt
+within_range moment = if nat_lt (2 ^ 60) moment then Err refusal.TimeRange else Ok tt
 
 -- a check after 2^60 runs is refused
 abbrev pub run_left : State → Result (Unit {0}) Refusal
-run_left s = if nat_lt s.runs MAX_RUNS then Ok tt else Err refusal.RunsSpent
+run_left s = if nat_lt s.runs (2 ^ 60) then Ok tt else Err refusal.RunsSpent
 
 -- ---- Take
 

@@ -1,22 +1,23 @@
 //! Laws of the definitions, each the contract of a function without parameters and code.
 
-ghost use Rattle.std.specs.Prelude.{ℕ, ◌≡◌, ◌+◌, ◌<◌, ◌≤◌, true, false, List, ◌∷◌, ◌++◌, [], Some, length, slice_get, slice_index};
+ghost use Rattle.std.specs.Prelude.{ℕ, ◌≡◌, ◌+◌, ◌^◌, ◌<◌, ◌≤◌, true, false, List, ◌∷◌, ◌++◌, [], Some, length, slice_get, slice_index};
 ghost use Rattle.ticket_steps.specs.declared.kept.Entry.{Entry};
 ghost use Rattle.ticket_steps.specs.History.{entry, replay, IsLegal};
 ghost use Rattle.circular_buffer.specs.Buffer.{keep_last};
 ghost use Rattle.check_objects.specs.Configuration.{Configuration, IsSetup, object_count};
 ghost use Rattle.check_rules.specs.Board.{standing_coded};
-ghost use Rattle.check_rules.specs.declared.flapping.TheConstants.{KEPT_RESULTS};
+ghost use Rattle.check_spread.specs.declared.limits.TheConstants.{LAST_MOMENT, LAST_TIME};
 ghost use Rattle.check_rules.specs.declared.standing.Standing.{Standing};
 ghost use Rattle.check_rules.specs.Standing.{pending_standing};
 ghost use Rattle.check_rules.specs.declared.state.Code.{Code};
+ghost use Rattle.check_sched.specs.declared.sched.TheConstants.{MAX_RUNS};
 ghost use Rattle.check_sched.specs.declared.call.Call.{Call};
 ghost use Rattle.check_sched.specs.declared.call.Call.TheVariants as call;
 ghost use Rattle.check_sched.specs.declared.call.Reply.TheVariants as reply;
 ghost use Rattle.check_sched.specs.Board.{book_board};
 ghost use Rattle.check_sched.specs.Books.{sched_of, state_of};
 ghost use Rattle.check_sched.specs.declared.book.Book.{Book};
-ghost use Rattle.check_sched.specs.State.{IsWithinLimit, flap_thresholds_of, is_host, opening, results_at, standing_at};
+ghost use Rattle.check_sched.specs.State.{IsStandingOf, IsWithinLimit, flap_thresholds_of, is_host, opening, results_at, standing_at};
 ghost use Rattle.check_sched.specs.Step.{after, step};
 ghost use Rattle.check_sched.specs.BookState.{BookState, book_opening, book_step};
 ghost use Rattle.check_sched.specs.Reply.{IsReportReply, IsTakeReply};
@@ -38,6 +39,24 @@ pub fn never_checked()
         → (standing : Standing)
         → slice_get (after (opening setup start) calls).standings object ≡ Some standing
         → standing.checked ≡ false → standing ≡ pending_standing (is_host setup object) }
+{}
+
+/// After every history of a scheduler that was opened over a setup, as it is when the setup is one that
+/// [`Setup`](check_objects::Setup) has, each object has a standing that it can have: lawful for the
+/// object's maximum of attempts, in a state of its sort, and pending until the object is checked. So it
+/// is whatever the history says of replies, and after every legal one.
+pub fn standings_are_lawful()
+    ensures { (setup : Configuration) → (start : ℕ) → (history : List (Entry Call Reply))
+        → (object : ℕ) → IsSetup setup → object < object_count setup
+        → IsStandingOf setup object
+        (standing_at (replay step (opening setup start) history).standings object) }
+{}
+
+/// The limits of moments, of times and of runs, as numbers: definitions say these.
+pub fn constants()
+    ensures last_moment { LAST_MOMENT ≡ 2 ^ 60 }
+    ensures last_time { LAST_TIME ≡ 2 ^ 61 }
+    ensures max_runs { MAX_RUNS ≡ 2 ^ 60 }
 {}
 
 /// In every legal history of a scheduler that was opened: no object is taken while it runs, by the
@@ -74,7 +93,7 @@ pub fn flaps_by_history()
     ensures last { (setup : Configuration) → (start : ℕ) → (history : List (Entry Call Reply))
         → (object : ℕ) → IsLegal step (opening setup start) history
         → results_at (replay step (opening setup start) history).results object
-        ≡ keep_last KEPT_RESULTS (states_told object history) }
+        ≡ keep_last 21 (states_told object history) }
 {}
 
 /// Which replies come in the history of a book, whatever it was opened with. A take is answered with an

@@ -9,7 +9,6 @@ use Rattle.check_drafts.specs.declared.options.DelayMethod.TheVariants as method
 use Rattle.check_drafts.specs.declared.options.InterleaveFactor.{InterleaveFactor}
 use Rattle.check_drafts.specs.declared.options.InterleaveFactor.TheVariants as interleave
 use Rattle.check_objects.specs.Configuration.{Configuration}
-use Rattle.check_spread.specs.declared.limits.TheConstants.{MINUTE}
 use Rattle.check_spread.specs.declared.spread.Spread.{Spread}
 use Rattle.check_spread.specs.declared.spread.Scheduled.{Scheduled}
 
@@ -96,9 +95,9 @@ service_objects c = map (λ s. s.object) c.services
 abbrev pub all_objects : Configuration → List Object
 all_objects c = host_objects c ++ service_objects c
 
--- minutes in milliseconds
+-- minutes in milliseconds: one has 60,000
 abbrev pub minutes : ℕ → ℕ
-minutes n = n * MINUTE
+minutes n = n * 60000
 
 -- by this method, with a maximum spread of so many minutes, and this interleave factor
 abbrev pub spread_by : Configuration → ℕ → DelayMethod → ℕ → ℕ → Spread

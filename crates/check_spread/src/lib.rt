@@ -7,8 +7,10 @@
 //! choice, the profile of this project makes it, and the item says so.
 //!
 //! The modules: `times` has the times of all objects of a setup, `spread` the time of one rank, and
-//! `visits` the order in which objects are visited. `limits` has the limits of moments and times.
+//! `visits` the order in which objects are visited. `limits` has the limits of moments and times,
+//! which `laws` says as numbers.
 
+pub mod laws;
 mod limits;
 mod spread;
 #[cfg(test)]

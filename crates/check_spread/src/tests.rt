@@ -25,6 +25,14 @@ const FIVE_DUMB: &[u8] =
 const FIVE_FIXED: &[u8] =
     br#"{"options":{"service_inter_check_delay_method":250,"service_interleave_factor":2},"hosts":[{"name":"h","check_interval":0,"max_check_attempts":3}],"services":[{"host":"h","description":"a","max_check_attempts":3},{"host":"h","description":"b","max_check_attempts":3},{"host":"h","description":"c","enabled":false,"max_check_attempts":3},{"host":"h","description":"d","max_check_attempts":3},{"host":"h","description":"e","max_check_attempts":3}]}"#;
 
+/// A host that is never due, and three services with the dumb delay and the greatest factor.
+const FACTOR_OF_4096: &[u8] =
+    br#"{"options":{"service_inter_check_delay_method":"d","service_interleave_factor":4096},"hosts":[{"name":"h","check_interval":0,"max_check_attempts":3}],"services":[{"host":"h","description":"a","max_check_attempts":3},{"host":"h","description":"b","max_check_attempts":3},{"host":"h","description":"c","max_check_attempts":3}]}"#;
+
+/// Five hosts at 5 minutes, and no service.
+const FIVE_HOSTS: &[u8] =
+    br#"{"hosts":[{"name":"a","max_check_attempts":3},{"name":"b","max_check_attempts":3},{"name":"c","max_check_attempts":3},{"name":"d","max_check_attempts":3},{"name":"e","max_check_attempts":3}]}"#;
+
 /// The times of the first checks of a document's objects. Where the first try is out of memory,
 /// the second one counts.
 fn times_of(alloc: Global, document: &[u8], start: u64) -> Result<Vec<Option<u64>>, Fail>
@@ -79,6 +87,23 @@ fn a_disabled_service_leaves_no_gap(rt: HostRuntime) -> Result<(), Fail> {
     for (time, want) in fixed_times.iter().zip(fixed) {
         assert_eq!(rt; *time, want);
     }
+    Ok(())
+}
+
+#[test]
+fn a_factor_above_the_services_and_hosts_alone(rt: HostRuntime) -> Result<(), Fail> {
+    let far = [None, Some(0), Some(1000), Some(2000)];
+    let hosts = [
+        Some(0),
+        Some(60_000),
+        Some(120_000),
+        Some(180_000),
+        Some(240_000),
+    ];
+    let far_times = times_of(rt.alloc(), FACTOR_OF_4096, 0)?;
+    let host_times = times_of(rt.alloc(), FIVE_HOSTS, 0)?;
+    assert!(rt; far_times.as_slice() == far.as_slice());
+    assert!(rt; host_times.as_slice() == hosts.as_slice());
     Ok(())
 }
 
@@ -141,4 +166,10 @@ fn a_thousand_services_follow_one_another(rt: HostRuntime) -> Result<(), Fail> {
         assert_eq!(rt; times[150 + position], Some(300 * rank as u64));
     }
     Ok(())
+}
+
+/// The law has no code; a call of it shows that there is something to call.
+#[test]
+fn the_law_is_there() {
+    crate::laws::limits_of_times();
 }

@@ -1,6 +1,7 @@
 //! What no clause says: that a call with ample memory tells the order, or that there is none.
 
-ghost use Rattle.std.specs.Prelude.{◌≡◌, ◌≤◌, IfOk, length, map, true};
+ghost use Rattle.std.specs.Prelude.{◌≡◌, ◌≤◌, IfOk, length, map, nat_lt, true};
+ghost use Rattle.std.specs.List.{list_all};
 ghost use Rattle.link_order.specs.Cycles.{are_within};
 
 use crate::{empty_lists, order_by_links, push_at};
@@ -62,6 +63,60 @@ fn a_cycle_has_no_order(rt: HostRuntime) -> Result<(), Fail> {
 #[test]
 fn an_object_linked_to_itself_has_no_order(rt: HostRuntime) -> Result<(), Fail> {
     assert!(rt; order_of(rt.alloc(), &[&[], &[1]])?.is_none());
+    Ok(())
+}
+
+/// Whether all of these links go to objects below this number.
+fn are_below(links: &[u32], count: usize) -> bool
+    ensures { result ≡ list_all (λ link. nat_lt link count) links.now }
+{
+    links.iter().all(|link| (*link as usize) < count)
+}
+
+/// Whether the links of each object go to objects below this number.
+fn are_all_below(links: &[SmallVec<u32, 4>], count: usize) -> bool
+    ensures { result ≡ list_all (λ list. list_all (λ link. nat_lt link count) list.items) links.now }
+{
+    links.iter().all(|list| are_below(list.as_slice(), count))
+}
+
+/// Whether all links go to objects.
+fn are_within(links: &[SmallVec<u32, 4>]) -> bool
+    ensures { result ≡ are_within (length links.now) (map (λ list. list.items) links.now) }
+{
+    are_all_below(links, links.len())
+}
+
+/// So many objects, each linked to the next one, and the last to those that stand beside.
+fn chain(alloc: Global, count: u32, last: &[u32]) -> Result<Vec<SmallVec<u32, 4>>, AllocError> {
+    let mut links = Vec::new(alloc);
+    for object in 1..count {
+        links.push(SmallVec::from_slice(alloc, &[object])?)?;
+    }
+    links.push(SmallVec::from_slice(alloc, last)?)?;
+    Ok(links)
+}
+
+/// A chain of 4,096 objects has an order, from its end; where its last object leads back to the first,
+/// to one in the middle or to itself, there is none.
+#[test]
+fn chains_and_cycles_of_thousands(rt: HostRuntime) -> Result<(), Fail> {
+    for (last, has_order) in [
+        ([].as_slice(), true),
+        ([0].as_slice(), false),
+        ([2000].as_slice(), false),
+        ([4095].as_slice(), false),
+    ] {
+        let links = chain(rt.alloc(), 4096, last)?;
+        assert!(rt; links.len() == 4096 && are_within(&links));
+        match order_by_links(rt.alloc(), &links)? {
+            Some(order) => {
+                assert!(rt; has_order);
+                assert!(rt; order.iter().copied().eq((0..4096).rev()));
+            }
+            None => assert!(rt; !has_order),
+        }
+    }
     Ok(())
 }
 

@@ -1,5 +1,5 @@
 //! The lock and its calls: open, split, draw, look, post, leave, gather, glance and close.
-ghost use Rattle.std.specs.Prelude.{⊤, ◌≡◌, ◌↔◌, ℕ, ◌+◌, ◌*◌, ◌<◌, ◌≤◌, true, false, [], ◌∷◌, length, slice_index, Some, None, IsErr, IfOk, IfErr};
+ghost use Rattle.std.specs.Prelude.{⊤, ◌≡◌, ◌↔◌, ℕ, ◌+◌, ◌-◌, ◌*◌, ◌^◌, ◌<◌, ◌≤◌, true, false, [], ◌∷◌, length, slice_index, Some, None, IsErr, IfOk, IfErr};
 ghost use Rattle.ticket_steps.specs.Books.{book_state, IsLawfulBook};
 ghost use Rattle.ticket_steps.specs.History.{of, IsLegal};
 ghost use Rattle.ticket_lock.specs.Boards.{board_after, board_length};
@@ -72,9 +72,9 @@ impl<K: Kept> TicketLock<K> {
         requires empty { (K.history book ≡ []) × (K.refusals book ≡ 0) }
         requires words { length (K.board (K.state book)) ≤ 4096 }
         ensures start { IfOk result (λ made. ((start_of made.0).book ≡ book)
-            × ((start_of made.0).numbers ≡ numbers) × ((start_of made.0).draws ≡ DRAWS)) }
+            × ((start_of made.0).numbers ≡ numbers) × ((start_of made.0).draws ≡ 2 ^ 32 - 1)) }
         ensures lock { IfOk result (λ made. IsSeatOf made.0 made.1) }
-        ensures seat { IfOk result (λ made. seat_of made.1 ≡ first_caller numbers DRAWS) }
+        ensures seat { IfOk result (λ made. seat_of made.1 ≡ first_caller numbers (2 ^ 32 - 1)) }
         ensures refused { IfErr result (λ back. back ≡ book) }
     {
         TicketLock::open_with(alloc, book, numbers, DRAWS)

@@ -15,7 +15,7 @@ use Rattle.ticket_steps.specs.declared.events.Seen.{Seen}
 use Rattle.ticket_steps.specs.CoreStates.{CoreState, opened}
 use Rattle.ticket_steps.specs.Faults.{Shows, LeadsBy}
 use Rattle.ticket_steps.specs.Happenings.{Happening, split, drew, waited, held, posted, post_refused, left_posted, recorded, refused, glanced, gathered}
-use Rattle.ticket_steps.specs.Happenings.{IsOf, AreOf, calls_made, turns_ended, recorded_by, Moves, Leads}
+use Rattle.ticket_steps.specs.Happenings.{calls_made, turns_ended, recorded_by, Moves, Leads}
 use Rattle.ticket_steps.specs.History.{entry, of}
 use Rattle.ticket_steps.specs.Lawful.{IsLawful}
 use Rattle.ticket_steps.specs.Seats.{Stands, is_there}
@@ -178,12 +178,10 @@ module _ {K C R : Type 0} (k : Ghosts K C R) where
         let both = count-cons h hs in
         (omega (arith, now.0, later.0, both.0), omega (arith, now.1, later.1, both.1))
 
-    are_more : (es : List (Event C)) (hs : List (Happening C R)) (e : Event C) (h : Happening C R) → AreOf es hs → IsOf e h
-        → AreOf (es ++ e ∷ []) (hs ++ h ∷ [])
-    are_more [] [] e h t is = (is, tt)
-    are_more [] (x ∷ xs) e h t is = absurd t
-    are_more (x ∷ xs) [] e h t is = absurd t
-    are_more (x ∷ xs) (y ∷ ys) e h t is = (t.0, are_more xs ys e h t.1 is)
+    shown_more : (b c d : CoreState k.State C R) (es : List (Event C)) (e : Event C) (seen : Seen R) → LeadsBy k draws b es c → Shows k draws c e seen d
+        → LeadsBy k draws b (es ++ e ∷ []) d
+    shown_more b c d [] e seen t m = (seen, d, subst (λ (z : CoreState k.State C R). Shows k draws z e seen d) t m, refl)
+    shown_more b c d (x ∷ xs) e seen t m = (t.0, t.1, t.2, shown_more t.1 c d xs e seen t.3 m)
 
     -- one event more, where it is shown
     pub leads_by_more : (b c d : CoreState k.State C R) (es : List (Event C)) (n : ℕ) (e : Event C) (seen : Seen R) → LeadsBy k draws b (take n es) c
@@ -191,8 +189,7 @@ module _ {K C R : Type 0} (k : Ghosts K C R) where
         → LeadsBy k draws b (take (n + 1) es) d
     leads_by_more b c d es n e seen t lt read m =
         let more : take (n + 1) es ≡ take n es ++ e ∷ [] = rw add-one (take-suc es n e lt ∙ ap (λ (x : Event C). take n es ++ x ∷ []) (sym read)) in
-        let of_all = subst (λ (l : List (Event C)). AreOf l (t.0 ++ m.0 ∷ [])) (sym more) (are_more (take n es) t.0 e m.0 t.1 m.1) in
-        (t.0 ++ m.0 ∷ [], of_all, leads_more b c d t.0 m.0 t.2 m.3)
+        subst (λ (l : List (Event C)). LeadsBy k draws b l d) (sym more) (shown_more b c d (take n es) e seen t m)
 
     -- a seat that is there has no number from all of them on, so what it records is nothing to such a number
     nothing : (numbers n : ℕ) (b : CoreState k.State C R) (own : ℕ) (call : C) (reply : R) (phase : Phase) → IsLawful numbers draws b → numbers ≤ n

@@ -1,5 +1,5 @@
 -- The faults of an event in a core state, and what one step of the core does.
-use Rattle.std.specs.Prelude.{◌≡◌, ◌≢◌, ◌↔◌, ℕ, ◌<◌, List, length, true, IfOk, OnErr, Result, Err, Some, None}
+use Rattle.std.specs.Prelude.{◌≡◌, ◌≢◌, ◌↔◌, ℕ, ◌<◌, List, [], ◌∷◌, length, true, IfOk, OnErr, Result, Err, Some, None}
 use Rattle.ticket_steps.specs.declared.kept.Kept.{Ghosts}
 use Rattle.ticket_steps.specs.declared.seats.CoreSeat.{CoreSeat}
 use Rattle.ticket_steps.specs.declared.seats.Phase.TheVariants.{Idle, Waiting, Holding, Posted}
@@ -9,7 +9,7 @@ use Rattle.ticket_steps.specs.declared.events.Seen.{Seen}
 use Rattle.ticket_steps.specs.declared.events.Fault.{Fault}
 use Rattle.ticket_steps.specs.declared.events.Fault.TheVariants.{NoSeat, Phase, Spent}
 use Rattle.ticket_steps.specs.CoreStates.{CoreState}
-use Rattle.ticket_steps.specs.Happenings.{Happening, shown, IsOf, AreOf, Moves, Leads}
+use Rattle.ticket_steps.specs.Happenings.{Happening, shown, IsOf, Moves}
 use Rattle.ticket_steps.specs.Seats.{Stands, IsThere}
 
 module _ {C : Type 0} where
@@ -72,9 +72,10 @@ module _ {K C R : Type 0} (k : Ghosts K C R) where
     abbrev pub Shows : CoreState k.State C R → Event C → Seen R → CoreState k.State C R → Type 0
     Shows b event seen c = (h : Happening C R) × IsOf event h × (seen ≡ shown h) × Moves k draws b h c × IsPlaced b.book.state event
 
-    -- events lead from one core state to another, whatever came of each of them
+    -- events lead from one core state to another: each fits the board at its point, whatever is shown of it
     abbrev pub LeadsBy : CoreState k.State C R → List (Event C) → CoreState k.State C R → Type 0
-    LeadsBy b events c = (hs : List (Happening C R)) × AreOf events hs × Leads k draws b hs c
+    LeadsBy b [] c = c ≡ b
+    LeadsBy b (event ∷ events) c = (seen : Seen R) × (d : CoreState k.State C R) × Shows b event seen d × LeadsBy d events c
 
     -- one step: an event is shown, or it has a fault and nothing changes
     pub record Steps (b : CoreState k.State C R) (event : Event C) (result : Result (Seen R) Fault) (c : CoreState k.State C R) : Type 0 where

@@ -67,13 +67,6 @@ module _ {C R : Type 0} where
   IsOf event (glanced own place word) = event ≡ Glance own place
   IsOf event (gathered own other) = event ≡ Gather own other
 
-  -- what happened are these events, one after another
-  abbrev pub AreOf : List (Event C) → List (Happening C R) → Type 0
-  AreOf [] [] = Unit {0}
-  AreOf [] (h ∷ hs) = ⊥
-  AreOf (e ∷ es) [] = ⊥
-  AreOf (e ∷ es) (h ∷ hs) = IsOf e h × AreOf es hs
-
   -- the calls that a number has recorded, by a post or when it left, each with its reply, in their order
   abbrev pub recorded_by : ℕ → List (Happening C R) → List (Entry C R)
   recorded_by number [] = []

@@ -1,5 +1,5 @@
 //! The core as a program: a step or a list of steps at a time, on one thread.
-ghost use Rattle.std.specs.Prelude.{◌≡◌, ◌↔◌, ◌+◌, ◌<◌, ◌≤◌, [], length, take, true, IfOk, IfErr, OnErr, OnOk, Some, None, slice_get, vec_capacity, vec_len};
+ghost use Rattle.std.specs.Prelude.{◌≡◌, ◌↔◌, ◌+◌, ◌-◌, ◌^◌, ◌<◌, ◌≤◌, [], length, take, true, IfOk, IfErr, OnErr, OnOk, Some, None, slice_get, vec_capacity, vec_len};
 ghost use mathlib.Core.Option.{some};
 ghost use lib.ListN.{get_elem?};
 ghost use Rattle.ticket_steps.specs.Books.{book_state, IsLawfulBook};
@@ -51,9 +51,9 @@ impl<K: Kept> Core<K> {
         requires empty { (K.history book ≡ []) × (K.refusals book ≡ 0) }
         requires words { length (K.board (K.state book)) ≤ 4096 }
         ensures opened { IfOk result (λ core.
-            state_of core ≡ opened numbers DRAWS (K.opening book)) }
+            state_of core ≡ opened numbers (2 ^ 32 - 1) (K.opening book)) }
         ensures alike { IfOk result (λ core. (opening_of core ≡ K.opening book)
-            × (numbers_of core ≡ numbers) × (draws_of core ≡ DRAWS)) }
+            × (numbers_of core ≡ numbers) × (draws_of core ≡ 2 ^ 32 - 1)) }
         ensures refused { IfErr result (λ back. back ≡ book) }
     {
         Core::open_with(alloc, book, numbers, DRAWS)

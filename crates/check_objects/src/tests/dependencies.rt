@@ -1,9 +1,7 @@
-//! Dependencies of services and of hosts, and what is refused of them.
+//! Dependencies of services and of hosts.
 
-use super::refuses;
-use crate::{Criteria, Dependency, LoadError, Options, Part, Place, Setup};
+use crate::{Criteria, Dependency, LoadError, Setup};
 use std::alloc::{AllocError, Global};
-use std::process::Abort;
 use std::test::Fail;
 
 /// Hosts a and b, services a;x and b;y, and besides what the text says.
@@ -11,54 +9,6 @@ fn with_members(alloc: Global, members: &str) -> Result<String, AllocError> {
     format!(in alloc;
         "{{\"hosts\":[{{\"name\":\"a\",\"max_check_attempts\":3}},{{\"name\":\"b\",\"max_check_attempts\":3}}],\"services\":[{{\"host\":\"a\",\"description\":\"x\",\"max_check_attempts\":3}},{{\"host\":\"b\",\"description\":\"y\",\"max_check_attempts\":3}}],{members}}}"
     )
-}
-
-const SERVICE_DEPENDENCIES: &str = "service_dependencies";
-
-const HOST_DEPENDENCIES: &str = "host_dependencies";
-
-const SERVICE_LIST: Place = Place {
-    part: Part::ServiceDependencies,
-    index: None,
-};
-
-const FIRST_OF_SERVICES: Place = Place {
-    part: Part::ServiceDependencies,
-    index: Some(0),
-};
-
-const SECOND_OF_SERVICES: Place = Place {
-    part: Part::ServiceDependencies,
-    index: Some(1),
-};
-
-const HOST_LIST: Place = Place {
-    part: Part::HostDependencies,
-    index: None,
-};
-
-const FIRST_OF_HOSTS: Place = Place {
-    part: Part::HostDependencies,
-    index: Some(0),
-};
-
-const SECOND_OF_HOSTS: Place = Place {
-    part: Part::HostDependencies,
-    index: Some(1),
-};
-
-/// A document with this member beside its hosts and services is refused for this reason.
-fn refuses_member(
-    rt: &impl Abort,
-    alloc: Global,
-    member: &str,
-    text: &str,
-    want: LoadError,
-) -> Result<(), AllocError> {
-    let members = format!(in alloc; "\"{member}\":{text}")?;
-    let document = with_members(alloc, members.as_str())?;
-    refuses(rt, alloc, document.as_str(), want);
-    Ok(())
 }
 
 #[test]
@@ -115,105 +65,6 @@ fn reads_dependencies_of_both_sorts(rt: HostRuntime) -> Result<(), Fail> {
     Ok(())
 }
 
-/// Lists of dependencies between services, and why each is refused.
-const REFUSED_OF_SERVICES: [(&str, LoadError); 12] = [
-    ("5", LoadError::Shape(SERVICE_LIST)),
-    ("[5]", LoadError::Shape(FIRST_OF_SERVICES)),
-    (
-        r#"[{"dependent":"a;x","master":"b;y"}]"#,
-        LoadError::Shape(FIRST_OF_SERVICES),
-    ),
-    (
-        r#"[{"dependent":"a;x","master":"b;y","criteria":"o"},{"dependent":"a;x","master":"b;y","criteria":"d"}]"#,
-        LoadError::Shape(SECOND_OF_SERVICES),
-    ),
-    (
-        r#"[{"dependent":"a;x","master":"b;y","criteria":"o","inherits_parent":1}]"#,
-        LoadError::Shape(FIRST_OF_SERVICES),
-    ),
-    (
-        r#"[{"dependent":"a;x","master":"b;z","criteria":"o"}]"#,
-        LoadError::UnknownMaster(FIRST_OF_SERVICES),
-    ),
-    (
-        r#"[{"dependent":"a;x","master":"b","criteria":"o"}]"#,
-        LoadError::UnknownMaster(FIRST_OF_SERVICES),
-    ),
-    (
-        r#"[{"dependent":"a","master":"b;y","criteria":"o"}]"#,
-        LoadError::UnknownMaster(FIRST_OF_SERVICES),
-    ),
-    (
-        r#"[{"dependent":"a;x","master":"a;x","criteria":"n"}]"#,
-        LoadError::DependencyCycle,
-    ),
-    (
-        r#"[{"dependent":"a;x","master":"b;y","criteria":"c"},{"dependent":"b;y","master":"a;x","criteria":"c"}]"#,
-        LoadError::DependencyCycle,
-    ),
-    (
-        r#"[{"dependent":"a;x","master":"b;z","criteria":"o"}],"options":{"interval_length":0}"#,
-        LoadError::UnknownMaster(FIRST_OF_SERVICES),
-    ),
-    (
-        r#"[{"dependent":"a;x","master":"a;x","criteria":"o"}],"options":{"interval_length":0}"#,
-        LoadError::Range(Place::OPTIONS),
-    ),
-];
-
-/// A dependency of a service with these criteria is refused for its shape.
-fn refuses_criteria_of(rt: &impl Abort, alloc: Global, criteria: &str) -> Result<(), AllocError> {
-    let list = format!(in alloc;
-        "[{{\"dependent\":\"a;x\",\"master\":\"b;y\",\"criteria\":\"{criteria}\"}}]"
-    )?;
-    let want = LoadError::Shape(FIRST_OF_SERVICES);
-    refuses_member(rt, alloc, SERVICE_DEPENDENCIES, list.as_str(), want)
-}
-
-/// Criteria that a dependency between services can't have.
-const REFUSED_CRITERIA: [&str; 11] = [
-    "", ",", "o,", ",o", "o,,c", "oc", "o, c", " o", "O", "d", "x",
-];
-
-/// Lists of dependencies between hosts, and why each is refused.
-const REFUSED_OF_HOSTS: [(&str, LoadError); 6] = [
-    ("{}", LoadError::Shape(HOST_LIST)),
-    (
-        r#"[{"dependent":"a","master":"b","criteria":"w"}]"#,
-        LoadError::Shape(FIRST_OF_HOSTS),
-    ),
-    (
-        r#"[{"dependent":"a","master":"b","criteria":"d,c"}]"#,
-        LoadError::Shape(FIRST_OF_HOSTS),
-    ),
-    (
-        r#"[{"dependent":"a","master":"b;y","criteria":"d"}]"#,
-        LoadError::UnknownMaster(FIRST_OF_HOSTS),
-    ),
-    (
-        r#"[{"dependent":"a","master":"b","criteria":"d"},{"dependent":"c","master":"b","criteria":"d"}]"#,
-        LoadError::UnknownMaster(SECOND_OF_HOSTS),
-    ),
-    (
-        r#"[{"dependent":"a","master":"b","criteria":"d"},{"dependent":"b","master":"a","criteria":"d"}]"#,
-        LoadError::DependencyCycle,
-    ),
-];
-
-#[test]
-fn refuses_dependencies(rt: HostRuntime) -> Result<(), Fail> {
-    for (list, want) in &REFUSED_OF_SERVICES {
-        refuses_member(&rt, rt.alloc(), SERVICE_DEPENDENCIES, *list, *want)?;
-    }
-    for criteria in &REFUSED_CRITERIA {
-        refuses_criteria_of(&rt, rt.alloc(), *criteria)?;
-    }
-    for (list, want) in &REFUSED_OF_HOSTS {
-        refuses_member(&rt, rt.alloc(), HOST_DEPENDENCIES, *list, *want)?;
-    }
-    Ok(())
-}
-
 /// So many times the same dependency of host a on host b.
 fn with_dependencies(alloc: Global, count: usize) -> Result<String, AllocError> {
     let mut list = String::from_str(alloc, "\"host_dependencies\":[")?;
@@ -237,18 +88,5 @@ fn counts_dependencies(rt: HostRuntime) -> Result<(), Fail> {
     let more = with_dependencies(rt.alloc(), 16_385)?;
     let refused = Setup::read(rt.alloc(), more.as_bytes());
     assert!(rt; matches!(&refused, Err(LoadError::TooMany)));
-    Ok(())
-}
-
-#[test]
-fn tells_a_cycle_of_dependencies_before_one_of_parents(rt: HostRuntime) -> Result<(), Fail> {
-    let parents =
-        r#"{"hosts":[{"name":"a","parents":["b"],"max_check_attempts":3},{"name":"b","parents":["a"],"max_check_attempts":3}]"#;
-    let both = format!(in rt.alloc();
-        "{parents},\"host_dependencies\":[{{\"dependent\":\"a\",\"master\":\"a\",\"criteria\":\"d\"}}]}}"
-    )?;
-    refuses(&rt, rt.alloc(), both.as_str(), LoadError::DependencyCycle);
-    let one = format!(in rt.alloc(); "{parents}}}")?;
-    refuses(&rt, rt.alloc(), one.as_str(), LoadError::ParentCycle);
     Ok(())
 }

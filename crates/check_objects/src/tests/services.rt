@@ -1,18 +1,8 @@
-//! Services behind their hosts, parents, and what is refused of services.
+//! Services behind their hosts, and parents.
 
-use super::{refuses, with_service};
-use crate::{LoadError, Options, Part, Place, Setup};
+use super::with_service;
+use crate::{Options, Setup};
 use std::test::Fail;
-
-const FIRST_SERVICE: Place = Place {
-    part: Part::Services,
-    index: Some(0),
-};
-
-const SECOND_SERVICE: Place = Place {
-    part: Part::Services,
-    index: Some(1),
-};
 
 #[test]
 fn reads_services_behind_the_hosts(rt: HostRuntime) -> Result<(), Fail> {
@@ -61,30 +51,6 @@ fn numbers_services_by_host_and_description(rt: HostRuntime) -> Result<(), Fail>
     if setup.len() == 5 {
         assert!(rt; setup.parents(0) == [1].as_slice());
         assert_eq!(rt; (setup.host_of(3), setup.host_of(4)), (Some(0), Some(1)));
-    }
-    Ok(())
-}
-
-/// What stands in the marks of a service's host, and in the options beside, and why it is refused.
-const REFUSED_SERVICES: [(&str, &str, LoadError); 3] = [
-    ("x", "", LoadError::UnknownHost(FIRST_SERVICE)),
-    (
-        "h",
-        r#","interval_length":0"#,
-        LoadError::Range(Place::OPTIONS),
-    ),
-    (
-        r#"h","description":"s","max_check_attempts":1},{"host":"h"#,
-        "",
-        LoadError::Duplicate(SECOND_SERVICE),
-    ),
-];
-
-#[test]
-fn refuses_services(rt: HostRuntime) -> Result<(), Fail> {
-    for (host, options, want) in &REFUSED_SERVICES {
-        let document = with_service(rt.alloc(), *host, *options)?;
-        refuses(&rt, rt.alloc(), document.as_str(), *want);
     }
     Ok(())
 }

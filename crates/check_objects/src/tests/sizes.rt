@@ -1,21 +1,9 @@
-//! Documents that are cut, or as long as can be; the laws; out of memory.
+//! Documents that are as long as can be; the laws; out of memory.
 
-use super::{ONE_HOST, with_hosts, with_service};
+use super::{ONE_HOST, with_hosts};
 use crate::{LoadError, Setup};
 use std::alloc::{AllocError, Global};
 use std::test::Fail;
-
-#[test]
-fn refuses_a_document_that_is_cut(rt: HostRuntime) -> Result<(), Fail> {
-    let document = with_service(rt.alloc(), "h", "")?;
-    let whole = document.as_bytes();
-    assert!(rt; Setup::read(rt.alloc(), whole).is_ok());
-    for end in 0..whole.len() {
-        let refused = Setup::read(rt.alloc(), &whole[..end]);
-        assert!(rt; matches!(&refused, Err(LoadError::NotJson)), "{end}");
-    }
-    Ok(())
-}
 
 /// A document with so many hosts.
 fn of_size(alloc: Global, hosts: usize) -> Result<String, AllocError> {

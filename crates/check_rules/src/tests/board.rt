@@ -3,8 +3,13 @@
 use super::standing;
 use crate::{Kind, Standing, State, code, decode, pending};
 
-/// The words of a service and of a host that were never checked, of a soft problem, and of one that
-/// flaps; each is read back.
+/// A hard problem in this state, at the third attempt.
+fn hard(state: State) -> Standing {
+    standing(state, Kind::Hard, 3, state)
+}
+
+/// The words of a service and of a host that were never checked, of a soft problem, of one that
+/// flaps, and of a hard problem in each state that is one; each is read back.
 #[test]
 fn words_of_standings(rt: HostRuntime) {
     let flapping = Standing {
@@ -15,6 +20,10 @@ fn words_of_standings(rt: HostRuntime) {
         (pending(false), 48),
         (pending(true), 32_824),
         (standing(State::Critical, Kind::Soft, 1, State::Ok), 37),
+        (hard(State::Warning), 1 + 2 + 16 + 32 * 3 + 8192),
+        (hard(State::Critical), 1 + 2 * 2 + 16 + 32 * 3 + 8192 * 2),
+        (hard(State::Unknown), 1 + 2 * 3 + 16 + 32 * 3 + 8192 * 3),
+        (hard(State::Down), 1 + 2 * 5 + 16 + 32 * 3 + 8192 * 5),
         (flapping, 1 + 2 * 6 + 16 + 32 * 255 + 8192 * 6 + 65_536),
     ] {
         assert_eq!(rt; code(standing), word);

@@ -8,7 +8,6 @@ use crate::call::{Call, Reply};
 use crate::candidate::Candidate;
 use check_objects::Setup;
 use check_rules::Code;
-use std::alloc::{AllocError, Global};
 use std::process::Abort;
 use std::test::Fail;
 
@@ -77,41 +76,32 @@ fn answer_of(reply: Reply) -> Answer {
 
 /// A document of 12 hosts and 28 services, of which 5 may be checked at a time. Each fourth service
 /// depends on the one before it, and each seventh object is disabled at first.
-fn forty_objects(alloc: Global) -> Result<String, AllocError> {
-    let mut document = String::new(alloc);
-    document.push_str("{\"options\":{\"max_concurrent_checks\":5,\"interval_length\":1,")?;
-    document.push_str("\"service_inter_check_delay_method\":\"n\",")?;
-    document.push_str("\"host_inter_check_delay_method\":\"n\"},\"hosts\":[")?;
-    for host in 10..22u32 {
-        let comma = if host == 10 { "" } else { "," };
-        let enabled = if host % 7 == 0 { "false" } else { "true" };
-        write!(
-            document,
-            "{comma}{{\"name\":\"h{host}\",\"max_check_attempts\":2,\"enabled\":{enabled}}}"
-        )?;
-    }
-    document.push_str("],\"services\":[")?;
-    for service in 10..38u32 {
-        let comma = if service == 10 { "" } else { "," };
-        let enabled = if service % 7 == 0 { "false" } else { "true" };
-        write!(
-            document,
-            "{comma}{{\"host\":\"h10\",\"description\":\"s{service}\",\"max_check_attempts\":2,\"enabled\":{enabled}}}"
-        )?;
-    }
-    document.push_str("],\"service_dependencies\":[")?;
-    for service in 3..9u32 {
-        let comma = if service == 3 { "" } else { "," };
-        let dependent = 4 * service;
-        let master = 4 * service - 1;
-        write!(
-            document,
-            "{comma}{{\"dependent\":\"h10;s{dependent}\",\"master\":\"h10;s{master}\",\"criteria\":\"w,u,c\"}}"
-        )?;
-    }
-    document.push_str("]}")?;
-    Ok(document)
-}
+const FORTY_OBJECTS: &[u8] = br#"{"options":{"max_concurrent_checks":5,"interval_length":1,
+"service_inter_check_delay_method":"n","host_inter_check_delay_method":"n"},
+"hosts":[
+{"name":"h10","max_check_attempts":2},{"name":"h11","max_check_attempts":2},{"name":"h12","max_check_attempts":2},
+{"name":"h13","max_check_attempts":2},{"name":"h14","max_check_attempts":2,"enabled":false},{"name":"h15","max_check_attempts":2},
+{"name":"h16","max_check_attempts":2},{"name":"h17","max_check_attempts":2},{"name":"h18","max_check_attempts":2},
+{"name":"h19","max_check_attempts":2},{"name":"h20","max_check_attempts":2},{"name":"h21","max_check_attempts":2,"enabled":false}],
+"services":[
+{"host":"h10","description":"s10","max_check_attempts":2},{"host":"h10","description":"s11","max_check_attempts":2},
+{"host":"h10","description":"s12","max_check_attempts":2},{"host":"h10","description":"s13","max_check_attempts":2},
+{"host":"h10","description":"s14","max_check_attempts":2,"enabled":false},{"host":"h10","description":"s15","max_check_attempts":2},
+{"host":"h10","description":"s16","max_check_attempts":2},{"host":"h10","description":"s17","max_check_attempts":2},
+{"host":"h10","description":"s18","max_check_attempts":2},{"host":"h10","description":"s19","max_check_attempts":2},
+{"host":"h10","description":"s20","max_check_attempts":2},{"host":"h10","description":"s21","max_check_attempts":2,"enabled":false},
+{"host":"h10","description":"s22","max_check_attempts":2},{"host":"h10","description":"s23","max_check_attempts":2},
+{"host":"h10","description":"s24","max_check_attempts":2},{"host":"h10","description":"s25","max_check_attempts":2},
+{"host":"h10","description":"s26","max_check_attempts":2},{"host":"h10","description":"s27","max_check_attempts":2},
+{"host":"h10","description":"s28","max_check_attempts":2,"enabled":false},{"host":"h10","description":"s29","max_check_attempts":2},
+{"host":"h10","description":"s30","max_check_attempts":2},{"host":"h10","description":"s31","max_check_attempts":2},
+{"host":"h10","description":"s32","max_check_attempts":2},{"host":"h10","description":"s33","max_check_attempts":2},
+{"host":"h10","description":"s34","max_check_attempts":2},{"host":"h10","description":"s35","max_check_attempts":2,"enabled":false},
+{"host":"h10","description":"s36","max_check_attempts":2},{"host":"h10","description":"s37","max_check_attempts":2}],
+"service_dependencies":[
+{"dependent":"h10;s12","master":"h10;s11","criteria":"w,u,c"},{"dependent":"h10;s16","master":"h10;s15","criteria":"w,u,c"},
+{"dependent":"h10;s20","master":"h10;s19","criteria":"w,u,c"},{"dependent":"h10;s24","master":"h10;s23","criteria":"w,u,c"},
+{"dependent":"h10;s28","master":"h10;s27","criteria":"w,u,c"},{"dependent":"h10;s32","master":"h10;s31","criteria":"w,u,c"}]}"#;
 
 /// A pseudo-random call, at a moment of the clock or up to 64 ms after.
 fn drawn_call(scheduler: &Sched, drawn: u64, clock: u64) -> Call
@@ -164,18 +154,27 @@ fn make(rt: &impl Abort, scheduler: &mut Sched, drawn: u64, clock: u64) -> Resul
     Ok(())
 }
 
-#[test]
-fn takes_what_a_scan_finds(rt: HostRuntime) -> Result<(), Fail> {
-    let document = forty_objects(rt.alloc())?;
-    let setup = Setup::read(rt.alloc(), document.as_bytes())?;
-    let mut scheduler = Sched::new(rt.alloc(), setup, 0).ok().ok_or("no memory")?;
-    assert_eq!(rt; scheduler.setup().len(), 40);
+/// The next number of a pseudo-random row.
+fn after(random: u64) -> u64 {
+    random
+        .wrapping_mul(6364136223846793005)
+        .wrapping_add(1442695040888963407)
+}
+
+/// Makes so many calls, each at a moment 20 ms later.
+fn make_all(rt: &impl Abort, scheduler: &mut Sched, calls: u64) -> Result<(), Fail> {
     let mut random = 42u64;
-    for clock in 0..10_000u64 {
-        random = random
-            .wrapping_mul(6364136223846793005)
-            .wrapping_add(1442695040888963407);
-        make(&rt, &mut scheduler, random >> 16, clock * 20)?;
+    for call in 0..calls {
+        random = after(random);
+        make(rt, scheduler, random >> 16, call.wrapping_mul(20))?;
     }
     Ok(())
+}
+
+#[test]
+fn takes_what_a_scan_finds(rt: HostRuntime) -> Result<(), Fail> {
+    let setup = Setup::read(rt.alloc(), FORTY_OBJECTS)?;
+    let mut scheduler = Sched::new(rt.alloc(), setup, 0).ok().ok_or("no memory")?;
+    assert_eq!(rt; scheduler.setup().len(), 40);
+    make_all(&rt, &mut scheduler, 10_000)
 }

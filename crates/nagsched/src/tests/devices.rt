@@ -33,31 +33,6 @@ impl Read for FailingReader<'_> {
     }
 }
 
-/// A reader that gives a front, and then the same byte until it has given `size` bytes. It counts
-/// what it gave.
-#[derive(Drop)]
-pub struct LongReader<'a> {
-    pub front: &'a [u8],
-    pub byte: u8,
-    pub size: usize,
-    pub given: usize,
-}
-
-impl Read for LongReader<'_> {
-    fn read(&mut self, buf: &mut [u8]) -> io::Result<usize> {
-        let count = if self.front.is_empty() {
-            let left = self.size.saturating_sub(self.given);
-            let count = buf.len().min(left);
-            buf[..count].fill(self.byte);
-            count
-        } else {
-            self.front.read(buf)?
-        };
-        self.given = self.given.saturating_add(count);
-        Ok(count)
-    }
-}
-
 /// A writer that takes `room` bytes in all, `most` a call, and then fails with `error`. It counts its
 /// flushes, and what it had taken at the last of them.
 #[derive(Drop)]

@@ -14,14 +14,14 @@ use std::test::Fail;
 use std::thread::Threads;
 
 /// A service that fails once and is well again at its second check.
-pub const LINES: &str = "[\"plugin\",\"h;s\",2,0]\n[\"moment\",0]\n[\"moment\",60000]\n";
+const LINES: &str = "[\"plugin\",\"h;s\",2,0]\n[\"moment\",0]\n[\"moment\",60000]\n";
 
 /// What one worker makes of them.
-pub const WELL_AGAIN: &str = "0 taken 1 h;s\n0 standing CRITICAL SOFT 1 yes STEADY 60000 h;s\n\
+const WELL_AGAIN: &str = "0 taken 1 h;s\n0 standing CRITICAL SOFT 1 yes STEADY 60000 h;s\n\
 0 taken 2 h;s\n0 standing OK SOFT 2 yes STEADY 360000 h;s\ntotal 4 0\n";
 
 /// The setup with one host and its service, and these lines after it.
-pub fn with_service(alloc: Global, lines: &str) -> Result<String, Fail> {
+fn with_service(alloc: Global, lines: &str) -> Result<String, Fail> {
     Ok(format!(in alloc; "{SERVICE}\n{lines}")?)
 }
 

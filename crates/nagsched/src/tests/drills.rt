@@ -1,143 +1,16 @@
-//! The input of a drill, the codes that its plugin returns, the text of a history, and whole drills.
-
-ghost use Rattle.std.specs.Prelude.{◌<◌, ◌≤◌};
+//! Drills of several workers, and the text of a history of theirs.
 
 use super::SERVICE;
 use super::devices::ShortWriter;
-use super::drill_faults::WELL_AGAIN;
 use check_objects::Setup;
 use check_rules::{Code, Kind, Standing, State};
 use check_sched::{Call, Refusal, Reply};
-use check_script::{DrillScript, DriveError, ScriptError};
+use check_script::DriveError;
 use check_session::drill::{drill, write_history};
 use check_session::drive::Outcome;
-use check_session::scripted::Scripted;
-use check_text::push_refusal;
 use std::alloc::Global;
-use std::process::Abort;
-use std::sync::Wait;
 use std::test::Fail;
-use std::thread::Threads;
 use ticket_steps::Entry;
-
-/// The drill of these lines after the setup with the host `h`, number 0, and its service `s`,
-/// number 1.
-fn drill_of(alloc: Global, lines: &str) -> Result<DrillScript, Fail> {
-    let input = format!(in alloc; "{SERVICE}\n{lines}")?;
-    Ok(
-        DrillScript::read(alloc, input.as_bytes())
-            .ok()
-            .ok_or("no drill was read")?,
-    )
-}
-
-/// These lines after the setup are refused, by this line.
-fn refuses(rt: &impl Abort, alloc: Global, lines: &str, wanted: &str) -> Result<(), Fail> {
-    let input = format!(in alloc; "{SERVICE}\n{lines}")?;
-    let mut line = String::new(alloc);
-    match DrillScript::read(alloc, input.as_bytes()) {
-        Ok(_) => {}
-        Err(ScriptError::Refused(refusal)) => push_refusal(&mut line, refusal)?,
-        Err(ScriptError::Memory) => return Err(Fail::from("no memory")),
-    }
-    assert!(rt; line.as_str() == wanted, "{lines}");
-    Ok(())
-}
-
-#[test]
-fn reads_a_drill(rt: HostRuntime) -> Result<(), Fail> {
-    let alloc = rt.alloc();
-    let lines =
-        "[\"plugin\",\"h;s\",2,0]\n[\"moment\",60000]\n \t\n[\"moment\",0]\n[\"moment\",18446744073709551615]";
-    let drill = drill_of(alloc, lines)?;
-    assert_eq!(rt; drill.setup.len(), 2);
-    assert!(rt; drill.moments.as_slice() == [60000, 0, 18446744073709551615].as_slice());
-    assert_eq!(rt; drill.codes.len(), 2);
-    let codes = Scripted { codes: drill.codes };
-    assert_eq!(rt; codes.code(1, 1), Code::Critical);
-    Ok(())
-}
-
-#[test]
-fn later_codes_replace(rt: HostRuntime) -> Result<(), Fail> {
-    let alloc = rt.alloc();
-    let lines = "[\"plugin\",\"h;s\",2,3]\n[\"plugin\",\"h\",3]\n[\"plugin\",\"h;s\",1]\n";
-    let drill = drill_of(alloc, lines)?;
-    assert!(rt; drill.moments.is_empty());
-    let codes = Scripted { codes: drill.codes };
-    assert_eq!(rt; codes.code(1, 1), Code::Warning);
-    assert_eq!(rt; codes.code(1, 2), Code::Warning);
-    assert_eq!(rt; codes.code(0, 2), Code::Unknown);
-    Ok(())
-}
-
-#[test]
-fn codes_come_round(rt: HostRuntime) -> Result<(), Fail> {
-    let drill = drill_of(rt.alloc(), "[\"plugin\",\"h;s\",2,0]")?;
-    let codes = Scripted { codes: drill.codes };
-    assert_eq!(rt; codes.code(1, 1), Code::Critical);
-    assert_eq!(rt; codes.code(1, 2), Code::Ok);
-    assert_eq!(rt; codes.code(1, 3), Code::Critical);
-    assert_eq!(rt; codes.code(1, u64::MAX), Code::Critical);
-    assert_eq!(rt; codes.code(1, 0), Code::Ok);
-    assert_eq!(rt; codes.code(0, 1), Code::Ok);
-    assert_eq!(rt; codes.code(2, 1), Code::Ok);
-    Ok(())
-}
-
-#[test]
-fn refuses_plugins(rt: HostRuntime) -> Result<(), Fail> {
-    let alloc = rt.alloc();
-    refuses(&rt, alloc, "[\"plugin\",\"h;s\"]", "refused S3 Shape 2\n")?;
-    refuses(&rt, alloc, "[\"plugin\"]", "refused S3 Shape 2\n")?;
-    refuses(&rt, alloc, "[\"plugin\",7,0]", "refused S3 Shape 2\n")?;
-    refuses(&rt, alloc, "[\"plugin\",\"h\",-1]", "refused S3 Shape 2\n")?;
-    refuses(
-        &rt,
-        alloc,
-        "[\"plugin\",\"g\",4,\"0\"]",
-        "refused S3 Shape 2\n",
-    )?;
-    refuses(&rt, alloc, "[\"plugin\",\"g\",0,4]", "refused S4 Code 2\n")?;
-    refuses(
-        &rt,
-        alloc,
-        "[\"plugin\",\"g\",0,3]",
-        "refused S5 UnknownName 2\n",
-    )
-}
-
-#[test]
-fn refuses_other_lines(rt: HostRuntime) -> Result<(), Fail> {
-    let alloc = rt.alloc();
-    refuses(&rt, alloc, "[\"moment\"]", "refused S3 Shape 2\n")?;
-    refuses(&rt, alloc, "[\"moment\",0,0]", "refused S3 Shape 2\n")?;
-    refuses(&rt, alloc, "[\"moment\",\"0\"]", "refused S3 Shape 2\n")?;
-    refuses(
-        &rt,
-        alloc,
-        "[\"moment\",0]\n\n[\"take\",0]",
-        "refused S3 Shape 4\n",
-    )?;
-    refuses(
-        &rt,
-        alloc,
-        "[\"report\",\"h;s\",1,0]",
-        "refused S3 Shape 2\n",
-    )?;
-    refuses(&rt, alloc, "[\"moment\",0", "refused S2 NotJson 2\n")?;
-    refuses(&rt, alloc, "[\"moment\",0]", "")
-}
-
-#[test]
-fn refuses_the_setup_first(rt: HostRuntime) -> Result<(), Fail> {
-    let mut line = String::new(rt.alloc());
-    if let Err(ScriptError::Refused(refusal)) = DrillScript::read(rt.alloc(), b"[]\n[\"moment\"]") {
-        push_refusal(&mut line, refusal)?;
-    }
-    assert_eq!(rt; line.as_str(), "refused L2 Shape document\n");
-    Ok(())
-}
 
 /// The standing of a service that was checked.
 fn standing(state: State, attempt: u8) -> Standing {
@@ -221,47 +94,20 @@ fn writes_a_front_of_a_history(rt: HostRuntime) -> Result<(), Fail> {
     Ok(())
 }
 
-/// What a drill of so many workers with this room writes on an input, from the start 0.
-fn drilled<H: Threads + Wait + Sync>(
-    rt: &H,
-    alloc: Global,
-    workers: u32,
-    room: usize,
-    input: &str,
-) -> Result<String, Fail>
-    requires { (0 < workers) × (workers ≤ 64) }
-{
-    let mut reader = input.as_bytes();
-    let mut written = Vec::new(alloc);
-    if drill(rt, alloc, 0, workers, room, &mut reader, &mut written)? != Outcome::Ran {
-        return Err(Fail::from("the input was refused"));
-    }
-    match String::from_utf8(written) {
-        Ok(text) => Ok(text),
-        Err(_) => Err(Fail::from("the output is no text")),
-    }
-}
-
 /// Three lines of one length in some order, and the total after them.
 #[test]
 fn three_workers_find_nothing(rt: HostRuntime) -> Result<(), Fail> {
-    let text = drilled(&rt, rt.alloc(), 3, 100, "{}\n[\"moment\",5]\n")?;
+    let mut reader = b"{}\n[\"moment\",5]\n".as_slice();
+    let mut written = Vec::new(rt.alloc());
+    let outcome = drill(&rt, rt.alloc(), 0, 3, 100, &mut reader, &mut written);
+    assert_eq!(rt; outcome, Ok(Outcome::Ran));
+    let Ok(text) = str::from_utf8(&written) else {
+        return Err(Fail::from("the output is no text"));
+    };
     for line in ["0 idle none\n", "1 idle none\n", "2 idle none\n"] {
         assert!(rt; text.contains(line), "{line}");
     }
     assert!(rt; text.ends_with("total 3 0\n"));
     assert_eq!(rt; text.len(), 3 * 12 + 10);
-    Ok(())
-}
-
-#[test]
-fn one_worker_checks_a_service(rt: HostRuntime) -> Result<(), Fail> {
-    let alloc = rt.alloc();
-    let lines = "[\"plugin\",\"h;s\",2,0]\n[\"moment\",0]\n[\"moment\",60000]\n";
-    let input = format!(in alloc; "{SERVICE}\n{lines}")?;
-    let with_room = drilled(&rt, alloc, 1, 100, &input)?;
-    assert_eq!(rt; with_room.as_str(), WELL_AGAIN);
-    let without_room = drilled(&rt, alloc, 1, 0, &input)?;
-    assert_eq!(rt; without_room.as_str(), WELL_AGAIN);
     Ok(())
 }

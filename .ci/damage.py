@@ -1,0 +1,101 @@
+#!/usr/bin/env python3
+"""Inputs that are cut after each of their bytes, and inputs with a byte flipped, doubled or dropped, on the built program.
+
+    .ci/damage.py [PROGRAM]     crates/nagsched/out/nagsched where no program is named
+
+A cut inside a line is refused by that line's number; at a line's end the lines so far count, and are answered as those of the whole
+input are. A damaged input runs or is refused: status 0 or 1, with whole lines. Which bytes are damaged follows from one seed.
+"""
+import os
+import random
+import re
+from concurrent.futures import ThreadPoolExecutor
+
+from program import EXAMPLES, TOP, Held
+
+SEED, EACH = 7, 400
+CASES = TOP / "conformance"
+DRILL = ["drill", "--workers", "1"]
+# Name, words, input and what is written on all of it.
+RUNS = [
+    ("each word", [], CASES / "worked/each-word", CASES / "worked/each-word.stdout"),
+    ("the office", [], CASES / "worked/office-and-operators", CASES / "worked/office-and-operators.stdout"),
+]
+DRILLS = [
+    ("a drill", DRILL, CASES / "rows/drill/one-worker", CASES / "rows/drill/one-worker.stdout"),
+    ("the office's drill", DRILL, EXAMPLES / "drill.txt", EXAMPLES / "drill.out"),
+]
+DAMAGES = {
+    "flipped": lambda byte, bit: bytes([byte ^ 1 << bit]),
+    "doubled": lambda byte, bit: bytes([byte, byte]),
+    "dropped": lambda byte, bit: b"",
+}
+ANSWER = re.compile(rb"(taken|putoff|idle|atlimit|standing|freed|done|refused C\d)( [^\n]*)?\n")
+REFUSED = re.compile(rb"refused [LS]\d+ [^\n]*\n")
+
+
+def of_run(answers, commands):
+    """What a run writes that has got only so many of its commands."""
+    return b"".join(answers[: len(commands)])
+
+
+def of_drill(answers, commands):
+    """What one worker writes that has got only so many lines: two lines for a moment at which it took a check, else one."""
+    history = []
+    for _ in (command for command in commands if command.startswith(b'["moment"')):
+        at = len(history)
+        history += answers[at : at + 2] if b" taken " in answers[at] else answers[at : at + 1]
+    return b"".join([*history, b"total %d 0\n" % len(history)])
+
+
+def wanted_of_cut(given, count, answers, written):
+    """What is wanted of an input that is cut after so many bytes: what is written, and the status."""
+    front = given[:count]
+    if count and (given[count : count + 1] in (b"", b"\n") or front.endswith(b"\n")):
+        return written(answers, [line for line in front.splitlines()[1:] if line]), 0
+    number = front.count(b"\n") + 1
+    return (b"refused L1 NotJson\n" if number == 1 else b"refused S2 NotJson %d\n" % number), 1
+
+
+def cuts(held, several, name, words, given, answers, written):
+    """An input that is cut after each of its bytes."""
+    came = several(lambda count: held.run(words, given[:count]), range(len(given) + 1))
+    otherwise = [at for at, it in enumerate(came) if it != wanted_of_cut(given, at, answers, written)]
+    held.compare(f"{name}, cut after so many bytes", [], otherwise)
+
+
+def is_whole(copy, written, status):
+    """Whether a damaged input was refused by one line, or run: a line for each of its commands, or a history and its total."""
+    if status == 1:
+        return REFUSED.fullmatch(written) is not None
+    answers = written.splitlines(keepends=True)
+    if answers and answers[-1].startswith(b"total "):
+        history = [answer.removeprefix(b"0 ") for answer in answers[:-1]]
+        return status == 0 and answers[-1] == b"total %d 0\n" % len(history) and all(map(ANSWER.fullmatch, history))
+    commands = [line for line in copy.split(b"\n")[1:] if line.strip(b" \t\r")]
+    return status == 0 and len(answers) == len(commands) and all(map(ANSWER.fullmatch, answers))
+
+
+def damages(held, several, name, words, given, chance):
+    """Copies of an input with one of its bytes damaged."""
+    for kind, damage in DAMAGES.items():
+        places = [(chance.randrange(len(given)), chance.randrange(8)) for _ in range(EACH)]
+        copies = [given[:at] + damage(given[at], bit) + given[at + 1 :] for at, bit in places]
+        came = several(lambda copy: held.run(words, copy), copies)
+        otherwise = [place for place, copy, it in zip(places, copies, came) if not is_whole(copy, *it)]
+        held.compare(f"{name}, a byte {kind}", [], otherwise)
+
+
+def main():
+    held = Held("damage")
+    chance = random.Random(SEED)
+    with ThreadPoolExecutor(os.cpu_count()) as threads:
+        for rows, written in ((RUNS, of_run), (DRILLS, of_drill)):
+            for name, words, given, answers in rows:
+                given, answers = given.read_bytes(), answers.read_bytes().splitlines(keepends=True)
+                cuts(held, threads.map, name, words, given, answers, written)
+                damages(held, threads.map, name, words, given, chance)
+    held.end()
+
+
+main()

@@ -1,0 +1,172 @@
+#!/usr/bin/env python3
+"""Setups and inputs at their limits, and one past them, on the built program.
+
+    .ci/limits.py [PROGRAM]     crates/nagsched/out/nagsched where no program is named
+
+What is wanted follows from docs/FORMATS.md and docs/SCHEDULING.md and is written down here; nothing is taken from the program.
+"""
+import json
+import os
+import random
+import subprocess
+import tempfile
+
+from program import Held, lines
+
+OPTIONS = {"host_inter_check_delay_method": "n", "service_inter_check_delay_method": "n"}
+SERVICES, HOSTS = 4_000, 90
+PARENTS = 16_384
+WHOLE_INPUT, DOCUMENT = 67_108_864, 16_777_216
+
+
+def host(name, **members):
+    return {"name": name, "max_check_attempts": 1, **members}
+
+
+def service(at, description, **members):
+    return {"host": at, "description": description, "max_check_attempts": 1, **members}
+
+
+def depends(dependent, master, **members):
+    return {"dependent": dependent, "master": master, "criteria": "c", **members}
+
+
+def setup(**members):
+    """A setup document's line; first checks are all due at the start."""
+    return json.dumps({"options": OPTIONS, **members})
+
+
+def many(**last):
+    """The members of 4,000 services on 90 hosts, the last of them with these members besides."""
+    services = [service(f"host{n % HOSTS:02}", f"service{n:04}") for n in range(SERVICES)]
+    services[-1] |= last
+    return {"hosts": [host(f"host{n:02}") for n in range(HOSTS)], "services": services}
+
+
+def refused(held, what, line, **members):
+    """A document is refused by this line."""
+    held.compare(what, (lines(f"refused {line}"), 1), held.run([], lines(setup(**members))))
+
+
+def many_objects(held):
+    """All objects are due at once, and are taken in the order of their numbers, whatever order the document names them in."""
+    members = many()
+    names = [h["name"] for h in members["hosts"]]
+    names += [f"{s['host']};{s['description']}" for s in sorted(members["services"], key=lambda s: (s["host"], s["description"]))]
+    for kind in members.values():
+        random.Random(4000).shuffle(kind)
+    takes = ['["take",0]'] * (len(names) + 1)
+    wanted = [*(f"taken {run} {name}" for run, name in enumerate(names, 1)), "idle none"]
+    held.compare("4,000 services on 90 hosts", (lines(*wanted), 0), held.run([], lines(setup(**members), *takes)))
+
+
+def many_parents(held):
+    """A host with 16,384 parents, 4,000 different ones, is UNREACHABLE once the last of them is down."""
+    names = [f"parent{n:04}" for n in range(4_000)]
+    parents = [names[n % len(names)] for n in range(PARENTS)]
+    hosts = [host("router", parents=parents), *map(host, names)]
+    down = "standing DOWN HARD 1 yes STEADY 300000"
+    run, last = len(names) + 1, len(names)
+    commands = ['["take",0]'] * run + [f'["report","{name}",{at},2]' for at, name in enumerate(names[:-1], 1)]
+    wanted = [f"taken {at} {name}" for at, name in enumerate([*names, "router"], 1)] + [f"{down} {name}" for name in names[:-1]]
+    for command, reply in {
+        f'["report","router",{run},2]': f"{down} router",
+        f'["report","{names[-1]}",{last},2]': f"{down} {names[-1]}",
+        '["reschedule","router",1000,false]': "done router",
+        '["take",1000]': f"taken {run + 1} router",
+        f'["report","router",{run + 1},2]': "standing UNREACHABLE HARD 1 yes STEADY 301000 router",
+    }.items():
+        commands.append(command)
+        wanted.append(reply)
+    held.compare("16,384 parents", (lines(*wanted), 0), held.run([], lines(setup(hosts=hosts), *commands)))
+    refused(held, "16,385 parents", "L3 TooMany", hosts=[host("router", parents=[*parents, names[0]]), *map(host, names)])
+
+
+def long_chain(held):
+    """A problem at one end of a chain of 4,000 dependencies that inherit puts off the check at the other end."""
+    chain = ["a-master", *(f"c{n:04}" for n in range(3_999)), "b-dependent"]
+    pairs = zip(chain[1:], chain)
+    members = {
+        "hosts": [host("h", check_interval=0)],
+        "services": [service("h", name) for name in chain],
+        "service_dependencies": [depends(f"h;{one}", f"h;{other}", inherits_parent=True) for one, other in pairs],
+    }
+    commands = ['["take",0]', '["report","h;a-master",1,2]', '["take",0]']
+    wanted = ["taken 1 h;a-master", "standing CRITICAL HARD 1 yes STEADY 300000 h;a-master", "putoff 300000 h;b-dependent"]
+    held.compare("a chain of 4,000 dependencies", (lines(*wanted), 0), held.run([], lines(setup(**members), *commands)))
+
+
+def long_cycles(held):
+    """4,000 objects in a ring, of each sort of dependency and of parents."""
+    names = [f"x{n:04}" for n in range(4_000)]
+    ring = list(zip(names, [*names[1:], names[0]]))
+    hosts = [host(name) for name in names]
+    services = [service("h", name) for name in names]
+    of_services = [depends(f"h;{one}", f"h;{other}") for one, other in ring]
+    of_hosts = [depends(one, other, criteria="d") for one, other in ring]
+    refused(held, "a cycle of services", "L9 DependencyCycle", hosts=[host("h")], services=services, service_dependencies=of_services)
+    refused(held, "a cycle of hosts", "L9 DependencyCycle", hosts=hosts, host_dependencies=of_hosts)
+    refused(held, "a cycle of parents", "L10 ParentCycle", hosts=[host(one, parents=[other]) for one, other in ring])
+    ended = [host(one, parents=[other]) for one, other in ring[:-1]] + [host(names[-1])]
+    held.compare("a chain of parents", (b"", 0), held.run([], lines(setup(hosts=ended))))
+
+
+def last_of_many(held):
+    """A fault in the last of 4,000 services is told with its index, of each test of services."""
+    for what, line, last in [
+        ("an unknown member", "L2 Shape", {"check_period": 1}),
+        ("a member of the wrong kind", "L2 Shape", {"enabled": 1}),
+        ("a bad description", "L4 BadName", {"description": "a;b"}),
+        ("the first one's name", "L5 Duplicate", {"host": "host00", "description": "service0000"}),
+        ("an unknown host", "L6 UnknownHost", {"host": "host90"}),
+        ("a number past its limit", "L8 Range", {"max_check_attempts": 256}),
+        ("a number below its limit", "L8 Range", {"max_check_attempts": 0}),
+    ]:
+        refused(held, f"{what}, last of many", f"{line} services {SERVICES - 1}", **many(**last))
+
+
+def places(held):
+    """Faults of each member of the document, and of an item of each list, with their places."""
+    for place in ("options", "hosts", "services", "service_dependencies", "host_dependencies"):
+        refused(held, f"{place} of the wrong kind", f"L2 Shape {place}", **{place: 5})
+    for place in ("hosts", "services", "service_dependencies", "host_dependencies"):
+        refused(held, f"{place} with a number", f"L2 Shape {place} 0", **{place: [5]})
+    refused(held, "an unknown member", "L2 Shape document", unknown=5)
+    refused(held, "an unknown option", "L2 Shape options", options={"unknown": 5})
+    refused(held, "an option out of its limits", "L8 Range options", options={"interval_length": 0})
+    refused(held, "a host out of its limits", "L8 Range hosts 1", hosts=[host("a"), host("b", retry_interval=525_601)])
+    refused(held, "a service out of its limits", "L8 Range services 0", hosts=[host("a")], services=[service("a", "s", check_interval=525_601)])
+
+
+def run_file(held, front, byte, size):
+    """Runs on a file of a front and copies of a byte, and tells too how many bytes of it the program has read."""
+    with tempfile.TemporaryFile() as file:
+        file.write(front)
+        for left in range(size - len(front), 0, -(1 << 20)):
+            file.write(byte * min(left, 1 << 20))
+        file.flush()
+        os.lseek(file.fileno(), 0, os.SEEK_SET)
+        return *held.run([], file.fileno()), os.lseek(file.fileno(), 0, os.SEEK_CUR)
+
+
+def long_inputs(held):
+    """Inputs at the limits of bytes. No more than one byte past the greatest is read, and an input without an end is refused."""
+    too_long = lines("refused S1 TooLong 0"), 1
+    held.compare("a document at its limit", (b"", 0, DOCUMENT), run_file(held, b"{}", b" ", DOCUMENT))
+    past = (lines("refused L12 TooLong"), 1, DOCUMENT + 1)
+    held.compare("a document past its limit", past, run_file(held, b"{}", b" ", DOCUMENT + 1))
+    held.compare("spaces past the limit", past, run_file(held, b"", b" ", DOCUMENT + 1))
+    held.compare("an input at its limit", (b"", 0, WHOLE_INPUT), run_file(held, b"{}", b"\n", WHOLE_INPUT))
+    held.compare("an input past its limit", (*too_long, WHOLE_INPUT + 1), run_file(held, b"{}", b"\n", WHOLE_INPUT + 1))
+    held.compare("an input far past its limit", (*too_long, WHOLE_INPUT + 1), run_file(held, b"{}", b"\n", WHOLE_INPUT + 5_000_000))
+    late = b"{}" + b"\n" * 999_999 + b"5"
+    held.compare("a refusal of line 1,000,000", (lines("refused S3 Shape 1000000"), 1), held.run([], late))
+    with subprocess.Popen(["yes", "{}"], stdout=subprocess.PIPE, stderr=subprocess.DEVNULL) as endless:
+        held.compare("an input without an end", too_long, held.run([], endless.stdout.fileno()))
+        endless.stdout.close()
+
+
+held = Held("limits")
+for part in (many_objects, many_parents, long_chain, long_cycles, last_of_many, places, long_inputs):
+    part(held)
+held.end()

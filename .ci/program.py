@@ -1,0 +1,61 @@
+"""What the parts of the gate share that run the built program: running it, and counting what came out otherwise."""
+import pathlib
+import subprocess
+import sys
+
+TOP = pathlib.Path(__file__).resolve().parent.parent
+EXAMPLES = TOP / "examples"
+SECONDS = 120
+REFUSED_WORDS = b"refused words\n"
+
+# Setup A: a host that is never checked by itself, and its service.
+SERVICE = (
+    b'{"options":{"service_inter_check_delay_method":"n","host_inter_check_delay_method":"n"},'
+    b'"hosts":[{"name":"h","check_interval":0,"max_check_attempts":3}],'
+    b'"services":[{"host":"h","description":"s","max_check_attempts":3}]}\n'
+)
+
+
+class Held:
+    """What a program is held to: it is run, each comparison is counted, and what came out otherwise is told."""
+
+    def __init__(self, part):
+        self.part = part
+        self.passed = self.failed = 0
+        self.program = str(pathlib.Path(sys.argv[1] if len(sys.argv) > 1 else TOP / "crates/nagsched/out/nagsched").resolve())
+        if not pathlib.Path(self.program).is_file():
+            self.compare("the program", "there", "not there")
+            self.end()
+
+    def run(self, words, given, **how):
+        """What the program writes on an input, and its exit status. The input is bytes, or a file's number."""
+        how |= {"input": given} if isinstance(given, bytes) else {"stdin": given}
+        try:
+            ran = subprocess.run([self.program, *words], stdout=subprocess.PIPE, timeout=SECONDS, **how)
+        except subprocess.TimeoutExpired:
+            return f"not ended after {SECONDS} seconds", None
+        return ran.stdout, ran.returncode
+
+    def compare(self, what, wanted, came):
+        """Counts one thing that was wanted, and tells it where it came out otherwise."""
+        if came == wanted:
+            self.passed += 1
+        else:
+            self.failed += 1
+            print(f"{self.part}: {what}: wanted {shortened(wanted)}, came {shortened(came)}")
+
+    def end(self):
+        """Prints the counts as the last line, and ends."""
+        print(f"{self.part}: {self.passed} passed, {self.failed} failed")
+        sys.exit(1 if self.failed or not self.passed else 0)
+
+
+def shortened(value):
+    """A value as it is told: not all of a long text."""
+    told = repr(value)
+    return told if len(told) <= 300 else f"{told[:200]} .. {told[-80:]}"
+
+
+def lines(*commands):
+    """An input's lines, each with its line feed."""
+    return "".join(f"{command}\n" for command in commands).encode()

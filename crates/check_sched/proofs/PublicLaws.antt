@@ -1,0 +1,6 @@
+-- The laws of `laws.rt` as lemmas, for the proofs of crates above; above each line stands the law whose clauses they are.
+
+-- board_shows_standings: few, read, words
+pub use Rattle.check_sched.proofs.BoardLaws.{few_words, opened_read, opened_words}
+-- runs_once: books, numbers, once
+pub use Rattle.check_sched.proofs.RunLaws.{book_is_legal, taken_next, taken_once}
