@@ -7,6 +7,7 @@ A part of the gate. It tells each example that comes out otherwise, and ends in 
 """
 import pathlib
 import re
+import shutil
 import subprocess
 import sys
 
@@ -56,8 +57,21 @@ def formats(page):
         compare("help", True, "Usage" in output([], words))
 
 
+def helped(page):
+    """The commands that the page lists are those of the help, as they stand."""
+    listed = re.findall(r'^\| `(\["\w+"[^`]*\])` \|', page, re.M)
+    of_drill = [command for command in listed if command.startswith(('["plugin"', '["moment"'))]
+    of_run = [command for command in listed if command not in of_drill]
+    for subcommand, commands in (("run", of_run), ("drill", of_drill)):
+        told = re.findall(r"^  (\[\S+\])", output([], subcommand, "--help"), re.M)
+        compare(f"the commands in the help of {subcommand}", commands, told)
+
+
 def readme(page):
-    """The examples of README: the first lines of the office, and the ends of the drill."""
+    """The examples of README: the first lines of the office, and the ends of the drill; and the kit's line."""
+    if shutil.which("rt"):
+        kit = subprocess.run(["rt", "version"], stdout=subprocess.PIPE, text=True).stdout.strip()
+        compare("the kit's line", True, f"`{kit}`" in page)
     commands, answers = answered(block_after(page, "It begins, with the answers"))
     office = (TOP / "examples/office.txt").read_text().splitlines()
     written = output(office).splitlines()
@@ -81,6 +95,7 @@ def nagios(page):
 
 
 formats((TOP / "docs/FORMATS.md").read_text())
+helped((TOP / "docs/FORMATS.md").read_text())
 nagios((TOP / "docs/NAGIOS.md").read_text())
 readme((TOP / "README.md").read_text())
 for example in wrong:

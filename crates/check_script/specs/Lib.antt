@@ -1,5 +1,4 @@
 pub mod Input
-pub mod Refusals
 pub mod Script
 pub mod Line
 pub mod Command

@@ -1,7 +1,7 @@
 //! What an input can be refused for. The text of a refusal is in `text`.
-ghost use Rattle.std.specs.Prelude.{◌≡◌};
+ghost use Rattle.std.specs.Prelude.{◌≡◌, ok_or};
 ghost use Rattle.check_script.specs.declared.refusal.ScriptError.TheVariants.{Memory};
-ghost use Rattle.check_script.specs.Refusals.{refusal_met};
+ghost use Rattle.check_script.specs.Agreement.{refusal};
 
 use crate::drive_error::DriveError;
 use check_objects::LoadError;
@@ -45,7 +45,7 @@ impl ScriptError {
     /// The refusal that the input met, which is to be written. Out of memory there is none, and the
     /// run ends as `Memory`.
     pub fn refusal(self) -> Result<InputRefusal, DriveError>
-        ensures { result ≡ refusal_met self }
+        ensures { result ≡ ok_or (refusal self) DriveError.Memory }
     {
         match self {
             ScriptError::Refused(refusal) => Ok(refusal),

@@ -9,10 +9,10 @@ use Rattle.check_script.specs.declared.input.TheConstants.{MAX_READ_BYTES}
 use Rattle.check_script.specs.declared.drive_error.DriveError.{DriveError}
 use Rattle.check_script.specs.declared.drive_error.DriveError.TheVariants as errors
 use Rattle.check_session.specs.declared.drive.Outcome.{Outcome}
-use Rattle.check_session.specs.Drill.{AfterDrillFault, IsDrill, IsDrillOnInput, IsTextOf, WroteDrill, WroteDrillFront, drill_outcome}
+use Rattle.check_session.specs.Drill.{AfterDrillFault, IsDrill, IsDrillOnInput, IsTextOf, WroteDrill, WroteDrillFront, WroteDrillShort, drill_outcome}
 use Rattle.check_script.specs.DrillScript.{DrillScript, drill_script_of}
 use Rattle.check_session.specs.Drive.{HasRead, outcome_by}
-use Rattle.check_text.specs.Output.{WroteFront}
+use Rattle.check_text.specs.Output.{WroteFront, WroteShort}
 use Rattle.check_text.specs.Text.{drill_text}
 use Rattle.check_session.proofs.DriveLemmas.{Keeps-same, drill_script_take, has_read, input_of, input_of-is}
 use Rattle.check_text.proofs.OutputLemmas.{Appends-Keeps, front_all}
@@ -31,6 +31,19 @@ front_of_drill (Ok x) start workers room input s history refused held holds e d 
 front_of_drill (Err x) start workers room input s history refused held holds e d f =
     inr (record { text = drill_text s.setup history refused; is_text = text_of_drill start workers room input s history refused e d; written = f })
 
+-- not all of it was written
+pub short_of_drill : (start workers room : ℕ) (input : List ℕ) (s : DrillScript) (history : List (Entry Call Reply)) (refused : ℕ) (held holds : Option (List ℕ))
+    → drill_script_of input ≡ Ok s → IsDrill s start workers room history refused → WroteShort held holds (drill_text s.setup history refused)
+    → WroteDrillShort start workers room input held holds
+short_of_drill start workers room input s history refused held holds e d (inl k) = inl k
+short_of_drill start workers room input s history refused held holds e d (inr w) = inr (record {
+  text = drill_text s.setup history refused;
+  is_text = text_of_drill start workers room input s history refused e d;
+  rest = w.0;
+  is_missing = w.1;
+  written = w.2;
+})
+
 -- ---- what was read is the input, or its front that is too long
 
 text_at : (start workers room : ℕ) (input bytes text : List ℕ) → input ≡ take MAX_READ_BYTES bytes → IsTextOf start workers room input text
@@ -48,6 +61,19 @@ front_at : (start workers room : ℕ) (held holds : Option (List ℕ)) (input by
     → WroteDrillFront start workers room bytes held holds
 front_at start workers room held holds input bytes e w =
     record { text = w.text; is_text = text_at start workers room input bytes w.text e w.is_text; written = w.written }
+
+-- what is missing from a text on what was read is missing from one on the input
+pub drill_short_at : (start workers room : ℕ) (had held holds : Option (List ℕ)) (input : List ℕ) → IfSome had (λ bytes. input ≡ take MAX_READ_BYTES bytes)
+    → WroteDrillShort start workers room input held holds → IfSome had (λ bytes. WroteDrillShort start workers room bytes held holds)
+drill_short_at start workers room None held holds input all w = tt
+drill_short_at start workers room (Some bytes) held holds input all (inl k) = inl k
+drill_short_at start workers room (Some bytes) held holds input all (inr w) = inr (record {
+  text = w.text;
+  is_text = text_at start workers room input bytes w.text all w.is_text;
+  rest = w.rest;
+  is_missing = w.is_missing;
+  written = w.written;
+})
 
 -- ---- faults
 

@@ -1,7 +1,7 @@
 -- A whole run, and what its faults leave.
 use Rattle.std.proofs.Common.{◌≡◌, ◌≢◌, ℕ, ◌<◌, ◌≤◌, ◌≡◌, true, List, [], ◌++◌, length, take, Option, Some, None, Result, Ok, Err, refl, sym, ap, ◌∙◌}
 use Rattle.std.proofs.Common.{arith, length-take, inl, inr, ◌⊎◌}
-use Rattle.std.specs.Prelude.{nat_lt, IfSome}
+use Rattle.std.specs.Prelude.{nat_lt, ok_or, IfSome}
 use Rattle.check_session.specs.declared.drive.Outcome.{Outcome}
 use Rattle.std.specs.Io.KnownBytes.{Appends, Keeps, Consumes}
 use Rattle.std.proofs.lemmas.Bool.{cases_lt}
@@ -9,7 +9,12 @@ use Rattle.std.proofs.lemmas.Bool.Decides.{nat_tests}
 use Rattle.std.proofs.lemmas.List.{take_all}
 use Rattle.check_script.specs.declared.drive_error.DriveError.{DriveError}
 use Rattle.check_script.specs.declared.drive_error.DriveError.TheVariants as errors
-use Rattle.check_text.specs.Output.{WroteFront}
+use Rattle.check_drafts.specs.Agreement.{Fails}
+use Rattle.check_script.specs.Agreement.{refusal}
+use Rattle.check_script.specs.declared.refusal.InputRefusal.{InputRefusal}
+use Rattle.check_script.specs.declared.refusal.ScriptError.{ScriptError}
+use Rattle.check_script.specs.declared.refusal.ScriptError.TheVariants as script
+use Rattle.check_text.specs.Output.{WroteFront, WroteShort}
 use Rattle.serde_json.specs.Data.{Items}
 use Rattle.check_objects.specs.Configuration.{Configuration}
 use Rattle.check_script.specs.Command.{call_by}
@@ -84,6 +89,18 @@ write_fault errors.Write start (Some bytes) left held holds input n all c f =
 write_fault errors.Memory start None left held holds input n all c f = tt
 write_fault errors.Memory start (Some bytes) left held holds input n all c f =
     (front_of start held holds input bytes all f, inr (has_read left input bytes all c))
+
+-- what is missing from the text of what was read is missing from that of the input
+pub short_of : (start : ℕ) (had held holds : Option (List ℕ)) (input : List ℕ) → IfSome had (λ bytes. input ≡ take MAX_READ_BYTES bytes)
+    → WroteShort held holds (text start input) → IfSome had (λ bytes. WroteShort held holds (text start bytes))
+short_of start None held holds input all w = tt
+short_of start (Some bytes) held holds input all w = rw (ap (text start) all ∙ text_take start bytes) at w
+
+-- the refusal that the reading of an input met is the input's
+pub met_refusal : {Y : Type 0} (error : ScriptError) (r : InputRefusal) (expected : Result Y InputRefusal)
+    → Ok r ≡ ok_or (refusal error) errors.Memory → Fails (refusal error) expected → expected ≡ Err r
+met_refusal script.Memory r expected e f = cc
+met_refusal (script.Refused why) r expected e f = cc
 
 -- ---- runs
 

@@ -1,6 +1,6 @@
 use Rattle.std.proofs.lemmas.Result.{err_from_is_err_and}
 use Rattle.check_session.proofs.DrillDriveLemmas.{drill_read_fault, drill_write_fault, drill_flush_fault, drill_written, drill_outcome_is, unwritten_drill}
-use Rattle.check_session.proofs.DrillDriveLemmas.{cut_drill, unflushed_drill, flushed_drill}
+use Rattle.check_session.proofs.DrillDriveLemmas.{cut_drill, drill_short_at, unflushed_drill, flushed_drill}
 use Rattle.check_session.proofs.drill.drill.Goals as goal
 
 pub returns-in_err-input-clause-fault : goal.returns-in_err-input-clause-fault
@@ -19,6 +19,12 @@ returns-in_err-flush-clause-fault g c =
     let p = err_from_is_err_and c.from_residual-in_err-flush.result c.from_residual-in_err-flush.ensures.1 in
     rw (p.1, p.2) (drill_flush_fault _ _ _ _ _ _ _ _ _ c.in_ok-input.input.items c.in_ok-input.ensures.all c.in_ok-input.ensures.left
     (rw c.deref.ensures.value at c.in_ok-outcome.ensures.written) c.flush.ensures.kept c.in_err-flush.ensures.kind)
+
+pub returns-in_err-outcome-clause-memory : goal.returns-in_err-outcome-clause-memory
+returns-in_err-outcome-clause-memory g c =
+    let p = err_from_is_err_and c.from_residual-in_err-outcome.result c.from_residual-in_err-outcome.ensures.1 in
+    rw (p.1, p.2) (λ m. drill_short_at _ _ _ _ _ _ c.in_ok-input.input.items c.in_ok-input.ensures.all
+    (rw c.deref.ensures.value at (c.in_err-outcome.ensures.memory m)))
 
 pub returns-clause-written : goal.returns-clause-written
 returns-clause-written g c =
