@@ -7,7 +7,7 @@ use Rattle.check_sched.specs.Board.{book_board, book_place}
 use Rattle.check_sched.specs.BoardLaws.{board_within}
 use Rattle.check_sched.specs.BookState.{BookState}
 use Rattle.check_sched.specs.Books.{entries_of, opening_of, state_of}
-use Rattle.check_sched.proofs.BoardLaws.{opened_words}
+use Rattle.check_sched.proofs.PublicLaws.{opened_words}
 
 -- whatever calls a book has, its board has a word for each object of the setup that it was opened with
 pub words_in : (book : Book) → length (book_board (state_of book)) ≡ object_count (opening_of book).sched.setup

@@ -12,7 +12,7 @@ use Rattle.check_sched.specs.BookState.{BookState, book_opening, book_step}
 use Rattle.check_sched.specs.contracts.book.BookKept.TheImpl.{ghosts as kept_book}
 use Rattle.check_sched.specs.State.{State, opening}
 use Rattle.check_sched.specs.Step.{step}
-use Rattle.check_sched.proofs.RunLaws.{book_is_legal}
+use Rattle.check_sched.proofs.PublicLaws.{book_is_legal}
 use Rattle.check_desk.specs.Schedules.{IsScheduleOver}
 
 -- the scheduler of a book goes through its calls alone

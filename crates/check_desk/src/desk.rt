@@ -15,6 +15,7 @@ ghost use Rattle.check_sched.specs.Books.{entries_of, opening_of, refused_of, ro
 
 use crate::passes::{Hold, Pass, Turn};
 use check_rules::{Standing, decode};
+use check_sched::laws::board_shows_standings;
 use check_sched::{Book, Call, Reply};
 use crossbeam_utils::Backoff;
 use std::alloc::Global;
@@ -302,6 +303,8 @@ impl Desk {
         ensures standing { object < objects_of self.now
             → result.1 ≡ Some (standing_after self.now (pass_of result.0).seen object) }
     {
+        // for the proof: what each word of a board is read as
+        board_shows_standings();
         if self.objects <= object {
             return (pass, None);
         }

@@ -36,6 +36,10 @@ const ONE_SERVICE: &[u8] =
 const TWO_SERVICES: &[u8] =
     br#"{"options":{"service_inter_check_delay_method":"n","host_inter_check_delay_method":"n"},"hosts":[{"name":"h","check_interval":0,"max_check_attempts":3}],"services":[{"host":"h","description":"a","max_check_attempts":3},{"host":"h","description":"b","max_check_attempts":3}]}"#;
 
+/// Two hosts that are due at 0; the first depends on the second where that was never checked.
+const FIRST_ON_PENDING: &[u8] =
+    br#"{"options":{"host_inter_check_delay_method":"n"},"hosts":[{"name":"a","max_check_attempts":3},{"name":"b","max_check_attempts":3}],"host_dependencies":[{"dependent":"a","master":"b","criteria":"p"}]}"#;
+
 /// How often a check looks whether another one has begun, before it gives up.
 const LOOKS: u32 = 1_000_000_000;
 
@@ -60,6 +64,21 @@ impl Plugin for AlwaysOk {
     ghost allows = { λ self object run now code. ⊤ };
 
     fn check(&self, _object: u32, _run: u64, _now: u64) -> Code {
+        Code::Ok
+    }
+}
+
+/// Counts its calls; no run finds a problem.
+#[derive(Drop)]
+struct Counting {
+    calls: AtomicU64,
+}
+
+impl Plugin for Counting {
+    ghost allows = { λ self object run now code. ⊤ };
+
+    fn check(&self, _object: u32, _run: u64, _now: u64) -> Code {
+        self.calls.fetch_add(1, SeqCst);
         Code::Ok
     }
 }
@@ -132,11 +151,11 @@ fn opened(alloc: Global, text: &[u8], passes: u32) -> Result<(Desk, Vec<Pass>), 
     }
 }
 
-/// A desk on one service, with one pass.
-fn one_pass(alloc: Global) -> Result<(Desk, Pass), Fail>
+/// A desk on the setup of this text, with one pass.
+fn one_pass(alloc: Global, text: &[u8]) -> Result<(Desk, Pass), Fail>
     ensures { IfOk result (λ made. IsPassOf made.0 made.1) }
 {
-    let (desk, mut passes) = opened(alloc, ONE_SERVICE, 1)?;
+    let (desk, mut passes) = opened(alloc, text, 1)?;
     let pass = passes.pop().ok_or("no pass")?;
     Ok((desk, pass))
 }
@@ -203,7 +222,7 @@ fn changed(state: State, attempt: u8, next: u64) -> Reply {
 
 #[test]
 fn a_worker_takes_runs_and_reports(rt: HostRuntime) -> Result<(), Fail> {
-    let (desk, pass) = one_pass(rt.alloc())?;
+    let (desk, pass) = one_pass(rt.alloc(), ONE_SERVICE)?;
     let (pass, tally, open) = work(&rt, &desk, pass, &FirstIsCritical, &[0, 60_000]);
     let two_runs = Tally {
         takes: 2,
@@ -232,7 +251,7 @@ fn a_worker_takes_runs_and_reports(rt: HostRuntime) -> Result<(), Fail> {
 /// At the second moment nothing is due before 300000, and the third is past 2^60.
 #[test]
 fn a_worker_goes_on_where_nothing_is_taken(rt: HostRuntime) -> Result<(), Fail> {
-    let (desk, pass) = one_pass(rt.alloc())?;
+    let (desk, pass) = one_pass(rt.alloc(), ONE_SERVICE)?;
     let too_late = 1_152_921_504_606_846_977;
     let (pass, tally, open) = work(&rt, &desk, pass, &AlwaysOk, &[0, 0, too_late]);
     let one_run = Tally {
@@ -259,10 +278,24 @@ fn a_worker_goes_on_where_nothing_is_taken(rt: HostRuntime) -> Result<(), Fail> 
     Ok(())
 }
 
+/// At the first moment a host is put off, and at the second its master is taken: the plugin is called
+/// for what was taken alone.
+#[test]
+fn no_plugin_is_called_for_what_is_put_off(rt: HostRuntime) -> Result<(), Fail> {
+    let (desk, pass) = one_pass(rt.alloc(), FIRST_ON_PENDING)?;
+    let plugin = Counting {
+        calls: AtomicU64::new(0),
+    };
+    let (_pass, tally, _open) = work(&rt, &desk, pass, &plugin, &[0, 0]);
+    assert_eq!(rt; (tally.put_off, tally.taken, tally.reported), (1, 1, 1));
+    assert_eq!(rt; plugin.calls.load(SeqCst), 1);
+    Ok(())
+}
+
 #[test]
 fn a_crew_without_a_pass_gives_the_desk_back(rt: HostRuntime) -> Result<(), Fail> {
     let alloc = rt.alloc();
-    let (desk, pass) = one_pass(alloc)?;
+    let (desk, pass) = one_pass(alloc, ONE_SERVICE)?;
     let none = Vec::new(alloc);
     match crew(&rt, alloc, desk, none, &AlwaysOk, &[0]) {
         Err(CrewError::NoPass(desk)) => {

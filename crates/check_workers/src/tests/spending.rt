@@ -1,11 +1,12 @@
 //! Passes of one call each: a worker takes a check and has no call left for its result, another
 //! caller abandons that check, and a third reports it too late.
 
-ghost use Rattle.check_desk.specs.Desks.{AreNewPassesWith, IsPassOf};
-ghost use Rattle.std.specs.Prelude.{◌≡◌, IfOk, length};
+ghost use Rattle.check_desk.specs.Desks.{IsPassOf};
+ghost use Rattle.std.specs.List.{All};
+ghost use Rattle.std.specs.Prelude.{◌≡◌, ◌<◌, ◌≤◌, IfOk, length};
 
 use super::{AlwaysOk, ONE_SERVICE, closed, empty_book, report};
-use crate::{Tally, work};
+use crate::{Tally, crew, work};
 use check_desk::{Answer, Desk, Pass};
 use check_rules::Code;
 use check_sched::{Call, Refusal, Reply};
@@ -15,15 +16,16 @@ use std::sync::Wait;
 use std::test::Fail;
 use ticket_steps::Kept;
 
-/// A desk on one service, and its three passes of one call each.
-fn opened(alloc: Global) -> Result<(Desk, Vec<Pass>), Fail>
-    ensures passes { IfOk result (λ made. length made.1.items ≡ 3) }
-    ensures new { IfOk result (λ made. AreNewPassesWith 1 made.0 0 made.1.items) }
+/// A desk on one service, and its passes of one call each.
+fn opened(alloc: Global, passes: u32) -> Result<(Desk, Vec<Pass>), Fail>
+    requires { (0 < passes) × (passes ≤ 1024) }
+    ensures passes { IfOk result (λ made. length made.1.items ≡ passes) }
+    ensures own { IfOk result (λ made. All (IsPassOf made.0) made.1.items) }
 {
-    match Desk::open_with(alloc, empty_book(alloc, ONE_SERVICE)?, 3, 1) {
+    match Desk::open_with(alloc, empty_book(alloc, ONE_SERVICE)?, passes, 1) {
         Ok(made) => Ok(made),
         Err(book) => Ok(
-            Desk::open_with(alloc, book, 3, 1)
+            Desk::open_with(alloc, book, passes, 1)
                 .ok()
                 .ok_or("no memory twice")?,
         ),
@@ -35,7 +37,7 @@ fn three_passes(alloc: Global) -> Result<(Desk, Pass, Pass, Pass), Fail>
     ensures { IfOk result (λ made. IsPassOf made.0 made.1 × IsPassOf made.0 made.2
         × IsPassOf made.0 made.3) }
 {
-    let (desk, mut passes) = opened(alloc)?;
+    let (desk, mut passes) = opened(alloc, 3)?;
     let third = passes.pop();
     let second = passes.pop();
     let first = passes.pop();
@@ -103,5 +105,18 @@ fn a_spent_worker_leaves_its_check_open(rt: HostRuntime) -> Result<(), Fail> {
     assert_eq!(rt; (pass.gathered(), pass.calls()), (3, 3));
     let book = closed(&rt, desk, pass);
     assert_eq!(rt; (book.entries().len(), book.refused()), (3, 0));
+    Ok(())
+}
+
+/// A crew whose pass has fewer calls left than two for each moment works with those that it has.
+#[test]
+fn a_crew_of_a_pass_with_one_call(rt: HostRuntime) -> Result<(), Fail> {
+    let alloc = rt.alloc();
+    let (desk, passes) = opened(alloc, 1)?;
+    let Ok((book, tally)) = crew(&rt, alloc, desk, passes, &AlwaysOk, &[0]) else {
+        return Err(Fail::from("no book"));
+    };
+    assert_eq!(rt; (tally.taken, tally.reports, tally.stops), (1, 0, 1));
+    assert_eq!(rt; (book.entries().len(), book.refused()), (1, 0));
     Ok(())
 }

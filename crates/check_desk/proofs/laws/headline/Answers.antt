@@ -4,7 +4,7 @@ use Rattle.ticket_steps.proofs.ScheduleLemmas.{schedule_lawful, schedule_made, s
 use Rattle.ticket_steps.proofs.SeatLemmas.{alone, posts, unnumbered_calls, unnumbered_posts}
 use Rattle.check_sched.specs.contracts.book.BookKept.TheImpl.{ghosts as kept_book}
 use Rattle.check_sched.specs.State.{opening}
-use Rattle.check_sched.proofs.RunLaws.{taken_next, taken_once}
+use Rattle.check_sched.proofs.PublicLaws.{taken_next, taken_once}
 use Rattle.check_desk.proofs.ScheduleLemmas.{legal_here, legal_parts, sched_here}
 use Rattle.check_desk.proofs.laws.headline.Goals as goal
 

@@ -1,7 +1,6 @@
 use Rattle.std.proofs.Common.{◌≡◌, ◌<◌, ◌∙◌, Some, None, sym, ap, arith}
 use Rattle.check_rules.specs.Board.{standing_coded}
 use Rattle.check_sched.specs.Books.{opening_of}
-use Rattle.check_sched.proofs.BoardLaws.{opened_read}
 use Rattle.ticket_lock.specs.Tokens.{seat_of, start_of, words_of}
 use Rattle.check_desk.specs.Desks.{objects_of, standing_after}
 use Rattle.check_desk.proofs.BoardLemmas.{words_opened}
@@ -19,7 +18,7 @@ read c =
     let book = (start_of desk.lock).book in
     let opened = opening_of book in
     c.decode.ensures ∙ (ap standing_coded c.glance-seat.ensures.word
-    ∙ opened_read opened.sched.setup opened.sched.start opened.room (seat_of c.glance-seat.result.0).seen c.args.object book.valid_setup
+    ∙ c.board_shows_standings.ensures.read opened.sched.setup opened.sched.start opened.room (seat_of c.glance-seat.result.0).seen c.args.object book.valid_setup
     (there (goal.at.returns-clause-missing c).Else-self-object))
 
 pub glance-seat-requires-clause-place : goal.glance-seat-requires-clause-place
