@@ -1,0 +1,113 @@
+#!/usr/bin/env python3
+"""Holds the scripts of tools/ to what they are for.
+
+    .ci/tools.py PROGRAM
+
+The small network of conformance/nagios, as Nagios 4.4.6 wrote it out, becomes a setup whose counts, intervals and first checks are
+those that Nagios tells of its schedule (schedule.txt); a made network of 10,000 services goes into parts that the program accepts;
+a template is refused with its place; and the picture of README is drawn again.
+"""
+import json
+import pathlib
+import subprocess
+import sys
+import tempfile
+import xml.dom.minidom
+
+TOP = pathlib.Path(__file__).resolve().parent.parent
+OFFICE = TOP / "conformance/nagios"
+HOST = """define host {{
+\thost_name\t{name}
+\tparents\t{parents}
+\tcheck_interval\t5.000000
+\tretry_interval\t1.000000
+\tmax_check_attempts\t3
+\tactive_checks_enabled\t1
+\t}}
+"""
+SERVICE = """define service {{
+\thost_name\t{host}
+\tservice_description\tservice-{number}
+\tcheck_interval\t5.000000
+\tretry_interval\t1.000000
+\tmax_check_attempts\t4
+\tactive_checks_enabled\t1
+\t}}
+"""
+
+
+def from_nagios(*words):
+    ran = subprocess.run([sys.executable, TOP / "tools/from_nagios.py", *words], capture_output=True, text=True)
+    return ran.returncode, ran.stdout, ran.stderr
+
+
+def names_of(setup):
+    return [it["name"] for it in setup["hosts"]], [f"{it['host']};{it['description']}" for it in setup["services"]]
+
+
+def first_checks(program, setup, names):
+    """When each of these is checked first, in milliseconds from the start."""
+    lines = [json.dumps(setup), *(json.dumps(["status", name]) for name in names)]
+    ran = subprocess.run([program], input="\n".join(lines), capture_output=True, text=True)
+    times = [line.split(" ")[6] for line in ran.stdout.splitlines()]
+    return sorted(int(time) for time in times if time != "none")
+
+
+def office(program):
+    """The small network: six hosts, of which five are scheduled a quarter of a second apart, and nine services, of which eight are
+    scheduled 652.5 / 8 seconds apart."""
+    status, told, left_out = from_nagios(OFFICE / "nagios.cfg", OFFICE / "objects.precache")
+    setup = json.loads(told)
+    hosts, services = names_of(setup)
+    options = setup["options"]
+    yield "its words", status == 0 and "objects without active checks (2)" in left_out and "serviceescalation" in left_out
+    yield "its counts", (len(hosts), len(services), len(setup["service_dependencies"]), len(setup["host_dependencies"])) == (6, 9, 5, 1)
+    yield "its options", (options["interval_length"], options["host_inter_check_delay_method"], options["high_service_flap_threshold"]) == (30, 250, 21)
+    yield "its hosts' first checks", first_checks(program, setup, hosts) == [250 * rank for rank in range(5)]
+    yield "its services' first checks", first_checks(program, setup, services) == [5_220_000 * rank // 64 for rank in range(8)]
+
+
+def large(program, work):
+    """A thousand hosts behind ten others, with ten services each: none is parted from its parent."""
+    objects = work / "large.precache"
+    with objects.open("w") as file:
+        for number in range(1000):
+            name = f"host-{number:04}"
+            file.write(HOST.format(name=name, parents="" if number < 10 else f"host-{number % 10:04}"))
+            file.writelines(SERVICE.format(host=name, number=service) for service in range(10))
+    status, _, told = from_nagios("--parts", work / "parts", OFFICE / "nagios.cfg", objects)
+    parts = sorted((work / "parts").iterdir())
+    yield "its parts", status == 0 and len(parts) == 4 and "4 parts" in told
+    counts = [sum(map(len, names_of(json.loads(part.read_text())))) for part in parts]
+    yield "their objects", sum(counts) == 11_000 and max(counts) <= 4_096
+    yield "that each is a setup", all(subprocess.run([program], stdin=part.open(), capture_output=True).returncode == 0 for part in parts)
+    yield "that one setup is refused", from_nagios(OFFICE / "nagios.cfg", objects)[0] == 1
+
+
+def template(work):
+    (work / "template.cfg").write_text("define host {\n\tname\tmachine\n\tregister\t0\n\tmax_check_attempts\t3\n\t}\n")
+    status, told, why = from_nagios(OFFICE / "nagios.cfg", work / "template.cfg")
+    yield "a template", (status, told) == (1, "") and "template.cfg:" in why
+
+
+def pictures():
+    drawn = [subprocess.run([sys.executable, TOP / "tools/timeline.py", TOP / f"examples/{name}.txt", TOP / f"examples/{name}.out"],
+                            capture_output=True, text=True).stdout for name in ("office", "drill")]
+    yield "the picture of README", drawn[0] == (TOP / "docs/office.svg").read_text()
+    yield "the picture of a drill", len(xml.dom.minidom.parseString(drawn[1]).getElementsByTagName("rect")) > 20
+
+
+def main():
+    program = str(pathlib.Path(sys.argv[1]).resolve())
+    with tempfile.TemporaryDirectory() as folder:
+        work = pathlib.Path(folder)
+        told = [*office(program), *large(program, work), *template(work), *pictures()]
+    wrong = [what for what, is_so in told if not is_so]
+    for what in wrong:
+        print(f"tools: {what}: otherwise than wanted")
+    print(f"tools: {len(told) - len(wrong)} passed, {len(wrong)} failed")
+    return 1 if wrong else 0
+
+
+if __name__ == "__main__":
+    sys.exit(main())
