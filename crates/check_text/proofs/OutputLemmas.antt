@@ -101,12 +101,16 @@ front_all old new bytes a = ([], record { front = bytes; parts = sym (append-nil
 
 -- ---- want of memory
 
+-- what is left has something in it, and it is missing
+pub WroteShort-left : (old mid new : Option (List ℕ)) (text left : List ℕ) → WroteUpTo old mid text left → left ≢ [] → Keeps mid new → WroteShort old new text
+WroteShort-left old mid new text left w some k =
+    inr (left, some, record { front = w.front; parts = w.parts; appended = Appends-Keeps old mid new w.front w.appended k })
+
 -- what is next in the text has something in it, and it is missing
 pub WroteShort-next : (old mid new : Option (List ℕ)) (text left line rest : List ℕ) → WroteUpTo old mid text left → left ≡ line ++ rest → line ≢ []
     → Keeps mid new → WroteShort old new text
-WroteShort-next old mid new text left line rest w e some k = inr
-    (left, (λ none. some_append line rest some (sym e ∙ none)),
-    record { front = w.front; parts = w.parts; appended = Appends-Keeps old mid new w.front w.appended k })
+WroteShort-next old mid new text left line rest w e some k =
+    WroteShort-left old mid new text left w (λ none. some_append line rest some (sym e ∙ none)) k
 
 -- ---- faults
 

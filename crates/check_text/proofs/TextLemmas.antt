@@ -1,6 +1,6 @@
 -- The text of a run, call by call, and of a history, entry by entry.
 use Rattle.std.proofs.Common.{◌≡◌, ◌≢◌, ℕ, List, [], ◌∷◌, ◌++◌, refl, ap, ◌∙◌, append_assoc, append-nil, sym, arith, drop, length, ◌+◌, ◌≤◌, ◌<◌, get_or}
-use Rattle.std.specs.Prelude.{codes, decimal, flat_map}
+use Rattle.std.specs.Prelude.{flat_map}
 use Rattle.std.proofs.lemmas.Grind.{common_steps}
 use Rattle.std.proofs.lemmas.List.{drop_all}
 use Rattle.ticket_steps.specs.declared.kept.Entry.{Entry}
@@ -9,7 +9,7 @@ use Rattle.check_sched.specs.State.{State}
 use Rattle.check_sched.specs.Step.{step}
 use Rattle.check_sched.specs.declared.call.Call.{Call}
 use Rattle.check_sched.specs.declared.call.Reply.{Reply}
-use Rattle.check_text.specs.Text.{text_from, line_from, line_of, entry_line, reply_line, reply_text, total_line, total_text}
+use Rattle.check_text.specs.Text.{text_from, line_from, line_of, entry_line, reply_text, total_line, total_text}
 use Rattle.check_text.proofs.OutputLemmas.{append_some}
 
 -- the text goes on with the line of the next call's reply, since a call leaves the setup
@@ -43,12 +43,10 @@ line_of_some text = append_some text (10 ∷ []) (λ e. cc)
 pub line_from_some : (s : State) (call : Call) → line_from s call ≢ []
 line_from_some s call = line_of_some (reply_text s.setup call (step s call).1)
 
-pub total_line_some : (entries refused : ℕ) → total_line entries refused ≢ []
-total_line_some entries refused = line_of_some (total_text entries refused)
-
-pub entry_line_some : (c : Configuration) (e : Entry Call Reply) → entry_line c e ≢ []
-entry_line_some c e = append_some (decimal e.pass) (codes " " ++ reply_line c e.call e.reply)
-    (append_some (codes " ") (reply_line c e.call e.reply) (line_of_some (reply_text c e.call e.reply)))
+-- before the total there is the total at least
+pub history_some : (c : Configuration) (es : List (Entry Call Reply)) (entries refused : ℕ) → flat_map (entry_line c) es ++ total_line entries refused ≢ []
+history_some c es entries refused =
+    append_some (flat_map (entry_line c) es) (total_line entries refused) (line_of_some (total_text entries refused))
 
 -- ---- texts in parts
 
