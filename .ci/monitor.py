@@ -64,7 +64,8 @@ def main():
         faults.append(f"it told {told!r}")
     for fault in faults:
         print(f"monitor: {fault}")
-    print(f"monitor: killed {KILLS} times, {len(calls)} calls, {len(runs)} runs, {len(faults)} faults")
+    print(f"monitor: killed {KILLS} times, {len(calls)} calls, {len(runs)} runs")
+    print(f"monitor: {0 if faults else 1} passed, {len(faults)} failed")
     return 1 if faults else 0
 
 

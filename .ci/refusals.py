@@ -36,7 +36,8 @@ def chain_drill():
 def runs():
     """Each run that is swept: its name, its words, its input, and what is written with ample memory, or nothing where that varies."""
     office, drill = ((EXAMPLES / f"{name}.txt").read_bytes() for name in ("office", "drill"))
-    yield "run, the office", [], office, (EXAMPLES / "office.out").read_bytes()
+    for word in ("run", "live"):
+        yield f"{word}, the office", [word], office, (EXAMPLES / "office.out").read_bytes()
     for room in ([], ["--room", "0"]):
         yield " ".join(["drill, 3 workers", *room]), ["drill", "--workers", "3", *room], drill, None
     for name in ("operators/status-soft-recovery", "dependencies/inherited-dependency"):

@@ -50,6 +50,8 @@ def formats(page):
     compare("a whole script", "".join(a + "\n" for a in answers), output([setup, *commands]))
     drill = block_after(page, "A whole input, over a host").splitlines()
     compare("a drill", block_after(page, "With the drill's input above"), output(drill, "drill", "--workers", "1"))
+    conversation = block_after(page, "So with this input").splitlines()
+    compare("a conversation", block_after(page, "the answers are these"), output(conversation, "live"))
     for example, told in re.findall(r"`([\[{][^`]*)`: `(refused [^`]*)`", page):
         lines = [example] if example.startswith("{") else [HOST, example]
         compare(example, told + "\n", output(lines))

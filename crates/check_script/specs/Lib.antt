@@ -1,4 +1,5 @@
 pub mod Input
+pub mod LiveInput
 pub mod Script
 pub mod Line
 pub mod Command

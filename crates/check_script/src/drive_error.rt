@@ -5,10 +5,11 @@ ghost use Rattle.check_script.specs.declared.drive_error.DriveError.TheVariants.
 use std::alloc::AllocError;
 use thiserror::Error;
 
-/// Why a run ended early.
+/// Why a run, a drill or a conversation ended early.
 #[derive(Clone, Copy, Debug, PartialEq, Eq, Error)]
 pub enum DriveError {
-    /// The reader failed or was interrupted. Nothing was written.
+    /// The reader failed or was interrupted. A run and a drill have written nothing then, a
+    /// conversation the answers to the lines that came.
     #[error("the input could not be read")]
     Read,
     /// The writer failed, was interrupted or took no byte, or its flush failed. A front of the text

@@ -102,7 +102,7 @@ fn first_line(bytes: &[u8]) -> &[u8]
 }
 
 /// The place of the first line feed.
-fn line_end(bytes: &[u8]) -> Option<usize>
+pub fn line_end(bytes: &[u8]) -> Option<usize>
     ensures place { result ≡ position (λ b. b == LINE_FEED) bytes.now }
     ensures within { IfSome result (λ end. end < length bytes.now) }
 {

@@ -16,6 +16,7 @@ mod drive_error;
 mod input;
 pub mod laws;
 mod line;
+mod live_input;
 mod refusal;
 mod script;
 
@@ -24,5 +25,9 @@ pub use drill_script::DrillScript;
 pub use drive_error::DriveError;
 pub use input::{Lines, MAX_READ_BYTES, read_input};
 pub use line::Command;
+pub use live_input::{
+    ASKED_BYTES, InputBuffer, KEPT_LINE_BYTES, KEPT_SETUP_BYTES, KeptLine, read_kept,
+    take_first_line,
+};
 pub use refusal::{InputRefusal, LineFault, ScriptError};
-pub use script::{MAX_INPUT_BYTES, Script};
+pub use script::{MAX_INPUT_BYTES, Script, read_setup};

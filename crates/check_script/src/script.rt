@@ -56,7 +56,7 @@ fn read_over<C: Command>(
 }
 
 /// The setup of the document on line 1.
-fn read_setup(alloc: Global, document: &[u8]) -> Result<Setup, ScriptError>
+pub fn read_setup(alloc: Global, document: &[u8]) -> Result<Setup, ScriptError>
     ensures { Gives (λ setup. setup) result (in_setup (setup_of document.now)) }
 {
     match Setup::read(alloc, document) {

@@ -1,3 +1,5 @@
 pub mod DriveLemmas
+pub mod LiveLinesLemmas
+pub mod LiveLemmas
 pub mod DrillDriveLemmas
 pub mod DrillLaws

@@ -1,4 +1,5 @@
 pub mod Drill
 pub mod Drive
+pub mod Live
 pub mod Session
 pub mod ScriptedCodes

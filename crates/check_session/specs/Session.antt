@@ -14,6 +14,7 @@ use Rattle.check_words.specs.declared.words.WordsError.{WordsError}
 use Rattle.check_words.specs.declared.words.WordsError.TheVariants as words_error
 use Rattle.check_session.specs.Drill.{AfterDrillFault, IsDrillOnInput}
 use Rattle.check_session.specs.Drive.{AfterFault, HasRead, IsRunOnInput}
+use Rattle.check_session.specs.Live.{IsLiveOnInput}
 use Rattle.check_text.specs.Output.{WroteFront}
 use Rattle.check_words.specs.Words.{AsksHelp, IsRefused, job_asked, program}
 
@@ -23,6 +24,7 @@ use Rattle.check_words.specs.Words.{AsksHelp, IsRefused, job_asked, program}
 abbrev pub DidJob : Job → Outcome → Option (List ℕ) → Option (List ℕ) → Option (List ℕ) → Option (List ℕ) → Type 0
 DidJob (job.Run start) outcome had left held holds =
     IsRunOnInput start (Ok outcome) had held holds × IfSome had (HasRead had left)
+DidJob (job.Live start) outcome had left held holds = IsLiveOnInput start (Ok outcome) had left held holds
 DidJob (job.Drill start workers room) outcome had left held holds =
     IsDrillOnInput start workers room (Ok outcome) had held holds × IfSome had (HasRead had left)
 
@@ -30,6 +32,7 @@ DidJob (job.Drill start workers room) outcome had left held holds =
 abbrev pub FailedJob : Job → DriveError → Option (List ℕ) → Option (List ℕ) → Option (List ℕ) → Option (List ℕ) → Type 0
 FailedJob (job.Run start) e had left held holds =
     AfterFault e start had left held holds × IsRunOnInput start (Err e) had held holds
+FailedJob (job.Live start) e had left held holds = IsLiveOnInput start (Err e) had left held holds
 FailedJob (job.Drill start workers room) e had left held holds =
     AfterDrillFault e start workers room had left held holds × IsDrillOnInput start workers room (Err e) had held holds
 

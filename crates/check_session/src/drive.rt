@@ -128,7 +128,7 @@ fn open(alloc: Global, setup: Setup, start: u64) -> Result<Sched, DriveError>
 }
 
 /// Makes one call, and writes the line of its reply by way of the buffer `line`.
-fn make_call<W: Write>(
+pub fn make_call<W: Write>(
     sched: &mut Sched,
     call: Call,
     line: &mut String,

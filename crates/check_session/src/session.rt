@@ -9,6 +9,7 @@ ghost use Rattle.check_session.specs.Session.{exit_status, Ends, Tells};
 
 use crate::drill::drill;
 use crate::drive::{Outcome, drive};
+use crate::live::live;
 use check_script::DriveError;
 use check_text::{flush, write_text};
 use check_words::job::job;
@@ -31,11 +32,12 @@ pub enum Ending {
 
 /// Does what the program's words ask for, its own name first, and gives the exit status. Words are
 /// tested first: where they are refused, or ask for help, the input isn't read, and the line
-/// `refused words` or the help's text is written. The writer is flushed once, at the end.
+/// `refused words` or the help's text is written. The writer is flushed once, at the end, but by `live`
+/// before each read too.
 ///
 /// The status is that of [`exit_status`]. Where it tells a fault or that there was no memory, a job
-/// leaves what `drive` or `drill` says of that error; without a job the reader is as it was, and the
-/// writer has got a front of what it was to be told, or nothing.
+/// leaves what `drive`, `live` or `drill` says of that error; without a job the reader is as it was,
+/// and the writer has got a front of what it was to be told, or nothing.
 ///
 /// `rt` is the machine that starts threads and waits, which only a drill uses.
 pub fn session<H: Threads + Wait + Sync, R: Read, W: Write>(
@@ -65,6 +67,10 @@ fn serve<H: Threads + Wait + Sync, R: Read, W: Write>(
 {
     match job(alloc, words) {
         Ok(Job::Run { start }) => match drive(alloc, start, reader, writer) {
+            Ok(outcome) => Ok(Ending::Drove(outcome)),
+            Err(e) => Err(e),
+        },
+        Ok(Job::Live { start }) => match live(alloc, start, reader, writer) {
             Ok(outcome) => Ok(Ending::Drove(outcome)),
             Err(e) => Err(e),
         },

@@ -1,2 +1,3 @@
 pub mod OutputLemmas
 pub mod TextLemmas
+pub mod LiveLaws

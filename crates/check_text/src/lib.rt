@@ -5,6 +5,7 @@
 //! `text` has the text of each line, one definition each, whatever subcommand writes it; `output`
 //! hands bytes to a writer, whole or up to a fault.
 
+pub mod laws;
 mod output;
 #[cfg(test)]
 mod tests;

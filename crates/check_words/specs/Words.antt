@@ -38,13 +38,17 @@ room_option = number_option (codes "room") (codes "1000")
 abbrev pub run_subcommand : App
 run_subcommand = with_rule (new_app (codes "run")) start_option
 
+-- the subcommand `live`, with its option
+abbrev pub live_subcommand : App
+live_subcommand = with_rule (new_app (codes "live")) start_option
+
 -- the subcommand `drill`, with its three options
 abbrev pub drill_subcommand : App
 drill_subcommand = with_rule (with_rule (with_rule (new_app (codes "drill")) start_option) workers_option) room_option
 
--- the program's words, with its two subcommands
+-- the program's words, with its three subcommands
 abbrev pub program : App
-program = with_subcommand (with_subcommand (new_app (codes "nagsched")) run_subcommand.top) drill_subcommand.top
+program = with_subcommand (with_subcommand (with_subcommand (new_app (codes "nagsched")) run_subcommand.top) live_subcommand.top) drill_subcommand.top
 
 -- ---- what the words ask for
 
@@ -72,6 +76,10 @@ room_of = number_of (codes "room") 0 1000000
 abbrev pub run_of : List Row → Option Job
 run_of options = option_map job.Run (start_of options)
 
+-- `live`, by the options that were read for it
+abbrev pub live_of : List Row → Option Job
+live_of options = option_map job.Live (start_of options)
+
 -- `drill`, by the options that were read for it
 abbrev pub drill_of : List Row → Option Job
 drill_of options = option_and_then (λ start.
@@ -84,7 +92,8 @@ abbrev pub job_of : Option (Text × List Row) → Option Job
 job_of None = Some (job.Run 0)
 job_of (Some (name, options)) =
     if bytes_eq name (codes "run") then run_of options
-    else (if bytes_eq name (codes "drill") then drill_of options else None)
+    else (if bytes_eq name (codes "live") then live_of options
+    else (if bytes_eq name (codes "drill") then drill_of options else None))
 
 -- The job that the words ask for, the program's name first: of the subcommand that `clap` reads
 -- from them, with the first value of each of its options.
@@ -94,6 +103,7 @@ job_asked words = job_of (subcommand_of program words)
 -- the numbers of a job are within their limits
 abbrev pub IsWithinLimits : Job → Type 0
 IsWithinLimits (job.Run start) = start ≤ 2 ^ 60
+IsWithinLimits (job.Live start) = start ≤ 2 ^ 60
 IsWithinLimits (job.Drill start workers room) = (start ≤ 2 ^ 60) × (1 ≤ workers) × (workers ≤ 64) × (room ≤ 1000000)
 
 -- ---- where the words are no job

@@ -4,8 +4,8 @@ ghost use Rattle.std.specs.Prelude.{◌≡◌, ◌≤◌, ◌^◌, Some, [], fal
 ghost use Rattle.clap.specs.declared.builder.command.Command.TheViews.{out-Command};
 ghost use Rattle.clap.specs.Words.{app_of, fault_of, kind_of, rows_of, rule_of, found_of, subcommand_rows_of};
 ghost use Rattle.clap.specs.Walk.{texts};
-ghost use Rattle.check_words.specs.Words.{program, run_subcommand, drill_subcommand, start_option, number_option};
-ghost use Rattle.check_words.specs.Words.{job_asked, job_of, run_of, drill_of, start_of, workers_of, room_of};
+ghost use Rattle.check_words.specs.Words.{program, run_subcommand, live_subcommand, drill_subcommand, start_option, number_option};
+ghost use Rattle.check_words.specs.Words.{job_asked, job_of, run_of, live_of, drill_of, start_of, workers_of, room_of};
 ghost use Rattle.check_words.specs.Words.{number_of, number_between, Explains, IsWithinLimits, Reads, Tells};
 
 use crate::words::{Job, WordsError};
@@ -22,12 +22,16 @@ decides whose check is due, and what a result does to state, attempt and next
 time. It runs no plugins: return codes are part of its input.
 
 A setup and a script come from standard input. `run` makes the script's calls
-one after another, and answers each by a line. `drill` has workers, each in a
-thread, share one scheduler, and writes the history that they made. Without a
-command it does `run --start 0`.";
+one after another, and answers each by a line. `live` does so while it runs: it
+answers a line when it has come. `drill` has workers, each in a thread, share
+one scheduler, and writes the history that they made. Without a command it does
+`run --start 0`.";
 
 /// What the help says of the subcommand `run`.
 const ABOUT_RUN: &str = "Makes the calls of a script on one scheduler";
+
+/// What the help says of the subcommand `live`.
+const ABOUT_LIVE: &str = "Answers each line when it has come, and waits for the next";
 
 /// What the help says of the subcommand `drill`.
 const ABOUT_DRILL: &str = "Has workers share one scheduler, with scripted plugins";
@@ -46,7 +50,7 @@ const NOTES: &str = "\
 Input:
   Line 1 is the setup, a JSON object with options, hosts and services. Each
   later line is a JSON array: `nagsched run --help` and `nagsched drill --help`
-  tell which. The whole input is checked before the first call is made.
+  tell which. `run` and `drill` check the whole input before the first call.
   docs/FORMATS.md has every member, line and refusal, each with an example.
 
 Exit status:
@@ -84,6 +88,26 @@ Example:
   printf '%s\\n' '{\"hosts\":[{\"name\":\"gateway\",\"max_check_attempts\":3}]}' \\
     '[\"take\",0]' '[\"report\",\"gateway\",1,2]' | nagsched run --start 0";
 
+/// What stands at the end of the help of `live`.
+const LIVE_NOTES: &str = "\
+Input and output are those of `run`, but a line is answered when it has come,
+before more is asked for, and there is no limit on the whole.
+  A line that is no command is answered by `refused CODE WHY LINE`, and changes
+  nothing: the conversation goes on.
+  A blank line has no answer: don't wait for one.
+  A refused setup is answered by its line, and ends the conversation.
+It doesn't read while it writes: whoever sends more than pipes hold has to read
+the answers meanwhile.
+
+docs/FORMATS.md has every line, member and refusal, each with an example.
+
+Exit status:
+  0 ran   1 setup refused   2 words refused   3 device failed   4 out of memory
+
+Example, whose second answer comes two seconds after the first:
+  (printf '%s\\n' '{\"hosts\":[{\"name\":\"gateway\",\"max_check_attempts\":3}]}' \\
+    '[\"take\",0]'; sleep 2; echo '[\"report\",\"gateway\",1,2]') | nagsched live";
+
 /// What stands at the end of the help of `drill`.
 const DRILL_NOTES: &str = "\
 Input, behind the setup, in any order:
@@ -113,7 +137,7 @@ const MAX_WORKERS: u64 = 64;
 /// The most entries for which a drill may have room from the outset.
 const MAX_ROOM: u64 = 1_000_000;
 
-/// Reads the program's words, its own name first: `run [--start N]`, or
+/// Reads the program's words, its own name first: `run [--start N]`, `live [--start N]`, or
 /// `drill [--start N] [--workers N] [--room N]`, or nothing, which is `run --start 0`. N is read as
 /// std reads a `u64` from a text. Options without a subcommand are refused, and of an option that is
 /// given twice `clap` decides.
@@ -134,11 +158,13 @@ fn build_program<'a>(alloc: Global) -> Result<Command<'a>, AllocError>
     ensures { IfOk result (λ c. app_of c ≡ program) }
 {
     let run = build_run(alloc)?;
+    let live = build_live(alloc)?;
     let drill = build_drill(alloc)?;
     Command::new(alloc, "nagsched")
         .about(ABOUT)
         .after_help(NOTES)
         .subcommand(run)?
+        .subcommand(live)?
         .subcommand(drill)
 }
 
@@ -150,6 +176,17 @@ fn build_run<'a>(alloc: Global) -> Result<Command<'a>, AllocError>
     Command::new(alloc, "run")
         .about(ABOUT_RUN)
         .after_help(RUN_NOTES)
+        .arg(start_option(alloc))
+}
+
+/// The subcommand `live`.
+fn build_live<'a>(alloc: Global) -> Result<Command<'a>, AllocError>
+    ensures { IfOk result (λ c.
+        (app_of c ≡ live_subcommand) × ((out-Command c).has_globals ≡ false)) }
+{
+    Command::new(alloc, "live")
+        .about(ABOUT_LIVE)
+        .after_help(LIVE_NOTES)
         .arg(start_option(alloc))
 }
 
@@ -195,6 +232,7 @@ fn read_job(matches: &ArgMatches<'_>) -> Result<Job, WordsError>
     match matches.subcommand() {
         None => Ok(Job::Run { start: 0 }),
         Some(("run", options)) => read_run(options).ok_or(WordsError::Refused),
+        Some(("live", options)) => read_live(options).ok_or(WordsError::Refused),
         Some(("drill", options)) => read_drill(options).ok_or(WordsError::Refused),
         Some(_) => Err(WordsError::Refused),
     }
@@ -206,6 +244,16 @@ fn read_run(options: &ArgMatches<'_>) -> Option<Job>
     ensures limits { IfSome result IsWithinLimits }
 {
     Some(Job::Run {
+        start: read_start(options)?,
+    })
+}
+
+/// The job of `live` with these options.
+fn read_live(options: &ArgMatches<'_>) -> Option<Job>
+    ensures asked { result ≡ live_of (rows_of (found_of options.now)) }
+    ensures limits { IfSome result IsWithinLimits }
+{
+    Some(Job::Live {
         start: read_start(options)?,
     })
 }

@@ -11,6 +11,11 @@ pub enum Job {
     Run {
         start: u64,
     },
+    /// To answer lines one after another as they come, on a scheduler that starts at the moment
+    /// `start`, as above.
+    Live {
+        start: u64,
+    },
     /// To have workers, 1 to 64 of them, check what is due at the moments of a script, on one
     /// scheduler that starts at the moment `start`, as above. The scheduler's book has room for
     /// `room` entries from the outset, 0 to 1,000,000.

@@ -175,6 +175,7 @@ fn help_fits_80_columns(rt: HostRuntime) -> Result<(), Fail> {
     for words in [
         ["nagsched", "--help"].as_slice(),
         ["nagsched", "run", "--help"].as_slice(),
+        ["nagsched", "live", "--help"].as_slice(),
         ["nagsched", "drill", "--help"].as_slice(),
     ] {
         let help = help_of(rt.alloc(), words)?;

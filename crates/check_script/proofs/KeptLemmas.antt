@@ -1,0 +1,95 @@
+-- What is kept of a line tells what it says.
+use Rattle.std.proofs.Common.{◌≡◌, ℕ, ◌<◌, ◌≤◌, Bool, true, false, List, [], ◌++◌, length, take, Option, None, Some, Result, Ok, Err, refl, sym, ap, ◌∙◌}
+use Rattle.std.proofs.Common.{arith, length-take, length-append, inl, inr, ◌⊎◌, append-nil}
+use Rattle.std.specs.Prelude.{nat_lt}
+use Rattle.std.proofs.lemmas.Bool.{cases_lt}
+use Rattle.std.proofs.lemmas.Bool.Decides.{nat_tests}
+use Rattle.std.proofs.lemmas.List.{take_all}
+use Rattle.serde_json.specs.Data.{Items}
+use Rattle.check_objects.specs.Setup.{setup_of}
+use Rattle.check_drafts.specs.Agreement.{Fails, ◌>>=◌}
+use Rattle.check_drafts.specs.declared.error.LoadError.TheVariants as load
+use Rattle.check_script.specs.Input.{first_line_of}
+use Rattle.check_script.specs.Line.{command_of, is_blank}
+use Rattle.check_script.specs.LiveInput.{LineFront, front_of, has_feed, said_by}
+use Rattle.check_script.specs.declared.line.TheConstants.{MAX_LINE_BYTES}
+use Rattle.check_script.specs.declared.live_input.TheConstants.{KEPT_LINE_BYTES, KEPT_SETUP_BYTES}
+use Rattle.check_script.specs.declared.refusal.InputRefusal.{InputRefusal}
+use Rattle.check_script.specs.declared.refusal.LineFault.{LineFault}
+use Rattle.check_script.proofs.LiveInputLemmas.{first_all, first_on, first_stays}
+
+-- ---- a command
+
+kept_command_by : {K : Type 0} (meaning : List ℕ → Items → Result K LineFault) (n : ℕ) (line : List ℕ)
+    → (MAX_LINE_BYTES < length line) ⊎ (length line ≤ MAX_LINE_BYTES)
+    → command_of meaning n (take KEPT_LINE_BYTES line) ≡ command_of meaning n line
+unfolding command_of
+kept_command_by meaning n line (inl h) =
+    let a : nat_lt MAX_LINE_BYTES (length line) ≡ true = grind (arith, nat_tests, h) in
+    let l = length-take KEPT_LINE_BYTES line in
+    let b : nat_lt MAX_LINE_BYTES (length (take KEPT_LINE_BYTES line)) ≡ true = grind (arith, nat_tests, h, l) in
+    rw (a, b) refl
+kept_command_by meaning n line (inr h) = let e = take_all KEPT_LINE_BYTES line (omega arith) in rw e refl
+
+kept_command : {K : Type 0} (meaning : List ℕ → Items → Result K LineFault) (n : ℕ) (line : List ℕ)
+    → command_of meaning n (take KEPT_LINE_BYTES line) ≡ command_of meaning n line
+kept_command meaning n line = kept_command_by meaning n line (cases_lt MAX_LINE_BYTES (length line))
+
+-- ---- what a line says
+
+pub kept_blank : (kept : LineFront) (line : List ℕ) (blank : Bool) → kept ≡ front_of KEPT_LINE_BYTES line → kept.blank ≡ blank → is_blank line ≡ blank
+kept_blank kept line blank k e = sym (ap (λ (x : LineFront). x.blank) k) ∙ e
+
+pub kept_bytes : (kept : LineFront) (line : List ℕ) → kept ≡ front_of KEPT_LINE_BYTES line → kept.bytes ≡ take KEPT_LINE_BYTES line
+kept_bytes kept line k = ap (λ (x : LineFront). x.bytes) k
+
+pub said_blank : {K : Type 0} (meaning : List ℕ → Items → Result K LineFault) (n : ℕ) (kept : LineFront) (line : List ℕ)
+    → kept ≡ front_of KEPT_LINE_BYTES line → kept.blank ≡ true → said_by meaning n line ≡ Ok None
+said_blank meaning n kept line k e = let b = kept_blank kept line true k e in rw b refl
+
+pub said_command : {K : Type 0} (meaning : List ℕ → Items → Result K LineFault) (n : ℕ) (kept : LineFront) (line : List ℕ) (x : K)
+    → kept ≡ front_of KEPT_LINE_BYTES line → kept.blank ≡ false → command_of meaning n kept.bytes ≡ Ok x → said_by meaning n line ≡ Ok (Some x)
+said_command meaning n kept line x k e f =
+    let b = kept_blank kept line false k e in
+    let c : command_of meaning n line ≡ Ok x = sym (ap (command_of meaning n) (kept_bytes kept line k) ∙ kept_command meaning n line) ∙ f in
+    rw (b, c) refl
+
+fails_by : {A B : Type 0} (o : Option InputRefusal) (r : Result A InputRefusal) (f : A → Result B InputRefusal) → Fails o r → Fails o (r >>= f)
+fails_by None r f h = tt
+fails_by (Some why) r f h = rw h refl
+
+pub said_fails : {K : Type 0} (meaning : List ℕ → Items → Result K LineFault) (n : ℕ) (kept : LineFront) (line : List ℕ) (o : Option InputRefusal)
+    → kept ≡ front_of KEPT_LINE_BYTES line → kept.blank ≡ false → Fails o (command_of meaning n kept.bytes) → Fails o (said_by meaning n line)
+said_fails meaning n kept line o k e f =
+    let b = kept_blank kept line false k e in
+    let c : command_of meaning n kept.bytes ≡ command_of meaning n line = ap (command_of meaning n) (kept_bytes kept line k) ∙ kept_command meaning n line in
+    rw b (fails_by o (command_of meaning n line) (λ x. Ok (Some x)) (rw c at f))
+
+-- ---- a setup
+
+-- a document with more bytes than it may have
+pub too_long : (line : List ℕ) → 16777216 < length line → setup_of line ≡ Err load.TooLong
+unfolding setup_of
+too_long line h =
+    let a : nat_lt 16777216 (length line) ≡ true = grind (arith, nat_tests, h) in
+    rw a refl
+
+kept_setup_by : (line : List ℕ) → (16777216 < length line) ⊎ (length line ≤ 16777216) → setup_of (take KEPT_SETUP_BYTES line) ≡ setup_of line
+kept_setup_by line (inl h) =
+    let l = length-take KEPT_SETUP_BYTES line in
+    too_long (take KEPT_SETUP_BYTES line) (omega (arith, h, l)) ∙ sym (too_long line h)
+kept_setup_by line (inr h) = ap setup_of (take_all KEPT_SETUP_BYTES line (omega (arith, h)))
+
+pub kept_setup : (line : List ℕ) → setup_of (take KEPT_SETUP_BYTES line) ≡ setup_of line
+kept_setup line = kept_setup_by line (cases_lt 16777216 (length line))
+
+-- What comes later tells nothing of the setup: where its line feed came, or so many bytes of it as are kept, or nothing does come.
+pub setup_stays : (given more : List ℕ) → (has_feed given ≡ true) ⊎ ((has_feed given ≡ false) × ((more ≡ []) ⊎ (KEPT_SETUP_BYTES ≤ length given)))
+    → setup_of (first_line_of (given ++ more)) ≡ setup_of (first_line_of given)
+setup_stays given more (inl feed) = ap setup_of (first_stays given more feed)
+setup_stays given more (inr (free, inl none)) = ap (λ l. setup_of (first_line_of l)) (ap (λ l. given ++ l) none ∙ append-nil given)
+setup_stays given more (inr (free, inr long)) =
+    let all = ap length (first_all given free) in
+    let front = ap length (first_on given more free) in
+    let more' = length-append given (first_line_of more) in
+    too_long (first_line_of (given ++ more)) (omega (arith, long, front, more')) ∙ sym (too_long (first_line_of given) (omega (arith, long, all)))

@@ -1,0 +1,241 @@
+-- Lines that are taken as they come.
+use Rattle.std.proofs.Common.{◌≡◌, ℕ, zero, suc, ◌+◌, ◌-◌, min, ◌==◌, ◌&&◌, Bool, true, false, not, cond, length, List, [], ◌∷◌, ◌++◌, take, drop, Option, None, Some}
+use Rattle.std.proofs.Common.{refl, sym, ◌∙◌, ap, arith, ◌≤◌, ◌<◌, length-append, length-take, append-nil, append_assoc}
+use Rattle.std.specs.List.{position_or_len, position}
+use Rattle.std.specs.Prelude.{nat_lt, if◌then◌else◌, IfOk, Result, Ok, Err}
+use Rattle.std.specs.Result.{IsErr}
+use Rattle.std.proofs.lemmas.Bool.Decides.{nat_tests}
+use Rattle.std.proofs.lemmas.List.Folds.{list_all-append}
+use Rattle.std.proofs.lemmas.List.{take_min}
+use Rattle.check_script.specs.Input.{lines_of, first_line_of, onto_first}
+use Rattle.check_script.specs.Line.{is_blank}
+use Rattle.check_script.specs.LiveInput.{LineFront, StopsSoon, TookLine, behind_line, front_of, has_feed}
+use Rattle.check_script.specs.declared.live_input.TheConstants.{ASKED_BYTES}
+use Rattle.std.specs.Io.KnownBytes.{Consumes}
+
+-- ---- where the first line feed is
+
+suc_more : (n : ℕ) → suc (n + 1) ≡ 1 + n + 1
+suc_more n = omega arith
+
+-- what stands behind the first place of a line feed
+pub behind_line-drop : (bs : List ℕ) → behind_line bs ≡ drop (position_or_len (λ b. b == 10) bs + 1) bs
+behind_line-drop [] = refl
+behind_line-drop (b ∷ bs) =
+    let again = behind_line-drop bs in
+    elim (b == 10) as (λ v. cond v bs (behind_line bs) ≡ drop (cond (not v) (1 + position_or_len (λ c. c == 10) bs) 0 + 1) (b ∷ bs)) [
+      | true ↦ refl
+      | false ↦ again ∙ ap (λ k. drop k (b ∷ bs)) (suc_more (position_or_len (λ c. c == 10) bs))
+    ]
+
+below_suc : (n m : ℕ) → nat_lt n m ≡ nat_lt (1 + n) (suc m)
+below_suc n m = grind (arith, nat_tests)
+
+pub has_feed-place : (bs : List ℕ) → has_feed bs ≡ nat_lt (position_or_len (λ b. b == 10) bs) (length bs)
+has_feed-place [] = refl
+has_feed-place (b ∷ bs) =
+    let again = has_feed-place bs in
+    elim (b == 10) as (λ v. cond v true (has_feed bs) ≡ nat_lt (cond (not v) (1 + position_or_len (λ c. c == 10) bs) 0) (suc (length bs))) [
+      | true ↦ grind (arith, nat_tests)
+      | false ↦ again ∙ below_suc _ _
+    ]
+
+some_place : (b : Bool) (n i : ℕ) → Some i ≡ cond b (Some n) None → (b ≡ true) × (n ≡ i)
+some_place true n i e = (refl, cc)
+some_place false n i e = cc
+
+no_place : (b : Bool) (n : ℕ) → None ≡ cond b (Some n) None → b ≡ false
+no_place true n e = cc
+no_place false n e = refl
+
+pub feed_at : (bs : List ℕ) (i : ℕ) → Some i ≡ position (λ b. b == 10) bs → has_feed bs ≡ true
+feed_at bs i e = has_feed-place bs ∙ (some_place (nat_lt (position_or_len (λ b. b == 10) bs) (length bs)) _ i e).0
+
+pub behind_at : (bs : List ℕ) (i : ℕ) → Some i ≡ position (λ b. b == 10) bs → behind_line bs ≡ drop (i + 1) bs
+behind_at bs i e = behind_line-drop bs ∙ ap (λ k. drop (k + 1) bs) (some_place (nat_lt (position_or_len (λ b. b == 10) bs) (length bs)) _ i e).1
+
+pub no_feed : (bs : List ℕ) → None ≡ position (λ b. b == 10) bs → has_feed bs ≡ false
+no_feed bs e = has_feed-place bs ∙ no_place (nat_lt (position_or_len (λ b. b == 10) bs) (length bs)) _ e
+
+-- ---- without a line feed
+
+by_feed : {P : Type 0} (b : Bool) (r : Bool) → cond b true r ≡ false → (b ≡ false → r ≡ false → P) → P
+by_feed true r e f = cc
+by_feed false r e f = f refl e
+
+pub first_all : (bs : List ℕ) → has_feed bs ≡ false → first_line_of bs ≡ bs
+first_all [] h = refl
+first_all (b ∷ bs) h = by_feed (b == 10) (has_feed bs) h (λ e k. rw e (ap (λ l. b ∷ l) (first_all bs k)))
+
+pub behind_none : (bs : List ℕ) → has_feed bs ≡ false → behind_line bs ≡ []
+behind_none [] h = refl
+behind_none (b ∷ bs) h = by_feed (b == 10) (has_feed bs) h (λ e k. rw e (behind_none bs k))
+
+pub first_on : (xs bs : List ℕ) → has_feed xs ≡ false → first_line_of (xs ++ bs) ≡ xs ++ first_line_of bs
+first_on [] bs h = refl
+first_on (a ∷ xs) bs h = by_feed (a == 10) (has_feed xs) h (λ e k. rw e (ap (λ l. a ∷ l) (first_on xs bs k)))
+
+pub behind_on : (xs bs : List ℕ) → has_feed xs ≡ false → behind_line (xs ++ bs) ≡ behind_line bs
+behind_on [] bs h = refl
+behind_on (a ∷ xs) bs h = by_feed (a == 10) (has_feed xs) h (λ e k. rw e (behind_on xs bs k))
+
+pub feed_on : (xs bs : List ℕ) → has_feed xs ≡ false → has_feed (xs ++ bs) ≡ has_feed bs
+feed_on [] bs h = refl
+feed_on (a ∷ xs) bs h = by_feed (a == 10) (has_feed xs) h (λ e k. rw e (feed_on xs bs k))
+
+-- ---- with one, whatever comes later
+
+pub first_stays : (bs more : List ℕ) → has_feed bs ≡ true → first_line_of (bs ++ more) ≡ first_line_of bs
+first_stays [] more h = cc
+first_stays (b ∷ bs) more h =
+    (elim (b == 10) as (λ v. cond v true (has_feed bs) ≡ true → cond v [] (b ∷ first_line_of (bs ++ more)) ≡ cond v [] (b ∷ first_line_of bs)) [
+      | true ↦ λ k. refl
+      | false ↦ λ k. ap (λ l. b ∷ l) (first_stays bs more k)
+    ]) h
+
+pub behind_stays : (bs more : List ℕ) → has_feed bs ≡ true → behind_line (bs ++ more) ≡ behind_line bs ++ more
+behind_stays [] more h = cc
+behind_stays (b ∷ bs) more h =
+    (elim (b == 10) as (λ v. cond v true (has_feed bs) ≡ true → cond v (bs ++ more) (behind_line (bs ++ more)) ≡ cond v bs (behind_line bs) ++ more) [
+      | true ↦ λ k. refl
+      | false ↦ λ k. behind_stays bs more k
+    ]) h
+
+-- ---- the lines of bytes are the first and those behind it
+
+pub lines_apart : (b : ℕ) (bs : List ℕ) → lines_of (b ∷ bs) ≡ first_line_of (b ∷ bs) ∷ lines_of (behind_line (b ∷ bs))
+lines_apart b [] =
+    elim (b == 10) as (λ v. cond v ([] ∷ []) ((b ∷ []) ∷ []) ≡ cond v [] (b ∷ []) ∷ lines_of (cond v [] [])) [
+      | true ↦ refl
+      | false ↦ refl
+    ]
+lines_apart b (c ∷ cs) =
+    let again = lines_apart c cs in
+    elim (b == 10) as (λ v. cond v ([] ∷ lines_of (c ∷ cs)) (onto_first b (lines_of (c ∷ cs)))
+    ≡ cond v [] (b ∷ first_line_of (c ∷ cs)) ∷ lines_of (cond v (c ∷ cs) (behind_line (c ∷ cs)))) [
+      | true ↦ refl
+      | false ↦ ap (onto_first b) again
+    ]
+
+-- ---- what is kept of a line
+
+take_least : (n : ℕ) (bs : List ℕ) → take (min (length bs) n) bs ≡ take n bs
+take_least n bs = ap (λ k. take k bs) (let e : min (length bs) n ≡ min n (length bs) = omega arith in e) ∙ take_min n bs
+
+room_left : (most : ℕ) (line bytes : List ℕ)
+    → take most line ++ take (min (length bytes) (most - length (take most line))) bytes ≡ take most (line ++ bytes)
+room_left zero line bytes = ap (λ k. take k bytes) (let e : min (length bytes) (0 - 0) ≡ 0 = omega arith in e)
+room_left (suc most) [] bytes =
+    ap (λ k. take (min (length bytes) k) bytes) (let e : suc most - 0 ≡ suc most = omega arith in e) ∙ take_least (suc most) bytes
+room_left (suc most) (b ∷ line) bytes =
+    let n = length (take most line) in
+    ap (λ l. b ∷ l)
+    (ap (λ k. take most line ++ take (min (length bytes) k) bytes) (let e : suc most - suc n ≡ most - n = omega arith in e) ∙ room_left most line bytes)
+
+-- what is kept after more bytes
+pub front_goes_on : (v : LineFront) (line bytes new : List ℕ) (room : ℕ) → v ≡ front_of v.most line
+    → room ≡ min (length bytes) (v.most - length v.bytes) → new ≡ v.bytes ++ take room bytes
+    → record { most = v.most; bytes = new; blank = v.blank && is_blank bytes } ≡ front_of v.most (line ++ bytes)
+front_goes_on v line bytes new room f r n =
+    let k : v.bytes ≡ take v.most line = ap (λ (x : LineFront). x.bytes) f in
+    let b : v.blank ≡ is_blank line = ap (λ (x : LineFront). x.blank) f in
+    let front : new ≡ take v.most (line ++ bytes) = n ∙ ap (λ i. v.bytes ++ take i bytes) r
+    ∙ ap (λ l. l ++ take (min (length bytes) (v.most - length l)) bytes) k ∙ room_left v.most line bytes in
+    let all : (v.blank && is_blank bytes) ≡ is_blank (line ++ bytes) = ap (λ x. x && is_blank bytes) b
+    ∙ sym (list_all-append _ line bytes) in
+    rw (front, all) refl
+
+-- ---- a line that is taken in parts
+
+-- the reader gave one part after another
+pub Consumes-then : (had mid left : Option (List ℕ)) (xs ys : List ℕ) → Consumes had mid xs → Consumes mid left ys → Consumes had left (xs ++ ys)
+Consumes-then None mid left xs ys h k = tt
+Consumes-then (Some a) None left xs ys h k = absurd h
+Consumes-then (Some a) (Some b) None xs ys h k = absurd k
+Consumes-then (Some a) (Some b) (Some c) xs ys h k = h ∙ ap (λ l. xs ++ l) k ∙ sym (append_assoc xs ys c)
+
+pub Consumes-none : (known : Option (List ℕ)) → Consumes known known []
+Consumes-none None = tt
+Consumes-none (Some xs) = refl
+
+-- the part that is at hand was taken behind one without a line feed
+pub took_on : (most : ℕ) (begun part hand rest : List ℕ) (line new : LineFront) (whole : Bool) (end : Type 0)
+    → has_feed begun ≡ false → line ≡ front_of most begun → hand ≡ part → whole ≡ has_feed hand → rest ≡ behind_line hand
+    → ((b : List ℕ) → line ≡ front_of line.most b → new ≡ front_of line.most (b ++ first_line_of hand)) → (whole ≡ false → end)
+    → TookLine most (begun ++ part) new rest end whole
+took_on most begun part hand rest line new whole end free kept same w r n e =
+    let m : line.most ≡ most = ap (λ (x : LineFront). x.most) kept in
+    let now : new ≡ front_of most (begun ++ first_line_of part) = n begun (kept ∙ ap (λ i. front_of i begun) (sym m))
+    ∙ ap (λ i. front_of i (begun ++ first_line_of hand)) m ∙ ap (λ h. front_of most (begun ++ first_line_of h)) same in
+    record {
+      line_is = now ∙ ap (front_of most) (sym (first_on begun part free));
+      rest_is = r ∙ ap behind_line same ∙ sym (behind_on begun part free);
+      whole_is = w ∙ ap has_feed same ∙ sym (feed_on begun part free);
+      ended = e;
+    }
+
+-- the reader gave nothing more behind such a part
+pub took_all : (most : ℕ) (begun part hand : List ℕ) (line : LineFront) (end : Type 0) → has_feed begun ≡ false → line ≡ front_of most begun
+    → hand ≡ part → hand ≡ [] → end → TookLine most (begun ++ part) line hand end false
+took_all most begun part hand line end free kept same none e =
+    let all : begun ++ part ≡ begun = ap (λ l. begun ++ l) (sym same ∙ none) ∙ append-nil begun in
+    record {
+      line_is = kept ∙ ap (front_of most) (sym (ap first_line_of all ∙ first_all begun free));
+      rest_is = none ∙ sym (ap behind_line all ∙ behind_none begun free);
+      whole_is = sym (ap has_feed all ∙ free);
+      ended = λ _. e;
+    }
+
+-- no line feed has come yet
+pub record Begun (most : ℕ) (bytes : List ℕ) (line : LineFront) (rest : List ℕ) : Type 0 where
+  pub feedless : has_feed bytes ≡ false
+  pub kept : line ≡ front_of most bytes
+  pub nothing : rest ≡ []
+
+pub not_yet : (most : ℕ) (bytes rest : List ℕ) (line : LineFront) (end : Type 0) (whole : Bool) → TookLine most bytes line rest end whole
+    → whole ≡ false → Begun most bytes line rest
+not_yet most bytes rest line end whole t e =
+    let free : has_feed bytes ≡ false = sym t.whole_is ∙ e in
+    record { feedless = free; kept = t.line_is ∙ ap (front_of most) (first_all bytes free); nothing = t.rest_is ∙ behind_none bytes free }
+
+-- ---- line 1
+
+-- so far line 1 has no line feed, and not as many bytes as are kept of it at most
+pub record FirstBegun (most : ℕ) (had left : Option (List ℕ)) (line : LineFront) (rest : List ℕ) : Type 0 where
+  pub given : List ℕ
+  pub consumed : Consumes had left given
+  pub begun : Begun most given line rest
+  pub few : length given < most
+
+pub stops_soon : (most : ℕ) (given part : List ℕ) → has_feed given ≡ false → length given < most → length part ≤ ASKED_BYTES
+    → StopsSoon most (given ++ part)
+stops_soon most given part free few h =
+    let first : length (first_line_of (given ++ part)) ≡ length (given ++ first_line_of part) = ap length (first_on given part free) in
+    let whole = length-append given part in
+    let front = length-append given (first_line_of part) in
+    record { at_the_bound = omega (arith, whole, few, h); at_the_feed = omega (arith, whole, front, first, h) }
+
+pub soon_yet : (most : ℕ) (given : List ℕ) → has_feed given ≡ false → length given < most → StopsSoon most given
+soon_yet most given free few =
+    let first = ap length (first_all given free) in
+    record { at_the_bound = omega (arith, few); at_the_feed = omega (arith, first) }
+
+-- as many bytes are kept as may be exactly where as many have come
+pub full_is : (most : ℕ) (bytes : List ℕ) (line : LineFront) → line ≡ front_of most bytes → (length line.bytes == line.most) ≡ true → most ≤ length bytes
+full_is most bytes line k e =
+    let e' : (length (take most bytes) == most) ≡ true = rw k at e in
+    let l = length-take most bytes in
+    grind (arith, nat_tests, e', l)
+
+pub not_full : (most : ℕ) (bytes : List ℕ) (line : LineFront) → line ≡ front_of most bytes → (length line.bytes == line.most) ≡ false → length bytes < most
+not_full most bytes line k e =
+    let e' : (length (take most bytes) == most) ≡ false = rw k at e in
+    let l = length-take most bytes in
+    grind (arith, nat_tests, e', l)
+
+-- ---- errors
+
+-- of an error nothing is said that holds of a value
+pub if_ok_never : {T E : Type 0} (r : Result T E) (P : T → Type 0) → IsErr r → IfOk r P
+if_ok_never (Ok x) P h = cc
+if_ok_never (Err e) P h = tt

@@ -1,0 +1,47 @@
+-- An input that is taken line by line as it comes.
+use Rattle.std.specs.Prelude.{◌≡◌, ℕ, ◌+◌, ◌<◌, ◌≤◌, ◌==◌, Bool, true, false, List, [], ◌∷◌, length, take, Option, Some, None, Result, Ok, if◌then◌else◌}
+use Rattle.check_script.specs.declared.live_input.TheConstants.{ASKED_BYTES}
+use Rattle.check_script.specs.Input.{first_line_of}
+use Rattle.serde_json.specs.Data.{Items}
+use Rattle.check_drafts.specs.Agreement.{◌>>=◌}
+use Rattle.check_script.specs.declared.refusal.InputRefusal.{InputRefusal}
+use Rattle.check_script.specs.declared.refusal.LineFault.{LineFault}
+use Rattle.check_script.specs.Line.{command_of, is_blank}
+
+-- whether a line feed (byte 10) is among the bytes
+abbrev pub has_feed : List ℕ → Bool
+has_feed [] = false
+has_feed (b ∷ bs) = if b == 10 then true else has_feed bs
+
+-- the bytes behind the first line feed, or none where there is none
+abbrev pub behind_line : List ℕ → List ℕ
+behind_line [] = []
+behind_line (b ∷ bs) = if b == 10 then bs else behind_line bs
+
+-- a line of which no more than the first bytes are kept
+pub record LineFront : Type 0 where
+  pub most : ℕ
+  pub bytes : List ℕ
+  pub blank : Bool
+
+-- What is kept of a line: so many bytes at most from its front, and whether all of it is blank.
+abbrev pub front_of : ℕ → List ℕ → LineFront
+front_of most line = record { most = most; bytes = take most line; blank = is_blank line }
+
+-- what the line with number n says: nothing where it is blank, or a command, or why it is refused
+abbrev pub said_by : {K : Type 0} → (List ℕ → Items → Result K LineFault) → ℕ → List ℕ → Result (Option K) InputRefusal
+said_by meaning n line = if is_blank line then Ok None else (command_of meaning n line >>= λ command. Ok (Some command))
+
+-- The first line of these bytes was taken, of which so many at most are kept, and its line feed with it: what is kept of it,
+-- what is left of the bytes behind it, and whether it has a line feed. Where it has none, `end` holds.
+pub record TookLine (most : ℕ) (bytes : List ℕ) (line : LineFront) (rest : List ℕ) (end : Type 0) (whole : Bool) : Type 0 where
+  pub line_is : line ≡ front_of most (first_line_of bytes)
+  pub rest_is : rest ≡ behind_line bytes
+  pub whole_is : whole ≡ has_feed bytes
+  pub ended : whole ≡ false → end
+
+-- A reader that gave these bytes was asked no more once the line feed of their first line had come, or so many bytes of it as
+-- are kept at most: behind that it gave less than it is asked for at a time.
+pub record StopsSoon (most : ℕ) (given : List ℕ) : Type 0 where
+  pub at_the_bound : length given < most + ASKED_BYTES
+  pub at_the_feed : length given ≤ length (first_line_of given) + ASKED_BYTES

@@ -1,0 +1,219 @@
+//! An input that is taken line by line as it comes, in memory that doesn't grow with it: what a
+//! reader has given and nobody has taken, and what is kept of the line that is being taken.
+ghost use Rattle.std.specs.Prelude.{◌≡◌, ◌≢◌, ◌<◌, ◌≤◌, ◌+◌, ◌⊎◌, ◌++◌, ◌&&◌, ℕ, List, [], IfOk, IfErr, OnOk, false, length, drop, vec_len, ◌==◌, option_map};
+ghost use Rattle.std.specs.Io.KnownBytes.{Consumes, IsAtEnd};
+ghost use Rattle.check_script.specs.Input.{first_line_of};
+ghost use Rattle.check_script.specs.LiveInput.{LineFront, StopsSoon, TookLine, behind_line, front_of, has_feed, said_by};
+ghost use Rattle.check_script.specs.Agreement.{Gives};
+
+use crate::drive_error::DriveError;
+use crate::input::line_end;
+use crate::line::{Command, is_blank, read_command};
+use crate::refusal::ScriptError;
+use check_objects::Setup;
+use std::alloc::{AllocError, Global};
+use std::io::Read;
+use std::marker::Model;
+
+/// How many bytes are asked of the reader at a time.
+pub const ASKED_BYTES: usize = 8192;
+
+/// How many bytes of line 1 are kept: one more than a setup document may have, so that a longer one is
+/// known to be too long.
+pub const KEPT_SETUP_BYTES: usize = 16_777_217;
+
+/// How many bytes of a later line are kept: one more than it may have.
+pub const KEPT_LINE_BYTES: usize = 4097;
+
+/// What is kept of a line: its first bytes, at most so many, and whether all of it is blank.
+#[derive(Drop)]
+pub struct KeptLine {
+    most: usize,
+    bytes: Vec<u8>,
+    blank: bool,
+}
+
+impl Model for KeptLine {
+    ghost use Rattle.std.specs.Prelude.{◌≤◌, vec_len};
+    ghost use Rattle.check_script.specs.LiveInput.{LineFront};
+
+    ghost Value = { LineFront };
+
+    ghost view = { λ l. record { most = l.most; bytes = l.bytes.items; blank = l.blank } };
+
+    ghost invariant = { λ l. vec_len l.bytes ≤ l.most };
+}
+
+impl KeptLine {
+    /// A line that has no byte yet, of which at most so many are kept.
+    pub fn new(alloc: Global, most: usize) -> KeptLine
+        ensures { result ≡ front_of most [] }
+    {
+        KeptLine {
+            most,
+            bytes: Vec::new(alloc),
+            blank: true,
+        }
+    }
+
+    /// Begins another line.
+    pub fn clear(&mut self)
+        ensures { self.new ≡ front_of self.old.most [] }
+    {
+        self.bytes.clear();
+        self.blank = true;
+    }
+
+    /// Puts bytes at the end of the line. Out of memory it stays as it was.
+    pub fn push(&mut self, bytes: &[u8]) -> Result<(), AllocError>
+        ensures kept { (line : List ℕ) → self.old ≡ front_of self.old.most line
+            → OnOk result (self.new ≡ front_of self.old.most (line ++ bytes.now)) }
+    {
+        let room = bytes.len().min(self.most - self.bytes.len());
+        self.bytes.extend_from_slice(&bytes[..room])?;
+        self.blank &= is_blank(bytes);
+        Ok(())
+    }
+
+    /// The bytes that are kept.
+    pub fn bytes(&self) -> &[u8]
+        ensures { result.now ≡ self.now.bytes }
+    {
+        &self.bytes
+    }
+
+    /// Whether all of the line is blank.
+    pub fn is_blank(&self) -> bool
+        ensures { result ≡ self.now.blank }
+    {
+        self.blank
+    }
+
+    /// Whether as many bytes are kept as may be.
+    pub fn is_full(&self) -> bool
+        ensures { result ≡ (length self.now.bytes == self.now.most) }
+    {
+        self.bytes.len() == self.most
+    }
+}
+
+/// The bytes that a reader has given and that aren't taken yet.
+#[derive(Drop)]
+pub struct InputBuffer {
+    given: Vec<u8>,
+    taken: usize,
+}
+
+impl Model for InputBuffer {
+    ghost use Rattle.std.specs.Prelude.{◌≤◌, List, ℕ, drop, vec_len};
+
+    ghost Value = { List ℕ };
+
+    ghost view = { λ b. drop b.taken b.given.items };
+
+    ghost invariant = { λ b. b.taken ≤ vec_len b.given };
+}
+
+impl InputBuffer {
+    /// A buffer with nothing at hand.
+    pub fn new(alloc: Global) -> InputBuffer
+        ensures { result ≡ [] }
+    {
+        InputBuffer {
+            given: Vec::new(alloc),
+            taken: 0,
+        }
+    }
+
+    /// Takes the bytes up to the next line feed, and the line feed, and puts them without it at the
+    /// end of a line. Where no line feed is at hand it takes all. Tells whether one was.
+    pub fn take_line(&mut self, line: &mut KeptLine) -> Result<bool, AllocError>
+        ensures whole { IfOk result (λ whole. whole ≡ has_feed self.old) }
+        ensures rest { OnOk result (self.new ≡ behind_line self.old) }
+        ensures line { (begun : List ℕ) → line.old ≡ front_of line.old.most begun
+            → OnOk result (line.new ≡ front_of line.old.most (begun ++ first_line_of self.old)) }
+    {
+        let at_hand = &self.given[self.taken..];
+        match line_end(at_hand) {
+            Some(end) => {
+                line.push(&at_hand[..end])?;
+                self.taken += end + 1;
+                Ok(true)
+            }
+            None => {
+                line.push(at_hand)?;
+                self.taken = self.given.len();
+                Ok(false)
+            }
+        }
+    }
+
+    /// Asks the reader once, where nothing is at hand. Tells whether it gave anything: it gives
+    /// nothing at its end.
+    pub fn read_more<R: Read>(&mut self, reader: &mut R) -> Result<bool, DriveError>
+        requires { self.old ≡ [] }
+        ensures given { (given : List ℕ)
+            × Consumes (R.remaining reader.old) (R.remaining reader.new) given
+            × OnOk result (self.new ≡ given) × (length given ≤ ASKED_BYTES) }
+        ensures end { IfOk result (λ more. more ≡ false
+            → (self.new ≡ []) × IsAtEnd (R.remaining reader.new)) }
+        ensures errors { IfErr result (λ e. e ≢ DriveError.Write) }
+    {
+        let mut chunk = [0; ASKED_BYTES];
+        let Ok(count) = reader.read(&mut chunk) else {
+            return Err(DriveError::Read);
+        };
+        self.taken = 0;
+        self.given.clear();
+        self.given.extend_from_slice(&chunk[..count])?;
+        Ok(count != 0)
+    }
+}
+
+/// Takes the first line of an input, of which nothing is at hand, and tells whether its line feed
+/// came. Where it didn't, the input has ended, or as many bytes of the line have come as are kept of
+/// it at most. The reader is asked no more than that.
+pub fn take_first_line<R: Read>(
+    at_hand: &mut InputBuffer,
+    line: &mut KeptLine,
+    reader: &mut R,
+) -> Result<bool, DriveError>
+    requires nothing { at_hand.old ≡ [] }
+    requires begins { (line.old ≡ front_of line.old.most []) × (0 < line.old.most) }
+    ensures took { (given : List ℕ)
+        × Consumes (R.remaining reader.old) (R.remaining reader.new) given
+        × IfOk result (TookLine line.old.most given line.new at_hand.new
+        (IsAtEnd (R.remaining reader.new) ⊎ (line.old.most ≤ length given)))
+        × StopsSoon line.old.most given }
+    ensures errors { IfErr result (λ e. e ≢ DriveError.Write) }
+{
+    for _ in 0..u64::MAX {
+        if !at_hand.read_more(reader)? {
+            return Ok(false);
+        }
+        if at_hand.take_line(line)? {
+            return Ok(true);
+        }
+        if line.is_full() {
+            return Ok(false);
+        }
+    }
+    Err(DriveError::Read)
+}
+
+/// What a line says of which this is kept: nothing where it is blank, or the command of the line with
+/// this number, or its first fault. Out of memory is an error of its own.
+pub fn read_kept<C: Command>(
+    alloc: Global,
+    setup: &Setup,
+    line: &KeptLine,
+    number: usize,
+) -> Result<Option<C>, ScriptError>
+    ensures { (text : List ℕ) → line.now ≡ front_of KEPT_LINE_BYTES text
+        → Gives (option_map C.seen) result (said_by (C.meaning setup.now) number text) }
+{
+    if line.is_blank() {
+        return Ok(None);
+    }
+    Ok(Some(read_command(alloc, setup, line.bytes(), number)?))
+}

@@ -1,0 +1,46 @@
+-- The text that a conversation writes: a function of the start and of the input, with the words of a run's text.
+use Rattle.std.specs.Prelude.{ℕ, ◌+◌, List, [], ◌∷◌, ◌++◌, Option, Some, None, Result, Ok, Err}
+use Rattle.check_objects.specs.Configuration.{Configuration}
+use Rattle.check_objects.specs.Setup.{setup_of}
+use Rattle.check_drafts.specs.declared.error.LoadError.{LoadError}
+use Rattle.check_sched.specs.declared.call.Call.{Call}
+use Rattle.check_sched.specs.State.{State, opening}
+use Rattle.check_sched.specs.Step.{step}
+use Rattle.check_script.specs.declared.refusal.InputRefusal.{InputRefusal}
+use Rattle.check_script.specs.declared.refusal.InputRefusal.TheVariants as refusal
+use Rattle.check_script.specs.Command.{call_by}
+use Rattle.check_script.specs.Input.{first_line_of, lines_of}
+use Rattle.check_script.specs.LiveInput.{behind_line, said_by}
+use Rattle.check_text.specs.Text.{line_from, refusal_line}
+
+-- the answer to what a line says: nothing to a blank one, the line of the reply to a call, or the line of the refusal
+abbrev pub answer_to : State → Result (Option Call) InputRefusal → List ℕ
+answer_to s (Ok None) = []
+answer_to s (Ok (Some call)) = line_from s call
+answer_to s (Err why) = refusal_line why
+
+-- the state after it: calls alone change it
+abbrev pub state_after : State → Result (Option Call) InputRefusal → State
+state_after s (Ok None) = s
+state_after s (Ok (Some call)) = (step s call).0
+state_after s (Err why) = s
+
+-- what the line with number n says to a scheduler in this state
+abbrev pub said : State → ℕ → List ℕ → Result (Option Call) InputRefusal
+said s n line = said_by (call_by s.setup) n line
+
+-- the answers to these lines, one after another, from this state on, where the first has the number n
+abbrev pub answers_from : State → ℕ → List (List ℕ) → List ℕ
+answers_from s n [] = []
+answers_from s n (line ∷ lines) = answer_to s (said s n line) ++ answers_from (state_after s (said s n line)) (n + 1) lines
+
+-- the text over a setup, or its refusal
+abbrev pub live_over : ℕ → Result Configuration LoadError → List (List ℕ) → List ℕ
+live_over start (Ok c) lines = answers_from (opening c start) 2 lines
+live_over start (Err e) lines = refusal_line (refusal.Setup e)
+
+-- What a conversation writes on the input, the scheduler starting at the moment `start`: the line of the setup's refusal, or
+-- for each line from line 2 on nothing, the line of its refusal or the line of its reply, in order. Line 1 is what stands
+-- before the first line feed, and the later lines are those of what stands behind it.
+unfoldable pub live_text : ℕ → List ℕ → List ℕ
+live_text start input = live_over start (setup_of (first_line_of input)) (lines_of (behind_line input))

@@ -1,0 +1,41 @@
+//! Laws of the text that a conversation writes, each the contract of a function without parameters and
+//! code.
+ghost use Rattle.std.specs.Prelude.{ℕ, ◌≡◌, ◌+◌, ◌++◌, false, List, [], ◌∷◌, Ok, Err, length};
+ghost use Rattle.check_objects.specs.Configuration.{Configuration};
+ghost use Rattle.check_objects.specs.Setup.{setup_of};
+ghost use Rattle.check_sched.specs.declared.call.Call.{Call};
+ghost use Rattle.check_script.specs.declared.refusal.InputRefusal.{InputRefusal};
+ghost use Rattle.check_script.specs.Command.{call_by};
+ghost use Rattle.check_script.specs.Input.{first_line_of, lines_of};
+ghost use Rattle.check_script.specs.LiveInput.{has_feed, said_by};
+ghost use Rattle.check_script.specs.Script.{Script, script_of};
+ghost use Rattle.check_text.specs.LiveText.{live_text};
+ghost use Rattle.check_text.specs.Text.{refusal_line, text};
+
+/// On an input that a run accepts, a conversation writes what the run writes.
+pub fn live_agrees_with_run()
+    ensures { (start : ℕ) → (input : List ℕ) → (script : Script Call)
+        → script_of input ≡ Ok script → live_text start input ≡ text start input }
+{}
+
+/// What a conversation writes on whole lines is a front of what it writes on them and what comes later:
+/// no answer depends on what comes later.
+pub fn live_goes_on()
+    ensures { (start : ℕ) → (front back : List ℕ) → (rest : List ℕ)
+        × (live_text start ((front ++ 10 ∷ []) ++ back)
+        ≡ live_text start (front ++ 10 ∷ []) ++ rest) }
+{}
+
+/// With an empty line in the place of a refused one, a conversation writes the same but for the line of
+/// that refusal. `front` has the setup and the lines before the refused one, each with its line feed,
+/// but for the last one's.
+pub fn live_passes_refusals()
+    ensures { (start : ℕ) → (setup : Configuration) → (front line back : List ℕ)
+        → (why : InputRefusal)
+        → setup_of (first_line_of (front ++ 10 ∷ [])) ≡ Ok setup → has_feed line ≡ false
+        → said_by (call_by setup) (length (lines_of (front ++ 10 ∷ [])) + 1) line ≡ Err why
+        → (before behind : List ℕ)
+        × (live_text start ((front ++ 10 ∷ []) ++ (line ++ 10 ∷ back))
+        ≡ before ++ (refusal_line why ++ behind))
+        × (live_text start ((front ++ 10 ∷ []) ++ (10 ∷ back)) ≡ before ++ behind) }
+{}
