@@ -1,0 +1,66 @@
+#!/usr/bin/env python3
+"""Looks up each name that the pages put between backticks, so that none is told that isn't there.
+
+    .ci/names.py
+
+A name is what looks like a function, a clause, a definition, a test, a must-fail edit, an option or a file. A file has to be there,
+at the top or below a crate's folders; of any other name each word has to stand in some source, script, case or file name.
+"""
+import pathlib
+import re
+import subprocess
+import sys
+
+TOP = pathlib.Path(__file__).resolve().parent.parent
+PAGES = [TOP / "README.md", TOP / "conformance/README.md", *sorted((TOP / "docs").glob("*.md"))]
+ENDINGS = (".rt", ".antt", ".md", ".py", ".sh", ".json", ".txt", ".out", ".edit", ".tsv", ".svg", ".c")
+WORD = re.compile(r"[A-Za-z_][A-Za-z0-9_]*")
+NAME = re.compile(r"[A-Za-z_][A-Za-z0-9_]*(::[A-Za-z_][A-Za-z0-9_]*)*(<[A-Z]>)?(\(\))?")
+FILE = re.compile(r"[\w./-]*\w\.\w+")
+# Names of the kit's, which stand in no file of ours.
+OF_THE_KIT = {"Backoff::snooze", "Shared::exchange", "std::sync::atomic::raw"}
+
+
+def files():
+    """The files of the repository but for the pages."""
+    listed = subprocess.run(["git", "ls-files"], cwd=TOP, stdout=subprocess.PIPE, text=True, check=True).stdout.splitlines()
+    return [TOP / name for name in listed if TOP / name not in PAGES]
+
+
+def words_of(all_files):
+    """Each word that stands in a file, or in a file's name."""
+    words = set()
+    for file in all_files:
+        words.update(WORD.findall(file.stem))
+        words.update(WORD.findall(file.read_text(encoding="utf-8", errors="replace")))
+    return words
+
+
+def told(page):
+    """What stands between backticks on a page, its code blocks left out."""
+    text = re.sub(r"^```.*?^```", "", page.read_text(encoding="utf-8"), flags=re.MULTILINE | re.DOTALL)
+    return re.findall(r"`([^`\n]+)`", text)
+
+
+def missing(name, all_files, words):
+    """Whether this looks like a name, and isn't there."""
+    if name.endswith(ENDINGS) and FILE.fullmatch(name):
+        return not any(str(file).endswith("/" + name.removeprefix("./")) for file in [*all_files, *PAGES])
+    if name in OF_THE_KIT or name.endswith("_") or not NAME.fullmatch(name) or not ("_" in name or "::" in name):
+        return False
+    return any(word not in words for word in WORD.findall(name))
+
+
+def main():
+    all_files = files()
+    words = words_of(all_files)
+    names = [(page, name) for page in PAGES for name in told(page)]
+    wrong = sorted({f"{page.relative_to(TOP)}: {name}" for page, name in names if missing(name, all_files, words)})
+    for line in wrong:
+        print(f"names: {line} isn't there")
+    print(f"names: {len(names)} looked up\nnames: {0 if wrong else 1} passed, {len(wrong)} failed")
+    return 1 if wrong else 0
+
+
+if __name__ == "__main__":
+    sys.exit(main())
