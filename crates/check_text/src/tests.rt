@@ -6,6 +6,7 @@ use check_rules::{Kind, Standing, State};
 use check_sched::{Call, Refusal, Reply};
 use check_script::{InputRefusal, LineFault};
 use std::alloc::Global;
+use std::process::Abort;
 use std::test::Fail;
 
 /// A host 0 and its service 1.

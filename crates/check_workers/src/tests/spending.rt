@@ -1,7 +1,7 @@
 //! Passes of one call each: a worker takes a check and has no call left for its result, another
 //! caller abandons that check, and a third reports it too late.
 
-ghost use Rattle.check_desk.specs.Desks.{IsPassOf};
+ghost use Rattle.check_desk.specs.Desks.{AreNewPassesWith, IsPassOf};
 ghost use Rattle.std.specs.List.{All};
 ghost use Rattle.std.specs.Prelude.{◌≡◌, ◌<◌, ◌≤◌, IfOk, length};
 
@@ -20,6 +20,7 @@ use ticket_steps::Kept;
 fn opened(alloc: Global, passes: u32) -> Result<(Desk, Vec<Pass>), Fail>
     requires { (0 < passes) × (passes ≤ 1024) }
     ensures passes { IfOk result (λ made. length made.1.items ≡ passes) }
+    ensures new { IfOk result (λ made. AreNewPassesWith 1 made.0 0 made.1.items) }
     ensures own { IfOk result (λ made. All (IsPassOf made.0) made.1.items) }
 {
     match Desk::open_with(alloc, empty_book(alloc, ONE_SERVICE)?, passes, 1) {
