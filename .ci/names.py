@@ -17,8 +17,8 @@ ENDINGS = (".rt", ".antt", ".md", ".py", ".sh", ".json", ".txt", ".out", ".edit"
 WORD = re.compile(r"[A-Za-z_][A-Za-z0-9_]*")
 NAME = re.compile(r"[A-Za-z_][A-Za-z0-9_]*(::[A-Za-z_][A-Za-z0-9_]*)*(<[A-Z]>)?(\(\))?")
 FILE = re.compile(r"[\w./-]*\w\.\w+")
-# Names of the kit's, which stand in no file of ours.
-OF_THE_KIT = {"Backoff::snooze", "Shared::exchange", "std::sync::atomic::raw"}
+# Names of the kit's and of Nagios's, which stand in no file of ours.
+OF_OTHERS = {"Backoff::snooze", "Shared::exchange", "std::sync::atomic::raw", "test_checks.c"}
 
 
 def files():
@@ -44,9 +44,11 @@ def told(page):
 
 def missing(name, all_files, words):
     """Whether this looks like a name, and isn't there."""
+    if name in OF_OTHERS:
+        return False
     if name.endswith(ENDINGS) and FILE.fullmatch(name):
         return not any(str(file).endswith("/" + name.removeprefix("./")) for file in [*all_files, *PAGES])
-    if name in OF_THE_KIT or name.endswith("_") or not NAME.fullmatch(name) or not ("_" in name or "::" in name):
+    if name.endswith("_") or not NAME.fullmatch(name) or not ("_" in name or "::" in name):
         return False
     return any(word not in words for word in WORD.findall(name))
 

@@ -70,7 +70,7 @@ def helped(page):
 
 
 def readme(page):
-    """The examples of README: the first lines of the office, and the ends of the drill; and the kit's line."""
+    """The examples of README: the first lines of the office, a conversation, lines of the drill; and the kit's line."""
     if shutil.which("rt"):
         kit = subprocess.run(["rt", "version"], stdout=subprocess.PIPE, text=True).stdout.strip()
         compare("the kit's line", True, f"`{kit}`" in page)
@@ -79,12 +79,15 @@ def readme(page):
     written = output(office).splitlines()
     compare("the office's commands", commands, [line for line in office[1:] if line][: len(commands)])
     compare("the office's answers", answers, written[: len(answers)])
-    drill = output((TOP / "examples/drill.txt").read_text().splitlines(), "drill", "--workers", "1")
-    for line in block_after(page, "`nagsched drill` has workers").splitlines()[2:]:
-        left, right = re.split(r"\s{2,}", line.strip(), maxsplit=1)
-        if left != "...":
-            compare(f"the drill's {left}", True, left in (TOP / "examples/drill.txt").read_text())
-            compare(f"the drill's {right}", True, right in drill.splitlines())
+    conversation = block_after(page, "three lines there and back").splitlines()[1:]
+    asked = [line for line in conversation if line.startswith(("{", "["))]
+    compare("a conversation", [line for line in conversation if line not in asked], output(asked, "live").splitlines())
+    drill = (TOP / "examples/drill.txt").read_text().splitlines()
+    for line in block_after(page, "This is of its input").splitlines():
+        compare(f"the drill's {line}", True, line in drill)
+    written = output(drill, "drill", "--workers", "1").splitlines()
+    for line in block_after(page, "and this of what it writes").splitlines()[1:]:
+        compare(f"the drill's {line}", True, line in written)
 
 
 def nagios(page):
@@ -100,6 +103,7 @@ formats((TOP / "docs/FORMATS.md").read_text())
 helped((TOP / "docs/FORMATS.md").read_text())
 nagios((TOP / "docs/NAGIOS.md").read_text())
 readme((TOP / "README.md").read_text())
+compare("the tables of MAP.md, by docs/map.py", 0, subprocess.run([sys.executable, TOP / "docs/map.py", "--check"]).returncode)
 for example in wrong:
     print(example)
 print(f"pages: {checked - len(wrong)} passed, {len(wrong)} failed")
