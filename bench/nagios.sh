@@ -1,0 +1,37 @@
+#!/usr/bin/env bash
+# Times Nagios Core 4.4.6 beside our scheduler, by turns, and prints one table. Run by hand; no part of the gate.
+#   bench/nagios.sh DIRECTORY [REPEATS]     DIRECTORY for Nagios's sources and what is built of them (conformance/nagios/build.sh);
+#                                           of so many runs, 5 where no number is given, the least is told
+# The queue: the first of n is taken out and put back 5 minutes later. The cycle: the earliest service is taken, its result comes at once, and
+# it is scheduled anew. Nanoseconds each. Nagios's texts of times ask the system for the zone unless TZ is set, so it is set.
+set -eu
+export TZ=UTC
+top=$(cd "$(dirname "$0")/.." && pwd)
+directory=$1
+repeats=${2:-5}
+cycles=200000
+work=$(mktemp -d)
+trap 'rm -rf "$work"' EXIT
+"$top/conformance/nagios/build.sh" "$directory"
+crate=$top/crates/nagsched_bench
+(cd "$crate" && rt run -- cycle 64 1000 > "$work/build.log" 2>&1) || { cat "$work/build.log"; exit 1; }
+
+# Nanoseconds a cycle, of a program's line.
+each() {
+    "$@" | tr '=' ' ' | awk '{ printf "%.0f\n", $2 / $4 }'
+}
+
+printf '%-8s %8s %10s %10s %8s\n' what n ours Nagios ratio
+for what in queue cycle; do
+    ours=$what
+    [[ $what == queue ]] && ours=steady
+    for number in 1000 4096; do
+        for _ in $(seq "$repeats"); do
+            each "$crate/out/nagsched_bench" "$ours" "$number" "$cycles" >> "$work/ours"
+            each "$directory/$what" "$number" "$cycles" >> "$work/theirs"
+        done
+        least=$(sort -n "$work/ours" | head -n 1) other=$(sort -n "$work/theirs" | head -n 1)
+        awk -v what="$what" -v n="$number" -v a="$least" -v b="$other" 'BEGIN { printf "%-8s %8d %10d %10d %8.2f\n", what, n, a, b, a / b }'
+        rm "$work/ours" "$work/theirs"
+    done
+done
