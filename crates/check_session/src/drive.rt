@@ -1,5 +1,5 @@
 //! A run: reads an input, makes its calls on one scheduler, and writes the lines of the replies.
-ghost use Rattle.std.specs.Prelude.{◌≡◌, ◌≤◌, IfOk, IfErr, IfSome, IsOkUnless, OnOk, OnErr, ◌≢◌};
+ghost use Rattle.std.specs.Prelude.{◌≡◌, ◌≤◌, IfOk, IfErr, IfSome, IsOkUnless, OnOk, OnErr, ◌≢◌, string_capacity};
 ghost use Rattle.std.specs.Io.KnownBytes.{Appends, Keeps};
 ghost use Rattle.check_sched.specs.State.{opening};
 ghost use Rattle.check_sched.specs.Step.{step};
@@ -10,7 +10,7 @@ ghost use Rattle.check_session.specs.Drive.{outcome_of, HasRead, AfterFault, IsR
 use check_objects::Setup;
 use check_sched::{Call, LAST_MOMENT, Sched};
 use check_script::{DriveError, Script, read_input};
-use check_text::{flush, push_reply, write_refusal, write_text};
+use check_text::{REPLY_BYTES, flush, push_reply, write_refusal, write_text};
 use std::alloc::Global;
 use std::io::{Read, Write};
 
@@ -127,7 +127,8 @@ fn open(alloc: Global, setup: Setup, start: u64) -> Result<Sched, DriveError>
     }
 }
 
-/// Makes one call, and writes the line of its reply by way of the buffer `line`.
+/// Makes one call, and writes the line of its reply by way of the buffer `line`. With room for
+/// `REPLY_BYTES` in that buffer no memory is wanting.
 pub fn make_call<W: Write>(
     sched: &mut Sched,
     call: Call,
@@ -143,6 +144,9 @@ pub fn make_call<W: Write>(
     ensures kind { IfErr result (λ e. e ≢ DriveError.Read) }
     ensures memory { IfErr result (λ e. e ≡ DriveError.Memory
         → Keeps (W.contents writer.old) (W.contents writer.new)) }
+    ensures room { string_capacity line.old ≤ string_capacity line.new }
+    ensures ample { REPLY_BYTES ≤ string_capacity line.old
+        → IfErr result (λ e. e ≢ DriveError.Memory) }
 {
     let reply = sched.apply(call);
     line.clear();

@@ -1,5 +1,5 @@
 //! A conversation: reads a setup, and then answers each line when it has come, before it asks for more.
-ghost use Rattle.std.specs.Prelude.{◌≡◌, ◌≢◌, ◌≤◌, ◌++◌, ◌⊎◌, ℕ, List, [], IfOk, IfErr, IfSome, OnOk, true, false, length};
+ghost use Rattle.std.specs.Prelude.{◌≡◌, ◌≢◌, ◌≤◌, ◌++◌, ◌⊎◌, ℕ, List, [], IfOk, IfErr, IfSome, OnOk, true, false, length, string_capacity};
 ghost use Rattle.std.specs.Io.KnownBytes.{Appends, Consumes, IsAtEnd, Keeps};
 ghost use Rattle.check_objects.specs.Setup.{setup_of};
 ghost use Rattle.check_script.specs.Agreement.{Gives};
@@ -19,12 +19,9 @@ use check_script::{
     DriveError, InputBuffer, KEPT_LINE_BYTES, KEPT_SETUP_BYTES, KeptLine, ScriptError, read_kept,
     read_setup, take_first_line,
 };
-use check_text::{flush, write_refusal};
+use check_text::{REPLY_BYTES, flush, write_refusal};
 use std::alloc::Global;
 use std::io::{Read, Write};
-
-/// How many bytes the line of a reply has at most.
-const REPLY_BYTES: usize = 1024;
 
 /// Reads a setup, opens a scheduler at the moment `start`, in milliseconds, and then answers each
 /// line when it is complete: its line feed has come, or the input has ended behind it. A call is
@@ -134,6 +131,7 @@ impl Talk {
         ensures sched { IfOk result (λ talk. talk.sched ≡ opening setup start) }
         ensures at_hand { IfOk result (λ talk. talk.at_hand ≡ at_hand) }
         ensures line { IfOk result (λ talk. talk.line ≡ front_of KEPT_LINE_BYTES []) }
+        ensures room { IfOk result (λ talk. REPLY_BYTES ≤ string_capacity talk.reply) }
         ensures errors { IfErr result (λ e. e ≡ DriveError.Memory) }
     {
         let Ok(sched) = Sched::new(alloc, setup, start) else {
@@ -155,7 +153,8 @@ impl Talk {
         reader: &mut R,
         writer: &mut W,
     ) -> Result<(), DriveError>
-        requires { self.old.line.most ≡ KEPT_LINE_BYTES }
+        requires { (self.old.line.most ≡ KEPT_LINE_BYTES)
+            × (REPLY_BYTES ≤ string_capacity self.old.reply) }
         ensures { (coming : List ℕ) × IsInput (R.remaining reader.old) coming
             × OnOk result (Consumes (R.remaining reader.old) (R.remaining reader.new) coming)
             × OnOk result (Appends (W.contents writer.old) (W.contents writer.new)
@@ -172,7 +171,8 @@ impl Talk {
     }
 
     /// Takes the next line, which has this number, and writes its answer; tells whether lines may
-    /// follow. Where a whole line is at hand the reader stays as it was.
+    /// follow. Where a whole line is at hand the reader stays as it was. Where there is no memory the
+    /// scheduler stays as it was, and nothing is written.
     fn answer_next<R: Read, W: Write>(
         &mut self,
         alloc: Global,
@@ -180,7 +180,8 @@ impl Talk {
         reader: &mut R,
         writer: &mut W,
     ) -> Result<bool, DriveError>
-        requires { self.old.line.most ≡ KEPT_LINE_BYTES }
+        requires { (self.old.line.most ≡ KEPT_LINE_BYTES)
+            × (REPLY_BYTES ≤ string_capacity self.old.reply) }
         ensures took { (given : List ℕ)
             × Consumes (R.remaining reader.old) (R.remaining reader.new) given
             × IfOk result (λ more. (more ≡ has_feed (self.old.at_hand ++ given))
@@ -192,23 +193,29 @@ impl Talk {
             (said self.old.sched number (first_line_of (self.old.at_hand ++ given))))) }
         ensures unasked { has_feed self.old.at_hand ≡ true → reader.new ≡ reader.old }
         ensures line { OnOk result (self.new.line.most ≡ KEPT_LINE_BYTES) }
+        ensures room { REPLY_BYTES ≤ string_capacity self.new.reply }
         ensures fault { IfErr result (λ e. (coming : List ℕ)
             × IsInput (R.remaining reader.old) coming
             × LeavesText e (W.contents writer.old) (W.contents writer.new)
             (answers_from self.old.sched number (lines_of (self.old.at_hand ++ coming)))) }
+        ensures memory { IfErr result (λ e. e ≡ DriveError.Memory
+            → (self.new.sched ≡ self.old.sched)
+            × Keeps (W.contents writer.old) (W.contents writer.new)) }
     {
         let whole = take_next_line(&mut self.at_hand, &mut self.line, reader, writer)?;
         self.answer(alloc, number, writer)?;
         Ok(whole)
     }
 
-    /// Writes the answer to the line that was taken.
+    /// Writes the answer to the line that was taken. The memory for a reply's line is there before
+    /// its call is made.
     fn answer<W: Write>(
         &mut self,
         alloc: Global,
         number: usize,
         writer: &mut W,
     ) -> Result<(), DriveError>
+        requires { REPLY_BYTES ≤ string_capacity self.old.reply }
         ensures answered { (text : List ℕ) → self.old.line ≡ front_of KEPT_LINE_BYTES text
             → OnOk result ((self.new.sched ≡ state_after self.old.sched (said self.old.sched number text))
             × Appends (W.contents writer.old) (W.contents writer.new)
@@ -219,6 +226,10 @@ impl Talk {
         ensures kind { IfErr result (λ e. e ≢ DriveError.Read) }
         ensures at_hand { self.new.at_hand ≡ self.old.at_hand }
         ensures line { self.new.line ≡ self.old.line }
+        ensures room { REPLY_BYTES ≤ string_capacity self.new.reply }
+        ensures memory { IfErr result (λ e. e ≡ DriveError.Memory
+            → (self.new.sched ≡ self.old.sched)
+            × Keeps (W.contents writer.old) (W.contents writer.new)) }
     {
         match read_kept::<Call>(alloc, self.sched.setup(), &self.line, number) {
             Ok(None) => Ok(()),

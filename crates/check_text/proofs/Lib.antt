@@ -1,3 +1,4 @@
 pub mod OutputLemmas
 pub mod TextLemmas
 pub mod LiveLaws
+pub mod RoomLemmas

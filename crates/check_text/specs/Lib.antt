@@ -1,3 +1,4 @@
 pub mod Text
 pub mod LiveText
+pub mod Room
 pub mod Output

@@ -12,4 +12,4 @@ mod tests;
 mod text;
 
 pub use output::{flush, write_refusal, write_text};
-pub use text::{push_entry, push_refusal, push_reply, push_total};
+pub use text::{REPLY_BYTES, push_entry, push_refusal, push_reply, push_total};

@@ -1,11 +1,12 @@
 //! The text of replies and refusals. Each has one definition, in `specs/Text.antt`, whatever
 //! subcommand writes it.
-ghost use Rattle.std.specs.Prelude.{◌≡◌, ◌++◌, OnOk, codes, decimal, string_bytes};
+ghost use Rattle.std.specs.Prelude.{◌≡◌, ◌+◌, ◌≤◌, ◌++◌, OnOk, codes, decimal, length, string_bytes};
 ghost use Rattle.check_objects.specs.Configuration.{name_of};
 ghost use Rattle.check_text.specs.Text.{reply_text, reply_line, refusal_line, entry_line, total_line};
 ghost use Rattle.check_text.specs.Text.{taken_text, putoff_text, idle_text, standing_text, freed_text, done_text, refused_text, time_text};
 ghost use Rattle.check_text.specs.Text.{asked_name, state_text, kind_text, changed_text, flapping_text};
 ghost use Rattle.check_text.specs.Text.{call_refusal_text, part_text, fault_text};
+ghost use Rattle.check_text.specs.Room.{FitsIn};
 
 use check_objects::{LoadError, Part, Place, Setup};
 use check_rules::{Kind, Standing, State};
@@ -16,16 +17,21 @@ use std::alloc::AllocError;
 use std::fmt;
 use ticket_steps::Entry;
 
+/// How many bytes the line of a reply has at most, with its line feed.
+pub const REPLY_BYTES: usize = 1024;
+
 /// Appends the line of the reply to a call, with its line feed. Objects are told by their full
-/// names, and by nothing where the setup has no object of the number.
+/// names, and by nothing where the setup has no object of the number. An Err comes only where the
+/// line had no room for `REPLY_BYTES` more.
 pub fn push_reply(
     line: &mut String,
     setup: &Setup,
     call: Call,
     reply: Reply,
 ) -> Result<(), AllocError>
-    ensures { OnOk result
+    ensures text { OnOk result
         (string_bytes line.new ≡ string_bytes line.old ++ reply_line setup.now call reply) }
+    ensures room { FitsIn REPLY_BYTES result line.old line.new }
 {
     push_reply_text(line, setup, call, reply)?;
     line.push_str("\n")
@@ -38,8 +44,9 @@ fn push_reply_text(
     call: Call,
     reply: Reply,
 ) -> Result<(), AllocError>
-    ensures { OnOk result
+    ensures text { OnOk result
         (string_bytes line.new ≡ string_bytes line.old ++ reply_text setup.now call reply) }
+    ensures room { FitsIn 1023 result line.old line.new }
 {
     match reply {
         Reply::Taken { object, run } => push_taken(line, run, name_or_nothing(setup, object)),
@@ -63,8 +70,9 @@ fn push_reply_text(
 
 /// Appends that the object with this full name runs under this number.
 fn push_taken(line: &mut String, run: u64, name: &str) -> Result<(), AllocError>
-    ensures { OnOk result
+    ensures text { OnOk result
         (string_bytes line.new ≡ string_bytes line.old ++ taken_text run name.now) }
+    ensures room { FitsIn (length name.now + 64) result line.old line.new }
 {
     line.push_str("taken ")?;
     push_number(line, run)?;
@@ -74,8 +82,9 @@ fn push_taken(line: &mut String, run: u64, name: &str) -> Result<(), AllocError>
 
 /// Appends that the object with this full name was put off.
 fn push_put_off(line: &mut String, until: Option<u64>, name: &str) -> Result<(), AllocError>
-    ensures { OnOk result
+    ensures text { OnOk result
         (string_bytes line.new ≡ string_bytes line.old ++ putoff_text until name.now) }
+    ensures room { FitsIn (length name.now + 64) result line.old line.new }
 {
     line.push_str("putoff ")?;
     push_time(line, until)?;
@@ -85,7 +94,8 @@ fn push_put_off(line: &mut String, until: Option<u64>, name: &str) -> Result<(),
 
 /// Appends that nothing is due.
 fn push_idle(line: &mut String, next: Option<u64>) -> Result<(), AllocError>
-    ensures { OnOk result (string_bytes line.new ≡ string_bytes line.old ++ idle_text next) }
+    ensures text { OnOk result (string_bytes line.new ≡ string_bytes line.old ++ idle_text next) }
+    ensures room { FitsIn 64 result line.old line.new }
 {
     line.push_str("idle ")?;
     push_time(line, next)
@@ -99,8 +109,9 @@ fn push_standing(
     next: Option<u64>,
     name: &str,
 ) -> Result<(), AllocError>
-    ensures { OnOk result (string_bytes line.new
+    ensures text { OnOk result (string_bytes line.new
         ≡ string_bytes line.old ++ standing_text standing changed next name.now) }
+    ensures room { FitsIn (length name.now + 128) result line.old line.new }
 {
     line.push_str("standing ")?;
     line.push_str(state_text(standing))?;
@@ -115,8 +126,9 @@ fn push_standing(
 
 /// Appends that the check of the object with this full name was given up.
 fn push_freed(line: &mut String, next: u64, name: &str) -> Result<(), AllocError>
-    ensures { OnOk result
+    ensures text { OnOk result
         (string_bytes line.new ≡ string_bytes line.old ++ freed_text next name.now) }
+    ensures room { FitsIn (length name.now + 64) result line.old line.new }
 {
     line.push_str("freed ")?;
     push_number(line, next)?;
@@ -126,7 +138,8 @@ fn push_freed(line: &mut String, next: u64, name: &str) -> Result<(), AllocError
 
 /// Appends that what was asked for the object with this full name was done.
 fn push_done(line: &mut String, name: &str) -> Result<(), AllocError>
-    ensures { OnOk result (string_bytes line.new ≡ string_bytes line.old ++ done_text name.now) }
+    ensures text { OnOk result (string_bytes line.new ≡ string_bytes line.old ++ done_text name.now) }
+    ensures room { FitsIn (length name.now + 64) result line.old line.new }
 {
     line.push_str("done ")?;
     line.push_str(name)
@@ -134,8 +147,9 @@ fn push_done(line: &mut String, name: &str) -> Result<(), AllocError>
 
 /// Appends a refusal for this reason.
 fn push_refused(line: &mut String, reason: &str) -> Result<(), AllocError>
-    ensures { OnOk result
+    ensures text { OnOk result
         (string_bytes line.new ≡ string_bytes line.old ++ refused_text reason.now) }
+    ensures room { FitsIn (length reason.now + 64) result line.old line.new }
 {
     line.push_str("refused ")?;
     line.push_str(reason)
@@ -143,7 +157,8 @@ fn push_refused(line: &mut String, reason: &str) -> Result<(), AllocError>
 
 /// Appends a number in decimal.
 fn push_number(line: &mut String, number: u64) -> Result<(), AllocError>
-    ensures { OnOk result (string_bytes line.new ≡ string_bytes line.old ++ decimal number) }
+    ensures text { OnOk result (string_bytes line.new ≡ string_bytes line.old ++ decimal number) }
+    ensures room { FitsIn 40 result line.old line.new }
 {
     let mut buffer = Buffer::new();
     line.push_str(buffer.format(number))
@@ -151,7 +166,8 @@ fn push_number(line: &mut String, number: u64) -> Result<(), AllocError>
 
 /// Appends a time in milliseconds, or `none`.
 fn push_time(line: &mut String, time: Option<u64>) -> Result<(), AllocError>
-    ensures { OnOk result (string_bytes line.new ≡ string_bytes line.old ++ time_text time) }
+    ensures text { OnOk result (string_bytes line.new ≡ string_bytes line.old ++ time_text time) }
+    ensures room { FitsIn 40 result line.old line.new }
 {
     match time {
         Some(time) => push_number(line, time),
@@ -161,7 +177,8 @@ fn push_time(line: &mut String, time: Option<u64>) -> Result<(), AllocError>
 
 /// The full name of the object that a call asks for, or nothing where it asks for none.
 fn asked_name(setup: &Setup, call: Call) -> &str
-    ensures { result.now ≡ asked_name setup.now call }
+    ensures text { result.now ≡ asked_name setup.now call }
+    ensures few { length result.now ≤ 511 }
 {
     match call {
         Call::Take { .. } => "",
@@ -174,8 +191,10 @@ fn asked_name(setup: &Setup, call: Call) -> &str
 }
 
 /// The full name of an object, or nothing where the setup has no object of this number.
+#[tactic(auto, using(crate::proofs::RoomLemmas::name_short))]
 fn name_or_nothing(setup: &Setup, number: u32) -> &str
-    ensures { result.now ≡ name_of setup.now number }
+    ensures text { result.now ≡ name_of setup.now number }
+    ensures few { length result.now ≤ 511 }
 {
     if (number as usize) < setup.len() {
         setup.name(number)
@@ -186,7 +205,8 @@ fn name_or_nothing(setup: &Setup, number: u32) -> &str
 
 /// The state of an object, or `PENDING` where it was never checked.
 fn state_text(standing: Standing) -> &'static str
-    ensures { result.now ≡ state_text standing }
+    ensures text { result.now ≡ state_text standing }
+    ensures few { length result.now ≤ 11 }
 {
     if !standing.checked {
         return "PENDING";
@@ -204,7 +224,8 @@ fn state_text(standing: Standing) -> &'static str
 
 /// The kind of a state, between spaces.
 fn kind_between_spaces(kind: Kind) -> &'static str
-    ensures { result.now ≡ codes " " ++ (kind_text kind ++ codes " ") }
+    ensures text { result.now ≡ codes " " ++ (kind_text kind ++ codes " ") }
+    ensures few { length result.now ≤ 6 }
 {
     match kind {
         Kind::Soft => " SOFT ",
@@ -214,8 +235,9 @@ fn kind_between_spaces(kind: Kind) -> &'static str
 
 /// Whether a state differs from the one before, and whether the object is flapping, between spaces.
 fn marks_between_spaces(changed: bool, flapping: bool) -> &'static str
-    ensures { result.now ≡ codes " " ++ (changed_text changed
+    ensures text { result.now ≡ codes " " ++ (changed_text changed
         ++ (codes " " ++ (flapping_text flapping ++ codes " "))) }
+    ensures few { length result.now ≤ 14 }
 {
     match (changed, flapping) {
         (true, true) => " yes FLAPPING ",
@@ -285,7 +307,8 @@ impl fmt::Display for RefusalText {
 
 /// Why a call was refused. The call has changed nothing.
 fn call_refusal_text(refusal: Refusal) -> &'static str
-    ensures { result.now ≡ call_refusal_text refusal }
+    ensures text { result.now ≡ call_refusal_text refusal }
+    ensures few { length result.now ≤ 16 }
 {
     match refusal {
         Refusal::UnknownObject => "C1 UnknownObject",

@@ -5,14 +5,14 @@ use Rattle.check_session.proofs.LiveLemmas.{talk_begins, talk_ends, talk_fails, 
 use Rattle.check_session.proofs.live.Talk.answer_lines.Goals as goal
 
 pub loop-number-init : goal.loop-number-init
-loop-number-init g c = (talk_begins _ _ _ _, c.requires)
+loop-number-init g c = (talk_begins _ _ _ _, c.requires.0, c.requires.1)
 
 pub loop-number-preserved : goal.loop-number-preserved
 loop-number-preserved g c =
     let k = c.loop-number.invariant in
     let a = c.in_ok-answer_next.ensures in
     let t = a.took in
-    (talk_goes_on _ _ _ _ _ _ t.0 _ _ _ _ _ _ _ k.0 t.1 (sym t.2.0 ∙ c.if-not-branch.false) t.2.2 t.2.3 t.2.4, a.line)
+    (talk_goes_on _ _ _ _ _ _ t.0 _ _ _ _ _ _ _ k.0 t.1 (sym t.2.0 ∙ c.if-not-branch.false) t.2.2 t.2.3 t.2.4, a.line, a.room)
 
 pub returns-in_err-answer_next : goal.returns-in_err-answer_next
 returns-in_err-answer_next g c =
