@@ -5,7 +5,8 @@
 
 SETUP is a setup document. COMMANDS is a JSON object: a plugin's command line for the full name of each object, and under
 "*" one for all others; $HOST$ and $SERVICE$ stand for the object's names. It takes what is due, runs each plugin in a
-thread of its own with a time limit, and reports its code. It writes a line for each change of state, and at the end what it did.
+thread of its own with a time limit, and reports its code. It writes a line for each change of state, and where a problem becomes
+hard, and at the end what it did.
 
 With a journal it loses nothing when it is killed: each call is written and synced before it is made. The next start makes
 them all again, gives up the checks that were out, and goes on. Moments are milliseconds since 1970.
@@ -82,6 +83,7 @@ class Scheduler:
         self.journal = journal
         self.out = {}
         self.next = {}
+        self.kinds = {}
         self.process = subprocess.Popen([program, "live", "--start", str(journal.start)], stdin=subprocess.PIPE, stdout=subprocess.PIPE)
         self.process.stdin.write(setup + b"\n")
         for at in range(0, len(journal.calls), AT_ONCE):
@@ -117,6 +119,7 @@ class Scheduler:
             self.next[line.split(" ", 2)[2]] = words[1]
         elif words[0] == "standing":
             self.next[call[1]] = words[6]
+            self.kinds[call[1]] = words[2]
             if call[0] == "report":
                 self.out.pop(call[1], None)
         elif words[0] == "freed":
@@ -211,13 +214,14 @@ class Monitor:
             self.behind = max(self.behind, moment - int(due))
 
     def report(self, result):
-        """Reports a result, and writes a line where the state has changed."""
+        """Reports a result, and writes a line where the state has changed, or a problem that was soft is hard now."""
+        kind = self.scheduler.kinds.get(result.name)
         (answer,) = self.scheduler.ask(["report", result.name, result.run, result.code])
         self.made += 1
         words = answer.split(" ")
         if words[0] != "standing":
             print(f"{result.name}: the result of run {result.run} came too late ({answer})", flush=True)
-        elif words[4] == "yes":
+        elif words[4] == "yes" or words[1] not in ("OK", "UP") and words[2] != kind:
             print(f"{time.strftime('%H:%M:%S')} {result.name} is {words[1]} {words[2].lower()} {words[3]}: {result.told}", flush=True)
 
     def work(self, until):
