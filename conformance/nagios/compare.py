@@ -1,13 +1,16 @@
 #!/usr/bin/env python3
-"""Lays the built program beside Nagios Core 4.4.6's own handlers of results, on random sequences of results. Run by hand; no part of the gate.
+"""Lays the built program beside Nagios Core 4.4.6's own handlers of results, on sequences of results. Run by hand; no part of the gate.
 
-    conformance/nagios/compare.py DIRECTORY [SEQUENCES [SEED]]     DIRECTORY is what build.sh made; 2,000 sequences where no number is given
+    conformance/nagios/compare.py DIRECTORY [SEQUENCES [SEED]]     random ones; 2,000 where no number is given
+    conformance/nagios/compare.py DIRECTORY all                    every one of seven results with 1 to 4 attempts
 
-Each sequence is one service whose host is up, or one host without parents, with 1 to 10 attempts and 60 results, the first 21 of them OK: from
-there on both know the same results, and flags can be compared. State, kind, attempt and flag of every step are compared. Told apart are the
-differences that docs/NAGIOS.md has: the attempt of a host's soft recovery, and the flag at the low threshold. Status 1 where there is another.
+DIRECTORY is what build.sh made. Each sequence is one service whose host is up, or one host without parents. A random one has 1 to 10 attempts
+and 60 results, the first 21 of them OK: from there on both know the same results, and flags can be compared. State, kind, attempt and flag of
+every step are compared. Told apart are the differences that docs/NAGIOS.md has: the attempt of a host's soft recovery; the flag at the low threshold; and the flag of a service with more
+than one attempt, whose soft problems don't count there; a flag before there are 21 results. Status 1 where there is another.
 """
 import collections
+import itertools
 import json
 import pathlib
 import random
@@ -20,8 +23,13 @@ KNOWN, RESULTS = 21, 60
 STATES = {"OK": 0, "WARNING": 1, "CRITICAL": 2, "UNKNOWN": 3, "UP": 0, "DOWN": 1}
 
 
+def every_sequence():
+    """Every sequence of seven results: a word, the attempts, and the codes."""
+    return itertools.product(("service", "host"), range(1, 5), itertools.product(range(4), repeat=7))
+
+
 def sequences(count, seed):
-    """So many sequences: a word, the attempts, and the codes."""
+    """So many random sequences."""
     chance = random.Random(seed)
     for number in range(count):
         weights = chance.choice([(8, 1, 1, 1), (1, 1, 1, 1), (1, 0, 4, 0), (20, 0, 1, 0)])
@@ -51,23 +59,29 @@ def of_program(word, attempts, codes):
     return [(STATES[word[1]], int(word[2] == "HARD"), int(word[3]), int(word[5] == "FLAPPING")) for word in words]
 
 
-def difference(word, theirs, ours):
-    """What a step differs by, or nothing."""
+def difference(word, attempts, number, theirs, ours):
+    """What the step of this number differs by."""
     if theirs == ours:
         return "none"
-    if word == "host" and ours[:2] == theirs[:2] == (0, 0) and theirs[2] == 1 and ours[3] == theirs[3]:
-        return "a host's soft recovery: attempt"
-    return "the flag alone" if theirs[:3] == ours[:3] else "another"
+    if word == "host" and ours[:2] == theirs[:2] == (0, 0) and theirs[2] == 1:
+        return "the attempt of a soft recovery"
+    if theirs[:3] != ours[:3]:
+        return "another"
+    if number < KNOWN:
+        return "the flag, before 21 results"
+    return "the flag, with soft problems" if word == "service" and attempts > 1 else "the flag, at its threshold"
 
 
 def main():
-    directory, *numbers = sys.argv[1:]
-    count, seed = [*map(int, numbers), *[2_000, 1][len(numbers):]]
-    asked = list(sequences(count, seed))
+    directory, *words = sys.argv[1:]
+    if words == ["all"]:
+        asked = list(every_sequence())
+    else:
+        asked = list(sequences(*map(int, words), *[2_000, 1][len(words):]))
     found = collections.Counter()
     for (word, attempts, codes), theirs in zip(asked, of_nagios(directory, asked)):
         ours = of_program(word, attempts, codes)
-        kinds = [difference(word, *pair) for pair in zip(theirs, ours)]
+        kinds = [difference(word, attempts, number, *pair) for number, pair in enumerate(zip(theirs, ours), 1)]
         found.update((word, kind) for kind in kinds)
         if "another" in kinds or len(theirs) != len(ours):
             at = kinds.index("another") if "another" in kinds else len(ours)
