@@ -7,17 +7,17 @@ use Rattle.check_sched.specs.Board.{book_board, book_place}
 use Rattle.check_sched.specs.BoardLaws.{board_within}
 use Rattle.check_sched.specs.BookState.{BookState}
 use Rattle.check_sched.specs.Books.{entries_of, opening_of, state_of}
-use Rattle.check_sched.proofs.PublicLaws.{opened_words}
+use Rattle.check_sched.proofs.PublicLaws.{state_words}
 
 -- whatever calls a book has, its board has a word for each object of the setup that it was opened with
 pub words_in : (book : Book) → length (book_board (state_of book)) ≡ object_count (opening_of book).sched.setup
 words_in book =
     let opened = opening_of book in
-    ap (λ (s : BookState). length (book_board s)) book.replayed ∙ opened_words opened.sched.setup opened.sched.start opened.room (entries_of book)
+    ap (λ (s : BookState). length (book_board s)) book.replayed ∙ state_words opened (entries_of book) book.opened
 
 -- so has the board of the state that it was opened in
 pub words_opened : (book : Book) → length (book_board (opening_of book)) ≡ object_count (opening_of book).sched.setup
-words_opened book = let opened = opening_of book in opened_words opened.sched.setup opened.sched.start opened.room []
+words_opened book = let opened = opening_of book in state_words opened [] book.opened
 
 -- a call is posted at the number of an object of that setup
 pub place_within : (book : Book) (opened : BookState) (call : Call) (place : Option ℕ) → place ≡ book_place (state_of book) call

@@ -17,16 +17,16 @@ use Rattle.check_rules.proofs.BoardLemmas.{coded_back}
 use Rattle.check_sched.specs.declared.book.Book.{Book}
 use Rattle.check_sched.specs.declared.call.Call.{Call}
 use Rattle.check_sched.specs.declared.call.Reply.{Reply}
-use Rattle.check_sched.specs.State.{State, max_attempts_of, opening, standing_at}
+use Rattle.check_sched.specs.State.{State, IsState, max_attempts_of, opening, standing_at}
 use Rattle.check_sched.specs.Step.{step}
 use Rattle.check_sched.specs.Board.{book_board}
 use Rattle.check_sched.specs.BoardLaws.{length-board_of, word_at}
-use Rattle.check_sched.specs.Books.{state_of}
+use Rattle.check_sched.specs.Books.{entries_of, opening_of, state_of}
 use Rattle.check_sched.specs.BookState.{BookState, book_opening, book_step}
 use Rattle.check_sched.proofs.OpeningLaws.{count_is}
 use Rattle.check_sched.proofs.ReplyLaws.{replay_objects}
 use Rattle.check_sched.proofs.ReportLaws.{object_in_range}
-use Rattle.check_sched.proofs.StandingLaws.{opening_count, opened_standing}
+use Rattle.check_sched.proofs.StandingLaws.{opening_count, opened_standing, state_standing}
 
 -- ---- attempts
 
@@ -67,42 +67,61 @@ lawful_read setup n t h lawful =
 -- ---- a book
 
 -- the calls of a book go to its scheduler
-book_sched : (s : BookState) (history : List (Entry Call Reply)) → (replay book_step s history).sched ≡ replay step s.sched history
+pub book_sched : (s : BookState) (history : List (Entry Call Reply)) → (replay book_step s history).sched ≡ replay step s.sched history
 book_sched s [] = refl
 book_sched s (e ∷ history) = book_sched (book_step s e.call).0 history
 
-opened_objects : (setup : Configuration) (start room : ℕ) (history : List (Entry Call Reply))
-    → length (replay book_step (book_opening setup start room) history).sched.objects ≡ object_count setup
-opened_objects setup start room history =
-    ap (λ (s : State). length s.objects) (book_sched (book_opening setup start room) history)
-    ∙ replay_objects (opening setup start) history
-    ∙ opening_count setup start
+-- no call changes how many objects there are
+objects_from : (opened : BookState) (history : List (Entry Call Reply))
+    → length (replay book_step opened history).sched.objects ≡ length opened.sched.objects
+objects_from opened history = ap (λ (s : State). length s.objects) (book_sched opened history) ∙ replay_objects opened.sched history
 
--- The board has a word for each object of the setup.
+-- the word of an object whose standing is lawful is read as that standing
+read_by : (opened : BookState) (history : List (Entry Call Reply)) (object : ℕ) → IsSetup opened.sched.setup
+    → length opened.sched.objects ≡ object_count opened.sched.setup
+    → is_lawful (standing_at (replay step opened.sched history).standings object) (max_attempts_of opened.sched.setup object) ≡ true
+    → object < object_count opened.sched.setup
+    → standing_coded (slice_index (book_board (replay book_step opened history)) object)
+    ≡ Some (standing_at (replay book_step opened history).sched.standings object)
+read_by opened history object h each lawful there =
+    let s = (replay book_step opened history).sched in
+    let here : is_lawful (standing_at s.standings object) (max_attempts_of opened.sched.setup object) ≡ true =
+    subst (λ (t : State). is_lawful (standing_at t.standings object) (max_attempts_of opened.sched.setup object) ≡ true)
+    (sym (book_sched opened history)) lawful in
+    let count = objects_from opened history in
+    ap standing_coded (word_at s object (omega (arith, there, count, each)))
+    ∙ lawful_read opened.sched.setup object (standing_at s.standings object) h here
+
+-- The board has a word for each object of the setup, whatever the state that the book opened in.
+pub state_words : (opened : BookState) (history : List (Entry Call Reply)) → IsState opened.sched
+    → length (book_board (replay book_step opened history)) ≡ object_count opened.sched.setup
+state_words opened history h = length-board_of (replay book_step opened history).sched ∙ objects_from opened history ∙ h.one_each
+
+-- Each word is read as the standing of its object.
+pub state_read : (opened : BookState) (history : List (Entry Call Reply)) (object : ℕ) → IsState opened.sched → object < object_count opened.sched.setup
+    → standing_coded (slice_index (book_board (replay book_step opened history)) object)
+    ≡ Some (standing_at (replay book_step opened history).sched.standings object)
+state_read opened history object h there =
+    read_by opened history object h.valid_setup h.one_each (state_standing opened.sched history object h there).lawful there
+
+-- So it is of a book that opens on a new scheduler.
 pub opened_words : (setup : Configuration) (start room : ℕ) (history : List (Entry Call Reply))
     → length (book_board (replay book_step (book_opening setup start room) history)) ≡ object_count setup
 opened_words setup start room history =
-    length-board_of (replay book_step (book_opening setup start room) history).sched ∙ opened_objects setup start room history
+    let opened = book_opening setup start room in
+    length-board_of (replay book_step opened history).sched ∙ objects_from opened history ∙ opening_count setup start
 
--- Each word is read as the standing of its object.
 pub opened_read : (setup : Configuration) (start room : ℕ) (history : List (Entry Call Reply)) (object : ℕ) → IsSetup setup → object < object_count setup
     → standing_coded (slice_index (book_board (replay book_step (book_opening setup start room) history)) object)
     ≡ Some (standing_at (replay book_step (book_opening setup start room) history).sched.standings object)
 opened_read setup start room history object h there =
-    let s = (replay book_step (book_opening setup start room) history).sched in
-    let same = book_sched (book_opening setup start room) history in
-    let lawful : is_lawful (standing_at s.standings object) (max_attempts_of setup object) ≡ true =
-    subst (λ (t : State). is_lawful (standing_at t.standings object) (max_attempts_of setup object) ≡ true) (sym same)
-    (opened_standing setup start history object h there).lawful in
-    let count = opened_objects setup start room history in
-    ap standing_coded (word_at s object (omega (arith, there, count)))
-    ∙ lawful_read setup object (standing_at s.standings object) h lawful
+    read_by (book_opening setup start room) history object h (opening_count setup start) (opened_standing setup start history object h there).lawful there
 
 -- A book's board has at most 4,096 words.
 pub few_words : (book : Book) → length (book_board (state_of book)) ≤ 4096
 few_words book =
-    let setup = book.log.value.sched.setup in
-    let words = ap (λ s. length (book_board s)) book.replayed ∙ opened_words setup book.log.value.sched.start book.log.value.room book.log.value.entries.items in
-    let count = count_is setup in
-    let few = book.valid_setup.few in
+    let opened = opening_of book in
+    let words = ap (λ s. length (book_board s)) book.replayed ∙ state_words opened (entries_of book) book.opened in
+    let count = count_is opened.sched.setup in
+    let few = book.opened.valid_setup.few in
     omega (arith, words, count, few)

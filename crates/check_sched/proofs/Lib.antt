@@ -19,3 +19,4 @@ pub mod StepLaws
 pub mod TakeLaws
 pub mod UpdateLaws
 pub mod ChangeLaws
+pub mod GenerationLaws

@@ -1,6 +1,8 @@
 -- The laws of `laws.rt` as lemmas, for the proofs of crates above; above each line stands the law whose clauses they are.
 
--- board_shows_standings: few, read, words
-pub use Rattle.check_sched.proofs.BoardLaws.{few_words, opened_read, opened_words}
+-- board_shows_standings: few, read, read_from, words, words_from
+pub use Rattle.check_sched.proofs.BoardLaws.{few_words, opened_read, opened_words, state_read, state_words}
 -- runs_once: books, numbers, once
 pub use Rattle.check_sched.proofs.RunLaws.{book_is_legal, taken_next, taken_once}
+-- generations: book, book_state, legal, state
+pub use Rattle.check_sched.proofs.GenerationLaws.{joined_book, joined_book_state, joined_legal, joined_state}

@@ -21,7 +21,7 @@ use Rattle.check_sched.specs.declared.call.Call.TheVariants as call
 use Rattle.check_sched.specs.declared.call.Reply.{Reply}
 use Rattle.check_sched.specs.Report.{flaps_with, state_found_by}
 use Rattle.check_sched.specs.Scheduling.{Scheduling}
-use Rattle.check_sched.specs.State.{State, IsStandingOf, is_host, opening, standing_at}
+use Rattle.check_sched.specs.State.{State, IsState, IsStandingOf, is_host, opening, standing_at}
 use Rattle.check_sched.specs.Step.{found_in, judged_in, step, update_at}
 use Rattle.check_sched.proofs.OpeningLaws.{count_is, first_standings, length-objects_at, length-opening_standings}
 use Rattle.check_sched.proofs.OperatorLaws.{abandon_cases, enable_cases, reschedule_cases, status_cases}
@@ -153,11 +153,23 @@ opening_good setup start h = record {
 
 -- ---- calls one after another
 
--- Whatever calls are made of a scheduler that was opened, each object has a standing that it can have.
+-- Whatever calls are made from a good state on, each object has a standing that it can have.
+good_standing : (opened : State) (history : List (Entry Call Reply)) (n : ℕ) → IsGood opened → n < object_count opened.setup
+    → IsStandingOf opened.setup n (standing_at (replay step opened history).standings n)
+good_standing opened history n good there =
+    let s = replay step opened history in
+    let same : s.setup ≡ opened.setup = replay_setup opened history in
+    let in_setup : n < object_count s.setup = subst (λ c. n < object_count c) (sym same) there in
+    subst (λ c. IsStandingOf c n (standing_at s.standings n)) same (standing_good s n (replay_good opened history good) in_setup)
+
+-- So it is from every state on that a scheduler can be in,
+pub state_standing : (opened : State) (history : List (Entry Call Reply)) (n : ℕ) → IsState opened → n < object_count opened.setup
+    → IsStandingOf opened.setup n (standing_at (replay step opened history).standings n)
+state_standing opened history n h there =
+    good_standing opened history n
+    (record { setup = h.valid_setup; one_each = h.one_each; one_standing_each = h.one_standing_each; standings = h.standings }) there
+
+-- and of a scheduler that was opened.
 pub opened_standing : (setup : Configuration) (start : ℕ) (history : List (Entry Call Reply)) (n : ℕ) → IsSetup setup → n < object_count setup
     → IsStandingOf setup n (standing_at (replay step (opening setup start) history).standings n)
-opened_standing setup start history n h there =
-    let s = replay step (opening setup start) history in
-    let same : s.setup ≡ setup = replay_setup (opening setup start) history in
-    let in_setup : n < object_count s.setup = subst (λ c. n < object_count c) (sym same) there in
-    subst (λ c. IsStandingOf c n (standing_at s.standings n)) same (standing_good s n (replay_good (opening setup start) history (opening_good setup start h)) in_setup)
+opened_standing setup start history n h there = good_standing (opening setup start) history n (opening_good setup start h) there

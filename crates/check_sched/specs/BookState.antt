@@ -15,6 +15,10 @@ pub record BookState : Type 0 where
 abbrev pub book_step : BookState → Call → BookState × Reply
 book_step s call = (record { sched = (step s.sched call).0; room = s.room }, (step s.sched call).1)
 
--- the state that a book opens with
+-- a book's state: the scheduler's with this room
+abbrev pub book_at : State → ℕ → BookState
+book_at s room = record { sched = s; room = room }
+
+-- the state that a book on a new scheduler opens with
 abbrev pub book_opening : Configuration → ℕ → ℕ → BookState
 book_opening setup start room = record { sched = opening setup start; room = room }

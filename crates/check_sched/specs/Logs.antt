@@ -1,10 +1,10 @@
 -- What the log behind a book tells.
 use Rattle.check_sched.specs.declared.book.Log.{Log}
-use Rattle.check_sched.specs.BookState.{BookState, book_opening}
+use Rattle.check_sched.specs.BookState.{BookState}
 
 -- the state that it began with
 abbrev pub log_opening : Log → BookState
-log_opening log = book_opening log.sched.setup log.sched.start log.room
+log_opening log = record { sched = log.opened.value; room = log.room }
 
 -- its present state
 abbrev pub log_state : Log → BookState

@@ -3,12 +3,12 @@
 ghost use Rattle.std.specs.Prelude.{◌≡◌, ◌+◌, ◌^◌, ◌<◌, ◌≤◌, [], ◌∷◌, ◌++◌, length};
 ghost use Rattle.std.specs.Prelude.{IfOk, IfErr, OnOk, OnErr, vec_capacity, vec_len};
 ghost use Rattle.check_objects.specs.Configuration.{IsSetup};
-ghost use Rattle.check_sched.specs.BookState.{BookState, book_step};
+ghost use Rattle.check_sched.specs.BookState.{BookState, book_at, book_opening, book_step};
 ghost use Rattle.check_sched.specs.Logs.{log_opening, log_state};
 ghost use Rattle.check_sched.specs.Board.{book_board, book_place};
 ghost use Rattle.check_sched.specs.BoardLaws.{board_within, board_unposted, board_posted};
-ghost use Rattle.check_sched.specs.SetupLaws.{IsSetup-prop};
-ghost use Rattle.check_sched.specs.State.{opening};
+ghost use Rattle.check_sched.specs.SetupLaws.{IsSetup-prop, IsState-prop};
+ghost use Rattle.check_sched.specs.State.{IsState, opening};
 ghost use Rattle.check_sched.specs.Step.{step};
 ghost use Rattle.std.proofs.Props.{props};
 ghost use Rattle.ticket_steps.specs.History.{entry, replay, IsLegal, IsLegal-prop};
@@ -18,6 +18,8 @@ use crate::sched::Sched;
 use check_objects::Setup;
 use check_spread::LAST_MOMENT;
 use std::alloc::{AllocError, Global};
+use std::mem;
+use std::snapshot::Snapshot;
 use ticket_steps::{Entry, Kept, NoMemory};
 
 #[cfg(test)]
@@ -34,6 +36,7 @@ pub struct Book {
     /// Behind a box, so that a book that is handed over moves a pointer.
     log: Box<Log>,
     ghost reserved: { log.value.room ≤ vec_capacity log.value.entries },
+    ghost opened: { IsState log.value.opened.value } by { IsState-prop log.value.opened.value },
     ghost valid_setup: { IsSetup log.value.sched.setup } by { IsSetup-prop log.value.sched.setup },
     ghost legal: { IsLegal book_step (log_opening log.value) log.value.entries.items } by { IsLegal-prop book_step (λ a b. Prim.hlevel props)
         (log_opening log.value) log.value.entries.items },
@@ -48,10 +51,35 @@ struct Log {
     entries: Vec<Entry<Call, Reply>>,
     refused: u64,
     room: usize,
+    /// The scheduler as it was when the book was opened. It takes no byte.
+    opened: Snapshot<Sched>,
+}
+
+impl Log {
+    /// Begins anew where the scheduler stands, with these entries, of which there are none, and their
+    /// room. Gives the entries that were there.
+    fn begin_anew(
+        &mut self,
+        entries: Vec<Entry<Call, Reply>>,
+        room: usize,
+    ) -> Vec<Entry<Call, Reply>>
+        ensures given { result ≡ self.old.entries }
+        ensures entries { self.new.entries ≡ entries }
+        ensures refused { self.new.refused ≡ 0 }
+        ensures room { self.new.room ≡ room }
+        ensures sched { self.new.sched ≡ self.old.sched }
+        ensures opened { self.new.opened.value ≡ self.old.sched }
+    {
+        let earlier = mem::replace(&mut self.entries, entries);
+        self.refused = 0;
+        self.room = room;
+        self.opened = Snapshot::of(&self.sched);
+        earlier
+    }
 }
 
 impl Book {
-    ghost use Rattle.check_sched.specs.Books.{entries_of, refused_of, room_of, sched_of};
+    ghost use Rattle.check_sched.specs.Books.{entries_of, opening_of, refused_of, room_of, sched_of, state_of};
 
     /// A book without entries over a new scheduler for the objects of `setup`, which starts at the
     /// moment `start`, in milliseconds. There is room for so many entries: their calls take no
@@ -63,22 +91,51 @@ impl Book {
         ensures empty { IfOk result (λ book. (entries_of book ≡ []) × (refused_of book ≡ 0)) }
         ensures sched { IfOk result (λ book. sched_of book ≡ opening setup start) }
         ensures room { IfOk result (λ book. room_of book ≡ room) }
+        ensures opening { IfOk result (λ book. opening_of book ≡ book_opening setup start room) }
         ensures err { IfErr result (λ handed_back. handed_back ≡ setup) }
     {
         let Ok(entries) = Vec::with_capacity(alloc, room) else {
             return Err(setup);
         };
         let sched = Sched::new(alloc, setup, start)?;
+        // for the proof: the opening is a state that a scheduler can be in
+        sched.is_state();
+        let opened = Snapshot::of(&sched);
         let log = Log {
             sched,
             entries,
             refused: 0,
             room,
+            opened,
         };
         match Box::new(alloc, log) {
             Ok(log) => Ok(Book { log }),
             Err(refused) => Err(refused.value.sched.into_setup()),
         }
+    }
+
+    /// A new book that opens in the state in which this one stands, without entries and refusals, and
+    /// with room for so many entries; beside it the entries of this one. What the scheduler knows goes
+    /// on: standings, next times, checks that are out, the results kept, and how many runs were handed
+    /// out. The entries are moved, not copied: memory is taken for the room alone. The count of
+    /// refusals ends with this book, so read [`refused`](Kept::refused) before.
+    ///
+    /// An Err means out of memory, and hands this book back as it was.
+    pub fn renew(self, alloc: Global, room: usize) -> Result<(Book, Vec<Entry<Call, Reply>>), Book>
+        ensures opening { IfOk result (λ made. opening_of made.0 ≡ book_at (sched_of self) room) }
+        ensures state { IfOk result (λ made. state_of made.0 ≡ book_at (sched_of self) room) }
+        ensures empty { IfOk result (λ made. (entries_of made.0 ≡ []) × (refused_of made.0 ≡ 0)) }
+        ensures entries { IfOk result (λ made. made.1.items ≡ entries_of self) }
+        ensures err { IfErr result (λ handed_back. handed_back ≡ self) }
+    {
+        let Ok(entries) = Vec::with_capacity(alloc, room) else {
+            return Err(self);
+        };
+        let Book { mut log } = self;
+        // for the proof: what it stands at is a state that a scheduler can be in
+        log.sched.is_state();
+        let earlier = (*log).begin_anew(entries, room);
+        Ok((Book { log }, earlier))
     }
 
     /// The scheduler, in the state that the entries' calls leave.

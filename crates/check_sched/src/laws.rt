@@ -15,11 +15,11 @@ ghost use Rattle.check_sched.specs.declared.call.Call.{Call};
 ghost use Rattle.check_sched.specs.declared.call.Call.TheVariants as call;
 ghost use Rattle.check_sched.specs.declared.call.Reply.TheVariants as reply;
 ghost use Rattle.check_sched.specs.Board.{book_board};
-ghost use Rattle.check_sched.specs.Books.{sched_of, state_of};
+ghost use Rattle.check_sched.specs.Books.{opening_of, sched_of, state_of};
 ghost use Rattle.check_sched.specs.declared.book.Book.{Book};
-ghost use Rattle.check_sched.specs.State.{IsStandingOf, IsWithinLimit, flap_thresholds_of, is_host, opening, results_at, standing_at};
+ghost use Rattle.check_sched.specs.State.{IsStandingOf, IsState, IsWithinLimit, State, flap_thresholds_of, is_host, opening, results_at, standing_at};
 ghost use Rattle.check_sched.specs.Step.{after, step};
-ghost use Rattle.check_sched.specs.BookState.{BookState, book_opening, book_step};
+ghost use Rattle.check_sched.specs.BookState.{BookState, book_at, book_opening, book_step};
 ghost use Rattle.check_sched.specs.Reply.{IsReportReply, IsTakeReply};
 ghost use Rattle.check_sched.specs.Runs.{begins, runs_begun, runs_under};
 ghost use Rattle.check_sched.specs.Flapping.{flapping_in, never_checked, states_told, with_results};
@@ -115,8 +115,10 @@ pub fn replies()
 
 /// What the board of a book shows, whatever calls were made since it was opened, one after another: a
 /// word for each object of the setup (`words`), which [`decode`](check_rules::decode) reads as the
-/// standing of the object with that number (`read`). Each book was opened over a setup as
-/// [`Setup`](check_objects::Setup) has it (`books`), and so its board has at most 4,096 words (`few`).
+/// standing of the object with that number (`read`). It is so from every state on that a scheduler can
+/// be in (`words_from`, `read_from`), and each book opens in such a state (`opened`), a renewed one
+/// too. Each book is over a setup as [`Setup`](check_objects::Setup) has it (`books`), and so its board
+/// has at most 4,096 words (`few`).
 pub fn board_shows_standings()
     ensures words { (setup : Configuration) → (start room : ℕ)
         → (history : List (Entry Call Reply))
@@ -127,6 +129,34 @@ pub fn board_shows_standings()
         → IsSetup setup → object < object_count setup
         → standing_coded (slice_index (book_board (replay book_step (book_opening setup start room) history)) object)
         ≡ Some (standing_at (replay book_step (book_opening setup start room) history).sched.standings object) }
+    ensures words_from { (opened : BookState) → (history : List (Entry Call Reply))
+        → IsState opened.sched
+        → length (book_board (replay book_step opened history)) ≡ object_count opened.sched.setup }
+    ensures read_from { (opened : BookState) → (history : List (Entry Call Reply)) → (object : ℕ)
+        → IsState opened.sched → object < object_count opened.sched.setup
+        → standing_coded (slice_index (book_board (replay book_step opened history)) object)
+        ≡ Some (standing_at (replay book_step opened history).sched.standings object) }
+    ensures opened { (book : Book) → IsState (opening_of book).sched }
     ensures books { (book : Book) → IsSetup (sched_of book).setup }
     ensures few { (book : Book) → length (book_board (state_of book)) ≤ 4096 }
+{}
+
+/// Histories go on from one book to the next. Where `earlier` is legal from a state, as from a
+/// scheduler's opening, and `later` is legal from the state that `earlier` leaves, `earlier` followed by
+/// `later` is legal from the first state (`legal`) and leaves the same state (`state`). The same holds of
+/// the schedulers of books, whatever their rooms (`book`). So each law of legal histories holds of the
+/// joined history of books that were [renewed](crate::Book::renew).
+pub fn generations()
+    ensures legal { (opened : State) → (earlier later : List (Entry Call Reply))
+        → IsLegal step opened earlier → IsLegal step (replay step opened earlier) later
+        → IsLegal step opened (earlier ++ later) }
+    ensures state { (opened : State) → (earlier later : List (Entry Call Reply))
+        → replay step opened (earlier ++ later) ≡ replay step (replay step opened earlier) later }
+    ensures book { (opened : State) → (room : ℕ) → (earlier later : List (Entry Call Reply))
+        → IsLegal step opened earlier
+        → IsLegal book_step (book_at (replay step opened earlier) room) later
+        → IsLegal step opened (earlier ++ later) }
+    ensures book_state { (opened : State) → (room : ℕ) → (earlier later : List (Entry Call Reply))
+        → (replay book_step (book_at (replay step opened earlier) room) later).sched
+        ≡ replay step opened (earlier ++ later) }
 {}

@@ -4,6 +4,7 @@ ghost use Rattle.std.specs.Prelude.{◌≡◌, ◌+◌, ◌<◌, ◌≤◌, IfSo
 ghost use Rattle.check_objects.specs.Configuration.{IsSetup, object_count};
 ghost use Rattle.check_sched.specs.State.{
   IsStandingOf,
+  IsState,
   has_room,
   is_time,
   next_of,
@@ -361,6 +362,13 @@ impl Sched {
             Some(object) => Ok(object),
             None => Err(Refusal::UnknownObject),
         }
+    }
+
+    /// A law without code: each scheduler is in a state that one can be in.
+    pub(crate) fn is_state(&self)
+        ensures { IsState self.now }
+    {
+        let _ = &self.setup;
     }
 
     /// How many words its board has: one for each object.

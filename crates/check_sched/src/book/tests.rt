@@ -4,8 +4,8 @@ ghost use Rattle.std.specs.Prelude.{◌≡◌, [], IfOk};
 ghost use Rattle.check_sched.specs.Books.{entries_of, refused_of};
 
 use crate::laws::{
-    board_shows_standings, constants, flaps_by_history, limit, never_checked, replies, runs_once,
-    standings_are_lawful,
+    board_shows_standings, constants, flaps_by_history, generations, limit, never_checked, replies,
+    runs_once, standings_are_lawful,
 };
 use crate::{Book, Call, Reply};
 use check_objects::Setup;
@@ -147,6 +147,67 @@ fn a_core_opens_over_the_largest_book(rt: HostRuntime) -> Result<(), Fail> {
     Ok(())
 }
 
+/// The same calls, made to one book and to one that is renewed halfway: the same replies, and the
+/// same entries, joined.
+#[test]
+fn a_renewed_book_goes_on(rt: HostRuntime) -> Result<(), Fail> {
+    let mut whole = book_of(rt.alloc(), 400)?;
+    let mut first = book_of(rt.alloc(), 200)?;
+    make_calls(&rt, &mut whole, &mut first, 0)?;
+    let Ok((mut second, earlier)) = first.renew(rt.alloc(), 200) else {
+        return Err(Fail::from("no memory for the room"));
+    };
+    assert_eq!(rt; earlier.len(), 200);
+    assert_eq!(rt; second.entries().len(), 0);
+    assert_eq!(rt; second.room(), 200);
+    make_calls(&rt, &mut whole, &mut second, 200)?;
+    assert_eq!(rt; second.entries().len(), 200);
+    assert!(rt; &whole.entries()[..200] == earlier.as_slice());
+    assert!(rt; &whole.entries()[200..] == second.entries());
+    assert_eq!(rt; whole.word(1), second.word(1));
+    Ok(())
+}
+
+/// Makes 200 calls to both: takes and reports of the service in turn, the reports in two states.
+fn make_calls(rt: &impl Abort, whole: &mut Book, part: &mut Book, from: u64) -> Result<(), Fail> {
+    for made in from..from + 200 {
+        let run = made / 2 + 1;
+        let call = if made % 2 == 0 {
+            Call::Take {
+                now: made * 300_000,
+            }
+        } else if made % 8 < 4 {
+            report(1, run, Code::Critical)
+        } else {
+            report(1, run, Code::Ok)
+        };
+        let one = recorded(whole, call)?;
+        let other = recorded(part, call)?;
+        assert_eq!(rt; one, other);
+    }
+    Ok(())
+}
+
+/// A check that is out when the book is renewed isn't taken meanwhile, is refused under another run,
+/// and is reported afterwards.
+#[test]
+fn a_check_is_out_over_a_renewal(rt: HostRuntime) -> Result<(), Fail> {
+    let mut book = book_of(rt.alloc(), 4)?;
+    let taken = recorded(&mut book, Call::Take { now: 0 })?;
+    assert_eq!(rt; taken, Reply::Taken { object: 1, run: 1 });
+    let Ok((mut book, earlier)) = book.renew(rt.alloc(), 4) else {
+        return Err(Fail::from("no memory for the room"));
+    };
+    assert_eq!(rt; earlier.len(), 1);
+    let idle = recorded(&mut book, Call::Take { now: 1_000_000 })?;
+    assert!(rt; !matches!(idle, Reply::Taken { .. }));
+    let other = recorded(&mut book, report(1, 2, Code::Ok))?;
+    assert!(rt; matches!(other, Reply::Refused(_)));
+    let reported = recorded(&mut book, report(1, 1, Code::Critical))?;
+    assert!(rt; matches!(reported, Reply::Standing { .. }));
+    Ok(())
+}
+
 /// The laws have no parameters; each is called once.
 #[test]
 fn the_laws_can_be_called(_rt: HostRuntime) {
@@ -158,4 +219,5 @@ fn the_laws_can_be_called(_rt: HostRuntime) {
     runs_once();
     flaps_by_history();
     board_shows_standings();
+    generations();
 }

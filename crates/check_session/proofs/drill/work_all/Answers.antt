@@ -1,7 +1,7 @@
 use Rattle.std.proofs.Common.{◌≡◌, ap, subst, ◌∙◌, arith}
 use Rattle.ticket_steps.specs.History.{IsLegal}
 use Rattle.check_sched.proofs.RunLaws.{book_is_legal}
-use Rattle.check_sched.specs.Books.{entries_of, opening_of, refused_of, room_of}
+use Rattle.check_sched.specs.Books.{entries_of, opening_of, refused_of}
 use Rattle.check_sched.specs.BookState.{book_opening, book_step}
 use Rattle.check_sched.specs.State.{opening}
 use Rattle.check_desk.specs.Desks.{opened_with}
@@ -20,8 +20,7 @@ returns-in-Ok-crew-clause-drill g c =
     let history = entries_of c.in-Ok-crew.book in
     let x = c.in-Ok-crew.ensures.shifts in
     let opened : opened_with desk ≡ book_opening c.args.script.setup c.args.start c.args.room =
-    c.in-Ok-open.ensures.opening ∙ ap (λ s. book_opening s.setup s.start (room_of c.in-Ok.book)) c.in-Ok.ensures.sched
-    ∙ ap (λ r. book_opening c.args.script.setup c.args.start r) c.in-Ok.ensures.room in
+    c.in-Ok-open.ensures.opening ∙ c.in-Ok.ensures.opening in
     let room : (opened_with desk).room ≡ c.args.room = ap (λ s. s.room) opened in
     let are : AreShiftsOf allows script.moments c.args.room history passes x.0 =
     subst (λ m. AreShiftsOf allows m c.args.room history passes x.0) c.deref.ensures.value

@@ -18,7 +18,7 @@ read c =
     let book = (start_of desk.lock).book in
     let opened = opening_of book in
     c.decode.ensures ∙ (ap standing_coded c.glance-seat.ensures.word
-    ∙ c.board_shows_standings.ensures.read opened.sched.setup opened.sched.start opened.room (seat_of c.glance-seat.result.0).seen c.args.object book.valid_setup
+    ∙ c.board_shows_standings.ensures.read_from opened (seat_of c.glance-seat.result.0).seen c.args.object book.opened
     (there (goal.at.returns-clause-missing c).Else-self-object))
 
 pub glance-seat-requires-clause-place : goal.glance-seat-requires-clause-place

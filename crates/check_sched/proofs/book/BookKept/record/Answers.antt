@@ -4,6 +4,7 @@ use Rattle.check_objects.specs.Configuration.{IsSetup}
 use Rattle.ticket_steps.specs.History.{entry, replay, IsLegal}
 use Rattle.check_sched.specs.BookState.{book_step}
 use Rattle.check_sched.specs.Logs.{log_opening, log_state}
+use Rattle.check_sched.specs.State.{IsState}
 use Rattle.check_sched.specs.declared.book.Log.{Log}
 use Rattle.check_sched.proofs.BookLemmas.{book_legal, book_replayed}
 use Rattle.check_sched.proofs.book.BookKept.record.Goals as goal
@@ -20,11 +21,12 @@ invariant_of-self-2 c =
     let made = c.apply-reply.ensures in
     record {
       reserved = omega (arith, c.push_reserved.ensures.capacity, c.grow.ensures.capacity, was_reserved);
+      opened = subst (λ (l : Log). IsState l.opened.value) (sym boxed) b.opened;
       valid_setup = subst IsSetup (sym (made.setup ∙ ap (λ (l : Log). l.sched.setup) boxed)) b.valid_setup;
       legal =
-          book_legal log.sched c.apply-reply.new.self log.room c.args.pass c.args.call c.apply-reply.result log.entries.items
-          c.push_reserved.new.self.items made.state made.reply made.setup made.start more was_replayed was_legal;
+          book_legal (log_opening log) log.sched c.apply-reply.new.self log.room c.args.pass c.args.call c.apply-reply.result log.entries.items
+          c.push_reserved.new.self.items made.state made.reply more was_replayed was_legal;
       replayed =
-          book_replayed log.sched c.apply-reply.new.self log.room c.args.pass c.args.call c.apply-reply.result log.entries.items
-          c.push_reserved.new.self.items made.state made.reply made.setup made.start more was_replayed;
+          book_replayed (log_opening log) log.sched c.apply-reply.new.self log.room c.args.pass c.args.call c.apply-reply.result log.entries.items
+          c.push_reserved.new.self.items made.state made.reply more was_replayed;
     }
