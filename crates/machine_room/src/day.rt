@@ -1,7 +1,7 @@
 //! One day, which is one generation of the book: a desk is opened on it and closed, and the book is
 //! renewed.
 
-ghost use Rattle.std.specs.Prelude.{◌≡◌, ◌×◌, ◌<◌, [], IfOk};
+ghost use Rattle.std.specs.Prelude.{◌≡◌, ◌<◌, [], IfOk};
 ghost use Rattle.std.specs.List.{All};
 ghost use Rattle.check_desk.specs.Desks.{IsPassOf};
 ghost use Rattle.check_sched.specs.Books.{entries_of, refused_of};
@@ -116,7 +116,10 @@ fn work_together<R: Threads + Wait + Sync>(
     let (operator, workers) = join(
         rt,
         || operate(rt, desk, operator, day, out),
-        || work_all(rt, desk, workers, day),
+        || -> Result<Vec<Pass>, AllocError>
+            requires { All (IsPassOf desk.now) workers.items }
+            ensures { IfOk result (λ back. All (IsPassOf desk.entry.now) back.items) }
+        { work_all(rt, desk, workers, day) },
     );
     Ok(gather_all(desk, workers?, operator))
 }

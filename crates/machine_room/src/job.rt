@@ -1,6 +1,6 @@
 //! What the program's words ask for.
 
-ghost use Rattle.std.specs.Prelude.{◌×◌, ◌<◌, ◌≤◌};
+ghost use Rattle.std.specs.Prelude.{◌<◌, ◌≤◌};
 
 use crate::fault::Fault;
 use std::alloc::Global;

@@ -8,15 +8,19 @@ use check_workers::Plugin;
 /// The gateway and the storage behind it, and two services on each, as one line. All checks are due at
 /// 0, then every 4 hours, and every half hour while a problem is soft. The backup isn't checked while
 /// the disks have a hard problem.
-pub(crate) const MACHINE_ROOM: &str = r#"{"options":{"host_inter_check_delay_method":"n","service_inter_check_delay_method":"n","low_service_flap_threshold":5,"high_service_flap_threshold":20},"hosts":[{"name":"gateway","max_check_attempts":3,"check_interval":240,"retry_interval":30},{"name":"storage","parents":["gateway"],"max_check_attempts":3,"check_interval":240,"retry_interval":30}],"services":[{"host":"gateway","description":"ping","max_check_attempts":3,"check_interval":240,"retry_interval":30},{"host":"gateway","description":"rack","max_check_attempts":3,"check_interval":240,"retry_interval":30},{"host":"storage","description":"backup","max_check_attempts":3,"check_interval":240,"retry_interval":30},{"host":"storage","description":"disks","max_check_attempts":3,"check_interval":240,"retry_interval":30}],"service_dependencies":[{"dependent":"storage;backup","master":"storage;disks","criteria":"c,u"}]}"#;
+pub(crate) const MACHINE_ROOM: &str =
+    r#"{"options":{"host_inter_check_delay_method":"n","service_inter_check_delay_method":"n","low_service_flap_threshold":5,"high_service_flap_threshold":20},"hosts":[{"name":"gateway","max_check_attempts":3,"check_interval":240,"retry_interval":30},{"name":"storage","parents":["gateway"],"max_check_attempts":3,"check_interval":240,"retry_interval":30}],"services":[{"host":"gateway","description":"ping","max_check_attempts":3,"check_interval":240,"retry_interval":30},{"host":"gateway","description":"rack","max_check_attempts":3,"check_interval":240,"retry_interval":30},{"host":"storage","description":"backup","max_check_attempts":3,"check_interval":240,"retry_interval":30},{"host":"storage","description":"disks","max_check_attempts":3,"check_interval":240,"retry_interval":30}],"service_dependencies":[{"dependent":"storage;backup","master":"storage;disks","criteria":"c,u"}]}"#;
 
 /// How many objects the setup has.
 pub(crate) const OBJECTS: usize = 6;
 
 /// The numbers of objects: hosts by name, then services by host and description.
 pub(crate) const GATEWAY: u32 = 0;
+
 pub(crate) const RACK: u32 = 3;
+
 pub(crate) const BACKUP: u32 = 4;
+
 pub(crate) const DISKS: u32 = 5;
 
 /// How many moments a day has at which each worker takes a check.
@@ -24,7 +28,9 @@ pub(crate) const MOMENTS: usize = 48;
 
 /// In milliseconds.
 const HOUR: u64 = 3_600_000;
+
 const HALF_HOUR: u64 = 1_800_000;
+
 const DAY: u64 = 86_400_000;
 
 /// When the day with this number begins, in milliseconds; the first day is 0.

@@ -1,6 +1,6 @@
 //! Renewals: out of memory a book is handed back as it was, and renewed it goes on where it stood.
 
-ghost use Rattle.std.specs.Prelude.{◌≡◌, ◌×◌, [], IfOk};
+ghost use Rattle.std.specs.Prelude.{◌≡◌, [], IfOk};
 ghost use Rattle.std.specs.List.{All};
 ghost use Rattle.check_desk.specs.Desks.{IsPassOf};
 ghost use Rattle.check_sched.specs.Books.{entries_of, refused_of};
@@ -179,7 +179,10 @@ fn where_reported(book: Book, entries: usize, outcome: Outcome) -> Result<Outcom
 {
     let mut book = book;
     match book.record(0, REPORT) {
-        Ok(reply) => where_right(reply == REPORTED && book.entries().len() == entries, outcome),
+        Ok(reply) => where_right(
+            reply == REPORTED && book.entries().len() == entries,
+            outcome,
+        ),
         Err(_refused) => Err(Wrong),
     }
 }
