@@ -5,6 +5,7 @@ ghost use Rattle.std.specs.Prelude.{◌<◌, ◌≤◌};
 use crate::fault::Fault;
 use std::alloc::Global;
 use std::env;
+use std::io::ErrorKind;
 use std::rt::Env;
 
 /// The most days.
@@ -49,8 +50,10 @@ impl Job {
 
 /// What the program's words ask for. An Err is `Words` or `Memory`.
 pub(crate) fn asked<R: Env + AllocGlobal>(rt: &R, alloc: Global) -> Result<Job, Fault> {
-    let Ok(args) = env::args(rt) else {
-        return Err(Fault::Words);
+    let args = match env::args(rt) {
+        Ok(args) => args,
+        Err(e) if e.kind() == ErrorKind::OutOfMemory => return Err(Fault::Memory),
+        Err(_no_text) => return Err(Fault::Words),
     };
     let Ok(words) = args.collect::<Vec<String>>(alloc) else {
         return Err(Fault::Memory);
