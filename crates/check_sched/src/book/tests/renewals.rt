@@ -1,6 +1,8 @@
 //! What no clause says of a renewed book: that with ample memory there is one, that it goes on as if no
 //! book had ended, and what it costs.
 
+ghost use Rattle.std.specs.Prelude.{◌<◌, ◌≤◌};
+
 use super::{book_of, recorded, report};
 use crate::{Book, Call, Reply};
 use check_rules::Code;
@@ -24,7 +26,9 @@ fn renewed(
 }
 
 /// Makes 200 calls to both: takes and reports of the service in turn, the reports in two states.
-fn make_calls(rt: &impl Abort, whole: &mut Book, part: &mut Book, from: u64) -> Result<(), Fail> {
+fn make_calls(rt: &impl Abort, whole: &mut Book, part: &mut Book, from: u64) -> Result<(), Fail>
+    requires { from ≤ 200 }
+{
     for made in from..from + 200 {
         let call = match made % 8 {
             0 | 2 | 4 | 6 => Call::Take {
@@ -80,7 +84,9 @@ fn a_check_is_out_over_a_renewal(rt: HostRuntime) -> Result<(), Fail> {
 }
 
 /// Whether the service flaps once a check of it, the one with this number from 0 on, has this result.
-fn flaps_after(book: &mut Book, check: u64, code: Code) -> Result<bool, Fail> {
+fn flaps_after(book: &mut Book, check: u64, code: Code) -> Result<bool, Fail>
+    requires { check < 37 }
+{
     let _taken = recorded(
         book,
         Call::Take {
