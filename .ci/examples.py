@@ -4,18 +4,34 @@
     .ci/examples.py [PROGRAM]     crates/nagsched/out/nagsched where no program is named
 
 What office.out and drill.out say was worked out by hand from the rules. The whole program that the page on embedding shows is a
-test of check_workers, byte for byte.
+test of check_workers, byte for byte, and the code of its section on months stands in the sources of machine_room.
 """
+import re
+
 from program import EXAMPLES, TOP, Held
 
 EMBEDDING = TOP / "docs" / "EMBEDDING.md"
 EMBEDDED = TOP / "crates" / "check_workers" / "src" / "tests" / "own_threads.rt"
+MONTHS = "## For months"
+MACHINE_ROOM = TOP / "crates" / "machine_room" / "src"
 RUNS = {"office": ["run"], "drill": ["drill", "--workers", "1"]}
+
+
+def section(page, heading):
+    """A section of a page, from its heading to the next."""
+    return page[page.index(heading):].split("\n## ")[0]
+
 
 held = Held("examples")
 for name, words in RUNS.items():
     wanted = (EXAMPLES / f"{name}.out").read_bytes()
     held.compare(name, (wanted, 0), held.run(words, (EXAMPLES / f"{name}.txt").read_bytes()))
 shown = f"```rust\n{EMBEDDED.read_text(encoding='utf-8')}```\n"
-held.compare(f"{EMBEDDING.name} shows {EMBEDDED.name}", True, shown in EMBEDDING.read_text(encoding="utf-8"))
+page = EMBEDDING.read_text(encoding="utf-8")
+held.compare(f"{EMBEDDING.name} shows {EMBEDDED.name}", True, shown in page)
+sources = "\n".join(file.read_text(encoding="utf-8") for file in sorted(MACHINE_ROOM.glob("*.rt")))
+blocks = re.findall(r"```rust\n(.*?)```", section(page, MONTHS), re.DOTALL)
+held.compare(f"{EMBEDDING.name}, {MONTHS}: code blocks", 3, len(blocks))
+for block in blocks:
+    held.compare(f"{EMBEDDING.name}, {MONTHS}: {block.splitlines()[0]}", True, block in sources)
 held.end()

@@ -6,14 +6,15 @@
 //! refused, for N = 1, 2, 3 and on (`rt try --fail-alloc N`). The call whose request was refused has
 //! to say so and to leave what it was given as it was, and a second try has to give the answer of
 //! ample memory: its line then ends in `refused, then answered`. Anything else ends in `WRONG` and
-//! the exit status 1. Two calls ask for more memory than there can be, so that they are refused in
-//! every run.
+//! the exit status 1. Four calls ask for more memory than there can be, so that they are refused
+//! in every run.
 
 mod calls;
 mod crews;
 mod locks;
 mod openings;
 mod outcome;
+mod renewals;
 mod setups;
 mod words;
 
@@ -38,6 +39,7 @@ fn make_all<R: AllocGlobal + Print + Threads + Wait + Sync>(rt: &R) -> Result<()
     make_schedulers(rt, alloc)?;
     make_locks(rt, alloc)?;
     make_calls(rt, alloc)?;
+    renew_books(rt, alloc)?;
     run_workers(rt, alloc)?;
     tell(rt, "job", words::read(alloc))
 }
@@ -91,6 +93,17 @@ fn make_calls(rt: &(impl Print + Wait), alloc: Global) -> Result<(), Wrong> {
     tell(rt, "Book::record", calls::record(alloc))?;
     tell(rt, "Desk::finish", calls::finish(rt, alloc))?;
     tell(rt, "Desk::ask", calls::ask(rt, alloc))
+}
+
+/// Renews books, and goes on with them.
+fn renew_books(rt: &impl Print, alloc: Global) -> Result<(), Wrong> {
+    tell(rt, "Book::renew", renewals::renew(alloc))?;
+    let book = renewals::renew_to_any_room(alloc);
+    tell(rt, "Book::renew to any room", book)?;
+    let book = renewals::record_unrenewed(alloc);
+    tell(rt, "Book::record where it isn't renewed", book)?;
+    let desk = renewals::open_desk(alloc);
+    tell(rt, "Desk::open on a renewed book", desk)
 }
 
 /// Has a worker and crews do their work.

@@ -1,0 +1,83 @@
+#![tactic(auto)]
+//! The program `machine_room`: a machine room that is watched for days, to show embedders how a desk
+//! runs for months. Each day is one generation of the book.
+//!
+//! Its words are `DAYS [WORKERS]`, 1 to 10,000 days and 1 to 64 workers, 2 where none are named. It
+//! writes the setup, and then for each day:
+//!
+//! | Line | Meaning |
+//! |---|---|
+//! | `before STANDING`, `after STANDING` | what the desk's board shows of an object when the day begins and when it ends |
+//! | `COMMAND`, a tab, `PASS LINE` | an entry: the call as `nagsched run` reads it, the number of the pass that made it, and its reply as `nagsched run` writes it |
+//! | `day DAY: CALLS calls, ENTRIES entries, REFUSED refused` | how many calls were made that day, and what became of them |
+//!
+//! So the setup and the commands of all days, one after another, are an input of `nagsched run`, which
+//! writes the replies. With one worker nothing runs beside another thread, and the output is the same
+//! each time.
+//!
+//! It ends in status 0; 2 where the words are wrong, 3 where the output can't be written, 4 out of
+//! memory. In the end the words of `job`, the room of `room`, its `operator`, the `day`, and how it is
+//! `told`.
+
+mod day;
+mod fault;
+mod job;
+mod operator;
+mod room;
+mod told;
+
+use check_objects::Setup;
+use check_sched::Book;
+use day::watch_day;
+use fault::Fault;
+use job::{Job, asked};
+use room::MACHINE_ROOM;
+use std::alloc::Global;
+use std::io;
+use std::io::{BufWriter, Write};
+use std::process::ExitCode;
+use std::rt::Env;
+use std::sync::Wait;
+use std::thread::Threads;
+
+fn main(rt: HostRuntime) -> ExitCode {
+    match watch(&rt) {
+        Ok(()) => ExitCode::SUCCESS,
+        Err(fault) => ExitCode::from(fault.status()),
+    }
+}
+
+/// Watches the room for as many days as the program's words ask for, and writes all to standard output.
+fn watch<R: Env + Print + AllocGlobal + Threads + Wait + Sync>(rt: &R) -> Result<(), Fault> {
+    let alloc = rt.alloc();
+    let job = asked(rt, alloc)?;
+    let Ok(mut writer) = BufWriter::new(alloc, io::writer(rt)) else {
+        return Err(Fault::Memory);
+    };
+    watch_days(rt, alloc, &job, &mut writer)
+}
+
+/// Opens the first book, and watches one day after another, each on the book that the one before left.
+fn watch_days<R: Threads + Wait + Sync, W: Write>(
+    rt: &R,
+    alloc: Global,
+    job: &Job,
+    writer: &mut W,
+) -> Result<(), Fault> {
+    let Ok(setup) = Setup::read(alloc, MACHINE_ROOM.as_bytes()) else {
+        return Err(Fault::Memory);
+    };
+    let Ok(book) = Book::open(alloc, setup, 0, job.room()) else {
+        return Err(Fault::Memory);
+    };
+    told::write(writer, MACHINE_ROOM)?;
+    told::write(writer, "\n")?;
+    let mut book = book;
+    for day in 0..job.days() {
+        book = watch_day(rt, alloc, book, job, day, writer)?;
+    }
+    match writer.flush() {
+        Ok(()) => Ok(()),
+        Err(_fault) => Err(Fault::Output),
+    }
+}
