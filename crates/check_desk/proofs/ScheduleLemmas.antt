@@ -1,19 +1,24 @@
 -- What every schedule over the book of a scheduler leaves.
-use Rattle.std.proofs.Common.{◌≡◌, ℕ, List, [], ◌∷◌, ◌++◌, refl, ap, ◌∙◌, subst}
+use Rattle.std.proofs.Common.{◌≡◌, ℕ, ◌+◌, List, [], ◌∷◌, ◌++◌, length, refl, ap, ◌∙◌, arith, subst}
+use mathlib.Core.Option.{some}
+use lib.ListN.{get_elem?}
 use Rattle.ticket_steps.specs.declared.kept.Entry.{Entry}
-use Rattle.ticket_steps.specs.Books.{IsLawfulBook}
+use Rattle.ticket_steps.specs.declared.seats.CoreSeat.{CoreSeat}
+use Rattle.ticket_steps.specs.Books.{calls_taken, IsLawfulBook}
 use Rattle.ticket_steps.specs.History.{replay, IsLegal}
-use Rattle.ticket_steps.specs.Schedules.{Schedule}
-use Rattle.ticket_steps.proofs.ScheduleLemmas.{schedule_book}
+use Rattle.ticket_steps.specs.Schedules.{Schedule, IsSchedule}
+use Rattle.ticket_steps.specs.Seats.{posted_one}
+use Rattle.ticket_steps.proofs.ScheduleLemmas.{schedule_book, schedule_lawful}
+use Rattle.ticket_steps.proofs.SeatLemmas.{alone, posts, unnumbered_calls, unnumbered_posts}
 use Rattle.check_objects.specs.Configuration.{Configuration}
 use Rattle.check_sched.specs.declared.call.Call.{Call}
 use Rattle.check_sched.specs.declared.call.Reply.{Reply}
-use Rattle.check_sched.specs.BookState.{BookState, book_opening, book_step}
+use Rattle.check_sched.specs.BookState.{BookState, book_at, book_opening, book_step}
 use Rattle.check_sched.specs.contracts.book.BookKept.TheImpl.{ghosts as kept_book}
 use Rattle.check_sched.specs.State.{State, opening}
 use Rattle.check_sched.specs.Step.{step}
-use Rattle.check_sched.proofs.PublicLaws.{book_is_legal}
-use Rattle.check_desk.specs.Schedules.{IsScheduleOver}
+use Rattle.check_sched.proofs.PublicLaws.{book_is_legal, joined_book, joined_book_state}
+use Rattle.check_desk.specs.Schedules.{IsScheduleAfter, IsScheduleOver}
 
 -- the scheduler of a book goes through its calls alone
 sched_replayed : (s : State) (room : ℕ) (es : List (Entry Call Reply)) → (replay book_step (record { sched = s; room = room }) es).sched ≡ replay step s es
@@ -33,3 +38,34 @@ module _ (setup : Configuration) (start room : ℕ) (s : Schedule BookState Call
 
   pub sched_here : s.end.book.state.sched ≡ replay step (opening setup start) s.end.book.entries
   sched_here = ap (λ (b : BookState). b.sched) lawful.replayed ∙ sched_replayed (opening setup start) room s.end.book.entries
+
+module _ (setup : Configuration) (start : ℕ) (earlier : List (Entry Call Reply)) (room : ℕ) (s : Schedule BookState Call Reply)
+    (is : IsScheduleAfter setup start earlier room s) where
+  lawful_later : IsLawfulBook book_step (book_at (replay step (opening setup start) earlier) room) s.end.book
+  lawful_later = subst (λ (o : BookState). IsLawfulBook book_step o s.end.book) is.opens (schedule_book kept_book s is.schedule)
+
+  pub legal_joined : IsLegal step (opening setup start) (earlier ++ s.end.book.entries)
+  legal_joined = joined_book (opening setup start) room earlier s.end.book.entries is.legal_before lawful_later.legal
+
+  pub joined_parts : (front back : List (Entry Call Reply)) (e : Entry Call Reply) → earlier ++ s.end.book.entries ≡ front ++ e ∷ back
+      → IsLegal step (opening setup start) (front ++ e ∷ back)
+  joined_parts front back e parts = subst (IsLegal step (opening setup start)) parts legal_joined
+
+  pub sched_joined : s.end.book.state.sched ≡ replay step (opening setup start) (earlier ++ s.end.book.entries)
+  sched_joined =
+      ap (λ (b : BookState). b.sched) lawful_later.replayed ∙ joined_book_state (opening setup start) room earlier s.end.book.entries
+
+-- Where one seat stands for all numbers, the calls that it tells of are all, and one more while it has posted a call.
+pub taken_by_one : (s : Schedule BookState Call Reply) → IsSchedule kept_book s → (i : ℕ) (p : CoreSeat) → get_elem? s.end.seats i ≡ some p
+    → length p.numbers ≡ s.numbers → calls_taken s.end.book ≡ p.calls + posted_one p.phase
+taken_by_one s is i p at stands_for_all =
+    let l = schedule_lawful kept_book s is in
+    omega (
+      arith,
+      l.counted,
+      l.calls,
+      alone s.numbers s.draws s.end l i p at (omega (arith, stands_for_all))
+          (λ (q : CoreSeat). q.calls) (λ k u e none. unnumbered_calls s.draws s.end.served u (l.each k u e) none),
+      alone s.numbers s.draws s.end l i p at (omega (arith, stands_for_all))
+          posts (λ k u e none. unnumbered_posts s.draws s.end.served u (l.each k u e) none),
+    )

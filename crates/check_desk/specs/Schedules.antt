@@ -1,14 +1,25 @@
 -- The schedules of a desk's lock: what any callers' steps, in any order, lead to.
-use Rattle.std.specs.Prelude.{◌≡◌, ℕ}
+use Rattle.std.specs.Prelude.{◌≡◌, ℕ, List}
+use Rattle.ticket_steps.specs.declared.kept.Entry.{Entry}
+use Rattle.ticket_steps.specs.History.{replay, IsLegal}
 use Rattle.ticket_steps.specs.Schedules.{Schedule, IsSchedule}
 use Rattle.check_objects.specs.Configuration.{Configuration}
 use Rattle.check_sched.specs.declared.call.Call.{Call}
 use Rattle.check_sched.specs.declared.call.Reply.{Reply}
-use Rattle.check_sched.specs.BookState.{BookState, book_opening}
+use Rattle.check_sched.specs.BookState.{BookState, book_at, book_opening}
 use Rattle.check_sched.specs.contracts.book.BookKept.TheImpl.{ghosts as kept_book}
+use Rattle.check_sched.specs.State.{opening}
+use Rattle.check_sched.specs.Step.{step}
 
 -- A schedule of the core, with 1 to 1,024 numbers, over a book that opens empty on this setup, at this start and with this
 -- room: any steps of any seats, one after another.
 pub record IsScheduleOver (setup : Configuration) (start room : ℕ) (s : Schedule BookState Call Reply) : Type 0 where
   pub schedule : IsSchedule kept_book s
   pub opening : s.opening ≡ book_opening setup start room
+
+-- The same over a book that goes on from those before it: it opens where `earlier` leads, a legal history of the scheduler on this
+-- setup, from this start on. Of the first book `earlier` is empty.
+pub record IsScheduleAfter (setup : Configuration) (start : ℕ) (earlier : List (Entry Call Reply)) (room : ℕ) (s : Schedule BookState Call Reply) : Type 0 where
+  pub schedule : IsSchedule kept_book s
+  pub legal_before : IsLegal step (opening setup start) earlier
+  pub opens : s.opening ≡ book_at (replay step (opening setup start) earlier) room

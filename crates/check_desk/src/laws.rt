@@ -23,7 +23,7 @@ ghost use Rattle.check_desk.specs.declared.desk.Desk.{Desk};
 ghost use Rattle.check_desk.specs.declared.passes.Pass.{Pass};
 ghost use Rattle.check_desk.specs.Desks.{AreNewPasses, IsHistoryOf, IsPassOf};
 ghost use Rattle.check_desk.specs.Passes.{pass_of};
-ghost use Rattle.check_desk.specs.Schedules.{IsScheduleOver};
+ghost use Rattle.check_desk.specs.Schedules.{IsScheduleAfter, IsScheduleOver};
 
 /// A law without code: whatever callers do, and in whatever order the steps of their passes come,
 /// the history that they share is one thread's.
@@ -68,6 +68,37 @@ pub fn headline()
         → IsScheduleOver setup start room s → calls_taken s.end.book ≡ calls_made s.happened }
     ensures all { (setup : Configuration) (start room : ℕ) (s : Schedule BookState Call Reply)
         → IsScheduleOver setup start room s
+        → (i : ℕ) (p : CoreSeat) → get_elem? s.end.seats i ≡ some p
+        → length p.numbers ≡ s.numbers
+        → calls_taken s.end.book ≡ p.calls + posted_one p.phase }
+    ensures joined_legal { (setup : Configuration) (start : ℕ) (earlier : List (Entry Call Reply)) (room : ℕ)
+        → (s : Schedule BookState Call Reply) → IsScheduleAfter setup start earlier room s
+        → IsLegal step (opening setup start) (earlier ++ s.end.book.entries) }
+    ensures joined_state { (setup : Configuration) (start : ℕ) (earlier : List (Entry Call Reply)) (room : ℕ)
+        → (s : Schedule BookState Call Reply) → IsScheduleAfter setup start earlier room s
+        → s.end.book.state.sched
+        ≡ replay step (opening setup start) (earlier ++ s.end.book.entries) }
+    ensures joined_once { (setup : Configuration) (start : ℕ) (earlier : List (Entry Call Reply)) (room : ℕ)
+        → (s : Schedule BookState Call Reply) → IsScheduleAfter setup start earlier room s
+        → (front back : List (Entry Call Reply)) (e : Entry Call Reply) (object run other : ℕ)
+        → earlier ++ s.end.book.entries ≡ front ++ e ∷ back → begins object run e ≡ true
+        → runs_under object other front ≡ false }
+    ensures joined_runs { (setup : Configuration) (start : ℕ) (earlier : List (Entry Call Reply)) (room : ℕ)
+        → (s : Schedule BookState Call Reply) → IsScheduleAfter setup start earlier room s
+        → (front back : List (Entry Call Reply)) (e : Entry Call Reply) (object run : ℕ)
+        → earlier ++ s.end.book.entries ≡ front ++ e ∷ back → begins object run e ≡ true
+        → run ≡ runs_begun front + 1 }
+    ensures later_entries { (setup : Configuration) (start : ℕ) (earlier : List (Entry Call Reply)) (room : ℕ)
+        → (s : Schedule BookState Call Reply) → IsScheduleAfter setup start earlier room s
+        → (number : ℕ) → of number s.end.book.entries ≡ recorded_by number s.happened }
+    ensures later_strangers { (setup : Configuration) (start : ℕ) (earlier : List (Entry Call Reply)) (room : ℕ)
+        → (s : Schedule BookState Call Reply) → IsScheduleAfter setup start earlier room s
+        → (number : ℕ) → s.numbers ≤ number → of number s.end.book.entries ≡ [] }
+    ensures later_made { (setup : Configuration) (start : ℕ) (earlier : List (Entry Call Reply)) (room : ℕ)
+        → (s : Schedule BookState Call Reply) → IsScheduleAfter setup start earlier room s
+        → calls_taken s.end.book ≡ calls_made s.happened }
+    ensures later_all { (setup : Configuration) (start : ℕ) (earlier : List (Entry Call Reply)) (room : ℕ)
+        → (s : Schedule BookState Call Reply) → IsScheduleAfter setup start earlier room s
         → (i : ℕ) (p : CoreSeat) → get_elem? s.end.seats i ≡ some p
         → length p.numbers ≡ s.numbers
         → calls_taken s.end.book ≡ p.calls + posted_one p.phase }

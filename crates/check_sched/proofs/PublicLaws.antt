@@ -4,5 +4,5 @@
 pub use Rattle.check_sched.proofs.BoardLaws.{few_words, opened_read, opened_words, state_read, state_words}
 -- runs_once: books, numbers, once
 pub use Rattle.check_sched.proofs.RunLaws.{book_is_legal, taken_next, taken_once}
--- generations: book, book_state, legal, state
-pub use Rattle.check_sched.proofs.GenerationLaws.{joined_book, joined_book_state, joined_legal, joined_state}
+-- generations: book, book_state, legal, setup, state
+pub use Rattle.check_sched.proofs.GenerationLaws.{joined_book, joined_book_state, joined_legal, joined_setup, joined_state}

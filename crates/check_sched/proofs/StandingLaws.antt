@@ -123,7 +123,7 @@ replay_good : (s : State) (history : List (Entry Call Reply)) → IsGood s → I
 replay_good s [] good = good
 replay_good s (e ∷ history) good = replay_good (step s e.call).0 history (step_good s e.call good)
 
-replay_setup : (s : State) (history : List (Entry Call Reply)) → (replay step s history).setup ≡ s.setup
+pub replay_setup : (s : State) (history : List (Entry Call Reply)) → (replay step s history).setup ≡ s.setup
 replay_setup s [] = refl
 replay_setup s (e ∷ history) = replay_setup (step s e.call).0 history ∙ (step_keeps s e.call).setup
 

@@ -4,7 +4,7 @@ use Rattle.check_sched.specs.BookState.{BookState}
 
 -- the state that it began with
 abbrev pub log_opening : Log → BookState
-log_opening log = record { sched = log.opened.value; room = log.room }
+log_opening log = record { sched = log.opened.at; room = log.room }
 
 -- its present state
 abbrev pub log_state : Log → BookState

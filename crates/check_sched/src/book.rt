@@ -14,12 +14,12 @@ ghost use Rattle.std.proofs.Props.{props};
 ghost use Rattle.ticket_steps.specs.History.{entry, replay, IsLegal, IsLegal-prop};
 
 use crate::call::{Call, Reply};
+use crate::opening::Opening;
 use crate::sched::Sched;
 use check_objects::Setup;
 use check_spread::LAST_MOMENT;
 use std::alloc::{AllocError, Global};
 use std::mem;
-use std::snapshot::Snapshot;
 use ticket_steps::{Entry, Kept, NoMemory};
 
 #[cfg(test)]
@@ -36,7 +36,7 @@ pub struct Book {
     /// Behind a box, so that a book that is handed over moves a pointer.
     log: Box<Log>,
     ghost reserved: { log.value.room ≤ vec_capacity log.value.entries },
-    ghost opened: { IsState log.value.opened.value } by { IsState-prop log.value.opened.value },
+    ghost opened: { IsState log.value.opened.at } by { IsState-prop log.value.opened.at },
     ghost valid_setup: { IsSetup log.value.sched.setup } by { IsSetup-prop log.value.sched.setup },
     ghost legal: { IsLegal book_step (log_opening log.value) log.value.entries.items } by { IsLegal-prop book_step (λ a b. Prim.hlevel props)
         (log_opening log.value) log.value.entries.items },
@@ -52,7 +52,7 @@ struct Log {
     refused: u64,
     room: usize,
     /// The scheduler as it was when the book was opened. It takes no byte.
-    opened: Snapshot<Sched>,
+    opened: Opening<Sched>,
 }
 
 impl Log {
@@ -68,12 +68,12 @@ impl Log {
         ensures refused { self.new.refused ≡ 0 }
         ensures room { self.new.room ≡ room }
         ensures sched { self.new.sched ≡ self.old.sched }
-        ensures opened { self.new.opened.value ≡ self.old.sched }
+        ensures opened { self.new.opened.at ≡ self.old.sched }
     {
         let earlier = mem::replace(&mut self.entries, entries);
         self.refused = 0;
         self.room = room;
-        self.opened = Snapshot::of(&self.sched);
+        self.opened = Opening::of(&self.sched);
         earlier
     }
 }
@@ -100,7 +100,7 @@ impl Book {
         let sched = Sched::new(alloc, setup, start)?;
         // for the proof: the opening is a state that a scheduler can be in
         sched.is_state();
-        let opened = Snapshot::of(&sched);
+        let opened = Opening::of(&sched);
         let log = Log {
             sched,
             entries,

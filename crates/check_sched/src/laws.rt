@@ -144,8 +144,9 @@ pub fn board_shows_standings()
 /// Histories go on from one book to the next. Where `earlier` is legal from a state, as from a
 /// scheduler's opening, and `later` is legal from the state that `earlier` leaves, `earlier` followed by
 /// `later` is legal from the first state (`legal`) and leaves the same state (`state`). The same holds of
-/// the schedulers of books, whatever their rooms (`book`). So each law of legal histories holds of the
-/// joined history of books that were [renewed](crate::Book::renew).
+/// the schedulers of books, whatever their rooms (`book`, `book_state`), and no call changes a book's
+/// setup (`setup`). So each law of legal histories holds of the joined history of books that were
+/// [renewed](crate::Book::renew).
 pub fn generations()
     ensures legal { (opened : State) → (earlier later : List (Entry Call Reply))
         → IsLegal step opened earlier → IsLegal step (replay step opened earlier) later
@@ -159,4 +160,6 @@ pub fn generations()
     ensures book_state { (opened : State) → (room : ℕ) → (earlier later : List (Entry Call Reply))
         → (replay book_step (book_at (replay step opened earlier) room) later).sched
         ≡ replay step opened (earlier ++ later) }
+    ensures setup { (opened : BookState) → (later : List (Entry Call Reply))
+        → (replay book_step opened later).sched.setup ≡ opened.sched.setup }
 {}

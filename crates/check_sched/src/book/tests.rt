@@ -15,6 +15,8 @@ use std::process::Abort;
 use std::test::Fail;
 use ticket_steps::{Core, Kept};
 
+mod renewals;
+
 /// A host that is never due, and its service 1.
 const ONE_SERVICE: &[u8] =
     br#"{"options":{"service_inter_check_delay_method":"n","host_inter_check_delay_method":"n"},"hosts":[{"name":"h","check_interval":0,"max_check_attempts":3}],"services":[{"host":"h","description":"s","max_check_attempts":3}]}"#;
@@ -144,67 +146,6 @@ fn a_core_opens_over_the_largest_book(rt: HostRuntime) -> Result<(), Fail> {
         .ok()
         .ok_or("no memory for the book")?;
     assert!(rt; Core::open(rt.alloc(), book, 2).is_ok());
-    Ok(())
-}
-
-/// The same calls, made to one book and to one that is renewed halfway: the same replies, and the
-/// same entries, joined.
-#[test]
-fn a_renewed_book_goes_on(rt: HostRuntime) -> Result<(), Fail> {
-    let mut whole = book_of(rt.alloc(), 400)?;
-    let mut first = book_of(rt.alloc(), 200)?;
-    make_calls(&rt, &mut whole, &mut first, 0)?;
-    let Ok((mut second, earlier)) = first.renew(rt.alloc(), 200) else {
-        return Err(Fail::from("no memory for the room"));
-    };
-    assert_eq!(rt; earlier.len(), 200);
-    assert_eq!(rt; second.entries().len(), 0);
-    assert_eq!(rt; second.room(), 200);
-    make_calls(&rt, &mut whole, &mut second, 200)?;
-    assert_eq!(rt; second.entries().len(), 200);
-    assert!(rt; &whole.entries()[..200] == earlier.as_slice());
-    assert!(rt; &whole.entries()[200..] == second.entries());
-    assert_eq!(rt; whole.word(1), second.word(1));
-    Ok(())
-}
-
-/// Makes 200 calls to both: takes and reports of the service in turn, the reports in two states.
-fn make_calls(rt: &impl Abort, whole: &mut Book, part: &mut Book, from: u64) -> Result<(), Fail> {
-    for made in from..from + 200 {
-        let run = made / 2 + 1;
-        let call = if made % 2 == 0 {
-            Call::Take {
-                now: made * 300_000,
-            }
-        } else if made % 8 < 4 {
-            report(1, run, Code::Critical)
-        } else {
-            report(1, run, Code::Ok)
-        };
-        let one = recorded(whole, call)?;
-        let other = recorded(part, call)?;
-        assert_eq!(rt; one, other);
-    }
-    Ok(())
-}
-
-/// A check that is out when the book is renewed isn't taken meanwhile, is refused under another run,
-/// and is reported afterwards.
-#[test]
-fn a_check_is_out_over_a_renewal(rt: HostRuntime) -> Result<(), Fail> {
-    let mut book = book_of(rt.alloc(), 4)?;
-    let taken = recorded(&mut book, Call::Take { now: 0 })?;
-    assert_eq!(rt; taken, Reply::Taken { object: 1, run: 1 });
-    let Ok((mut book, earlier)) = book.renew(rt.alloc(), 4) else {
-        return Err(Fail::from("no memory for the room"));
-    };
-    assert_eq!(rt; earlier.len(), 1);
-    let idle = recorded(&mut book, Call::Take { now: 1_000_000 })?;
-    assert!(rt; !matches!(idle, Reply::Taken { .. }));
-    let other = recorded(&mut book, report(1, 2, Code::Ok))?;
-    assert!(rt; matches!(other, Reply::Refused(_)));
-    let reported = recorded(&mut book, report(1, 1, Code::Critical))?;
-    assert!(rt; matches!(reported, Reply::Standing { .. }));
     Ok(())
 }
 

@@ -1,11 +1,9 @@
-use Rattle.std.proofs.Common.{refl, sym, arith}
-use Rattle.ticket_steps.specs.declared.seats.CoreSeat.{CoreSeat}
-use Rattle.ticket_steps.proofs.ScheduleLemmas.{schedule_lawful, schedule_made, schedule_of, schedule_strangers}
-use Rattle.ticket_steps.proofs.SeatLemmas.{alone, posts, unnumbered_calls, unnumbered_posts}
+use Rattle.std.proofs.Common.{refl, sym}
+use Rattle.ticket_steps.proofs.ScheduleLemmas.{schedule_made, schedule_of, schedule_strangers}
 use Rattle.check_sched.specs.contracts.book.BookKept.TheImpl.{ghosts as kept_book}
 use Rattle.check_sched.specs.State.{opening}
 use Rattle.check_sched.proofs.PublicLaws.{taken_next, taken_once}
-use Rattle.check_desk.proofs.ScheduleLemmas.{legal_here, legal_parts, sched_here}
+use Rattle.check_desk.proofs.ScheduleLemmas.{joined_parts, legal_here, legal_joined, legal_parts, sched_here, sched_joined, taken_by_one}
 use Rattle.check_desk.proofs.laws.headline.Goals as goal
 
 pub returns : goal.returns
@@ -21,15 +19,17 @@ returns c = record {
   entries = λ setup start room s is number. schedule_of kept_book s is.schedule number;
   strangers = λ setup start room s is number past. schedule_strangers kept_book s is.schedule number past;
   made = λ setup start room s is. sym (schedule_made kept_book s is.schedule);
-  all = λ setup start room s is i p at stands_for_all.
-      let l = schedule_lawful kept_book s is.schedule in
-      omega (
-        arith,
-        l.counted,
-        l.calls,
-        alone s.numbers s.draws s.end l i p at (omega (arith, stands_for_all))
-            (λ (q : CoreSeat). q.calls) (λ k u e none. unnumbered_calls s.draws s.end.served u (l.each k u e) none),
-        alone s.numbers s.draws s.end l i p at (omega (arith, stands_for_all))
-            posts (λ k u e none. unnumbered_posts s.draws s.end.served u (l.each k u e) none),
-      );
+  all = λ setup start room s is i p at stands_for_all. taken_by_one s is.schedule i p at stands_for_all;
+  joined_legal = λ setup start earlier room s is. legal_joined setup start earlier room s is;
+  joined_state = λ setup start earlier room s is. sched_joined setup start earlier room s is;
+  joined_once =
+      λ setup start earlier room s is front back e object run other parts begun.
+      taken_once (opening setup start) front back e object run other (joined_parts setup start earlier room s is front back e parts) begun;
+  joined_runs =
+      λ setup start earlier room s is front back e object run parts begun.
+      taken_next (opening setup start) front back e object run refl (joined_parts setup start earlier room s is front back e parts) begun;
+  later_entries = λ setup start earlier room s is number. schedule_of kept_book s is.schedule number;
+  later_strangers = λ setup start earlier room s is number past. schedule_strangers kept_book s is.schedule number past;
+  later_made = λ setup start earlier room s is. sym (schedule_made kept_book s is.schedule);
+  later_all = λ setup start earlier room s is i p at stands_for_all. taken_by_one s is.schedule i p at stands_for_all;
 }

@@ -1,4 +1,4 @@
-use Rattle.check_sched.proofs.GenerationLaws.{joined_book, joined_book_state, joined_legal, joined_state}
+use Rattle.check_sched.proofs.GenerationLaws.{joined_book, joined_book_state, joined_legal, joined_setup, joined_state}
 use Rattle.check_sched.proofs.laws.generations.Goals as goal
 
 pub returns-clause-legal : goal.returns-clause-legal
@@ -12,3 +12,6 @@ returns-clause-book c = λ opened room earlier later legal goes_on. joined_book 
 
 pub returns-clause-book_state : goal.returns-clause-book_state
 returns-clause-book_state c = λ opened room earlier later. joined_book_state opened room earlier later
+
+pub returns-clause-setup : goal.returns-clause-setup
+returns-clause-setup c = λ opened later. joined_setup opened later

@@ -1,8 +1,8 @@
 use Rattle.std.proofs.Common.{◌≡◌, ap, subst, ◌∙◌, arith}
 use Rattle.ticket_steps.specs.History.{IsLegal}
-use Rattle.check_sched.proofs.RunLaws.{book_is_legal}
+use Rattle.check_sched.proofs.PublicLaws.{book_is_legal, joined_setup}
 use Rattle.check_sched.specs.Books.{entries_of, opening_of, refused_of}
-use Rattle.check_sched.specs.BookState.{book_opening, book_step}
+use Rattle.check_sched.specs.BookState.{BookState, book_opening, book_step}
 use Rattle.check_sched.specs.State.{opening}
 use Rattle.check_desk.specs.Desks.{opened_with}
 use Rattle.check_workers.specs.Crews.{AreShiftsOf}
@@ -31,3 +31,12 @@ returns-in-Ok-crew-clause-drill g c =
     drill_is script c.args.start c.args.workers c.args.room history (refused_of c.in-Ok-crew.book) desk passes x.0 c.in-Ok-crew._tally c.requires.few
     c.in-Ok-open.ensures.list c.in-Ok-open.ensures.new are x.2
     (λ number from. c.in-Ok-crew.ensures.numbers number (let same = c.in-Ok-open.ensures.passes in omega (arith, same, from))) c.in-Ok-crew.ensures.calls legal
+
+pub returns-in-Ok-crew-clause-setup : goal.returns-in-Ok-crew-clause-setup
+returns-in-Ok-crew-clause-setup g c =
+    let book = c.in-Ok-crew.book in
+    let whole : opening_of book ≡ book_opening c.args.script.setup c.args.start c.args.room =
+    c.in-Ok-crew.ensures.opening ∙ c.in-Ok-open.ensures.opening ∙ c.in-Ok.ensures.opening in
+    ap (λ (s : BookState). s.sched.setup) c.in-Ok-crew.ensures.lawful.replayed
+    ∙ joined_setup (opening_of book) (entries_of book)
+    ∙ ap (λ (s : BookState). s.sched.setup) whole

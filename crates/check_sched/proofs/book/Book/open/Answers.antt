@@ -15,7 +15,7 @@ invariant_of-result c =
     let snapped = c.of-opened.ensures in
     record {
       reserved = subst (λ (l : Log). l.room ≤ vec_capacity l.entries) boxed (omega (arith, c.in-Ok.ensures.capacity));
-      opened = subst (λ (l : Log). IsState l.opened.value) boxed (subst IsState (sym snapped) c.is_state.ensures);
+      opened = subst (λ (l : Log). IsState l.opened.at) boxed (subst IsState (sym snapped) c.is_state.ensures);
       valid_setup = subst (λ (l : Log). IsSetup l.sched.setup) boxed (subst IsSetup (sym (ap (λ (z : State). z.setup) made.ok)) made.valid_setup);
       legal = subst (λ (l : Log). IsLegal book_step (log_opening l) l.entries.items) boxed (rw c.in-Ok.ensures.items tt);
       replayed =

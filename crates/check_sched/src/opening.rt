@@ -1,0 +1,32 @@
+//! What a book began with, for contracts alone.
+
+ghost use Rattle.std.specs.Prelude.{◌≡◌};
+ghost use Rattle.std.specs.Borrow.{ftrue};
+
+use std::marker::{Model, PhantomData};
+
+/// A value as it once was. Contracts read it as `at`; no code does, and it takes no byte.
+#[derive(Drop)]
+pub struct Opening<S> {
+    of: PhantomData<S>,
+    pub ghost at: { S },
+}
+
+impl<S> Model for Opening<S> {
+    ghost also_owns = { λ _. ftrue };
+}
+
+// It owns nothing, so any thread may have it, and any may share it.
+unsafe impl<S> Send for Opening<S> {}
+
+unsafe impl<S> Sync for Opening<S> {}
+
+impl<S> Opening<S> {
+    /// The value as it is now.
+    pub(crate) fn of(value: &S) -> Opening<S>
+        ensures { result.at ≡ value.now }
+    {
+        let _ = value;
+        Opening { of: PhantomData }
+    }
+}
