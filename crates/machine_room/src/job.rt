@@ -1,6 +1,6 @@
 //! What the program's words ask for.
 
-ghost use Rattle.std.specs.Prelude.{◌<◌, ◌≤◌};
+ghost use Rattle.std.specs.Prelude.{◌<◌, ◌≤◌, IfSome};
 
 use crate::fault::Fault;
 use std::alloc::Global;
@@ -64,21 +64,26 @@ pub(crate) fn asked<R: Env + AllocGlobal>(rt: &R, alloc: Global) -> Result<Job, 
     }
 }
 
-/// The job that the words behind the program's name ask for, if they are right.
+/// The job that the words ask for, the program's name before them, if they are right.
 fn job_of(words: &[String]) -> Option<Job> {
-    let days = number_of(words.get(1)?, MAX_DAYS)?;
-    let workers = match words.get(2) {
-        None => 2,
-        Some(word) => number_of(word, MAX_WORKERS)?,
-    };
-    if words.len() > 3 || workers == 0 || workers > MAX_WORKERS {
-        return None;
+    match words {
+        [_program, days] => {
+            let days = number_of(days, MAX_DAYS)?;
+            Some(Job { days, workers: 2 })
+        }
+        [_program, days, workers] => {
+            let days = number_of(days, MAX_DAYS)?;
+            let workers = number_of(workers, MAX_WORKERS)?;
+            Some(Job { days, workers })
+        }
+        _ => None,
     }
-    Some(Job { days, workers })
 }
 
 /// The number that a word is, 1 to this limit.
-fn number_of(word: &String, limit: u32) -> Option<u32> {
+fn number_of(word: &String, limit: u32) -> Option<u32>
+    ensures { IfSome result (λ number. (0 < number) × (number ≤ limit)) }
+{
     let number = word.as_str().parse::<u32>().ok()?;
     if number == 0 || number > limit {
         None

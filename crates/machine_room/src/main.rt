@@ -15,9 +15,9 @@
 //! writes the replies. With one worker nothing runs beside another thread, and the output is the same
 //! each time.
 //!
-//! It ends in status 0; 2 where the words are wrong, 3 where the output can't be written, 4 out of
-//! memory. In the end the words of `job`, the room of `room`, its `operator`, the `day`, and how it is
-//! `told`.
+//! It ends in status 0, and in 2 where the words are wrong, 3 where the output can't be written, 4 out
+//! of memory. `job` has its words, `room` the setup and the plugin, `operator` the operator's calls,
+//! `day` a day of all, and `told` the lines.
 
 mod day;
 mod fault;

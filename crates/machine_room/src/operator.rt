@@ -2,9 +2,8 @@
 
 ghost use Rattle.check_desk.specs.Desks.{IsPassOf};
 
-use crate::room::{BACKUP, DISKS, GATEWAY, Machines, OBJECTS, RACK, night, noon};
+use crate::room::{BACKUP, DISKS, GATEWAY, Machines, OBJECTS, RACK, morning, night, noon};
 use check_desk::{Desk, Pass};
-use check_rules::Code;
 use check_sched::{Call, Sched};
 use check_workers::Plugin;
 use std::sync::Wait;
@@ -73,10 +72,10 @@ fn end_of(object: u32, run: u64, day: u32) -> Call {
         return Call::Abandon {
             object,
             run,
-            now: crate::room::morning(day),
+            now: morning(day),
         };
     }
-    let code: Code = Machines.check(object, run, night(day.saturating_sub(1)));
+    let code = Machines.check(object, run, night(day.saturating_sub(1)));
     Call::Report { object, run, code }
 }
 

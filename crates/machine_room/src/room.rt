@@ -1,6 +1,6 @@
 //! The machine room: its setup, its clock, and the plugin that looks at its machines.
 
-ghost use Rattle.std.specs.Prelude.{⊤};
+ghost use Rattle.std.specs.Prelude.{⊤, ◌≡◌, ◌*◌};
 
 use check_rules::Code;
 use check_workers::Plugin;
@@ -34,7 +34,9 @@ const HALF_HOUR: u64 = 1_800_000;
 const DAY: u64 = 86_400_000;
 
 /// When the day with this number begins, in milliseconds; the first day is 0.
-pub(crate) fn morning(day: u32) -> u64 {
+pub(crate) fn morning(day: u32) -> u64
+    ensures { result ≡ day * 86400000 }
+{
     u64::from(day) * DAY
 }
 
