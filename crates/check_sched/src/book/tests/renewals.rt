@@ -125,8 +125,8 @@ fn make_again(
     entries: &[Entry<Call, Reply>],
 ) -> Result<(), Fail> {
     for entry in entries {
-        let reply = book.record(entry.pass, entry.call).ok();
-        assert_eq!(rt; reply, Some(entry.reply));
+        let reply = recorded(book, entry.call)?;
+        assert_eq!(rt; reply, entry.reply);
     }
     Ok(())
 }
