@@ -111,7 +111,7 @@ fn work_together<R: Threads + Wait + Sync>(
 {
     if workers.len() == 1 {
         let operator = operate(rt, desk, operator, day, out);
-        return Ok(work_in_turn(rt, desk, workers, operator, day));
+        return Ok(work_alone(rt, desk, workers, operator, day));
     }
     let (operator, workers) = join(
         rt,
@@ -146,19 +146,18 @@ fn work_day(rt: &impl Wait, desk: &Desk, pass: Pass, day: u32) -> Pass
     pass
 }
 
-/// One worker after another in this thread; gathers their passes into the operator's.
-fn work_in_turn(rt: &impl Wait, desk: &Desk, passes: Vec<Pass>, operator: Pass, day: u32) -> Pass
-    requires workers { All (IsPassOf desk.now) passes.items }
+/// A single worker's day in this thread; its pass is gathered into the operator's.
+fn work_alone(rt: &impl Wait, desk: &Desk, workers: Vec<Pass>, operator: Pass, day: u32) -> Pass
+    requires workers { All (IsPassOf desk.now) workers.items }
     requires operator { IsPassOf desk.now operator }
     ensures { IsPassOf desk.now result }
 {
-    let mut passes = passes;
-    let mut gathered = operator;
-    while let Some(pass) = passes.pop() {
-        let pass = work_day(rt, desk, pass, day);
-        gathered = desk.gather(gathered, pass);
-    }
-    gathered
+    let mut workers = workers;
+    let Some(worker) = workers.pop() else {
+        return operator;
+    };
+    let worker = work_day(rt, desk, worker, day);
+    desk.gather(operator, worker)
 }
 
 /// Gathers all passes into the operator's.
