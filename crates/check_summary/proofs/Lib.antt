@@ -1,0 +1,4 @@
+pub mod SummaryLemmas
+pub mod DepthLemmas
+pub mod ChainLemmas
+pub mod LawLemmas

@@ -1,0 +1,4 @@
+pub mod Chains
+pub mod Summary
+pub mod Text
+pub mod Worth

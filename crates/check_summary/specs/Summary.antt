@@ -1,0 +1,87 @@
+-- What an operator asks of a setup at a glance.
+use Rattle.std.specs.Prelude.{ℕ, min, max, ◌==◌, ◌&&◌, Bool, not, List, [], ◌∷◌, length, take, drop, count_by, sum_by, Option, Some, None}
+use Rattle.check_drafts.specs.declared.object.Object.{Object}
+use Rattle.check_objects.specs.Configuration.{Configuration, host_count, masters_of, parents_by_host}
+use Rattle.check_spread.specs.Spread.{all_objects, factor_by, initial_times, is_scheduled}
+use Rattle.check_summary.specs.Chains.{longest_chain}
+use Rattle.check_summary.specs.declared.chains.Chains.{Chains}
+use Rattle.check_summary.specs.declared.counts.Links.{Links}
+use Rattle.check_summary.specs.declared.counts.Reasons.{Reasons}
+use Rattle.check_summary.specs.declared.spans.Span.{Span}
+use Rattle.check_summary.specs.declared.summary.Summary.{Summary}
+
+-- ---- how many links
+
+-- how many dependencies there are, of hosts and of services together
+abbrev pub dependency_count : Configuration → ℕ
+dependency_count c = sum_by (λ ds. length ds) c.dependencies
+
+-- how many links from a host to a parent there are
+abbrev pub parent_count : Configuration → ℕ
+parent_count c = sum_by (λ h. length h.parents) c.hosts
+
+abbrev pub links_in : Configuration → Links
+links_in c = record { dependencies = dependency_count c; parents = parent_count c }
+
+-- how many of them follow one another
+abbrev pub chains_in : Configuration → Chains
+chains_in c = record { dependencies = longest_chain (masters_of c); parents = longest_chain (parents_by_host c) }
+
+-- ---- what is scheduled, and why the others aren't
+
+-- its active checks are switched off
+abbrev pub is_disabled : Object → Bool
+is_disabled o = not o.enabled
+
+-- its active checks are switched on, but it has no check interval
+abbrev pub lacks_interval : Object → Bool
+lacks_interval o = o.enabled && o.check_interval == 0
+
+-- how many of these objects are scheduled, disabled, and without an interval: each is one of these
+abbrev pub reasons_among : List Object → Reasons
+reasons_among objects =
+    record { scheduled = count_by is_scheduled objects; disabled = count_by is_disabled objects; without_interval = count_by lacks_interval objects }
+
+-- ---- the first and the last of the first checks
+
+-- the sooner of two times, where there are such
+abbrev pub sooner : Option ℕ → Option ℕ → Option ℕ
+sooner None u = u
+sooner (Some t) None = Some t
+sooner (Some t) (Some u) = Some (min t u)
+
+-- the later of two times, where there are such
+abbrev pub later : Option ℕ → Option ℕ → Option ℕ
+later None u = u
+later (Some t) None = Some t
+later (Some t) (Some u) = Some (max t u)
+
+-- the least of the times that there are
+abbrev pub earliest : List (Option ℕ) → Option ℕ
+earliest [] = None
+earliest (t ∷ ts) = sooner t (earliest ts)
+
+-- the greatest of the times that there are
+abbrev pub latest : List (Option ℕ) → Option ℕ
+latest [] = None
+latest (t ∷ ts) = later t (latest ts)
+
+abbrev pub span_of : List (Option ℕ) → Span
+span_of times = record { first = earliest times; last = latest times }
+
+-- ---- all of it
+
+-- what is told of a setup whose scheduling begins at this moment
+abbrev pub summary_of : Configuration → ℕ → Summary
+summary_of c start = record {
+  hosts = length c.hosts;
+  services = length c.services;
+  links = links_in c;
+  reasons = reasons_among (all_objects c);
+  chains = chains_in c;
+  host_delay = c.options.host_inter_check_delay_method;
+  host_span = span_of (take (host_count c) (initial_times c start));
+  service_delay = c.options.service_inter_check_delay_method;
+  service_span = span_of (drop (host_count c) (initial_times c start));
+  interleave_factor = factor_by c.options.service_interleave_factor (length c.services) (length c.hosts);
+}

@@ -1,0 +1,43 @@
+-- What the figures of a summary are worth.
+use Rattle.std.specs.Prelude.{◌≡◌, ℕ, ◌+◌, ◌≤◌, List, Option, Some, None, IfSome, All, option_map}
+use Rattle.std.specs.List.{Contains}
+use Rattle.check_summary.specs.declared.counts.Reasons.{Reasons}
+use Rattle.check_summary.specs.declared.spans.Span.{Span}
+use Rattle.check_summary.specs.declared.summary.Summary.{Summary}
+
+-- ---- a later start
+
+abbrev pub moved_span : ℕ → Span → Span
+moved_span delay span = record { first = option_map (λ time. time + delay) span.first; last = option_map (λ time. time + delay) span.last }
+
+-- the same figures, with both spans so much later
+abbrev pub moved : ℕ → Summary → Summary
+moved delay s = record {
+  hosts = s.hosts;
+  services = s.services;
+  links = s.links;
+  reasons = s.reasons;
+  chains = s.chains;
+  host_delay = s.host_delay;
+  host_span = moved_span delay s.host_span;
+  service_delay = s.service_delay;
+  service_span = moved_span delay s.service_span;
+  interleave_factor = s.interleave_factor;
+}
+
+-- ---- a span
+
+-- it is one of the times, and none is less; where it is none there is no time
+abbrev pub IsLeast : List (Option ℕ) → Option ℕ → Type 0
+IsLeast times None = All (λ time. time ≡ None) times
+IsLeast times (Some least) = Contains times (Some least) × All (λ time. IfSome time (λ t. least ≤ t)) times
+
+-- it is one of the times, and none is greater; where it is none there is no time
+abbrev pub IsGreatest : List (Option ℕ) → Option ℕ → Type 0
+IsGreatest times None = All (λ time. time ≡ None) times
+IsGreatest times (Some greatest) = Contains times (Some greatest) × All (λ time. IfSome time (λ t. t ≤ greatest)) times
+
+-- ---- the reasons
+
+abbrev pub reasons_count : Reasons → ℕ
+reasons_count r = r.scheduled + r.disabled + r.without_interval

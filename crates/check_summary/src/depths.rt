@@ -1,0 +1,71 @@
+//! The longest chain of links, by the depth of each object: how many links the longest chain from it
+//! has.
+
+ghost use Rattle.std.specs.Prelude.{◌≡◌, ◌≤◌, ℕ, IfOk, length, map, nat_lt, true};
+ghost use Rattle.std.specs.List.{list_all};
+ghost use Rattle.link_order.specs.Cycles.{are_within};
+ghost use Rattle.link_order.specs.Orders.{IsOrder};
+ghost use Rattle.check_summary.specs.Chains.{depth_at, depth_over, greatest_of, longest_chain, HasDepths};
+
+use link_order::order_by_links;
+use smallvec::SmallVec;
+use std::alloc::{AllocError, Global};
+
+/// How many links the longest chain has, where the links of each object are given by its number. With
+/// a chain that leads back there are as many as objects. An Err means out of memory.
+pub(crate) fn longest_chain(alloc: Global, links: &[SmallVec<u32, 4>]) -> Result<usize, AllocError>
+    requires few { length links.now ≤ 4096 }
+    requires within { are_within (length links.now) (map (λ list. list.items) links.now) ≡ true }
+    ensures { IfOk result (λ count.
+        count ≡ longest_chain (map (λ list. list.items) links.now)) }
+{
+    match order_by_links(alloc, links)? {
+        Some(order) => {
+            let depths = find_depths(alloc, links, &order)?;
+            Ok(greatest_of(&depths))
+        }
+        None => Ok(links.len()),
+    }
+}
+
+/// The depth of each object, by number. The order has each object behind all that it links to.
+fn find_depths(
+    alloc: Global,
+    links: &[SmallVec<u32, 4>],
+    order: &[u32],
+) -> Result<Vec<usize>, AllocError>
+    requires few { length links.now ≤ 4096 }
+    requires order { IsOrder (map (λ list. list.items) links.now) order.now }
+    ensures { IfOk result (λ depths. HasDepths (map (λ list. list.items) links.now) depths.items) }
+{
+    let mut depths = vec![in alloc; 0; links.len()]?;
+    for object in order {
+        let depth = depth_over(links[*object as usize].as_slice(), &depths);
+        depths[*object as usize] = depth;
+    }
+    Ok(depths)
+}
+
+/// The depth of an object with these links, where the depths of those that they go to are known.
+fn depth_over(links: &[u32], depths: &[usize]) -> usize
+    requires within { list_all (λ link. nat_lt link (length depths.now)) links.now ≡ true }
+    requires few { (object : ℕ) → depth_at depths.now object ≤ 4096 }
+    ensures { result ≡ depth_over depths.now links.now }
+{
+    let mut most = 0;
+    for link in links {
+        most = most.max(depths[*link as usize] + 1);
+    }
+    most
+}
+
+/// The greatest of the depths; 0 where there is none.
+fn greatest_of(depths: &[usize]) -> usize
+    ensures { result ≡ greatest_of depths.now }
+{
+    let mut most = 0;
+    for depth in depths {
+        most = most.max(*depth);
+    }
+    most
+}

@@ -1,0 +1,66 @@
+//! The first and the last of the first checks.
+
+ghost use Rattle.std.specs.Prelude.{◌≡◌};
+ghost use Rattle.check_summary.specs.Summary.{earliest, latest, later, sooner, span_of};
+
+/// When the first checks of one sort of object are due, in milliseconds: from `first` to `last`. Both
+/// are None where no object of the sort is scheduled.
+#[derive(Clone, Copy, Debug, PartialEq, Eq)]
+pub struct Span {
+    pub first: Option<u64>,
+    pub last: Option<u64>,
+}
+
+/// From when to when these times are.
+pub(crate) fn find_span(times: &[Option<u64>]) -> Span
+    ensures { result ≡ span_of times.now }
+{
+    Span {
+        first: find_first(times),
+        last: find_last(times),
+    }
+}
+
+/// The least of the times that there are.
+fn find_first(times: &[Option<u64>]) -> Option<u64>
+    ensures { result ≡ earliest times.now }
+{
+    let mut first = None;
+    for time in times {
+        first = sooner(first, *time);
+    }
+    first
+}
+
+/// The greatest of the times that there are.
+fn find_last(times: &[Option<u64>]) -> Option<u64>
+    ensures { result ≡ latest times.now }
+{
+    let mut last = None;
+    for time in times {
+        last = later(last, *time);
+    }
+    last
+}
+
+/// The sooner of two times, where there are such.
+fn sooner(found: Option<u64>, time: Option<u64>) -> Option<u64>
+    ensures { result ≡ sooner found time }
+{
+    match (found, time) {
+        (Some(found), Some(time)) => Some(found.min(time)),
+        (None, time) => time,
+        (found, None) => found,
+    }
+}
+
+/// The later of two times, where there are such.
+fn later(found: Option<u64>, time: Option<u64>) -> Option<u64>
+    ensures { result ≡ later found time }
+{
+    match (found, time) {
+        (Some(found), Some(time)) => Some(found.max(time)),
+        (None, time) => time,
+        (found, None) => found,
+    }
+}

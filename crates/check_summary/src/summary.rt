@@ -1,0 +1,99 @@
+//! What an operator asks of a setup, all together.
+
+ghost use Rattle.std.specs.Prelude.{◌≡◌, ◌≤◌, IfOk, length};
+ghost use Rattle.check_objects.specs.Configuration.{IsSetup};
+ghost use Rattle.check_spread.specs.Spread.{all_objects, factor_by};
+ghost use Rattle.check_summary.specs.Summary.{summary_of};
+
+use crate::chains::{Chains, find_chains};
+use crate::counts::{Links, Reasons, count_links, count_reasons};
+use crate::spans::{Span, find_span};
+use check_objects::{DelayMethod, InterleaveFactor, Object, Setup};
+use check_spread::{LAST_MOMENT, initial_times};
+use std::alloc::{AllocError, Global};
+
+/// What an operator asks of a setup at a glance. Times are moments in milliseconds, as the scheduler
+/// would set them that starts at the moment that was given.
+#[derive(Clone, Copy, Debug, PartialEq, Eq)]
+pub struct Summary {
+    /// How many hosts there are.
+    pub hosts: usize,
+    /// How many services there are.
+    pub services: usize,
+    /// How many links there are.
+    pub links: Links,
+    /// How many objects are scheduled, and why the others aren't.
+    pub reasons: Reasons,
+    /// How many links the longest chains have.
+    pub chains: Chains,
+    /// How the first checks of hosts are spread.
+    pub host_delay: DelayMethod,
+    /// From when to when the first checks of hosts are due.
+    pub host_span: Span,
+    /// How the first checks of services are spread.
+    pub service_delay: DelayMethod,
+    /// From when to when the first checks of services are due.
+    pub service_span: Span,
+    /// By how many positions a visit of the services goes on (manual: Service and Host Check
+    /// Scheduling, service interleaving).
+    pub interleave_factor: usize,
+}
+
+impl Summary {
+    /// What there is to tell of a setup whose scheduling starts at the moment `start`, in
+    /// milliseconds. It takes time linear in the objects and their links. An Err means out of memory.
+    pub fn of(alloc: Global, setup: &Setup, start: u64) -> Result<Summary, AllocError>
+        requires { start ≤ LAST_MOMENT }
+        ensures exact { IfOk result (λ summary. summary ≡ summary_of setup.now start) }
+    {
+        let times = initial_times(alloc, setup, start)?;
+        let (host_times, service_times) = times.split_at(setup.hosts());
+        let objects = collect_objects(alloc, setup)?;
+        let options = setup.options();
+        Ok(Summary {
+            hosts: setup.hosts(),
+            services: count_services(setup),
+            links: count_links(setup),
+            reasons: count_reasons(&objects),
+            chains: find_chains(alloc, setup)?,
+            host_delay: options.host_inter_check_delay_method,
+            host_span: find_span(host_times),
+            service_delay: options.service_inter_check_delay_method,
+            service_span: find_span(service_times),
+            interleave_factor: interleave_factor(setup),
+        })
+    }
+}
+
+/// How many services there are.
+fn count_services(setup: &Setup) -> usize
+    ensures count { result ≡ length setup.now.services }
+    ensures setup { IsSetup setup.now }
+{
+    setup.len() - setup.hosts()
+}
+
+/// The interleave factor: the one that the setup names, or how many services a host has on average,
+/// rounded up, and 1 where there is no service.
+fn interleave_factor(setup: &Setup) -> usize
+    ensures { result ≡ factor_by setup.now.options.service_interleave_factor
+        (length setup.now.services) (length setup.now.hosts) }
+{
+    let services = count_services(setup);
+    match setup.options().service_interleave_factor {
+        InterleaveFactor::Fixed(factor) => factor as usize,
+        InterleaveFactor::Smart if services == 0 => 1,
+        InterleaveFactor::Smart => services.div_ceil(setup.hosts()),
+    }
+}
+
+/// All objects in the order of their numbers.
+fn collect_objects(alloc: Global, setup: &Setup) -> Result<Vec<Object>, AllocError>
+    ensures { IfOk result (λ objects. objects.items ≡ all_objects setup.now) }
+{
+    let mut objects = Vec::with_capacity(alloc, setup.len())?;
+    for number in 0..setup.len() {
+        objects.push(*setup.object(number as u32))?;
+    }
+    Ok(objects)
+}
