@@ -33,8 +33,17 @@ def chain_drill():
     return given, lines(*(f"0 {line}" for line in history), "total 4 0")
 
 
-def runs():
+def checks(held):
+    """Checks of a setup, with its figures, its line, and a refusal that is explained: what ample memory gives is the program's word."""
+    office = (EXAMPLES / "office.txt").read_bytes().splitlines(keepends=True)[0]
+    refused = lines('{"hosts":[{"name":"a","parents":["b"],"max_check_attempts":1},{"name":"b","parents":["a"],"max_check_attempts":1}]}')
+    for name, words, given in (("its figures", ["check"], office), ("its line", ["check", "--line"], office), ("a refusal", ["check"], refused)):
+        yield f"check, {name}", words, given, held.run(words, given)[0]
+
+
+def runs(held):
     """Each run that is swept: its name, its words, its input, and what is written with ample memory, or nothing where that varies."""
+    yield from checks(held)
     office, drill = ((EXAMPLES / f"{name}.txt").read_bytes() for name in ("office", "drill"))
     for word in ("run", "live"):
         yield f"{word}, the office", [word], office, (EXAMPLES / "office.out").read_bytes()
@@ -75,7 +84,7 @@ def kind_of(written, status, ample):
     total = TOTAL.fullmatch(written)
     if status == OUT_OF_MEMORY:
         return "memory" if ample is None or ample.startswith(written) else None
-    if status != 0:
+    if status not in (0, 1):
         return None
     if written == ample or ample is None and total and total[1] == b"0":
         return "ample"
@@ -98,7 +107,7 @@ def main():
     held = Held("refusals")
     with tempfile.TemporaryDirectory() as folder, ThreadPoolExecutor(os.cpu_count()) as threads:
         refuser = Refuser(held, folder)
-        for run in runs():
+        for run in runs(held):
             sweep(held, refuser, threads.map, *run)
     held.end()
 

@@ -9,6 +9,7 @@ a template is refused with its place; and the picture of README is drawn again.
 """
 import json
 import pathlib
+import re
 import subprocess
 import sys
 import tempfile
@@ -53,6 +54,26 @@ def first_checks(program, setup, names):
     return sorted(int(time) for time in times if time != "none")
 
 
+def figures(program, setup, *words):
+    """The figures that a check tells of a setup, by word."""
+    ran = subprocess.run([program, "check", *words], input=json.dumps(setup, indent=1), capture_output=True, text=True)
+    first, *lines = ran.stdout.splitlines()
+    return dict(line.split(" ") for line in lines) if (first, ran.returncode) == ("setup ok", 0) else {}
+
+
+def scheduled_by_nagios():
+    """What Nagios tells of its schedule: by word of a check, the figures that both tell."""
+    told = re.findall(r"^([A-Z][\w -]+):\s+(.*)$", (OFFICE / "schedule.txt").read_text(), re.M)
+    first_of = {}
+    for word, value in told:
+        first_of.setdefault(word, value)
+    seconds = float(first_of["Host inter-check delay"].split()[0])
+    scheduled = int(first_of["Total scheduled hosts"]) + int(first_of["Total scheduled services"])
+    return {"hosts": first_of["Total hosts"], "services": first_of["Total services"], "scheduled": str(scheduled),
+            "host_delay": str(round(seconds * 1000)), "service_delay": first_of["Service inter-check delay method"].lower(),
+            "interleave_factor": first_of["Service interleave factor"]}
+
+
 def office(program):
     """The small network: six hosts, of which five are scheduled a quarter of a second apart, and nine services, of which eight are
     scheduled 652.5 / 8 seconds apart."""
@@ -64,6 +85,11 @@ def office(program):
     yield "its counts", (len(hosts), len(services), len(setup["service_dependencies"]), len(setup["host_dependencies"])) == (6, 9, 5, 1)
     yield "its options", (options["interval_length"], options["host_inter_check_delay_method"], options["high_service_flap_threshold"]) == (30, 250, 21)
     yield "its hosts' first checks", first_checks(program, setup, hosts) == [250 * rank for rank in range(5)]
+    told_here, told_there = figures(program, setup), scheduled_by_nagios()
+    yield "the figures that Nagios tells too", {word: told_here.get(word) for word in told_there} == told_there
+    yield "its other figures", [told_here.get(word) for word in ("dependencies", "parents", "disabled", "without_interval")] == ["6", "5", "2", "0"]
+    yield "its first and last checks", [told_here.get(word) for word in ("host_first", "host_last", "service_first", "service_last")] == [
+        "0", "1000", "0", str(5_220_000 * 7 // 64)]
     yield "its services' first checks", first_checks(program, setup, services) == [5_220_000 * rank // 64 for rank in range(8)]
 
 
@@ -80,7 +106,8 @@ def large(program, work):
     yield "its parts", status == 0 and len(parts) == 4 and "4 parts" in told
     counts = [sum(map(len, names_of(json.loads(part.read_text())))) for part in parts]
     yield "their objects", sum(counts) == 11_000 and max(counts) <= 4_096
-    yield "that each is a setup", all(subprocess.run([program], stdin=part.open(), capture_output=True).returncode == 0 for part in parts)
+    checked = [figures(program, json.loads(part.read_text())) for part in parts]
+    yield "that each is a setup, with these objects", [int(it["hosts"]) + int(it["services"]) for it in checked if it] == counts
     yield "that one setup is refused", from_nagios(OFFICE / "nagios.cfg", objects)[0] == 1
 
 

@@ -55,6 +55,12 @@ def formats(page):
     for example, told in re.findall(r"`([\[{][^`]*)`: `(refused [^`]*)`", page):
         lines = [example] if example.startswith("{") else [HOST, example]
         compare(example, told + "\n", output(lines))
+    whole = block_after(page, "### A whole setup")
+    compare("the figures of the whole setup", block_after(page, "has these figures with"), output([whole.rstrip()], "check", "--start", "1000"))
+    explained = page[page.index("#### Explanations"):page.index("## Refusals of the input")]
+    for example, told in re.findall(r"`({[^`]*)`: `([^`]*)`", explained):
+        refused, _, explanation = output([example], "check").partition("\n")
+        compare(f"an explanation: {example}", told + "\n", explanation)
     for words in re.findall(r"^nagsched (--help)$", page, re.M):
         compare("help", True, "Usage" in output([], words))
 

@@ -42,6 +42,16 @@ ghost use Rattle.check_desk.specs.Schedules.{IsScheduleAfter, IsScheduleOver};
 /// - Entries and refusals together are the calls that were made (`made`); where one seat stands for
 ///   all numbers, they are the calls that it tells of, and one more while it has posted a call and
 ///   not left (`all`).
+///
+/// A book that was [renewed](check_sched::Book::renew) goes on from those before it. Of each such book,
+/// with whatever legal history `earlier` that led to where it opened:
+///
+/// - `earlier` followed by its entries is one thread's history from the setup's opening on
+///   (`joined_legal`), and leaves the state in which the scheduler is (`joined_state`).
+/// - No object is taken while it runs by the whole history (`joined_once`): a check that was out when a
+///   book ended is taken again only after its end. The numbers of runs go on (`joined_runs`).
+/// - What the schedule of the book's own callers leaves is as it is of the first one (`later_entries`,
+///   `later_strangers`, `later_made`, `later_all`).
 pub fn headline()
     ensures legal { (setup : Configuration) (start room : ℕ) (s : Schedule BookState Call Reply)
         → IsScheduleOver setup start room s → IsLegal step (opening setup start) s.end.book.entries }

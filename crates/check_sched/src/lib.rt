@@ -10,9 +10,10 @@
 //! The modules, from what a caller says to how it is answered: `call` has the calls and their
 //! replies, `object_state` what is kept of one object, `candidate` an object that waits for its
 //! check, `roster` the objects with the queues of those that wait, `results` the last results of
-//! each object, `report` what the result of a check makes of an object, `sched` the scheduler, `opening`
-//! what a book began with, `book` the scheduler with the history of its calls, `laws` what follows for
-//! all calls that are made one after another.
+//! each object, `report` what the result of a check makes of an object, `sched` the scheduler (in it
+//! `checks` has what workers call and `operators` what operators call), `opening` what a book began
+//! with, `book` the scheduler with the history of its calls, `laws` what follows for all calls that
+//! are made one after another.
 
 mod book;
 mod call;

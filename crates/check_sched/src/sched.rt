@@ -1,11 +1,22 @@
-//! The scheduler: its calls, and what can be read of it between them.
+//! The scheduler: how it is made, its one call, and what can be read of it between calls.
 
-ghost use Rattle.std.specs.Prelude.{◌≡◌, ◌+◌, ◌<◌, ◌≤◌, IfSome, IfOk, IfErr, IsTrue, Ok, OnOk, None, length, slice_index};
+ghost use Rattle.std.specs.Prelude.{
+  ◌≡◌,
+  ◌<◌,
+  ◌≤◌,
+  IfSome,
+  IfOk,
+  IfErr,
+  IsTrue,
+  Ok,
+  OnOk,
+  length,
+  slice_index,
+};
 ghost use Rattle.check_objects.specs.Configuration.{IsSetup, object_count};
 ghost use Rattle.check_sched.specs.State.{
   IsStandingOf,
   IsState,
-  has_room,
   is_time,
   next_of,
   objects_at,
@@ -14,37 +25,23 @@ ghost use Rattle.check_sched.specs.State.{
   run_number_of,
   standing_at,
 };
-ghost use Rattle.check_queue.specs.Order.{least};
-ghost use Rattle.check_sched.specs.Step.{
-  eligible,
-  is_held_back,
-  is_open,
-  known,
-  put_off,
-  step,
-  taken,
-  waiting_reply,
-  with_object,
-  within_range,
-};
+ghost use Rattle.check_sched.specs.Step.{known, step, with_object};
 ghost use Rattle.check_sched.specs.Change.{changed, is_quiet};
-ghost use Rattle.check_sched.specs.Report.{put_off_until};
 ghost use Rattle.check_sched.specs.Board.{board_of, place_of};
-ghost use Rattle.check_sched.specs.Scheduling.{run_under};
 ghost use Rattle.check_sched.specs.Reply.{OnRefused, NamesObjectOf, TellsTimesUpTo, reply_of};
 
 use crate::call::{Call, Refusal, Reply};
-use crate::candidate::{Candidate, if_due};
-use crate::object_state::{Change, ObjectState, Run};
-use crate::report::{flap_thresholds, is_changed, judged, next_after, put_off_until, state_found};
+use crate::object_state::{Change, ObjectState};
 use crate::results::Results;
 use crate::roster::Roster;
 use check_objects::Setup;
-use check_rules::{Code, Standing, blocked, code, pending};
+use check_rules::{Standing, code, pending};
 use check_spread::{LAST_MOMENT, LAST_TIME, initial_times};
 use std::alloc::{AllocError, Global};
 use std::marker::Model;
 
+mod checks;
+mod operators;
 #[cfg(test)]
 mod tests;
 
@@ -152,183 +149,6 @@ impl Sched {
         }
     }
 
-    /// Begins the check of the least object that is due and may be checked, or puts it off; or tells
-    /// why there is none.
-    fn take(&mut self, now: u64) -> Result<Reply, Refusal>
-        ensures state { self.new ≡ (step self.old (Call.Take now)).0 }
-        ensures reply { reply_of result ≡ (step self.old (Call.Take now)).1 }
-        ensures named { NamesObjectOf self.new.setup (reply_of result) }
-        ensures times { TellsTimesUpTo LAST_TIME (reply_of result) }
-    {
-        test_moment(now)?;
-        if self.runs >= MAX_RUNS {
-            return Err(Refusal::RunsSpent);
-        }
-        let Some((_time, number)) = self.least_eligible(now) else {
-            return Ok(self.waiting(now));
-        };
-        if self.is_held_back(number) {
-            Ok(self.put_off(number, now))
-        } else {
-            Ok(self.begin(number, now))
-        }
-    }
-
-    /// The least object that is due and whose check may begin. Where there is no room for one
-    /// service more, that is a host.
-    fn least_eligible(&self, now: u64) -> Option<Candidate>
-        ensures value { result ≡ least (eligible now self.now) }
-        ensures there { IfSome result (λ c. c.1 < object_count self.now.setup) }
-        ensures open { IfSome result (λ c. IsTrue (is_open self.now c.1)) }
-    {
-        if self.has_room() {
-            if_due(self.roster.first(), now)
-        } else {
-            if_due(self.roster.first_host(), now)
-        }
-    }
-
-    /// Whether the check of one service more may begin.
-    fn has_room(&self) -> bool
-        ensures { result ≡ has_room self.now }
-    {
-        let limit = self.setup.options().max_concurrent_checks;
-        limit == 0 || (self.roster.running_services() as u64) < limit
-    }
-
-    /// Whether the object whose turn has come isn't to be checked: its check isn't forced, and some
-    /// dependency of it fails. Only the scratch changes.
-    fn is_held_back(&mut self, object: u32) -> bool
-        requires { object < object_count self.old.setup }
-        ensures state { self.new ≡ self.old }
-        ensures value { result ≡ is_held_back self.old object }
-    {
-        if self.roster.at(object).is_forced() {
-            return false;
-        }
-        blocked(&self.setup, &self.standings, &mut self.marks, object)
-    }
-
-    /// Puts an object off by its check interval.
-    fn put_off(&mut self, object: u32, now: u64) -> Reply
-        requires there { object < object_count self.old.setup }
-        requires moment { now ≤ LAST_MOMENT }
-        ensures state { self.new ≡ put_off now object self.old }
-        ensures reply { result ≡ Reply.PutOff object (put_off_until self.old.setup object now) }
-        ensures times { TellsTimesUpTo LAST_TIME result }
-    {
-        let until = put_off_until(&self.setup, object, now);
-        self.change(object, Change::PutOff(until));
-        Reply::PutOff { object, until }
-    }
-
-    /// Begins the check of an object, under the next run number.
-    fn begin(&mut self, object: u32, now: u64) -> Reply
-        requires there { object < object_count self.old.setup }
-        requires moment { now ≤ LAST_MOMENT }
-        requires spare { self.old.runs < MAX_RUNS }
-        requires open { IsTrue (is_open self.old object) }
-        ensures state { self.new ≡ taken now object self.old }
-        ensures reply { result ≡ Reply.Taken object (self.old.runs + 1) }
-    {
-        self.runs += 1;
-        let run = Run {
-            number: self.runs,
-            start: now,
-        };
-        self.roster.change(object, Change::Begin(run));
-        Reply::Taken {
-            object,
-            run: self.runs,
-        }
-    }
-
-    /// The reply where no check may begin: what is due then is a service, and the limit is reached.
-    fn waiting(&self, now: u64) -> Reply
-        requires { least (eligible now self.now) ≡ None }
-        ensures reply { result ≡ waiting_reply now self.now }
-        ensures times { TellsTimesUpTo LAST_TIME result }
-    {
-        match self.roster.first() {
-            Some((time, _number)) if time <= now => Reply::AtLimit,
-            Some((time, _number)) => Reply::Idle { next: Some(time) },
-            None => Reply::Idle { next: None },
-        }
-    }
-
-    /// Takes the result of a run, which ends: the object's standing and next time follow from it.
-    fn report(&mut self, object: u32, run: u64, code: Code) -> Result<Reply, Refusal>
-        ensures state { self.new ≡ (step self.old (Call.Report object run code)).0 }
-        ensures reply { reply_of result ≡ (step self.old (Call.Report object run code)).1 }
-        ensures times { TellsTimesUpTo LAST_TIME (reply_of result) }
-    {
-        let (state, running) = self.awaited(object, run)?;
-        let index = object as usize;
-        let before = self.standings[index];
-        let found = state_found(&self.setup, &self.standings, object, code);
-        let thresholds = flap_thresholds(&self.setup, object);
-        let flapping = self.results.add(object, found, before.flapping, thresholds);
-        let standing = judged(&self.setup, &self.standings, object, found, flapping);
-        let changed = is_changed(before, standing);
-        let next = next_after(&self.setup, object, standing, running.start(), state.next());
-        self.roster.change(object, Change::End(next));
-        self.standings[index] = standing;
-        Ok(Reply::Standing {
-            standing,
-            changed,
-            next,
-        })
-    }
-
-    /// The object with this number with its run of this number, whose result is awaited; or why a
-    /// report of it is refused.
-    fn awaited(&self, object: u32, run: u64) -> Result<(ObjectState, Run), Refusal>
-        ensures found { IfOk result (λ pair. (known object self.now ≡ Ok pair.0)
-            × (run_under run pair.0.run ≡ Ok pair.1)) }
-        ensures times { IfOk result (λ pair. IsTrue (is_time pair.0.next)) }
-        ensures refused { IfErr result (λ why. (code : Code)
-            → step self.now (Call.Report object run code) ≡ (self.now, Reply.Refused why)) }
-    {
-        let state = self.object(object)?;
-        let running = state.run_under(run)?;
-        Ok((state, running))
-    }
-
-    /// Ends a run without a result.
-    fn abandon(&mut self, object: u32, run: u64, now: u64) -> Result<Reply, Refusal>
-        ensures state { self.new ≡ (step self.old (Call.Abandon object run now)).0 }
-        ensures reply { reply_of result ≡ (step self.old (Call.Abandon object run now)).1 }
-        ensures times { TellsTimesUpTo LAST_TIME (reply_of result) }
-    {
-        let state = self.object(object)?;
-        test_moment(now)?;
-        state.run_under(run)?;
-        let next = state.freed_time(now);
-        self.change(object, Change::End(Some(next)));
-        Ok(Reply::Freed { next })
-    }
-
-    /// Sets the next check of an object.
-    fn reschedule(&mut self, object: u32, time: u64, forced: bool) -> Result<Reply, Refusal>
-        ensures state { self.new ≡ (step self.old (Call.Reschedule object time forced)).0 }
-        ensures reply { reply_of result ≡ (step self.old (Call.Reschedule object time forced)).1 }
-    {
-        self.object(object)?;
-        test_moment(time)?;
-        self.change(object, Change::Reschedule { time, forced });
-        Ok(Reply::Done)
-    }
-
-    /// Turns the active checks of an object on or off.
-    fn enable(&mut self, object: u32, on: bool) -> Result<Reply, Refusal>
-        ensures state { self.new ≡ (step self.old (Call.Enable object on)).0 }
-        ensures reply { reply_of result ≡ (step self.old (Call.Enable object on)).1 }
-    {
-        self.object(object)?;
-        self.change(object, Change::Enable(on));
-        Ok(Reply::Done)
-    }
-
     /// Does this to the scheduling of an object; all else stays as it was.
     fn change(&mut self, object: u32, change: Change)
         requires there { object < object_count self.old.setup }
@@ -336,20 +156,6 @@ impl Sched {
         ensures { self.new ≡ with_object object (changed change) self.old }
     {
         self.roster.change(object, change);
-    }
-
-    /// Tells what is known of an object.
-    fn status(&self, object: u32) -> Result<Reply, Refusal>
-        ensures state { self.now ≡ (step self.now (Call.Status object)).0 }
-        ensures reply { reply_of result ≡ (step self.now (Call.Status object)).1 }
-        ensures times { TellsTimesUpTo LAST_TIME (reply_of result) }
-    {
-        let state = self.object(object)?;
-        Ok(Reply::Standing {
-            standing: self.standings[object as usize],
-            changed: false,
-            next: state.next(),
-        })
     }
 
     /// What is kept of the object with this number.
@@ -459,18 +265,6 @@ fn reply_of(answer: Result<Reply, Refusal>) -> Reply
     match answer {
         Ok(reply) => reply,
         Err(why) => Reply::Refused(why),
-    }
-}
-
-/// Refuses a moment that is too late.
-fn test_moment(moment: u64) -> Result<(), Refusal>
-    ensures value { result ≡ within_range moment }
-    ensures within { OnOk result (moment ≤ LAST_MOMENT) }
-{
-    if moment > LAST_MOMENT {
-        Err(Refusal::TimeRange)
-    } else {
-        Ok(())
     }
 }
 

@@ -3,3 +3,4 @@ pub mod LiveLinesLemmas
 pub mod LiveLemmas
 pub mod DrillDriveLemmas
 pub mod DrillLaws
+pub mod CheckLemmas

@@ -12,6 +12,7 @@ use Rattle.check_words.specs.declared.words.Job.{Job}
 use Rattle.check_words.specs.declared.words.Job.TheVariants as job
 use Rattle.check_words.specs.declared.words.WordsError.{WordsError}
 use Rattle.check_words.specs.declared.words.WordsError.TheVariants as words_error
+use Rattle.check_session.specs.Check.{IsCheckOnInput}
 use Rattle.check_session.specs.Drill.{AfterDrillFault, IsDrillOnInput}
 use Rattle.check_session.specs.Drive.{AfterFault, HasRead, IsRunOnInput}
 use Rattle.check_session.specs.Live.{IsLiveOnInput}
@@ -25,6 +26,8 @@ abbrev pub DidJob : Job → Outcome → Option (List ℕ) → Option (List ℕ) 
 DidJob (job.Run start) outcome had left held holds =
     IsRunOnInput start (Ok outcome) had held holds × IfSome had (HasRead had left)
 DidJob (job.Live start) outcome had left held holds = IsLiveOnInput start (Ok outcome) had left held holds
+DidJob (job.Check start line) outcome had left held holds =
+    IsCheckOnInput start line (Ok outcome) had held holds × IfSome had (HasRead had left)
 DidJob (job.Drill start workers room) outcome had left held holds =
     IsDrillOnInput start workers room (Ok outcome) had held holds × IfSome had (HasRead had left)
 
@@ -33,6 +36,7 @@ abbrev pub FailedJob : Job → DriveError → Option (List ℕ) → Option (List
 FailedJob (job.Run start) e had left held holds =
     AfterFault e start had left held holds × IsRunOnInput start (Err e) had held holds
 FailedJob (job.Live start) e had left held holds = IsLiveOnInput start (Err e) had left held holds
+FailedJob (job.Check start line) e had left held holds = IsCheckOnInput start line (Err e) had held holds
 FailedJob (job.Drill start workers room) e had left held holds =
     AfterDrillFault e start workers room had left held holds × IsDrillOnInput start workers room (Err e) had held holds
 

@@ -8,11 +8,13 @@
 //! and the lines are made and written by `check_text`. `drill` lets workers work on an input, with
 //! the plugin of `scripted`, and writes what came of it.
 //!
-//! `live` is a conversation, whose lines `live_lines` takes one at a time.
+//! `live` is a conversation, whose lines `live_lines` takes one at a time. `check` tells what is in a
+//! setup.
 //!
 //! All but `live_lines` are public, since a function `drive` and a module of that name can't stand side by side
 //! at the root, nor can a type `Scripted` and a module `scripted`.
 
+pub mod check;
 pub mod drill;
 pub mod drive;
 pub mod live;

@@ -7,6 +7,7 @@ ghost use Rattle.check_session.specs.declared.session.Ending.{Ending};
 ghost use Rattle.check_text.specs.Output.{WroteFront};
 ghost use Rattle.check_session.specs.Session.{exit_status, Ends, Tells};
 
+use crate::check::check;
 use crate::drill::drill;
 use crate::drive::{Outcome, drive};
 use crate::live::live;
@@ -71,6 +72,10 @@ fn serve<H: Threads + Wait + Sync, R: Read, W: Write>(
             Err(e) => Err(e),
         },
         Ok(Job::Live { start }) => match live(alloc, start, reader, writer) {
+            Ok(outcome) => Ok(Ending::Drove(outcome)),
+            Err(e) => Err(e),
+        },
+        Ok(Job::Check { start, line }) => match check(alloc, start, line, reader, writer) {
             Ok(outcome) => Ok(Ending::Drove(outcome)),
             Err(e) => Err(e),
         },

@@ -1,10 +1,12 @@
 -- What the program's words ask for, as `clap` reads them.
-use Rattle.std.specs.Prelude.{ℕ, ◌^◌, ◌≤◌, ◌≡◌, ◌≢◌, ◌⊎◌, ⊤, List, [], ◌∷◌, if◌then◌else◌}
+use Rattle.std.specs.Prelude.{ℕ, ◌^◌, ◌≤◌, ◌≡◌, ◌≢◌, ◌⊎◌, ⊤, Bool, false, List, [], ◌∷◌, if◌then◌else◌}
 use Rattle.std.specs.Prelude.{Option, Some, None, Result, Ok, Err, codes, option_map, option_and_then}
+use Rattle.std.specs.Option.{option_map_or}
 use Rattle.std.specs.Str.{bytes_eq}
 use Rattle.std.specs.Str.Parse.{digits_value, without_leading_plus}
 use Rattle.clap.specs.ValueTests.{is_unsigned_in}
 use Rattle.clap.specs.Words.{App, IsAmong, Row, Rule, Text, fault_of, first_of, new_app, new_rule, subcommand_of, with_rule, with_subcommand}
+use Rattle.clap.specs.declared.builder.action.ArgAction.TheVariants as action
 use Rattle.clap.specs.declared.error.kind.ErrorKind.{ErrorKind}
 use Rattle.clap.specs.declared.error.kind.ErrorKind.TheVariants as kind
 use Rattle.check_words.specs.declared.words.Job.{Job}
@@ -34,6 +36,13 @@ workers_option = number_option (codes "workers") (codes "2")
 abbrev pub room_option : Rule
 room_option = number_option (codes "room") (codes "1000")
 
+-- the flag `--line`, which has no value of its own
+abbrev pub line_flag : Rule
+line_flag = record (new_rule (codes "line")) {
+  long = Some (codes "line");
+  action = Some action.SetTrue;
+}
+
 -- the subcommand `run`, with its option
 abbrev pub run_subcommand : App
 run_subcommand = with_rule (new_app (codes "run")) start_option
@@ -42,13 +51,18 @@ run_subcommand = with_rule (new_app (codes "run")) start_option
 abbrev pub live_subcommand : App
 live_subcommand = with_rule (new_app (codes "live")) start_option
 
+-- the subcommand `check`, with its option and its flag
+abbrev pub check_subcommand : App
+check_subcommand = with_rule (with_rule (new_app (codes "check")) start_option) line_flag
+
 -- the subcommand `drill`, with its three options
 abbrev pub drill_subcommand : App
 drill_subcommand = with_rule (with_rule (with_rule (new_app (codes "drill")) start_option) workers_option) room_option
 
--- the program's words, with its three subcommands
+-- the program's words, with its four subcommands
 abbrev pub program : App
-program = with_subcommand (with_subcommand (with_subcommand (new_app (codes "nagsched")) run_subcommand.top) live_subcommand.top) drill_subcommand.top
+program = with_subcommand (with_subcommand
+    (with_subcommand (with_subcommand (new_app (codes "nagsched")) run_subcommand.top) live_subcommand.top) check_subcommand.top) drill_subcommand.top
 
 -- ---- what the words ask for
 
@@ -72,6 +86,10 @@ workers_of = number_of (codes "workers") 1 64
 abbrev pub room_of : List Row → Option ℕ
 room_of = number_of (codes "room") 0 1000000
 
+-- whether `--line` was given, by the options that were read: `clap` has the text "true" for it then
+abbrev pub line_of : List Row → Bool
+line_of options = option_map_or (λ text. bytes_eq text (codes "true")) (first_of (codes "line") options) false
+
 -- `run`, by the options that were read for it
 abbrev pub run_of : List Row → Option Job
 run_of options = option_map job.Run (start_of options)
@@ -79,6 +97,10 @@ run_of options = option_map job.Run (start_of options)
 -- `live`, by the options that were read for it
 abbrev pub live_of : List Row → Option Job
 live_of options = option_map job.Live (start_of options)
+
+-- `check`, by the options that were read for it
+abbrev pub check_of : List Row → Option Job
+check_of options = option_map (λ start. job.Check start (line_of options)) (start_of options)
 
 -- `drill`, by the options that were read for it
 abbrev pub drill_of : List Row → Option Job
@@ -93,7 +115,8 @@ job_of None = Some (job.Run 0)
 job_of (Some (name, options)) =
     if bytes_eq name (codes "run") then run_of options
     else (if bytes_eq name (codes "live") then live_of options
-    else (if bytes_eq name (codes "drill") then drill_of options else None))
+    else (if bytes_eq name (codes "check") then check_of options
+    else (if bytes_eq name (codes "drill") then drill_of options else None)))
 
 -- The job that the words ask for, the program's name first: of the subcommand that `clap` reads
 -- from them, with the first value of each of its options.
@@ -104,6 +127,7 @@ job_asked words = job_of (subcommand_of program words)
 abbrev pub IsWithinLimits : Job → Type 0
 IsWithinLimits (job.Run start) = start ≤ 2 ^ 60
 IsWithinLimits (job.Live start) = start ≤ 2 ^ 60
+IsWithinLimits (job.Check start line) = start ≤ 2 ^ 60
 IsWithinLimits (job.Drill start workers room) = (start ≤ 2 ^ 60) × (1 ≤ workers) × (workers ≤ 64) × (room ≤ 1000000)
 
 -- ---- where the words are no job

@@ -4,13 +4,13 @@ ghost use Rattle.std.specs.Prelude.{◌≡◌, ◌≤◌, ◌^◌, Some, [], fal
 ghost use Rattle.clap.specs.declared.builder.command.Command.TheViews.{out-Command};
 ghost use Rattle.clap.specs.Words.{app_of, fault_of, kind_of, rows_of, rule_of, found_of, subcommand_rows_of};
 ghost use Rattle.clap.specs.Walk.{texts};
-ghost use Rattle.check_words.specs.Words.{program, run_subcommand, live_subcommand, drill_subcommand, start_option, number_option};
-ghost use Rattle.check_words.specs.Words.{job_asked, job_of, run_of, live_of, drill_of, start_of, workers_of, room_of};
+ghost use Rattle.check_words.specs.Words.{program, run_subcommand, live_subcommand, check_subcommand, drill_subcommand, start_option, number_option, line_flag, line_of};
+ghost use Rattle.check_words.specs.Words.{job_asked, job_of, run_of, live_of, check_of, drill_of, start_of, workers_of, room_of};
 ghost use Rattle.check_words.specs.Words.{number_of, number_between, Explains, IsWithinLimits, Reads, Tells};
 
 use crate::words::{Job, WordsError};
 use clap::error::ErrorKind;
-use clap::{Arg, ArgMatches, Command};
+use clap::{Arg, ArgAction, ArgMatches, Command};
 use std::alloc::{AllocError, Global};
 
 // The texts of the help are broken by hand, for 80 columns.
@@ -23,9 +23,9 @@ time. It runs no plugins: return codes are part of its input.
 
 A setup and a script come from standard input. `run` makes the script's calls
 one after another, and answers each by a line. `live` does so while it runs: it
-answers a line when it has come. `drill` has workers, each in a thread, share
-one scheduler, and writes the history that they made. Without a command it does
-`run --start 0`.";
+answers a line when it has come. `check` tells what is in a setup, or why it is
+refused. `drill` has workers, each in a thread, share one scheduler, and writes
+the history that they made. Without a command it does `run --start 0`.";
 
 /// What the help says of the subcommand `run`.
 const ABOUT_RUN: &str = "Makes the calls of a script on one scheduler";
@@ -33,11 +33,17 @@ const ABOUT_RUN: &str = "Makes the calls of a script on one scheduler";
 /// What the help says of the subcommand `live`.
 const ABOUT_LIVE: &str = "Answers each line when it has come, and waits for the next";
 
+/// What the help says of the subcommand `check`.
+const ABOUT_CHECK: &str = "Tells what is in a setup, or why it is refused";
+
 /// What the help says of the subcommand `drill`.
 const ABOUT_DRILL: &str = "Has workers share one scheduler, with scripted plugins";
 
 /// What the help says of the option `--start`.
 const ABOUT_START: &str = "Moment of the start, in ms, from 0 to 2^60";
+
+/// What the help says of the flag `--line`.
+const ABOUT_LINE: &str = "Writes the setup as one line, for `run` and `live`";
 
 /// What the help says of the option `--workers`.
 const ABOUT_WORKERS: &str = "Workers, a thread each, from 1 to 64";
@@ -108,6 +114,31 @@ Example, whose second answer comes two seconds after the first:
   (printf '%s\\n' '{\"hosts\":[{\"name\":\"gateway\",\"max_check_attempts\":3}]}' \\
     '[\"take\",0]'; sleep 2; echo '[\"report\",\"gateway\",1,2]') | nagsched live";
 
+/// What stands at the end of the help of `check`.
+const CHECK_NOTES: &str = "\
+Input is one setup, over as many lines as it likes. No check is scheduled.
+
+Output, a word and its value a line:
+  setup ok
+  hosts, services, dependencies, parents         how many there are
+  scheduled, disabled, without_interval          objects, each in one of these
+  host_delay, host_first, host_last              the delay method of hosts, and
+                                                 their first and last first check
+  service_delay, service_first, service_last     the same of services
+  interleave_factor                              that of services
+With --line it writes the setup itself, on one line, and nothing else.
+A refused setup is answered by the line of `run`, and one that says where and
+why in plain words.
+
+docs/FORMATS.md has every line, member and refusal, each with an example.
+
+Exit status:
+  0 good   1 setup refused   2 words refused   3 device failed   4 out of memory
+
+Example:
+  echo '{\"hosts\":[{\"name\":\"gateway\",\"max_check_attempts\":3}]}' |
+    nagsched check";
+
 /// What stands at the end of the help of `drill`.
 const DRILL_NOTES: &str = "\
 Input, behind the setup, in any order:
@@ -137,9 +168,9 @@ const MAX_WORKERS: u64 = 64;
 /// The most entries for which a drill may have room from the outset.
 const MAX_ROOM: u64 = 1_000_000;
 
-/// Reads the program's words, its own name first: `run [--start N]`, `live [--start N]`, or
-/// `drill [--start N] [--workers N] [--room N]`, or nothing, which is `run --start 0`. N is read as
-/// std reads a `u64` from a text. Options without a subcommand are refused, and of an option that is
+/// Reads the program's words, its own name first: `run [--start N]`, `live [--start N]`,
+/// `check [--start N] [--line]`, or `drill [--start N] [--workers N] [--room N]`, or nothing, which is
+/// `run --start 0`. N is read as std reads a `u64` from a text. Options without a subcommand are refused, and of an option that is
 /// given twice `clap` decides.
 pub fn job(alloc: Global, words: &[&str]) -> Result<Job, WordsError>
     ensures asked { IfOk result (λ job. job_asked (texts words.now) ≡ Some job) }
@@ -159,12 +190,14 @@ fn build_program<'a>(alloc: Global) -> Result<Command<'a>, AllocError>
 {
     let run = build_run(alloc)?;
     let live = build_live(alloc)?;
+    let check = build_check(alloc)?;
     let drill = build_drill(alloc)?;
     Command::new(alloc, "nagsched")
         .about(ABOUT)
         .after_help(NOTES)
         .subcommand(run)?
         .subcommand(live)?
+        .subcommand(check)?
         .subcommand(drill)
 }
 
@@ -190,6 +223,18 @@ fn build_live<'a>(alloc: Global) -> Result<Command<'a>, AllocError>
         .arg(start_option(alloc))
 }
 
+/// The subcommand `check`.
+fn build_check<'a>(alloc: Global) -> Result<Command<'a>, AllocError>
+    ensures { IfOk result (λ c.
+        (app_of c ≡ check_subcommand) × ((out-Command c).has_globals ≡ false)) }
+{
+    Command::new(alloc, "check")
+        .about(ABOUT_CHECK)
+        .after_help(CHECK_NOTES)
+        .arg(start_option(alloc))?
+        .arg(line_flag(alloc))
+}
+
 /// The subcommand `drill`.
 fn build_drill<'a>(alloc: Global) -> Result<Command<'a>, AllocError>
     ensures { IfOk result (λ c.
@@ -213,6 +258,17 @@ fn start_option<'a>(alloc: Global) -> Arg<'a>
     number_option(alloc, "start", "0").help(ABOUT_START)
 }
 
+/// The flag `--line`.
+fn line_flag<'a>(alloc: Global) -> Arg<'a>
+    ensures rule { rule_of result ≡ line_flag }
+    ensures local { result.global ≡ false }
+{
+    Arg::new(alloc, "line")
+        .long("line")
+        .help(ABOUT_LINE)
+        .action(ArgAction::SetTrue)
+}
+
 /// The option `--name N`, a number, which is `otherwise` where it isn't given.
 fn number_option<'a>(alloc: Global, name: &'a str, otherwise: &'a str) -> Arg<'a>
     ensures rule { rule_of result ≡ number_option name.now otherwise.now }
@@ -233,6 +289,7 @@ fn read_job(matches: &ArgMatches<'_>) -> Result<Job, WordsError>
         None => Ok(Job::Run { start: 0 }),
         Some(("run", options)) => read_run(options).ok_or(WordsError::Refused),
         Some(("live", options)) => read_live(options).ok_or(WordsError::Refused),
+        Some(("check", options)) => read_check(options).ok_or(WordsError::Refused),
         Some(("drill", options)) => read_drill(options).ok_or(WordsError::Refused),
         Some(_) => Err(WordsError::Refused),
     }
@@ -258,6 +315,17 @@ fn read_live(options: &ArgMatches<'_>) -> Option<Job>
     })
 }
 
+/// The job of `check` with these options.
+fn read_check(options: &ArgMatches<'_>) -> Option<Job>
+    ensures asked { result ≡ check_of (rows_of (found_of options.now)) }
+    ensures limits { IfSome result IsWithinLimits }
+{
+    Some(Job::Check {
+        start: read_start(options)?,
+        line: read_line(options),
+    })
+}
+
 /// The job of `drill` with these options.
 fn read_drill(options: &ArgMatches<'_>) -> Option<Job>
     ensures asked { result ≡ drill_of (rows_of (found_of options.now)) }
@@ -276,6 +344,16 @@ fn read_start(options: &ArgMatches<'_>) -> Option<u64>
     ensures limits { IfSome result (λ start. start ≤ 2 ^ 60) }
 {
     read_number(options, "start", 0, LAST_MOMENT)
+}
+
+/// Whether the flag `--line` was given.
+fn read_line(options: &ArgMatches<'_>) -> bool
+    ensures { result ≡ line_of (rows_of (found_of options.now)) }
+{
+    match options.get_str("line") {
+        Some(text) => text == "true",
+        None => false,
+    }
 }
 
 /// The number of the option `--workers`, where a drill may have so many.

@@ -16,6 +16,13 @@ pub enum Job {
     Live {
         start: u64,
     },
+    /// To check a setup, and to tell what is in it or why it is refused. Its first checks are those of
+    /// a scheduler that starts at the moment `start`, as above. With `line` the setup itself is written
+    /// on one line in place of what is in it.
+    Check {
+        start: u64,
+        line: bool,
+    },
     /// To have workers, 1 to 64 of them, check what is due at the moments of a script, on one
     /// scheduler that starts at the moment `start`, as above. The scheduler's book has room for
     /// `room` entries from the outset, 0 to 1,000,000.

@@ -13,5 +13,7 @@ returns c =
     ∙ ap₂ with_subcommand top (ap (λ (a : App). a.top) c.in_ok-run.ensures.0) in
     let with_live = c.in_ok-subcommand-2.ensures.shape c.in_ok-live.ensures.1
     ∙ ap₂ with_subcommand with_run (ap (λ (a : App). a.top) c.in_ok-live.ensures.0) in
-    IfOk-weaker c.subcommand-3.result _ _ (λ r h. h.shape c.in_ok-drill.ensures.1
-    ∙ ap₂ with_subcommand with_live (ap (λ (a : App). a.top) c.in_ok-drill.ensures.0)) c.subcommand-3.ensures
+    let with_check = c.in_ok-subcommand-3.ensures.shape c.in_ok-check.ensures.1
+    ∙ ap₂ with_subcommand with_live (ap (λ (a : App). a.top) c.in_ok-check.ensures.0) in
+    IfOk-weaker c.subcommand-4.result _ _ (λ r h. h.shape c.in_ok-drill.ensures.1
+    ∙ ap₂ with_subcommand with_check (ap (λ (a : App). a.top) c.in_ok-drill.ensures.0)) c.subcommand-4.ensures

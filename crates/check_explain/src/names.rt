@@ -1,0 +1,236 @@
+//! Faults of names: bad ones, repeated ones, and names of what isn't there.
+
+use crate::line::Line;
+use crate::places::{
+    items, push_no_fault, push_part_and_index, push_place, text_of, texts_of, value_at,
+};
+use check_objects::{MAX_NAME_BYTES, Part, Place};
+use serde_json::Value;
+use std::alloc::AllocError;
+
+// ---- bad names
+
+/// Appends what is wrong with the name of the host or the description of the service at a place.
+pub(crate) fn push_bad_name(line: &mut Line, tree: &Value, place: Place) -> Result<(), AllocError> {
+    push_place(line, tree, place)?;
+    let member = match place.part {
+        Part::Services => "description",
+        _ => "name",
+    };
+    match value_at(tree, place).and_then(|item| text_of(item, member)) {
+        Some(name) => push_name_fault(line, member, name),
+        None => push_no_fault(line),
+    }
+}
+
+fn push_name_fault(line: &mut Line, member: &str, name: &str) -> Result<(), AllocError> {
+    line.push_text(member)?;
+    if name.is_empty() {
+        return line.push_words(" is empty; it can have 1 to 255 bytes");
+    }
+    if name.len() > MAX_NAME_BYTES {
+        line.push_words(" has ")?;
+        line.push_number(name.len() as u64)?;
+        return line.push_words(" bytes; it can have 1 to 255");
+    }
+    match name.bytes().find(|byte| is_bad(*byte)) {
+        Some(byte) => push_bad_byte(line, byte),
+        None => line.push_words(" is good"),
+    }
+}
+
+/// Whether a byte can't be in a name.
+fn is_bad(byte: u8) -> bool {
+    byte < 32 || byte == 127 || byte == b';'
+}
+
+fn push_bad_byte(line: &mut Line, byte: u8) -> Result<(), AllocError> {
+    if byte == b';' {
+        return line.push_words(" has a \";\" in it, which no name can have");
+    }
+    line.push_words(" has the byte ")?;
+    line.push_number(byte as u64)?;
+    line.push_words(" in it, which no name can have")
+}
+
+// ---- repeats
+
+/// Appends which earlier host or service has the name of the one at a place.
+pub(crate) fn push_duplicate(
+    line: &mut Line,
+    tree: &Value,
+    place: Place,
+) -> Result<(), AllocError> {
+    push_place(line, tree, place)?;
+    let first = value_at(tree, place).and_then(|item| first_like(tree, item, place.part));
+    match first {
+        Some(index) if is_earlier(index, place) => {
+            push_part_and_index(line, place.part, Some(index))?;
+            line.push_words(repeated(place.part))
+        }
+        _ => push_no_fault(line),
+    }
+}
+
+/// Whether an index is before that of a place.
+fn is_earlier(index: usize, place: Place) -> bool {
+    match place.index {
+        Some(own) => index < own,
+        None => false,
+    }
+}
+
+fn repeated(part: Part) -> &'static str {
+    match part {
+        Part::Services => " has that host and description too",
+        _ => " has that name too",
+    }
+}
+
+/// The index of the first host or service that has the name of this one.
+fn first_like(tree: &Value, item: &Value, part: Part) -> Option<usize> {
+    items(tree, part)
+        .iter()
+        .position(|other| are_alike(other, item, part))
+}
+
+fn are_alike(one: &Value, other: &Value, part: Part) -> bool {
+    match part {
+        Part::Services => {
+            texts_of(one, "host", "description") == texts_of(other, "host", "description")
+        }
+        _ => text_of(one, "name") == text_of(other, "name"),
+    }
+}
+
+// ---- hosts that aren't there
+
+/// Appends which parent of the host at a place isn't a host, or that the host of the service there
+/// isn't one.
+pub(crate) fn push_unknown_host(
+    line: &mut Line,
+    tree: &Value,
+    place: Place,
+) -> Result<(), AllocError> {
+    push_place(line, tree, place)?;
+    let unknown = value_at(tree, place).and_then(|item| unknown_host(tree, item, place.part));
+    match unknown {
+        Some(name) => {
+            line.push_words(role(place.part))?;
+            line.push_text(name)?;
+            line.push_words(" isn't among the hosts")
+        }
+        None => push_no_fault(line),
+    }
+}
+
+fn role(part: Part) -> &'static str {
+    match part {
+        Part::Services => "host ",
+        _ => "parent ",
+    }
+}
+
+/// The host of a service, or the first parent of a host, that isn't among the hosts.
+fn unknown_host<'v>(tree: &Value, item: &'v Value, part: Part) -> Option<&'v str> {
+    match part {
+        Part::Services => {
+            let host = text_of(item, "host")?;
+            if is_host(tree, host) {
+                None
+            } else {
+                Some(host)
+            }
+        }
+        _ => first_unknown(tree, item.get("parents").and_then(Value::as_array)?),
+    }
+}
+
+/// The first of these texts that is no host's name.
+fn first_unknown<'v>(tree: &Value, names: &'v [Value]) -> Option<&'v str> {
+    for value in names {
+        if let Some(name) = value.as_str()
+            && !is_host(tree, name)
+        {
+            return Some(name);
+        }
+    }
+    None
+}
+
+/// Whether there is a host of this name.
+fn is_host(tree: &Value, name: &str) -> bool {
+    items(tree, Part::Hosts)
+        .iter()
+        .any(|host| text_of(host, "name") == Some(name))
+}
+
+/// Whether there is a service of this full name.
+fn is_service(tree: &Value, name: &str) -> bool {
+    let Some(pair) = name.split_once(';') else {
+        return false;
+    };
+    items(tree, Part::Services).iter().any(|service| texts_of(service, "host", "description")
+        == Some(pair))
+}
+
+// ---- ends that aren't there
+
+/// Appends which end of the dependency at a place isn't there, or is of the other sort.
+pub(crate) fn push_unknown_end(
+    line: &mut Line,
+    tree: &Value,
+    place: Place,
+) -> Result<(), AllocError> {
+    push_place(line, tree, place)?;
+    let ends = value_at(tree, place).and_then(|item| texts_of(item, "dependent", "master"));
+    match ends {
+        Some((dependent, master)) => {
+            if !is_end(tree, dependent, place.part) {
+                push_end(line, tree, "dependent ", dependent, place.part)
+            } else {
+                push_end(line, tree, "master ", master, place.part)
+            }
+        }
+        None => push_no_fault(line),
+    }
+}
+
+/// Whether a name is that of an object which a dependency of this part can have at an end.
+fn is_end(tree: &Value, name: &str, part: Part) -> bool {
+    match part {
+        Part::HostDependencies => is_host(tree, name),
+        _ => is_service(tree, name),
+    }
+}
+
+fn push_end(
+    line: &mut Line,
+    tree: &Value,
+    role: &str,
+    name: &str,
+    part: Part,
+) -> Result<(), AllocError> {
+    line.push_words(role)?;
+    line.push_text(name)?;
+    line.push_words(match part {
+        Part::HostDependencies => no_host(tree, name),
+        _ => no_service(tree, name),
+    })
+}
+
+fn no_host(tree: &Value, name: &str) -> &'static str {
+    if is_service(tree, name) {
+        " is a service; it has to be a host"
+    } else {
+        " isn't among the hosts"
+    }
+}
+
+fn no_service(tree: &Value, name: &str) -> &'static str {
+    if is_host(tree, name) {
+        " is a host; it has to be a service"
+    } else {
+        " isn't among the services"
+    }
+}

@@ -1,0 +1,210 @@
+//! A check from its turn to its result: taken or put off, reported or abandoned.
+
+ghost use Rattle.std.specs.Prelude.{
+  ◌≡◌,
+  ◌+◌,
+  ◌<◌,
+  ◌≤◌,
+  IfSome,
+  IfOk,
+  IfErr,
+  IsTrue,
+  Ok,
+  OnOk,
+  None,
+};
+ghost use Rattle.check_objects.specs.Configuration.{object_count};
+ghost use Rattle.check_sched.specs.State.{has_room, is_time};
+ghost use Rattle.check_queue.specs.Order.{least};
+ghost use Rattle.check_sched.specs.Step.{
+  eligible,
+  is_held_back,
+  is_open,
+  known,
+  put_off,
+  step,
+  taken,
+  waiting_reply,
+  within_range,
+};
+ghost use Rattle.check_sched.specs.Report.{put_off_until};
+ghost use Rattle.check_sched.specs.Scheduling.{run_under};
+ghost use Rattle.check_sched.specs.Reply.{NamesObjectOf, TellsTimesUpTo, reply_of};
+
+use super::{MAX_RUNS, Sched};
+use crate::call::{Call, Refusal, Reply};
+use crate::candidate::{Candidate, if_due};
+use crate::object_state::{Change, ObjectState, Run};
+use crate::report::{flap_thresholds, is_changed, judged, next_after, put_off_until, state_found};
+use check_rules::{Code, Standing, blocked, code};
+use check_spread::{LAST_MOMENT, LAST_TIME};
+
+impl Sched {
+    /// Begins the check of the least object that is due and may be checked, or puts it off; or tells
+    /// why there is none.
+    pub(super) fn take(&mut self, now: u64) -> Result<Reply, Refusal>
+        ensures state { self.new ≡ (step self.old (Call.Take now)).0 }
+        ensures reply { reply_of result ≡ (step self.old (Call.Take now)).1 }
+        ensures named { NamesObjectOf self.new.setup (reply_of result) }
+        ensures times { TellsTimesUpTo LAST_TIME (reply_of result) }
+    {
+        test_moment(now)?;
+        if self.runs >= MAX_RUNS {
+            return Err(Refusal::RunsSpent);
+        }
+        let Some((_time, number)) = self.least_eligible(now) else {
+            return Ok(self.waiting(now));
+        };
+        if self.is_held_back(number) {
+            Ok(self.put_off(number, now))
+        } else {
+            Ok(self.begin(number, now))
+        }
+    }
+
+    /// The least object that is due and whose check may begin. Where there is no room for one
+    /// service more, that is a host.
+    fn least_eligible(&self, now: u64) -> Option<Candidate>
+        ensures value { result ≡ least (eligible now self.now) }
+        ensures there { IfSome result (λ c. c.1 < object_count self.now.setup) }
+        ensures open { IfSome result (λ c. IsTrue (is_open self.now c.1)) }
+    {
+        if self.has_room() {
+            if_due(self.roster.first(), now)
+        } else {
+            if_due(self.roster.first_host(), now)
+        }
+    }
+
+    /// Whether the check of one service more may begin.
+    fn has_room(&self) -> bool
+        ensures { result ≡ has_room self.now }
+    {
+        let limit = self.setup.options().max_concurrent_checks;
+        limit == 0 || (self.roster.running_services() as u64) < limit
+    }
+
+    /// Whether the object whose turn has come isn't to be checked: its check isn't forced, and some
+    /// dependency of it fails. Only the scratch changes.
+    fn is_held_back(&mut self, object: u32) -> bool
+        requires { object < object_count self.old.setup }
+        ensures state { self.new ≡ self.old }
+        ensures value { result ≡ is_held_back self.old object }
+    {
+        if self.roster.at(object).is_forced() {
+            return false;
+        }
+        blocked(&self.setup, &self.standings, &mut self.marks, object)
+    }
+
+    /// Puts an object off by its check interval.
+    fn put_off(&mut self, object: u32, now: u64) -> Reply
+        requires there { object < object_count self.old.setup }
+        requires moment { now ≤ LAST_MOMENT }
+        ensures state { self.new ≡ put_off now object self.old }
+        ensures reply { result ≡ Reply.PutOff object (put_off_until self.old.setup object now) }
+        ensures times { TellsTimesUpTo LAST_TIME result }
+    {
+        let until = put_off_until(&self.setup, object, now);
+        self.change(object, Change::PutOff(until));
+        Reply::PutOff { object, until }
+    }
+
+    /// Begins the check of an object, under the next run number.
+    fn begin(&mut self, object: u32, now: u64) -> Reply
+        requires there { object < object_count self.old.setup }
+        requires moment { now ≤ LAST_MOMENT }
+        requires spare { self.old.runs < MAX_RUNS }
+        requires open { IsTrue (is_open self.old object) }
+        ensures state { self.new ≡ taken now object self.old }
+        ensures reply { result ≡ Reply.Taken object (self.old.runs + 1) }
+    {
+        self.runs += 1;
+        let run = Run {
+            number: self.runs,
+            start: now,
+        };
+        self.roster.change(object, Change::Begin(run));
+        Reply::Taken {
+            object,
+            run: self.runs,
+        }
+    }
+
+    /// The reply where no check may begin: what is due then is a service, and the limit is reached.
+    fn waiting(&self, now: u64) -> Reply
+        requires { least (eligible now self.now) ≡ None }
+        ensures reply { result ≡ waiting_reply now self.now }
+        ensures times { TellsTimesUpTo LAST_TIME result }
+    {
+        match self.roster.first() {
+            Some((time, _number)) if time <= now => Reply::AtLimit,
+            Some((time, _number)) => Reply::Idle { next: Some(time) },
+            None => Reply::Idle { next: None },
+        }
+    }
+
+    /// Takes the result of a run, which ends: the object's standing and next time follow from it.
+    pub(super) fn report(&mut self, object: u32, run: u64, code: Code) -> Result<Reply, Refusal>
+        ensures state { self.new ≡ (step self.old (Call.Report object run code)).0 }
+        ensures reply { reply_of result ≡ (step self.old (Call.Report object run code)).1 }
+        ensures times { TellsTimesUpTo LAST_TIME (reply_of result) }
+    {
+        let (state, running) = self.awaited(object, run)?;
+        let index = object as usize;
+        let before = self.standings[index];
+        let found = state_found(&self.setup, &self.standings, object, code);
+        let thresholds = flap_thresholds(&self.setup, object);
+        let flapping = self.results.add(object, found, before.flapping, thresholds);
+        let standing = judged(&self.setup, &self.standings, object, found, flapping);
+        let changed = is_changed(before, standing);
+        let next = next_after(&self.setup, object, standing, running.start(), state.next());
+        self.roster.change(object, Change::End(next));
+        self.standings[index] = standing;
+        Ok(Reply::Standing {
+            standing,
+            changed,
+            next,
+        })
+    }
+
+    /// The object with this number with its run of this number, whose result is awaited; or why a
+    /// report of it is refused.
+    pub(super) fn awaited(&self, object: u32, run: u64) -> Result<(ObjectState, Run), Refusal>
+        ensures found { IfOk result (λ pair. (known object self.now ≡ Ok pair.0)
+            × (run_under run pair.0.run ≡ Ok pair.1)) }
+        ensures times { IfOk result (λ pair. IsTrue (is_time pair.0.next)) }
+        ensures refused { IfErr result (λ why. (code : Code)
+            → step self.now (Call.Report object run code) ≡ (self.now, Reply.Refused why)) }
+    {
+        let state = self.object(object)?;
+        let running = state.run_under(run)?;
+        Ok((state, running))
+    }
+
+    /// Ends a run without a result.
+    pub(super) fn abandon(&mut self, object: u32, run: u64, now: u64) -> Result<Reply, Refusal>
+        ensures state { self.new ≡ (step self.old (Call.Abandon object run now)).0 }
+        ensures reply { reply_of result ≡ (step self.old (Call.Abandon object run now)).1 }
+        ensures times { TellsTimesUpTo LAST_TIME (reply_of result) }
+    {
+        let state = self.object(object)?;
+        test_moment(now)?;
+        state.run_under(run)?;
+        let next = state.freed_time(now);
+        self.change(object, Change::End(Some(next)));
+        Ok(Reply::Freed { next })
+    }
+}
+
+/// Refuses a moment that is too late.
+pub(super) fn test_moment(moment: u64) -> Result<(), Refusal>
+    ensures value { result ≡ within_range moment }
+    ensures within { OnOk result (moment ≤ LAST_MOMENT) }
+{
+    if moment > LAST_MOMENT {
+        Err(Refusal::TimeRange)
+    } else {
+        Ok(())
+    }
+}

@@ -1,0 +1,54 @@
+//! What operators ask for: another time, a check turned on or off, what is known.
+
+ghost use Rattle.std.specs.Prelude.{◌≡◌};
+ghost use Rattle.check_sched.specs.Step.{step};
+ghost use Rattle.check_sched.specs.Reply.{TellsTimesUpTo, reply_of};
+
+use super::Sched;
+use super::checks::test_moment;
+use crate::call::{Call, Refusal, Reply};
+use crate::object_state::Change;
+use check_rules::Standing;
+use check_spread::LAST_TIME;
+
+impl Sched {
+    /// Sets the next check of an object.
+    pub(super) fn reschedule(
+        &mut self,
+        object: u32,
+        time: u64,
+        forced: bool,
+    ) -> Result<Reply, Refusal>
+        ensures state { self.new ≡ (step self.old (Call.Reschedule object time forced)).0 }
+        ensures reply { reply_of result ≡ (step self.old (Call.Reschedule object time forced)).1 }
+    {
+        self.object(object)?;
+        test_moment(time)?;
+        self.change(object, Change::Reschedule { time, forced });
+        Ok(Reply::Done)
+    }
+
+    /// Turns the active checks of an object on or off.
+    pub(super) fn enable(&mut self, object: u32, on: bool) -> Result<Reply, Refusal>
+        ensures state { self.new ≡ (step self.old (Call.Enable object on)).0 }
+        ensures reply { reply_of result ≡ (step self.old (Call.Enable object on)).1 }
+    {
+        self.object(object)?;
+        self.change(object, Change::Enable(on));
+        Ok(Reply::Done)
+    }
+
+    /// Tells what is known of an object.
+    pub(super) fn status(&self, object: u32) -> Result<Reply, Refusal>
+        ensures state { self.now ≡ (step self.now (Call.Status object)).0 }
+        ensures reply { reply_of result ≡ (step self.now (Call.Status object)).1 }
+        ensures times { TellsTimesUpTo LAST_TIME (reply_of result) }
+    {
+        let state = self.object(object)?;
+        Ok(Reply::Standing {
+            standing: self.standings[object as usize],
+            changed: false,
+            next: state.next(),
+        })
+    }
+}

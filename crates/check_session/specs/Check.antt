@@ -1,0 +1,77 @@
+-- What a check of a setup from a reader to a writer leaves, fault or none.
+use Rattle.std.specs.Prelude.{ℕ, ◌≡◌, ◌<◌, ◌≤◌, ◌⊎◌, Bool, true, false, List, [], ◌∷◌, ◌++◌, length, Option, Result, Ok, Err}
+use Rattle.std.specs.Io.KnownBytes.{Appends, Keeps}
+use Rattle.serde_json.specs.Written.{compact_text}
+use Rattle.check_drafts.specs.declared.error.LoadError.{LoadError}
+use Rattle.check_drafts.specs.declared.error.LoadError.TheVariants as errors
+use Rattle.check_objects.specs.Configuration.{Configuration}
+use Rattle.check_objects.specs.Setup.{setup_of}
+use Rattle.check_script.specs.declared.drive_error.DriveError.{DriveError}
+use Rattle.check_script.specs.declared.drive_error.DriveError.TheVariants as fault
+use Rattle.check_script.specs.declared.refusal.InputRefusal.TheVariants as refusal
+use Rattle.check_script.specs.Input.{without_last_feed}
+use Rattle.check_line.specs.Line.{OfTree}
+use Rattle.check_summary.specs.Summary.{summary_of}
+use Rattle.check_summary.specs.Text.{summary_text}
+use Rattle.check_explain.specs.Feeds.{HasNoFeed}
+use Rattle.check_text.specs.Output.{WroteFront}
+use Rattle.check_text.specs.Text.{refusal_line}
+use Rattle.check_session.specs.declared.drive.Outcome.{Outcome}
+use Rattle.check_session.specs.declared.drive.Outcome.TheVariants as outcome
+use Rattle.check_session.specs.Drive.{IsInput}
+
+-- ---- what is told of a document
+
+-- a good setup: its figures
+abbrev pub IsSummaryTold : ℕ → Configuration → List ℕ → Outcome → Type 0
+IsSummaryTold start c text told = (text ≡ summary_text (summary_of c start)) × (told ≡ outcome.Ran)
+
+-- a refused one: the line that a run on it writes, and one line more, in words that nothing is said of
+abbrev pub IsRefusalTold : LoadError → List ℕ → Outcome → Type 0
+IsRefusalTold e text told =
+    ((words : List ℕ) × HasNoFeed words × (text ≡ refusal_line (refusal.Setup e) ++ (words ++ 10 ∷ []))) × (told ≡ outcome.Refused)
+
+-- A line is of a document where it is the compact text of the document's tree, and so is read to the same setup; it is no longer
+-- than a setup may be.
+pub record IsLineOf (document line : List ℕ) : Type 0 where
+  pub same : setup_of line ≡ setup_of document
+  pub compact : OfTree document (λ tree. line ≡ compact_text tree)
+  pub fits : length line ≤ 16777216
+
+-- a good one, on one line
+abbrev pub IsWritten : List ℕ → List ℕ → Outcome → Type 0
+IsWritten document text told = ((line : List ℕ) × IsLineOf document line × (text ≡ line ++ 10 ∷ [])) × (told ≡ outcome.Ran)
+
+-- a good one whose line would be too long: that is told of it
+abbrev pub IsTooLong : List ℕ → List ℕ → Outcome → Type 0
+IsTooLong document text told =
+    OfTree document (λ tree. 16777216 < length (compact_text tree)) × IsRefusalTold errors.TooLong text told
+
+-- a document by what it is, its setup or its refusal
+abbrev pub IsToldBy : (Configuration → List ℕ → Outcome → Type 0) → Result Configuration LoadError → List ℕ → Outcome → Type 0
+IsToldBy Good (Ok c) text told = Good c text told
+IsToldBy Good (Err e) text told = IsRefusalTold e text told
+
+-- with the flag `--line`
+abbrev pub IsLineTold : List ℕ → List ℕ → Outcome → Type 0
+IsLineTold document = IsToldBy (λ c text told. IsWritten document text told ⊎ IsTooLong document text told) (setup_of document)
+
+abbrev pub IsTold : ℕ → Bool → List ℕ → List ℕ → Outcome → Type 0
+IsTold start true document = IsLineTold document
+IsTold start false document = IsToldBy (IsSummaryTold start) (setup_of document)
+
+-- ---- a whole check
+
+-- What a check that ended so has told of a document: all of it, after a fault of the writer a front of it, and after any other error nothing.
+abbrev pub HasTold : ℕ → Bool → List ℕ → Result Outcome DriveError → Option (List ℕ) → Option (List ℕ) → Type 0
+HasTold start line document (Ok told) held holds = (text : List ℕ) × IsTold start line document text told × Appends held holds text
+HasTold start line document (Err fault.Write) held holds =
+    (text : List ℕ) × (told : Outcome) × IsTold start line document text told × WroteFront held holds text
+HasTold start line document (Err e) held holds = Keeps held holds
+
+-- Whatever is known of reader and writer, a check that ended so is that of one input, which is a document but for one line feed
+-- at its end.
+pub record IsCheckOnInput (start : ℕ) (line : Bool) (ended : Result Outcome DriveError) (had held holds : Option (List ℕ)) : Type 0 where
+  pub input : List ℕ
+  pub is_input : IsInput had input
+  pub told : HasTold start line (without_last_feed input) ended held holds

@@ -1,0 +1,132 @@
+//! A check of a setup: reads one document, and tells what is in it, or why it is refused.
+ghost use Rattle.std.specs.Prelude.{◌≡◌, ◌≤◌, IfOk, IfErr, IfSome, OnOk};
+ghost use Rattle.check_script.specs.Input.{without_last_feed};
+ghost use Rattle.check_session.specs.Check.{IsCheckOnInput, IsLineTold, IsSummaryTold, IsRefusalTold, IsTold};
+ghost use Rattle.check_session.specs.Drive.{HasRead};
+
+use crate::drive::Outcome;
+use check_explain::explain;
+use check_line::write_line;
+use check_objects::{LoadError, Setup};
+use check_sched::LAST_MOMENT;
+use check_script::{DriveError, InputRefusal, read_input};
+use check_summary::{Summary, push_summary};
+use check_text::{flush, push_refusal, write_text};
+use std::alloc::{AllocError, Global};
+use std::io::{Read, Write};
+
+/// What is told of a document.
+#[derive(Drop)]
+struct Told {
+    text: Vec<u8>,
+    outcome: Outcome,
+}
+
+/// Reads one setup document, over as many lines as it likes, and tells what is in it, or why it is
+/// refused. The document is the whole input, but for one line feed at its end.
+///
+/// A good one is told by the line `setup ok` and its figures, of which the first checks are those of a
+/// scheduler that starts at the moment `start`, in milliseconds; no scheduler is opened. With `line`
+/// the document itself is written in their place, on one line, which is read to the same setup. A
+/// refused one is told by the line that a run on it writes, and by a line of plain words behind it.
+/// So is a document whose line would be longer than one may be, as `TooLong`.
+///
+/// Of an input no more than 67,108,865 bytes are read. The writer is flushed once, at the end. After
+/// the errors `Read` and `Memory` nothing was written, after `Write` a front of what was to be told.
+pub fn check<R: Read, W: Write>(
+    alloc: Global,
+    start: u64,
+    line: bool,
+    reader: &mut R,
+    writer: &mut W,
+) -> Result<Outcome, DriveError>
+    requires start { start ≤ LAST_MOMENT }
+    ensures input { IsCheckOnInput start line result (R.remaining reader.old)
+        (W.contents writer.old) (W.contents writer.new) }
+    ensures read { OnOk result (IfSome (R.remaining reader.old)
+        (HasRead (R.remaining reader.old) (R.remaining reader.new))) }
+{
+    let input = read_input(alloc, reader)?;
+    let told = tell(alloc, start, line, document(&input))?;
+    write_text(writer, &told.text)?;
+    flush(writer)?;
+    Ok(told.outcome)
+}
+
+/// The document of an input: the bytes without the line feed at their end, where there is one.
+fn document(input: &[u8]) -> &[u8]
+    ensures { result.now ≡ without_last_feed input.now }
+{
+    match input.split_last() {
+        Some((last, document)) if *last == b'\n' => document,
+        Some(_) => input,
+        None => input,
+    }
+}
+
+/// What is to be told of a document. An Err is `Memory`.
+fn tell(alloc: Global, start: u64, line: bool, document: &[u8]) -> Result<Told, DriveError>
+    requires start { start ≤ LAST_MOMENT }
+    ensures told { IfOk result (λ told.
+        IsTold start line document.now told.text.items told.outcome) }
+    ensures kind { IfErr result (λ e. e ≡ DriveError.Memory) }
+{
+    if line {
+        return tell_line(alloc, document);
+    }
+    match Setup::read(alloc, document) {
+        Ok(setup) => Ok(tell_summary(alloc, start, &setup)?),
+        Err(LoadError::Memory) => Err(DriveError::Memory),
+        Err(refusal) => Ok(tell_refusal(alloc, document, refusal)?),
+    }
+}
+
+/// The line of a document, or why there is none. An Err is `Memory`.
+fn tell_line(alloc: Global, document: &[u8]) -> Result<Told, DriveError>
+    ensures told { IfOk result (λ told.
+        IsLineTold document.now told.text.items told.outcome) }
+    ensures kind { IfErr result (λ e. e ≡ DriveError.Memory) }
+{
+    match write_line(alloc, document) {
+        Ok(mut text) => {
+            if text.push(b'\n').is_err() {
+                return Err(DriveError::Memory);
+            }
+            Ok(Told {
+                text,
+                outcome: Outcome::Ran,
+            })
+        }
+        Err(LoadError::Memory) => Err(DriveError::Memory),
+        Err(refusal) => Ok(tell_refusal(alloc, document, refusal)?),
+    }
+}
+
+/// The figures of a setup.
+fn tell_summary(alloc: Global, start: u64, setup: &Setup) -> Result<Told, AllocError>
+    requires start { start ≤ LAST_MOMENT }
+    ensures { IfOk result (λ told.
+        IsSummaryTold start setup.now told.text.items told.outcome) }
+{
+    let summary = Summary::of(alloc, setup, start)?;
+    let mut text = String::new(alloc);
+    push_summary(&mut text, &summary)?;
+    Ok(Told {
+        text: text.into_bytes(),
+        outcome: Outcome::Ran,
+    })
+}
+
+/// The line of a refusal, and the line that explains it.
+fn tell_refusal(alloc: Global, document: &[u8], refusal: LoadError) -> Result<Told, AllocError>
+    ensures { IfOk result (λ told. IsRefusalTold refusal told.text.items told.outcome) }
+{
+    let mut text = String::new(alloc);
+    push_refusal(&mut text, InputRefusal::Setup(refusal))?;
+    text.push_str(explain(alloc, document, refusal)?.as_str())?;
+    text.push_str("\n")?;
+    Ok(Told {
+        text: text.into_bytes(),
+        outcome: Outcome::Refused,
+    })
+}
