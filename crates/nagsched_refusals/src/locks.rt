@@ -96,7 +96,10 @@ fn close_lock(
 /// Makes a desk with one pass over a book, and closes it.
 pub(crate) fn open_desk(alloc: Global) -> Result<Outcome, Wrong> {
     match Desk::open(alloc, book_of(alloc, ONE_SERVICE, 4)?, 1) {
-        Ok((desk, passes)) => close_desk(alloc, desk, passes, Outcome::Answered),
+        Ok((desk, passes)) => {
+            let book = closed_book(desk, passes)?;
+            where_new(alloc, &book, ONE_SERVICE, Outcome::Answered)
+        }
         Err(back) => open_desk_again(alloc, back),
     }
 }
@@ -104,7 +107,10 @@ pub(crate) fn open_desk(alloc: Global) -> Result<Outcome, Wrong> {
 /// The same with a pass of three calls.
 pub(crate) fn open_desk_with_calls(alloc: Global) -> Result<Outcome, Wrong> {
     match Desk::open_with(alloc, book_of(alloc, ONE_SERVICE, 4)?, 1, 3) {
-        Ok((desk, passes)) => close_desk(alloc, desk, passes, Outcome::Answered),
+        Ok((desk, passes)) => {
+            let book = closed_book(desk, passes)?;
+            where_new(alloc, &book, ONE_SERVICE, Outcome::Answered)
+        }
         Err(back) => open_desk_again(alloc, back),
     }
 }
@@ -115,16 +121,11 @@ fn open_desk_again(alloc: Global, back: Book) -> Result<Outcome, Wrong>
 {
     let outcome = where_new(alloc, &back, ONE_SERVICE, Outcome::Refused)?;
     let (desk, passes) = second(Desk::open(alloc, back, 1))?;
-    close_desk(alloc, desk, passes, outcome)
+    where_new(alloc, &closed_book(desk, passes)?, ONE_SERVICE, outcome)
 }
 
-/// The outcome, where a desk closes with the book that it was made over.
-fn close_desk(
-    alloc: Global,
-    desk: Desk,
-    passes: Vec<Pass>,
-    outcome: Outcome,
-) -> Result<Outcome, Wrong>
+/// The book of a desk that closes.
+pub(crate) fn closed_book(desk: Desk, passes: Vec<Pass>) -> Result<Book, Wrong>
     requires { All (IsPassOf desk) passes.items }
 {
     let mut passes = passes;
@@ -132,7 +133,7 @@ fn close_desk(
         return Err(Wrong);
     };
     match desk.close(pass) {
-        Ok(book) => where_new(alloc, &book, ONE_SERVICE, outcome),
+        Ok(book) => Ok(book),
         Err((_desk, _pass)) => Err(Wrong),
     }
 }

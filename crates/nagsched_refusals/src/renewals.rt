@@ -1,14 +1,13 @@
 //! Renewals: out of memory a book is handed back as it was, and renewed it goes on where it stood.
 
 ghost use Rattle.std.specs.Prelude.{◌≡◌, [], IfOk};
-ghost use Rattle.std.specs.List.{All};
-ghost use Rattle.check_desk.specs.Desks.{IsPassOf};
 ghost use Rattle.check_sched.specs.Books.{entries_of, refused_of};
 
+use crate::locks::closed_book;
 use crate::openings::book_of;
 use crate::outcome::{Outcome, Wrong, second, where_right};
 use crate::setups::{ONE_SERVICE, where_same};
-use check_desk::{Desk, Pass};
+use check_desk::Desk;
 use check_rules::{Code, Kind, Standing, State};
 use check_sched::{Book, Call, Reply, Sched};
 use std::alloc::Global;
@@ -88,7 +87,10 @@ pub(crate) fn record_unrenewed(alloc: Global) -> Result<Outcome, Wrong> {
 /// Opens a desk on a book that was renewed, and closes it.
 pub(crate) fn open_desk(alloc: Global) -> Result<Outcome, Wrong> {
     match Desk::open(alloc, renewed_book(alloc)?, 1) {
-        Ok((desk, passes)) => close_desk(alloc, desk, passes, Outcome::Answered),
+        Ok((desk, passes)) => {
+            let book = closed_book(desk, passes)?;
+            where_going_on(alloc, &book, Outcome::Answered)
+        }
         Err(back) => open_desk_again(alloc, back),
     }
 }
@@ -99,26 +101,7 @@ fn open_desk_again(alloc: Global, back: Book) -> Result<Outcome, Wrong>
 {
     let outcome = where_going_on(alloc, &back, Outcome::Refused)?;
     let (desk, passes) = second(Desk::open(alloc, back, 1))?;
-    close_desk(alloc, desk, passes, outcome)
-}
-
-/// The outcome, where a desk closes with the renewed book that it was opened on.
-fn close_desk(
-    alloc: Global,
-    desk: Desk,
-    passes: Vec<Pass>,
-    outcome: Outcome,
-) -> Result<Outcome, Wrong>
-    requires { All (IsPassOf desk) passes.items }
-{
-    let mut passes = passes;
-    let Some(pass) = passes.pop() else {
-        return Err(Wrong);
-    };
-    match desk.close(pass) {
-        Ok(book) => where_going_on(alloc, &book, outcome),
-        Err((_desk, _pass)) => Err(Wrong),
-    }
+    where_going_on(alloc, &closed_book(desk, passes)?, outcome)
 }
 
 /// A book with one entry, whose check is out. The entry has room, so it takes no memory.
