@@ -15,6 +15,8 @@ from program import EXAMPLES, TOP, Held, lines
 
 LIMIT = 16_777_216
 HOST = '{"name":"h","max_check_attempts":3}'
+# A setup of that host on one line: members stand in the order of their names.
+LINE = b'{"hosts":[{"max_check_attempts":3,"name":"h"}]}'
 
 
 def documents():
@@ -73,7 +75,7 @@ def at_the_limit(held):
     told, status = held.run(["check"], good + b" " * (LIMIT + 1 - len(good)) + b"\n")
     held.compare("a byte longer", (b"refused L12 TooLong", 1), (told.partition(b"\n")[0], status))
     # Nothing that a setup can have is written longer than it stands, so no good document has a line that is too long.
-    held.compare("its line", (good + b"\n", 0), held.run(["check", "--line"], good + b" " * (LIMIT - len(good)) + b"\n"))
+    held.compare("its line", (LINE + b"\n", 0), held.run(["check", "--line"], good + b" " * (LIMIT - len(good)) + b"\n"))
 
 
 def ends(held):

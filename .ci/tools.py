@@ -87,7 +87,7 @@ def office(program):
     yield "its hosts' first checks", first_checks(program, setup, hosts) == [250 * rank for rank in range(5)]
     told_here, told_there = figures(program, setup), scheduled_by_nagios()
     yield "the figures that Nagios tells too", {word: told_here.get(word) for word in told_there} == told_there
-    yield "its other figures", [told_here.get(word) for word in ("dependencies", "parents", "disabled", "without_interval")] == ["6", "5", "2", "0"]
+    yield "its other figures", [told_here.get(word) for word in ("dependencies", "parents", "disabled", "without_interval")] == ["6", "7", "2", "0"]
     yield "its first and last checks", [told_here.get(word) for word in ("host_first", "host_last", "service_first", "service_last")] == [
         "0", "1000", "0", str(5_220_000 * 7 // 64)]
     yield "its services' first checks", first_checks(program, setup, services) == [5_220_000 * rank // 64 for rank in range(8)]

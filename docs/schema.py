@@ -6,12 +6,14 @@
 A document that names each member once is changed in one place at a time: each number to its limits and one past them, each
 member to values of other kinds, each required member left out, each object given an unknown member, each name to texts at and
 past its limits, each criteria to all short texts of its letters. The program's first refusals of kinds, ranges, counts and names
-have to come exactly where the schema refuses. By hand, and no part of the gate; it wants Python's jsonschema.
+have to come exactly where the schema refuses, and the explanation of `check` has to be of a member that the schema refuses too.
+By hand, and no part of the gate; it wants Python's jsonschema.
 """
 import copy
 import itertools
 import json
 import pathlib
+import re
 import subprocess
 import sys
 
@@ -58,10 +60,41 @@ KINDS = [None, True, -1, 1.5, "", "x", [], {}, ["x"], {"x": 1}]
 TEXTS = ["n" * 255, "n" * 256, "n;", ";", "n\n", "\n", "n\u001f", "n\u0020", "n\u007f", "\u00e9", ""]
 
 
+# What an explanation begins with: a part of the document, an index in it, the names that stand there.
+PLACE = re.compile(r'(\w+)(?: (\d+))?(?: "(?:[^"\\]|\\.)*"\.*(?: on "(?:[^"\\]|\\.)*"\.*)?)?: (.*)', re.S)
+# How it goes on where one member is at fault: by its name, and by an index where it is one of a list.
+MEMBER = re.compile(r'(?:a member |the member |)"(\w+)"(?: (\d+)(?= is))?')
+
+
 def runs(document):
     """Whether the program takes the document."""
     line = json.dumps(document, ensure_ascii=False).encode() + b"\n"
     return not subprocess.run([PROGRAM], input=line, stdout=subprocess.PIPE).stdout.startswith(b"refused L")
+
+
+def explained(document):
+    """Where `check` says that the fault of the document is, as the steps that lead there; None where it says how many there are."""
+    line = json.dumps(document, ensure_ascii=False).encode()
+    told = subprocess.run([PROGRAM, "check"], input=line, stdout=subprocess.PIPE).stdout.decode().splitlines()[1]
+    if told.startswith("there are "):
+        return None
+    part, index, rest = PLACE.fullmatch(told).groups()
+    member = MEMBER.match(rest)
+    named = () if part == "document" else (part,)
+    inner = [step for step in (member.groups() if member else ()) if step is not None]
+    return named + tuple(int(step) if step.isdigit() else step for step in ([index] if index else []) + inner)
+
+
+def faults(document):
+    """Where the schema refuses the document, as the steps that lead there."""
+    for error in VALIDATOR.iter_errors(document):
+        path = tuple(error.absolute_path)
+        if error.validator == "required":
+            yield from ((*path, name) for name in error.validator_value if name not in error.instance)
+        elif error.validator == "additionalProperties":
+            yield from ((*path, name) for name in error.instance if name not in error.schema["properties"])
+        else:
+            yield path
 
 
 def changed(path, value):
@@ -129,14 +162,18 @@ def probes():
 
 
 def main():
-    made = 0
+    made = compared = 0
     wrong = []
     for told, document in probes():
         made += 1
         by_schema = VALIDATOR.is_valid(document)
         if by_schema != runs(document):
             wrong.append(f"{told}: the schema {'takes' if by_schema else 'refuses'} it, the program doesn't")
-    print("\n".join([*wrong, f"{made} documents, {len(wrong)} otherwise"]))
+        elif not by_schema and (place := explained(document)) is not None:
+            compared += 1
+            if place not in (at := set(faults(document))):
+                wrong.append(f"{told}: the schema refuses {at}, the explanation is of {place}")
+    print("\n".join([*wrong, f"{made} documents, {compared} explanations, {len(wrong)} otherwise"]))
     sys.exit(1 if wrong else 0)
 
 
