@@ -4,7 +4,7 @@
  * calls by it: take, report, abandon, reschedule, enable, status. The answers are those of one thread that
  * makes all calls one after another, and the desk keeps them all, with their calls, in that order.
  *
- *     nagsched_handle setup = NAGSCHED_EMPTY, callers[2] = {NAGSCHED_EMPTY, NAGSCHED_EMPTY};
+ *     struct nagsched_handle setup = NAGSCHED_EMPTY, callers[2] = {NAGSCHED_EMPTY, NAGSCHED_EMPTY};
  *     nagsched_read(document, bytes, &setup, NULL);
  *     nagsched_open(&setup, 0, 1000, callers, 2);           a desk, and a caller for each of two threads
  *     nagsched_take(&callers[0], now, &reply);              in a thread; and so on with its reply
@@ -40,15 +40,15 @@ extern "C" {
 #define NAGSCHED_VERSION 1u
 
 /* A setup, a caller, a book or a history; zeroed it is empty. */
-typedef struct {
+struct nagsched_handle {
     void *at;
     uint64_t full;
-} nagsched_handle;
+};
 
 #define NAGSCHED_EMPTY {0, 0}
 
 /* What each function gives. After each but NAGSCHED_OK and NAGSCHED_WAIT everything is as it was before. */
-enum nagsched_status {
+enum nagsched_result {
     NAGSCHED_OK = 0,
     NAGSCHED_WAIT = 1,      /* the turn hasn't come: the same call again */
     NAGSCHED_SPENT = 2,     /* the caller has no call left */
@@ -75,14 +75,14 @@ enum nagsched_state {
 enum nagsched_kind { NAGSCHED_SOFT = 0, NAGSCHED_HARD = 1 };
 
 /* What is known of an object. */
-typedef struct {
+struct nagsched_standing {
     uint32_t checked;   /* 1: a result has come in; 0: never yet */
     uint32_t state;     /* nagsched_state; never checked: OK or UP */
     uint32_t kind;      /* nagsched_kind */
     uint32_t attempt;   /* 1 to the object's maximum */
     uint32_t last_hard; /* nagsched_state: that of the last result whose state was hard */
     uint32_t flapping;  /* 1: the state keeps changing; 0 */
-} nagsched_standing;
+};
 
 enum nagsched_call_kind {
     NAGSCHED_CALL_TAKE = 0,
@@ -94,14 +94,14 @@ enum nagsched_call_kind {
 };
 
 /* A call, as the history keeps it. A field that its kind has no use for is 0. */
-typedef struct {
+struct nagsched_call {
     uint32_t kind;   /* nagsched_call_kind */
     uint32_t object; /* all but take */
     uint64_t run;    /* report, abandon */
     uint64_t moment; /* take, abandon: now; reschedule: the time */
     uint32_t code;   /* report: nagsched_code */
     uint32_t flag;   /* reschedule: forced; enable: on; 0 or 1 */
-} nagsched_call;
+};
 
 enum nagsched_reply_kind {
     NAGSCHED_REPLY_TAKEN = 0,          /* object, run: check it now, and report under this run */
@@ -119,22 +119,22 @@ enum nagsched_reply_kind {
 };
 
 /* What a call is answered. A field that its kind doesn't name is 0. */
-typedef struct {
+struct nagsched_reply {
     uint32_t kind;     /* nagsched_reply_kind */
     uint32_t object;
     uint64_t run;
     uint64_t time;     /* where has_time is 1 */
     uint32_t has_time; /* 0 or 1 */
     uint32_t changed;  /* 1: the state differs from the one before; 0 */
-    nagsched_standing standing;
-} nagsched_reply;
+    struct nagsched_standing standing;
+};
 
 /* An entry of a history: who called (the number of the caller: its place in the array of nagsched_open), the call, the reply. */
-typedef struct {
+struct nagsched_entry {
     uint64_t caller;
-    nagsched_call call;
-    nagsched_reply reply;
-} nagsched_entry;
+    struct nagsched_call call;
+    struct nagsched_reply reply;
+};
 
 enum nagsched_refusal_kind {
     NAGSCHED_REFUSAL_TOO_LONG = 0,
@@ -161,110 +161,110 @@ enum nagsched_part {
 };
 
 /* Why a document is no setup, and where. */
-typedef struct {
+struct nagsched_refusal {
     uint32_t kind;      /* nagsched_refusal_kind */
     uint32_t part;      /* nagsched_part; NONE where the kind has no place */
     uint64_t has_index; /* 0 or 1 */
     uint64_t index;     /* in the part's list, from 0 */
-} nagsched_refusal;
+};
 
 /* The number of the surface that the library has. */
 uint32_t nagsched_version(void);
 
 /* Makes a setup of a JSON document (docs/FORMATS.md), into an empty handle. REFUSED: refusal tells why, if it
  * isn't NULL. Asks for memory. */
-uint32_t nagsched_read(const uint8_t *document, size_t bytes, nagsched_handle *setup, nagsched_refusal *refusal);
+uint32_t nagsched_read(const uint8_t *document, size_t bytes, struct nagsched_handle *setup, struct nagsched_refusal *refusal);
 
 /* The texts that the program nagsched writes, each with its line feed, into room bytes at text. length, which must
  * not be NULL, is the length of the whole text; where it is above room the status is WRONG and nothing is written
  * but length. Ask for memory. named: a setup, a caller or a book whose objects are meant. A struct that no call
  * gives, or an object that named doesn't have: WRONG. */
-uint32_t nagsched_refusal_text(const nagsched_refusal *refusal, uint8_t *text, size_t room, size_t *length);
-uint32_t nagsched_reply_text(const nagsched_handle *named, const nagsched_call *call, const nagsched_reply *reply, uint8_t *text,
+uint32_t nagsched_refusal_text(const struct nagsched_refusal *refusal, uint8_t *text, size_t room, size_t *length);
+uint32_t nagsched_reply_text(const struct nagsched_handle *named, const struct nagsched_call *call, const struct nagsched_reply *reply, uint8_t *text,
                              size_t room, size_t *length);
-uint32_t nagsched_entry_text(const nagsched_handle *named, const nagsched_entry *entry, uint8_t *text, size_t room, size_t *length);
+uint32_t nagsched_entry_text(const struct nagsched_handle *named, const struct nagsched_entry *entry, uint8_t *text, size_t room, size_t *length);
 
 /* Objects by number: hosts first, then services, each in the document's order, from 0. A full name is that of a
  * host, or HOST;DESCRIPTION. named: a setup, a caller or a book. MISSING: no object of that name; a host has no host. */
-uint32_t nagsched_count(const nagsched_handle *named, uint32_t *objects, uint32_t *hosts);
-uint32_t nagsched_number(const nagsched_handle *named, const uint8_t *name, size_t bytes, uint32_t *number);
-uint32_t nagsched_name(const nagsched_handle *named, uint32_t number, uint8_t *name, size_t room, size_t *length);
-uint32_t nagsched_host_of(const nagsched_handle *named, uint32_t number, uint32_t *host);
+uint32_t nagsched_count(const struct nagsched_handle *named, uint32_t *objects, uint32_t *hosts);
+uint32_t nagsched_number(const struct nagsched_handle *named, const uint8_t *name, size_t bytes, uint32_t *number);
+uint32_t nagsched_name(const struct nagsched_handle *named, uint32_t number, uint8_t *name, size_t room, size_t *length);
+uint32_t nagsched_host_of(const struct nagsched_handle *named, uint32_t number, uint32_t *host);
 
 /* Opens a desk, with a caller for each of count empty handles, 1 to 1024; the handle that is given is empty then.
  * Of a setup: start is the moment at which scheduling starts; room is how many entries the history has memory for
  * at once (it grows; only a call past it asks for memory). Of a book without entries, which nagsched_renew makes:
  * start and room are the book's own, and have to be 0 here. Each caller has 2^32 - 1 calls, or calls, at least 1.
  * Ask for memory; NO_MEMORY leaves all handles as they were. */
-uint32_t nagsched_open(nagsched_handle *setup_or_book, uint64_t start, size_t room, nagsched_handle *callers, size_t count);
-uint32_t nagsched_open_with(nagsched_handle *setup_or_book, uint64_t start, size_t room, uint64_t calls, nagsched_handle *callers,
+uint32_t nagsched_open(struct nagsched_handle *setup_or_book, uint64_t start, size_t room, struct nagsched_handle *callers, size_t count);
+uint32_t nagsched_open_with(struct nagsched_handle *setup_or_book, uint64_t start, size_t room, uint64_t calls, struct nagsched_handle *callers,
                             size_t count);
 
 /* The six calls, a try each. WAIT: the turn hasn't come; nothing was made, and the same call with the same arguments
  * is to be made again (any other meanwhile is WRONG). OK: the call is recorded, with this reply. SPENT, NO_MEMORY. */
-uint32_t nagsched_try_take(nagsched_handle *caller, uint64_t now, nagsched_reply *reply);
-uint32_t nagsched_try_report(nagsched_handle *caller, uint32_t object, uint64_t run, uint32_t code, nagsched_reply *reply);
-uint32_t nagsched_try_abandon(nagsched_handle *caller, uint32_t object, uint64_t run, uint64_t now, nagsched_reply *reply);
-uint32_t nagsched_try_reschedule(nagsched_handle *caller, uint32_t object, uint64_t time, uint32_t forced, nagsched_reply *reply);
-uint32_t nagsched_try_enable(nagsched_handle *caller, uint32_t object, uint32_t on, nagsched_reply *reply);
-uint32_t nagsched_try_status(nagsched_handle *caller, uint32_t object, nagsched_reply *reply);
+uint32_t nagsched_try_take(struct nagsched_handle *caller, uint64_t now, struct nagsched_reply *reply);
+uint32_t nagsched_try_report(struct nagsched_handle *caller, uint32_t object, uint64_t run, uint32_t code, struct nagsched_reply *reply);
+uint32_t nagsched_try_abandon(struct nagsched_handle *caller, uint32_t object, uint64_t run, uint64_t now, struct nagsched_reply *reply);
+uint32_t nagsched_try_reschedule(struct nagsched_handle *caller, uint32_t object, uint64_t time, uint32_t forced, struct nagsched_reply *reply);
+uint32_t nagsched_try_enable(struct nagsched_handle *caller, uint32_t object, uint32_t on, struct nagsched_reply *reply);
+uint32_t nagsched_try_status(struct nagsched_handle *caller, uint32_t object, struct nagsched_reply *reply);
 
 /* What is known of an object, by one load: whoever holds the desk, it doesn't wait. Not while the caller waits. */
-uint32_t nagsched_glance(nagsched_handle *caller, uint32_t object, nagsched_standing *standing);
+uint32_t nagsched_glance(struct nagsched_handle *caller, uint32_t object, struct nagsched_standing *standing);
 
 /* Adds another caller of the same desk to this one; the other handle is empty then. */
-uint32_t nagsched_gather(nagsched_handle *caller, nagsched_handle *other);
+uint32_t nagsched_gather(struct nagsched_handle *caller, struct nagsched_handle *other);
 
 /* Ends the desk: the caller, when all others are gathered in it, becomes the desk's book. MISSING before. */
-uint32_t nagsched_close(nagsched_handle *caller);
+uint32_t nagsched_close(struct nagsched_handle *caller);
 
 /* How many entries a book or a history has, one of them by its index from 0, and how many calls a book
  * refused when out of memory. */
-uint32_t nagsched_entries(const nagsched_handle *book_or_history, uint64_t *count);
-uint32_t nagsched_entry_at(const nagsched_handle *book_or_history, uint64_t index, nagsched_entry *entry);
-uint32_t nagsched_refused(const nagsched_handle *book, uint64_t *count);
+uint32_t nagsched_entries(const struct nagsched_handle *book_or_history, uint64_t *count);
+uint32_t nagsched_entry(const struct nagsched_handle *book_or_history, uint64_t index, struct nagsched_entry *entry);
+uint32_t nagsched_refused(const struct nagsched_handle *book, uint64_t *count);
 
 /* Goes on with a book: it stands where it stood, has no entries and the given room; its entries move into the
  * empty handle history. Asks for memory. */
-uint32_t nagsched_renew(nagsched_handle *book, size_t room, nagsched_handle *history);
+uint32_t nagsched_renew(struct nagsched_handle *book, size_t room, struct nagsched_handle *history);
 
 /* Gives up what a handle has, and makes it empty; an empty one stays so. A caller that waits: WRONG. The callers of a
  * desk that is given up so can never be closed: what is left of its history goes with the last of them. */
-uint32_t nagsched_free(nagsched_handle *handle);
+uint32_t nagsched_free(struct nagsched_handle *handle);
 
 /* The six calls whole: each yields the processor between its tries. */
-static inline uint32_t nagsched_take(nagsched_handle *caller, uint64_t now, nagsched_reply *reply) {
+static inline uint32_t nagsched_take(struct nagsched_handle *caller, uint64_t now, struct nagsched_reply *reply) {
     uint32_t status;
     while ((status = nagsched_try_take(caller, now, reply)) == NAGSCHED_WAIT) sched_yield();
     return status;
 }
 
-static inline uint32_t nagsched_report(nagsched_handle *caller, uint32_t object, uint64_t run, uint32_t code, nagsched_reply *reply) {
+static inline uint32_t nagsched_report(struct nagsched_handle *caller, uint32_t object, uint64_t run, uint32_t code, struct nagsched_reply *reply) {
     uint32_t status;
     while ((status = nagsched_try_report(caller, object, run, code, reply)) == NAGSCHED_WAIT) sched_yield();
     return status;
 }
 
-static inline uint32_t nagsched_abandon(nagsched_handle *caller, uint32_t object, uint64_t run, uint64_t now, nagsched_reply *reply) {
+static inline uint32_t nagsched_abandon(struct nagsched_handle *caller, uint32_t object, uint64_t run, uint64_t now, struct nagsched_reply *reply) {
     uint32_t status;
     while ((status = nagsched_try_abandon(caller, object, run, now, reply)) == NAGSCHED_WAIT) sched_yield();
     return status;
 }
 
-static inline uint32_t nagsched_reschedule(nagsched_handle *caller, uint32_t object, uint64_t time, uint32_t forced,
-                                           nagsched_reply *reply) {
+static inline uint32_t nagsched_reschedule(struct nagsched_handle *caller, uint32_t object, uint64_t time, uint32_t forced,
+                                           struct nagsched_reply *reply) {
     uint32_t status;
     while ((status = nagsched_try_reschedule(caller, object, time, forced, reply)) == NAGSCHED_WAIT) sched_yield();
     return status;
 }
 
-static inline uint32_t nagsched_enable(nagsched_handle *caller, uint32_t object, uint32_t on, nagsched_reply *reply) {
+static inline uint32_t nagsched_enable(struct nagsched_handle *caller, uint32_t object, uint32_t on, struct nagsched_reply *reply) {
     uint32_t status;
     while ((status = nagsched_try_enable(caller, object, on, reply)) == NAGSCHED_WAIT) sched_yield();
     return status;
 }
 
-static inline uint32_t nagsched_status_of(nagsched_handle *caller, uint32_t object, nagsched_reply *reply) {
+static inline uint32_t nagsched_status(struct nagsched_handle *caller, uint32_t object, struct nagsched_reply *reply) {
     uint32_t status;
     while ((status = nagsched_try_status(caller, object, reply)) == NAGSCHED_WAIT) sched_yield();
     return status;
