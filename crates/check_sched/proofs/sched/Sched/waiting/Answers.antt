@@ -4,7 +4,7 @@ use Rattle.check_sched.specs.Sched.{state_of}
 use Rattle.check_sched.specs.Step.{eligible}
 use Rattle.check_sched.proofs.EligibleLaws.{waiting_at_limit, waiting_early, waiting_none}
 use Rattle.check_sched.proofs.TakeLaws.{least_time}
-use Rattle.check_sched.proofs.sched.checks.+waiting.Goals as goal
+use Rattle.check_sched.proofs.sched.Sched.waiting.Goals as goal
 
 pub returns-in-Some-clause-reply : goal.returns-in-Some-clause-reply
 returns-in-Some-clause-reply c =

@@ -1,6 +1,6 @@
 use Rattle.std.proofs.Common.{sym, ◌∙◌}
 use Rattle.check_sched.proofs.OperatorLaws.{abandon_answers}
-use Rattle.check_sched.proofs.sched.checks.+abandon.Goals as goal
+use Rattle.check_sched.proofs.sched.Sched.abandon.Goals as goal
 
 pub returns-clause-state : goal.returns-clause-state
 returns-clause-state c =

@@ -4,7 +4,7 @@ use Rattle.check_sched.specs.State.{State}
 use Rattle.check_sched.specs.Step.{is_open}
 use Rattle.check_sched.specs.declared.sched.TheConstants.{MAX_RUNS}
 use Rattle.check_sched.proofs.TakeLaws.{taken_is_state}
-use Rattle.check_sched.proofs.sched.checks.+begin.Goals as goal
+use Rattle.check_sched.proofs.sched.Sched.begin.Goals as goal
 
 pub invariant_of-self : goal.invariant_of-self
 invariant_of-self c =

@@ -15,7 +15,7 @@ use Rattle.check_sched.proofs.OperatorLaws.{known_within}
 use Rattle.check_sched.proofs.ReportLaws.{is_time_holds, judged_is_standing, report_answers, reported_is_state, standing_of_state, standing_read}
 use Rattle.check_sched.proofs.ReportLaws.{start_of_state}
 use Rattle.check_sched.proofs.UpdateLaws.{set_is_update}
-use Rattle.check_sched.proofs.sched.checks.+report.Goals as goal
+use Rattle.check_sched.proofs.sched.Sched.report.Goals as goal
 
 -- an object that is known has its places
 count_there : (inside : Inside) (n : ℕ) (o : Scheduling) → IsState (state_of inside) → known n (state_of inside) ≡ Ok o → n < object_count inside.setup

@@ -8,7 +8,7 @@ use Rattle.check_sched.specs.Step.{eligible}
 use Rattle.check_sched.proofs.CandidateLaws.{least_due}
 use Rattle.check_sched.proofs.EligibleLaws.{eligible_is}
 use Rattle.check_sched.proofs.TakeLaws.{found_open, found_within}
-use Rattle.check_sched.proofs.sched.checks.+least_eligible.Goals as goal
+use Rattle.check_sched.proofs.sched.Sched.least_eligible.Goals as goal
 
 -- what was found is the least that may be checked, by whether there is room
 with_room : (c : goal.After-if_due) → c.if_due.result ≡ least (eligible c.args.now (state_of c.self.inside))
