@@ -5,7 +5,8 @@
  * makes all calls one after another, and the desk keeps them all, with their calls, in that order.
  *
  *     struct nagsched_handle setup = NAGSCHED_EMPTY, callers[2] = {NAGSCHED_EMPTY, NAGSCHED_EMPTY};
- *     nagsched_read(document, bytes, &setup, NULL);
+ *     struct nagsched_refusal refusal;
+ *     nagsched_read(document, bytes, &setup, &refusal);
  *     nagsched_open(&setup, 0, 1000, callers, 2);           a desk, and a caller for each of two threads
  *     nagsched_take(&callers[0], now, &reply);              in a thread; and so on with its reply
  *     nagsched_gather(&callers[0], &callers[1]);            when the threads have ended
@@ -15,14 +16,15 @@
  * Times are in milliseconds of a clock that the caller chooses: 0 to 2^60.
  *
  * Every function gives a status. Texts come in by pointer and length, and go out into a buffer of the
- * caller's: they have no zero at their end. A pointer to a result may be NULL where its description says so.
+ * caller's: they have no zero at their end.
  *
  * The caller keeps what no call can see:
  *   - a handle is zeroed (NAGSCHED_EMPTY) before its first use, and never copied, read or written;
  *   - one call at a time is made with a handle, whichever thread makes it;
  *   - a call that was answered NAGSCHED_WAIT is made again until it is answered otherwise: its turn stops all others;
  *   - no call is made from a signal handler, or in a child after fork, with a handle from before it;
- *   - what a pointer points to is as large as its type, or as the length says;
+ *   - no pointer is NULL, that of an empty text or buffer neither; what it points to is as large as its type, or as
+ *     the length says, and no two pointers of a call lead to one place;
  *   - the process has one allocator (malloc, free) for the whole life of a handle.
  */
 #ifndef NAGSCHED_H
@@ -52,7 +54,7 @@ enum nagsched_result {
     NAGSCHED_OK = 0,
     NAGSCHED_WAIT = 1,      /* the turn hasn't come: the same call again */
     NAGSCHED_SPENT = 2,     /* the caller has no call left */
-    NAGSCHED_NO_MEMORY = 3, /* one of the six calls wasn't made, but is counted: nagsched_refused */
+    NAGSCHED_NO_MEMORY = 3, /* memory was refused; of the six calls: it wasn't made, but is counted, nagsched_refused */
     NAGSCHED_REFUSED = 4,   /* the document is no setup: the refusal tells why and where */
     NAGSCHED_MISSING = 5,   /* callers that aren't gathered yet, no object of that name, no host of a host */
     NAGSCHED_WRONG = 6      /* a mistake of the caller's: the handle or an argument isn't one for this function */
@@ -171,21 +173,23 @@ struct nagsched_refusal {
 /* The number of the surface that the library has. */
 uint32_t nagsched_version(void);
 
-/* Makes a setup of a JSON document (docs/FORMATS.md), into an empty handle. REFUSED: refusal tells why, if it
- * isn't NULL. Asks for memory. */
+/* Makes a setup of a JSON document (docs/FORMATS.md), into an empty handle. REFUSED: refusal tells why; it is as it
+ * was else. Asks for memory. */
 uint32_t nagsched_read(const uint8_t *document, size_t bytes, struct nagsched_handle *setup, struct nagsched_refusal *refusal);
 
-/* The texts that the program nagsched writes, each with its line feed, into room bytes at text. length, which must
- * not be NULL, is the length of the whole text; where it is above room the status is WRONG and nothing is written
- * but length. Ask for memory. named: a setup, a caller or a book whose objects are meant. A struct that no call
- * gives, or an object that named doesn't have: WRONG. */
+/* The texts that the program nagsched writes, each with its line feed, into room bytes at text. length is the length
+ * of the whole text; where it is above room the status is WRONG and nothing is written but length. Ask for memory.
+ * named: a setup, a caller or a book whose objects are meant; one that it doesn't have has no name in the text. A
+ * struct that no call gives: WRONG. */
 uint32_t nagsched_refusal_text(const struct nagsched_refusal *refusal, uint8_t *text, size_t room, size_t *length);
 uint32_t nagsched_reply_text(const struct nagsched_handle *named, const struct nagsched_call *call, const struct nagsched_reply *reply, uint8_t *text,
                              size_t room, size_t *length);
 uint32_t nagsched_entry_text(const struct nagsched_handle *named, const struct nagsched_entry *entry, uint8_t *text, size_t room, size_t *length);
 
-/* Objects by number: hosts first, then services, each in the document's order, from 0. A full name is that of a
- * host, or HOST;DESCRIPTION. named: a setup, a caller or a book. MISSING: no object of that name; a host has no host. */
+/* Objects by number, from 0: hosts first, in the order of their names' bytes, then services, in that of their hosts'
+ * names and then of their descriptions. A full name is that of a host, or HOST;DESCRIPTION. named: a setup, a caller,
+ * one that waits too, or a book. MISSING: no object of that name; a host has no host. A number that no object has:
+ * WRONG. A name longer than room: WRONG, and nothing is written but length. */
 uint32_t nagsched_count(const struct nagsched_handle *named, uint32_t *objects, uint32_t *hosts);
 uint32_t nagsched_number(const struct nagsched_handle *named, const uint8_t *name, size_t bytes, uint32_t *number);
 uint32_t nagsched_name(const struct nagsched_handle *named, uint32_t number, uint8_t *name, size_t room, size_t *length);
