@@ -114,11 +114,12 @@ static void write_history(const struct nagsched_handle *book) {
 int main(int argc, char **argv) {
     const uint64_t minutes = argc > 1 ? strtoull(argv[1], NULL, 10) : 3;
     struct nagsched_handle setup = NAGSCHED_EMPTY, callers[CALLERS];
+    struct nagsched_refusal refusal;
     struct thread threads[CALLERS];
     uint32_t door;
     if (nagsched_version() != NAGSCHED_VERSION) return 1;
     memset(callers, 0, sizeof callers);
-    must(nagsched_read((const uint8_t *)ROOM, strlen(ROOM), &setup, NULL), "read");
+    must(nagsched_read((const uint8_t *)ROOM, strlen(ROOM), &setup, &refusal), "read");
     must(nagsched_number(&setup, (const uint8_t *)"room;door", strlen("room;door"), &door), "number");
     must(nagsched_open(&setup, 0, 1000, callers, CALLERS), "open");
     for (size_t at = 0; at < CALLERS; at++) {

@@ -35,7 +35,8 @@ static const char SETUP[] = "{\"options\":{\"service_inter_check_delay_method\":
                             "\"services\":[{\"host\":\"h\",\"description\":\"s\",\"check_interval\":1,\"max_check_attempts\":3}]}";
 
 static inline uint32_t read_setup(struct nagsched_handle *setup) {
-    return nagsched_read((const uint8_t *)SETUP, strlen(SETUP), setup, NULL);
+    struct nagsched_refusal refusal;
+    return nagsched_read((const uint8_t *)SETUP, strlen(SETUP), setup, &refusal);
 }
 
 #endif

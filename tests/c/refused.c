@@ -149,7 +149,7 @@ static void live(long refused_request) {
     IS(status == NAGSCHED_REFUSED && has.refusal.kind == NAGSCHED_REFUSAL_DUPLICATE && has.refusal.index == 1);
     OK(nagsched_refusal_text(&has.refusal, text, sizeof text, &length));
     keep(text, length);
-    OK(nagsched_read((const uint8_t *)NETWORK, strlen(NETWORK), &has.setup, NULL));
+    OK(nagsched_read((const uint8_t *)NETWORK, strlen(NETWORK), &has.setup, &has.refusal));
     OK(nagsched_number(&has.setup, (const uint8_t *)"printer;toner", 13, &number));
     IS(number == 3);
     OK(nagsched_name(&has.setup, number, text, sizeof text, &length));

@@ -45,6 +45,7 @@ int main(void) {
     struct nagsched_handle setup = NAGSCHED_EMPTY, caller = NAGSCHED_EMPTY;
     struct nagsched_call call;
     struct nagsched_reply reply;
+    struct nagsched_refusal refusal;
     char *line = NULL;
     uint8_t text[1024];
     size_t room = 0, length;
@@ -52,7 +53,7 @@ int main(void) {
     uint64_t start;
     if (getline(&line, &room, stdin) < 0 || sscanf(line, "%" SCNu64, &start) != 1) return 2;
     if ((bytes = getline(&line, &room, stdin)) < 1) return 2;
-    must(nagsched_read((const uint8_t *)line, (size_t)bytes - 1, &setup, NULL), "read");
+    must(nagsched_read((const uint8_t *)line, (size_t)bytes - 1, &setup, &refusal), "read");
     must(nagsched_open(&setup, start, 0, &caller, 1), "open");
     while ((bytes = getline(&line, &room, stdin)) > 0) {
         line[bytes - 1] = 0;

@@ -36,10 +36,9 @@ static struct everything {
         has_to_be(memcmp(&was, &it, sizeof it) == 0, #mistake " changes nothing", __FILE__, __LINE__); \
     } while (0)
 
-/* A function that wants a handle of some kinds: none, an empty one, and those of the other kinds. */
-#define NOT_BY(function, handle, ...)     \
-    do {                                  \
-        WRONG(function(NULL, __VA_ARGS__));      \
+/* A function that wants a handle of some kinds: an empty one, and one of another kind. */
+#define NOT_BY(function, handle, ...)            \
+    do {                                         \
         WRONG(function(&it.empty, __VA_ARGS__)); \
         WRONG(function(handle, __VA_ARGS__));    \
     } while (0)
@@ -75,12 +74,7 @@ void *__wrap_realloc(void *old, size_t size) {
 
 static void readings(void) {
     const uint8_t *document = (const uint8_t *)SETUP;
-    WRONG(nagsched_read(NULL, 5, &it.empty, &it.refusal));
-    WRONG(nagsched_read(document, strlen(SETUP), NULL, &it.refusal));
     WRONG(nagsched_read(document, strlen(SETUP), &it.setup, &it.refusal));
-    WRONG(nagsched_read(document, strlen(SETUP), MINE, NULL));
-    WRONG(nagsched_read(document, strlen(SETUP), &it.book, NULL));
-    WRONG(nagsched_read(document, strlen(SETUP), &it.history, NULL));
 }
 
 /* A text that finds no room tells its length, and writes nothing else. */
@@ -96,9 +90,6 @@ static void readings(void) {
 static void texts(void) {
     struct nagsched_refusal refused = {NAGSCHED_REFUSAL_DUPLICATE, NAGSCHED_PART_HOSTS, 1, 1}, none = refused;
     const size_t length = strlen("refused L5 Duplicate hosts 1\n"), taken = strlen("taken 1 h\n");
-    WRONG(nagsched_refusal_text(NULL, it.text, sizeof it.text, &it.length));
-    WRONG(nagsched_refusal_text(&refused, it.text, sizeof it.text, NULL));
-    WRONG(nagsched_refusal_text(&refused, NULL, sizeof it.text, &it.length));
     none.kind = NAGSCHED_REFUSAL_PARENT_CYCLE + 1;
     WRONG(nagsched_refusal_text(&none, it.text, sizeof it.text, &it.length));
     none = refused, none.part = NAGSCHED_PART_HOST_DEPENDENCIES + 1;
@@ -106,32 +97,23 @@ static void texts(void) {
     none = refused, none.has_index = 2;
     WRONG(nagsched_refusal_text(&none, it.text, sizeof it.text, &it.length));
     NO_ROOM(length, nagsched_refusal_text(&refused, it.text, length - 1, &it.length));
-    NO_ROOM(length, nagsched_refusal_text(&refused, NULL, 0, &it.length));
+    NO_ROOM(length, nagsched_refusal_text(&refused, it.text, 0, &it.length));
     GIVES(OK, nagsched_refusal_text(&refused, it.text, length, &it.length));
     IS(it.length == length && memcmp(it.text, "refused L5 Duplicate hosts 1\n", length) == 0);
 
     memset(&it.call, 0, sizeof it.call), memset(&it.reply, 0, sizeof it.reply);
     it.reply.run = 1;
     NOT_BY(nagsched_reply_text, &it.history, &it.call, &it.reply, it.text, sizeof it.text, &it.length);
-    WRONG(nagsched_reply_text(&it.setup, NULL, &it.reply, it.text, sizeof it.text, &it.length));
-    WRONG(nagsched_reply_text(&it.setup, &it.call, NULL, it.text, sizeof it.text, &it.length));
-    WRONG(nagsched_reply_text(&it.setup, &it.call, &it.reply, NULL, sizeof it.text, &it.length));
-    WRONG(nagsched_reply_text(&it.setup, &it.call, &it.reply, it.text, sizeof it.text, NULL));
     NO_ROOM(taken, nagsched_reply_text(&it.setup, &it.call, &it.reply, it.text, taken - 1, &it.length));
     GIVES(OK, nagsched_reply_text(&it.setup, &it.call, &it.reply, it.text, sizeof it.text, &it.length));
     IS(it.length == taken && memcmp(it.text, "taken 1 h\n", taken) == 0);
-    it.reply.object = 2;
-    WRONG(nagsched_reply_text(&it.setup, &it.call, &it.reply, it.text, sizeof it.text, &it.length));
-    it.reply.object = 0, it.reply.kind = NAGSCHED_REPLY_RUNS_SPENT + 1;
+    it.reply.kind = NAGSCHED_REPLY_RUNS_SPENT + 1;
     WRONG(nagsched_reply_text(&it.setup, &it.call, &it.reply, it.text, sizeof it.text, &it.length));
     it.reply.kind = 0, it.call.kind = NAGSCHED_CALL_STATUS + 1;
     WRONG(nagsched_reply_text(&it.setup, &it.call, &it.reply, it.text, sizeof it.text, &it.length));
 
     GIVES(OK, nagsched_entry(&it.history, 0, &it.entry));
     NOT_BY(nagsched_entry_text, &it.history, &it.entry, it.text, sizeof it.text, &it.length);
-    WRONG(nagsched_entry_text(&it.book, NULL, it.text, sizeof it.text, &it.length));
-    WRONG(nagsched_entry_text(&it.book, &it.entry, NULL, sizeof it.text, &it.length));
-    WRONG(nagsched_entry_text(&it.book, &it.entry, it.text, sizeof it.text, NULL));
     NO_ROOM(taken + 2, nagsched_entry_text(&it.book, &it.entry, it.text, taken + 1, &it.length));
     it.entry.reply.kind = NAGSCHED_REPLY_RUNS_SPENT + 1;
     WRONG(nagsched_entry_text(&it.book, &it.entry, it.text, sizeof it.text, &it.length));
@@ -140,19 +122,12 @@ static void texts(void) {
 static void names(void) {
     const uint8_t *name = (const uint8_t *)"h;s";
     NOT_BY(nagsched_count, &it.history, &it.number, &it.hosts);
-    WRONG(nagsched_count(&it.setup, NULL, &it.hosts));
-    WRONG(nagsched_count(&it.setup, &it.number, NULL));
     NOT_BY(nagsched_number, &it.history, name, 3, &it.number);
-    WRONG(nagsched_number(&it.setup, NULL, 3, &it.number));
-    WRONG(nagsched_number(&it.setup, name, 3, NULL));
     NOT_BY(nagsched_name, &it.history, 0, it.text, sizeof it.text, &it.length);
     WRONG(nagsched_name(&it.setup, 2, it.text, sizeof it.text, &it.length));
-    WRONG(nagsched_name(&it.setup, 1, NULL, sizeof it.text, &it.length));
-    WRONG(nagsched_name(&it.setup, 1, it.text, sizeof it.text, NULL));
     NO_ROOM(3, nagsched_name(&it.setup, 1, it.text, 2, &it.length));
     NOT_BY(nagsched_host_of, &it.history, 1, &it.number);
     WRONG(nagsched_host_of(&it.setup, 2, &it.number));
-    WRONG(nagsched_host_of(&it.setup, 1, NULL));
     memcpy(&was, &it, sizeof it);
     GIVES(MISSING, nagsched_number(&it.setup, name, 2, &it.number));
     GIVES(MISSING, nagsched_host_of(&it.setup, 0, &it.number));
@@ -163,7 +138,6 @@ static void openings(void) {
     NOT_BY(nagsched_open, MINE, 0, 0, it.two, 2);
     WRONG(nagsched_open(&it.history, 0, 0, it.two, 2));
     WRONG(nagsched_open(&it.setup, LATEST + 1, 0, it.two, 2));
-    WRONG(nagsched_open(&it.setup, 0, 0, NULL, 2));
     WRONG(nagsched_open(&it.setup, 0, 0, it.two, 0));
     WRONG(nagsched_open(&it.setup, 0, 0, it.two, 1025));
     WRONG(nagsched_open(&it.setup, 0, 0, &it.book, 1));
@@ -194,29 +168,18 @@ static void calls(struct nagsched_handle *other_kind) {
 }
 
 static void arguments(void) {
-    WRONG(nagsched_try_take(MINE, 0, NULL));
-    WRONG(nagsched_try_report(MINE, 0, 1, 0, NULL));
-    WRONG(nagsched_try_abandon(MINE, 0, 1, 0, NULL));
-    WRONG(nagsched_try_reschedule(MINE, 0, 0, 0, NULL));
-    WRONG(nagsched_try_enable(MINE, 0, 1, NULL));
-    WRONG(nagsched_try_status(MINE, 0, NULL));
     WRONG(nagsched_try_report(MINE, 0, 1, 4, &it.reply));
     WRONG(nagsched_try_reschedule(MINE, 0, 0, 2, &it.reply));
     WRONG(nagsched_try_enable(MINE, 0, 2, &it.reply));
     WRONG(nagsched_glance(MINE, 2, &it.standing));
-    WRONG(nagsched_glance(MINE, 0, NULL));
 }
 
 /* Callers that can't be gathered, and a desk that can't be closed. */
 static void gatherings(void) {
-    WRONG(nagsched_gather(NULL, MINE));
-    WRONG(nagsched_gather(MINE, NULL));
     WRONG(nagsched_gather(&it.empty, MINE));
     WRONG(nagsched_gather(MINE, &it.empty));
     WRONG(nagsched_gather(MINE, &it.theirs));
     WRONG(nagsched_gather(&it.theirs, MINE));
-    WRONG(nagsched_gather(MINE, MINE));
-    WRONG(nagsched_close(NULL));
     WRONG(nagsched_close(&it.empty));
     memcpy(&was, &it, sizeof it);
     GIVES(MISSING, nagsched_close(MINE));
@@ -227,23 +190,17 @@ static void gatherings(void) {
 static void histories(void) {
     NOT_BY(nagsched_entries, &it.setup, &it.count);
     WRONG(nagsched_entries(MINE, &it.count));
-    WRONG(nagsched_entries(&it.book, NULL));
     NOT_BY(nagsched_entry, &it.setup, 0, &it.entry);
     WRONG(nagsched_entry(MINE, 0, &it.entry));
-    WRONG(nagsched_entry(&it.book, 0, NULL));
     WRONG(nagsched_entry(&it.book, 1, &it.entry));
     WRONG(nagsched_entry(&it.history, 1, &it.entry));
     WRONG(nagsched_entry(&it.book, UINT64_MAX, &it.entry));
     NOT_BY(nagsched_refused, &it.history, &it.count);
     WRONG(nagsched_refused(&it.setup, &it.count));
-    WRONG(nagsched_refused(&it.book, NULL));
     NOT_BY(nagsched_renew, &it.setup, 0, &it.empty);
     WRONG(nagsched_renew(MINE, 0, &it.empty));
     WRONG(nagsched_renew(&it.history, 0, &it.empty));
-    WRONG(nagsched_renew(&it.book, 0, NULL));
     WRONG(nagsched_renew(&it.book, 0, &it.history));
-    WRONG(nagsched_renew(&it.book, 0, &it.book));
-    WRONG(nagsched_free(NULL));
 }
 
 /* A caller that waits has its turn to come, and does nothing else before. */
@@ -259,7 +216,6 @@ static void waiting(void) {
     WRONG(nagsched_try_reschedule(YOURS, 0, 7, 0, &it.reply));
     WRONG(nagsched_try_enable(YOURS, 0, 1, &it.reply));
     WRONG(nagsched_try_status(YOURS, 0, &it.reply));
-    WRONG(nagsched_try_take(YOURS, 7, NULL));
     WRONG(nagsched_glance(YOURS, 0, &it.standing));
     WRONG(nagsched_gather(MINE, YOURS));
     WRONG(nagsched_gather(YOURS, MINE));

@@ -80,7 +80,7 @@ def calls(desk):
     raises(IndexError, book.__getitem__, 2)
     is_so("the history", [entry.call.kind.name for entry in book] == ["TAKE", "STATUS"] and book.refused == 0)
     raises(Wrong, book.text, book[0]._replace(caller=-1))
-    raises(Wrong, book.text, book[0]._replace(reply=nagsched.Reply(ReplyKind.TAKEN, object=2)))
+    raises(Wrong, book.text, book[0]._replace(reply=nagsched.Reply(len(ReplyKind))))
     history = book.renew()
     is_so("a history that is kept", (len(history), len(book)) == (2, 0))
     book.free()
