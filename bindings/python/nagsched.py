@@ -400,9 +400,9 @@ class _Owner:
     def __exit__(self, *_raised: object) -> None:
         self.free()
 
-    def __del__(self) -> None:
+    def __del__(self, free: typing.Callable[..., int] = _LIBRARY.free) -> None:
         if hasattr(self, "_handle"):
-            _LIBRARY.free(self._handle)
+            free(self._handle)
 
     def free(self) -> None:
         """Gives up what this has; a second time it does nothing."""
@@ -599,7 +599,8 @@ class Desk:
     """A scheduler that many threads share, each by a pass of its own; `passes` has them by their numbers."""
 
     def __init__(self, passes: list[Pass]):
-        self.passes = passes
+        self.passes = tuple(passes)
+        self._apart = passes[1:]
 
     def __enter__(self) -> Desk:
         return self
@@ -610,11 +611,12 @@ class Desk:
 
     def close(self) -> Book:
         """Gathers all passes, when their threads have ended, and gives the book with the history."""
-        first, *others = self.passes
-        for other in others:
+        first = self.passes[0]
+        while self._apart:
+            other = self._apart[-1]
             with _Alone(other._busy):
-                if other._handle.full:
-                    first._call(_LIBRARY.gather, "a pass can't be gathered now", other._handle)
+                first._call(_LIBRARY.gather, "a pass can't be gathered now", other._handle)
+            self._apart.pop()
         first._call(_LIBRARY.close, "the desk can't be closed now")
         handle, first._handle = first._handle, _Handle()
         return Book(handle)

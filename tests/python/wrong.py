@@ -96,7 +96,7 @@ def spent():
         one.take(0)
         raises(Spent, one.take, 0)
         other.free()
-        raises(Missing, desk.close)
+        raises(Wrong, desk.close)
     raises(Wrong, one.take, 0)
 
 
