@@ -122,8 +122,29 @@ def one_pass_by_many():
             is_so("a pass used by many", len(book) == len(made))
 
 
+def interrupted():
+    """An interrupt in a call that waits comes when the call has been answered."""
+    with nagsched.Setup(SETUP).open() as desk:
+        answers, came = [nagsched.Result.WAIT, KeyboardInterrupt(), nagsched.Result.WAIT], None
+
+        def attempt(handle, now, reply):
+            if not answers:
+                return nagsched._LIBRARY.try_take(handle, now, reply)
+            if isinstance(answers[0], BaseException):
+                raise answers.pop(0)
+            return answers.pop(0)
+
+        try:
+            desk.passes[0]._made(attempt, 0)
+        except KeyboardInterrupt as raised:
+            came = raised
+        with desk.close() as book:
+            is_so("an interrupt", came is not None and not answers and len(book) == 1)
+
+
 calls(setups())
 spent()
+interrupted()
 one_pass_by_many()
 wrong = [what for what, was_so in told if not was_so]
 for what in wrong:
