@@ -143,6 +143,7 @@ static void openings(void) {
     WRONG(nagsched_open(&it.setup, 0, 0, &it.book, 1));
     WRONG(nagsched_open(&it.setup, 0, 0, MINE, 1));
     WRONG(nagsched_open_with(&it.setup, 0, 0, 0, it.two, 2));
+    WRONG(nagsched_open_with(&it.setup, 0, 0, (uint64_t)1 << 32, it.two, 2));
     WRONG(nagsched_open_with(MINE, 0, 0, 1, it.two, 2));
     WRONG(nagsched_open(&it.book, 0, 0, it.two, 2));
     GIVES(OK, read_setup(&it.two[1]));
