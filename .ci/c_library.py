@@ -1,0 +1,230 @@
+#!/usr/bin/env python3
+"""Builds the C library, and holds it to its header, to the built program, and to what embeds it.
+
+    .ci/c_library.py [PROGRAM]     crates/nagsched/out/nagsched where no program is named; wants cc, c++ and the binutils
+
+The examples, in C with four workers and an operator and in Python with two workers, tell their histories: each caller's entries
+are its calls, runs are 1, 2, 3 and on, and the answers are what the program answers to the same calls in that order. Mistakes change
+nothing; each request for memory is refused in turn; the conformance cases of `run` are answered alike by the library.
+"""
+import collections
+import json
+import os
+import pathlib
+import re
+import subprocess
+import sys
+import tempfile
+from concurrent.futures import ThreadPoolExecutor
+
+from program import EXAMPLES, SECONDS, TOP, Held
+
+HEADER = TOP / "include" / "nagsched.h"
+TESTS = TOP / "tests"
+CONFORMANCE = TOP / "conformance"
+BINDING = TOP / "bindings" / "python"
+STRICT = ["-std=c11", "-Wall", "-Wextra", "-Werror", "-O2"]
+MINUTE, MINUTES = 60_000, (3, 2_000)
+WORKERS = {"embed.c": 4, "embed.py": 2}
+COUNTED = ["-Wl,--wrap=malloc,--wrap=realloc"]
+EMBEDDING = TOP / "docs" / "EMBEDDING.md"
+
+
+def ran(*words, given=None, **how):
+    """What a program writes, its errors and its status."""
+    return subprocess.run([str(word) for word in words], input=given, stdout=subprocess.PIPE, stderr=subprocess.PIPE, timeout=SECONDS, **how)
+
+
+class Library:
+    """The library as tools/build_c.sh lays it down, and programs over it."""
+
+    def __init__(self, held, folder):
+        self.held, self.folder, self.prefix = held, folder, folder / "prefix"
+        built = subprocess.run([TOP / "tools" / "build_c.sh", self.prefix], stdout=subprocess.PIPE, stderr=subprocess.STDOUT)
+        held.compare("tools/build_c.sh", (0, b""), (built.returncode, built.stdout))
+        if built.returncode != 0:
+            held.end()
+        self.archive, self.shared = self.prefix / "lib" / "libnagsched.a", self.prefix / "lib" / "libnagsched.so"
+
+    def compiled(self, source, *more):
+        """A C program over the archive, or None where it doesn't compile."""
+        program = self.folder / source.stem
+        made = ran("cc", *STRICT, f"-I{self.prefix}/include", source, *(more or [self.archive]), "-lpthread", "-o", program)
+        self.held.compare(f"{source.name} compiles", (0, b""), (made.returncode, made.stderr))
+        return program
+
+    def in_python(self, script, *words):
+        """A run of a Python script over the shared library."""
+        env = os.environ | {"NAGSCHED_LIBRARY": str(self.shared), "PYTHONPATH": str(BINDING), "PYTHONDONTWRITEBYTECODE": "1"}
+        return ran(sys.executable, script, *words, env=env)
+
+
+def names(words, kind):
+    """The names that a table of nm has, of this kind."""
+    return sorted(re.findall(rf" {kind} (\w+)$", ran("nm", "--defined-only", *words).stdout.decode(), re.M))
+
+
+def surface(held, library):
+    """Both libraries show the names of the header and no other, and need the C library alone; the header is C++ too."""
+    wanted = sorted(re.findall(r"^uint32_t (nagsched_\w+)\(", HEADER.read_text(encoding="utf-8"), re.M))
+    held.compare("the names of the archive", wanted, names(["--extern-only", library.archive], "T"))
+    held.compare("the names of the shared library", wanted, names(["--dynamic", library.shared], "T"))
+    told = ran("readelf", "--dynamic", library.shared).stdout.decode()
+    held.compare("its soname", ["libnagsched.so.1"], re.findall(r"\(SONAME\).*\[(.*)\]", told))
+    held.compare("what it needs", [], [name for name in re.findall(r"\(NEEDED\).*\[(.*)\]", told) if not name.startswith(("libc.", "ld-linux"))])
+    installed = library.prefix / "include" / "nagsched.h"
+    held.compare("the header", HEADER.read_bytes(), installed.read_bytes())
+    plus = ran("c++", "-fsyntax-only", "-Wall", "-Wextra", "-Werror", "-x", "c++", installed)
+    held.compare("the header in C++", (0, b""), (plus.returncode, plus.stderr))
+    package = (library.prefix / "lib" / "pkgconfig" / "nagsched.pc").read_text(encoding="utf-8")
+    held.compare("nagsched.pc", str(library.prefix), re.search(r"^prefix=(.*)$", package, re.M)[1])
+
+
+def split(history):
+    """The calls and answers of a history as the examples tell it, each with its caller."""
+    entry = collections.namedtuple("entry", "call caller answer")
+    for line in history:
+        call, told = line.split("\t")
+        caller, answer = told.split(" ", 1)
+        yield entry(call, int(caller), answer)
+
+
+def of_worker(answers, minutes, code):
+    """The calls that a worker has to make, by the answers to its takes."""
+    for minute in range(minutes):
+        yield f'["take",{minute * MINUTE}]'
+        word, *rest = next(answers).split(" ", 2)
+        if word == "taken":
+            next(answers)
+            yield f'["report","{rest[1]}",{rest[0]},{code(int(rest[0]))}]'
+
+
+def of_operator(answers, minutes):
+    """The calls that the operator has to make, but for whether the door's checks are switched on or off."""
+    for minute in range(minutes):
+        yield from (f'["enable","room;door",{switch}]' for switch in [next(answers)])
+        yield f'["reschedule","room;door",{minute * MINUTE},true]'
+        yield f'["take",{minute * MINUTE}]'
+        word, *rest = next(answers).split(" ", 2)
+        if word == "taken":
+            yield f'["abandon","{rest[1]}",{rest[0]},{minute * MINUTE}]'
+        yield '["status","room;door"]'
+
+
+def told_by(held, what, text, minutes, code):
+    """Holds a history, as an example told it, to what its threads have to do, and to the program."""
+    setup, *history = text.decode().splitlines()
+    entries = list(split(history))
+    script = "".join(f"{line}\n" for line in [setup, *(entry.call for entry in entries)]).encode()
+    answered = "".join(f"{entry.answer}\n" for entry in entries).encode()
+    held.compare(f"{what}: the program's answers", (answered, 0), held.run(["run"], script))
+    runs = [int(entry.answer.split(" ")[1]) for entry in entries if entry.answer.startswith("taken ")]
+    held.compare(f"{what}: runs", list(range(1, len(runs) + 1)), runs)
+    by_caller = collections.defaultdict(list)
+    for entry in entries:
+        by_caller[entry.caller].append(entry)
+    workers = WORKERS[what.split(",")[0]]
+    held.compare(f"{what}: callers", list(range(workers + (workers == 4))), sorted(by_caller))
+    for caller in range(workers):
+        mine = by_caller[caller]
+        wanted = list(of_worker(iter([entry.answer for entry in mine]), minutes, code))
+        held.compare(f"{what}: the calls of {caller}", wanted, [entry.call for entry in mine])
+    return by_caller
+
+
+def operator(held, what, mine, minutes):
+    """The operator's calls: what it switches is what its glance saw, which is one of two."""
+    told = iter([re.search(r",(\w+)\]", entry.call)[1] if entry.call.startswith('["enable"') else entry.answer
+                 for entry in mine if entry.call.startswith(('["enable"', '["take"'))])
+    held.compare(f"{what}: the operator's calls", list(of_operator(told, minutes)), [entry.call for entry in mine])
+
+
+def examples(held, library):
+    """The two examples, few calls and many; the one in C is linked with each library."""
+    for how, more in {"shared": [f"-L{library.prefix}/lib", "-lnagsched", f"-Wl,-rpath,{library.prefix}/lib"], "static": []}.items():
+        program = library.compiled(EXAMPLES / "embed.c", *more)
+        for minutes in MINUTES:
+            what, made = f"embed.c, {how}, {minutes}", ran(program, minutes)
+            held.compare(f"{what}: status", (0, b""), (made.returncode, made.stderr))
+            by_caller = told_by(held, what, made.stdout, minutes, lambda run: 0 if run % 5 < 3 else 2)
+            operator(held, what, by_caller[WORKERS["embed.c"]], minutes)
+    for minutes in MINUTES:
+        what, made = f"embed.py, {minutes}", library.in_python(EXAMPLES / "embed.py", minutes)
+        held.compare(f"{what}: status", 0, made.returncode)
+        held.compare(f"{what}: what the dashboard saw", b"seen:", made.stderr[:5])
+        told_by(held, what, made.stdout, minutes, lambda run: 1 if run % 4 == 0 else 0)
+
+
+def counting(held, what, made):
+    """A program that counts: it ends well, and its last line tells no failure."""
+    *told, last = made.stdout.decode().splitlines() or [""]
+    held.compare(what, (0, True, b""), (made.returncode, bool(re.search(r": [1-9]\d* passed, 0 failed$", last)), made.stderr))
+    print(*told, sep="\n", end="\n" if told else "")
+
+
+def mistakes(held, library):
+    """Each mistake, in C and in Python, and each request for memory refused."""
+    common = [f"-I{TESTS}/c", library.archive]
+    counting(held, "mistakes in C", ran(library.compiled(TESTS / "c" / "wrong.c", *common, *COUNTED)))
+    counting(held, "refused requests", ran(library.compiled(TESTS / "c" / "refused.c", *common, *COUNTED, "-Wl,--wrap=free")))
+    counting(held, "mistakes in Python", library.in_python(TESTS / "python" / "wrong.py"))
+
+
+def words_of(call):
+    """A line of a script in plain words: its word, its numbers, and last its name."""
+    word, *members = json.loads(call)
+    numbers = [str(int(member)) for member in members if not isinstance(member, str)]
+    return " ".join([word, *numbers, *(member for member in members if isinstance(member, str))])
+
+
+def start_of(case):
+    """The start that a case of a run has, or nothing where it is no such case."""
+    file = case.with_name(case.name + ".args")
+    words = file.read_text(encoding="utf-8").splitlines() if file.exists() else []
+    found = re.fullmatch(r"(run)?( --start[ =]\+?(\d+))?( --)?", " ".join(["run", *words] if not words else words))
+    return int(found[3] or 0) if found and "".join(words[:1]) in ("", "run") else None
+
+
+def cases():
+    """The cases of a run that isn't refused: its name, what the C program reads, and what is wanted."""
+    for line in (CONFORMANCE / "STATUS.tsv").read_text(encoding="utf-8").splitlines():
+        folder, name, status = line.split("\t")
+        case = CONFORMANCE / folder / name
+        if status != "0" or start_of(case) is None:
+            continue
+        setup, *calls = case.read_bytes().split(b"\n")
+        lines = [str(start_of(case)).encode(), setup, *(words_of(call).encode() for call in calls if call.strip(b" \t\r"))]
+        yield f"{folder}/{name}", b"".join(line + b"\n" for line in lines), case.with_name(name + ".stdout").read_bytes()
+
+
+def conformance(held, library):
+    """The cases of one thread, made by the library: the same bytes."""
+    program = library.compiled(TESTS / "c" / "script.c")
+    all_cases = list(cases())
+    held.compare("more than a hundred cases", True, len(all_cases) > 100)
+    with ThreadPoolExecutor(os.cpu_count()) as threads:
+        for (name, _, wanted), made in zip(all_cases, threads.map(lambda case: ran(program, given=case[1]), all_cases)):
+            held.compare(name, (wanted, 0, b""), (made.stdout, made.returncode, made.stderr))
+
+
+def page(held):
+    """The page on embedding shows the two examples as they are."""
+    text = EMBEDDING.read_text(encoding="utf-8")
+    for name, language in {"embed.c": "c", "embed.py": "python"}.items():
+        shown = f"```{language}\n{(EXAMPLES / name).read_text(encoding='utf-8')}```\n"
+        held.compare(f"{EMBEDDING.name} shows {name}", True, shown in text)
+
+
+def main():
+    held = Held("the C library")
+    with tempfile.TemporaryDirectory() as folder:
+        library = Library(held, pathlib.Path(folder))
+        surface(held, library)
+        examples(held, library)
+        mistakes(held, library)
+        conformance(held, library)
+    page(held)
+    held.end()
+
+
+main()

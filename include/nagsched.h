@@ -1,0 +1,281 @@
+/* nagsched: the proved scheduler of active checks, for C and for whatever can call C.
+ *
+ * One desk is shared by any number of threads. Each has a handle of its own, a caller, and makes the six
+ * calls by it: take, report, abandon, reschedule, enable, status. The answers are those of one thread that
+ * makes all calls one after another, and the desk keeps them all, with their calls, in that order.
+ *
+ *     struct nagsched_handle setup = NAGSCHED_EMPTY, callers[2] = {NAGSCHED_EMPTY, NAGSCHED_EMPTY};
+ *     struct nagsched_refusal refusal;
+ *     nagsched_read(document, bytes, &setup, &refusal);
+ *     nagsched_open(&setup, 0, 1000, callers, 2);           a desk, and a caller for each of two threads
+ *     nagsched_take(&callers[0], now, &reply);              in a thread; and so on with its reply
+ *     nagsched_gather(&callers[0], &callers[1]);            when the threads have ended
+ *     nagsched_close(&callers[0]);                          now it is a book, with the history
+ *     nagsched_free(&callers[0]);
+ *
+ * Times are in milliseconds of a clock that the caller chooses: 0 to 2^60.
+ *
+ * Every function gives a status. Texts come in by pointer and length, and go out into a buffer of the
+ * caller's: they have no zero at their end.
+ *
+ * The caller keeps what no call can see:
+ *   - a handle is zeroed (NAGSCHED_EMPTY) before its first use, and never copied, read or written;
+ *   - one call at a time is made with a handle, whichever thread makes it;
+ *   - a call that was answered NAGSCHED_WAIT is made again until it is answered otherwise: its turn stops all others;
+ *   - no call is made from a signal handler, or in a child after fork, with a handle from before it;
+ *   - no pointer is NULL, that of an empty text or buffer neither; what it points to is as large as its type, or as
+ *     the length says, and no two pointers of a call lead to one place;
+ *   - the process has one allocator (malloc, free) for the whole life of a handle.
+ */
+#ifndef NAGSCHED_H
+#define NAGSCHED_H
+
+#include <sched.h>
+#include <stddef.h>
+#include <stdint.h>
+
+#ifdef __cplusplus
+extern "C" {
+#endif
+
+/* The number of this surface. A program asks nagsched_version() once: another number, another header. */
+#define NAGSCHED_VERSION 1u
+
+/* A setup, a caller, a book or a history; zeroed it is empty. */
+struct nagsched_handle {
+    void *at;
+    uint64_t full;
+};
+
+#define NAGSCHED_EMPTY {0, 0}
+
+/* What each function gives. After each but NAGSCHED_OK and NAGSCHED_WAIT everything is as it was before. */
+enum nagsched_result {
+    NAGSCHED_OK = 0,
+    NAGSCHED_WAIT = 1,      /* the turn hasn't come: the same call again */
+    NAGSCHED_SPENT = 2,     /* the caller has no call left */
+    NAGSCHED_NO_MEMORY = 3, /* memory was refused; of the six calls: it wasn't made, but is counted, nagsched_refused */
+    NAGSCHED_REFUSED = 4,   /* the document is no setup: the refusal tells why and where */
+    NAGSCHED_MISSING = 5,   /* callers that aren't gathered yet, no object of that name, no host of a host */
+    NAGSCHED_WRONG = 6      /* a mistake of the caller's: the handle or an argument isn't one for this function */
+};
+
+/* What the check of an object returned. */
+enum nagsched_code { NAGSCHED_CODE_OK = 0, NAGSCHED_CODE_WARNING = 1, NAGSCHED_CODE_CRITICAL = 2, NAGSCHED_CODE_UNKNOWN = 3 };
+
+/* The state of a service, OK to UNKNOWN, or of a host, UP to UNREACHABLE. */
+enum nagsched_state {
+    NAGSCHED_STATE_OK = 0,
+    NAGSCHED_STATE_WARNING = 1,
+    NAGSCHED_STATE_CRITICAL = 2,
+    NAGSCHED_STATE_UNKNOWN = 3,
+    NAGSCHED_STATE_UP = 4,
+    NAGSCHED_STATE_DOWN = 5,
+    NAGSCHED_STATE_UNREACHABLE = 6
+};
+
+enum nagsched_kind { NAGSCHED_SOFT = 0, NAGSCHED_HARD = 1 };
+
+/* What is known of an object. */
+struct nagsched_standing {
+    uint32_t checked;   /* 1: a result has come in; 0: never yet */
+    uint32_t state;     /* nagsched_state; never checked: OK or UP */
+    uint32_t kind;      /* nagsched_kind */
+    uint32_t attempt;   /* 1 to the object's maximum */
+    uint32_t last_hard; /* nagsched_state: that of the last result whose state was hard */
+    uint32_t flapping;  /* 1: the state keeps changing; 0 */
+};
+
+enum nagsched_call_kind {
+    NAGSCHED_CALL_TAKE = 0,
+    NAGSCHED_CALL_REPORT = 1,
+    NAGSCHED_CALL_ABANDON = 2,
+    NAGSCHED_CALL_RESCHEDULE = 3,
+    NAGSCHED_CALL_ENABLE = 4,
+    NAGSCHED_CALL_STATUS = 5
+};
+
+/* A call, as the history keeps it. A field that its kind has no use for is 0. */
+struct nagsched_call {
+    uint32_t kind;   /* nagsched_call_kind */
+    uint32_t object; /* all but take */
+    uint64_t run;    /* report, abandon */
+    uint64_t moment; /* take, abandon: now; reschedule: the time */
+    uint32_t code;   /* report: nagsched_code */
+    uint32_t flag;   /* reschedule: forced; enable: on; 0 or 1 */
+};
+
+enum nagsched_reply_kind {
+    NAGSCHED_REPLY_TAKEN = 0,          /* object, run: check it now, and report under this run */
+    NAGSCHED_REPLY_PUT_OFF = 1,        /* object, time: a dependency fails; time: its next check */
+    NAGSCHED_REPLY_IDLE = 2,           /* nothing is due; time: when the next check will be */
+    NAGSCHED_REPLY_AT_LIMIT = 3,       /* as many checks of services run as may */
+    NAGSCHED_REPLY_STANDING = 4,       /* standing, changed, time: the next check */
+    NAGSCHED_REPLY_FREED = 5,          /* the run ended without a result; time: the next check */
+    NAGSCHED_REPLY_DONE = 6,
+    NAGSCHED_REPLY_UNKNOWN_OBJECT = 7, /* from here on: the call was refused, and has changed nothing */
+    NAGSCHED_REPLY_TIME_RANGE = 8,
+    NAGSCHED_REPLY_NOT_RUNNING = 9,
+    NAGSCHED_REPLY_WRONG_RUN = 10,
+    NAGSCHED_REPLY_RUNS_SPENT = 11
+};
+
+/* What a call is answered. A field that its kind doesn't name is 0. */
+struct nagsched_reply {
+    uint32_t kind;     /* nagsched_reply_kind */
+    uint32_t object;
+    uint64_t run;
+    uint64_t time;     /* where has_time is 1 */
+    uint32_t has_time; /* 0 or 1 */
+    uint32_t changed;  /* 1: the state differs from the one before; 0 */
+    struct nagsched_standing standing;
+};
+
+/* An entry of a history: who called (the number of the caller: its place in the array of nagsched_open), the call, the reply. */
+struct nagsched_entry {
+    uint64_t caller;
+    struct nagsched_call call;
+    struct nagsched_reply reply;
+};
+
+enum nagsched_refusal_kind {
+    NAGSCHED_REFUSAL_TOO_LONG = 0,
+    NAGSCHED_REFUSAL_NOT_JSON = 1,
+    NAGSCHED_REFUSAL_SHAPE = 2,
+    NAGSCHED_REFUSAL_TOO_MANY = 3,
+    NAGSCHED_REFUSAL_BAD_NAME = 4,
+    NAGSCHED_REFUSAL_DUPLICATE = 5,
+    NAGSCHED_REFUSAL_UNKNOWN_HOST = 6,
+    NAGSCHED_REFUSAL_UNKNOWN_MASTER = 7,
+    NAGSCHED_REFUSAL_RANGE = 8,
+    NAGSCHED_REFUSAL_DEPENDENCY_CYCLE = 9,
+    NAGSCHED_REFUSAL_PARENT_CYCLE = 10
+};
+
+enum nagsched_part {
+    NAGSCHED_PART_NONE = 0,
+    NAGSCHED_PART_DOCUMENT = 1,
+    NAGSCHED_PART_OPTIONS = 2,
+    NAGSCHED_PART_HOSTS = 3,
+    NAGSCHED_PART_SERVICES = 4,
+    NAGSCHED_PART_SERVICE_DEPENDENCIES = 5,
+    NAGSCHED_PART_HOST_DEPENDENCIES = 6
+};
+
+/* Why a document is no setup, and where. */
+struct nagsched_refusal {
+    uint32_t kind;      /* nagsched_refusal_kind */
+    uint32_t part;      /* nagsched_part; NONE where the kind has no place */
+    uint64_t has_index; /* 0 or 1 */
+    uint64_t index;     /* in the part's list, from 0 */
+};
+
+/* The number of the surface that the library has. */
+uint32_t nagsched_version(void);
+
+/* Makes a setup of a JSON document (docs/FORMATS.md), into an empty handle. REFUSED: refusal tells why; it is as it
+ * was else. Asks for memory. */
+uint32_t nagsched_read(const uint8_t *document, size_t bytes, struct nagsched_handle *setup, struct nagsched_refusal *refusal);
+
+/* The texts that the program nagsched writes, each with its line feed, into room bytes at text. length is the length
+ * of the whole text; where it is above room the status is WRONG and nothing is written but length. Ask for memory.
+ * named: a setup, a caller or a book whose objects are meant; one that it doesn't have has no name in the text. A
+ * struct that no call gives: WRONG. */
+uint32_t nagsched_refusal_text(const struct nagsched_refusal *refusal, uint8_t *text, size_t room, size_t *length);
+uint32_t nagsched_reply_text(const struct nagsched_handle *named, const struct nagsched_call *call, const struct nagsched_reply *reply, uint8_t *text,
+                             size_t room, size_t *length);
+uint32_t nagsched_entry_text(const struct nagsched_handle *named, const struct nagsched_entry *entry, uint8_t *text, size_t room, size_t *length);
+
+/* Objects by number, from 0: hosts first, in the order of their names' bytes, then services, in that of their hosts'
+ * names and then of their descriptions. A full name is that of a host, or HOST;DESCRIPTION. named: a setup, a caller,
+ * one that waits too, or a book. MISSING: no object of that name; a host has no host. A number that no object has:
+ * WRONG. A name longer than room: WRONG, and nothing is written but length. */
+uint32_t nagsched_count(const struct nagsched_handle *named, uint32_t *objects, uint32_t *hosts);
+uint32_t nagsched_number(const struct nagsched_handle *named, const uint8_t *name, size_t bytes, uint32_t *number);
+uint32_t nagsched_name(const struct nagsched_handle *named, uint32_t number, uint8_t *name, size_t room, size_t *length);
+uint32_t nagsched_host_of(const struct nagsched_handle *named, uint32_t number, uint32_t *host);
+
+/* Opens a desk, with a caller for each of count empty handles, 1 to 1024; the handle that is given is empty then.
+ * Of a setup: start is the moment at which scheduling starts; room is how many entries the history has memory for
+ * at once (it grows; only a call past it asks for memory). Of a book without entries, which nagsched_renew makes:
+ * start and room are the book's own, and have to be 0 here. Each caller has 2^32 - 1 calls, or calls, at least 1.
+ * Ask for memory; NO_MEMORY leaves all handles as they were. */
+uint32_t nagsched_open(struct nagsched_handle *setup_or_book, uint64_t start, size_t room, struct nagsched_handle *callers, size_t count);
+uint32_t nagsched_open_with(struct nagsched_handle *setup_or_book, uint64_t start, size_t room, uint64_t calls, struct nagsched_handle *callers,
+                            size_t count);
+
+/* The six calls, a try each. WAIT: the turn hasn't come; nothing was made, and the same call with the same arguments
+ * is to be made again (any other meanwhile is WRONG). OK: the call is recorded, with this reply. SPENT, NO_MEMORY. */
+uint32_t nagsched_try_take(struct nagsched_handle *caller, uint64_t now, struct nagsched_reply *reply);
+uint32_t nagsched_try_report(struct nagsched_handle *caller, uint32_t object, uint64_t run, uint32_t code, struct nagsched_reply *reply);
+uint32_t nagsched_try_abandon(struct nagsched_handle *caller, uint32_t object, uint64_t run, uint64_t now, struct nagsched_reply *reply);
+uint32_t nagsched_try_reschedule(struct nagsched_handle *caller, uint32_t object, uint64_t time, uint32_t forced, struct nagsched_reply *reply);
+uint32_t nagsched_try_enable(struct nagsched_handle *caller, uint32_t object, uint32_t on, struct nagsched_reply *reply);
+uint32_t nagsched_try_status(struct nagsched_handle *caller, uint32_t object, struct nagsched_reply *reply);
+
+/* What is known of an object, by one load: whoever holds the desk, it doesn't wait. Not while the caller waits. */
+uint32_t nagsched_glance(struct nagsched_handle *caller, uint32_t object, struct nagsched_standing *standing);
+
+/* Adds another caller of the same desk to this one; the other handle is empty then. */
+uint32_t nagsched_gather(struct nagsched_handle *caller, struct nagsched_handle *other);
+
+/* Ends the desk: the caller, when all others are gathered in it, becomes the desk's book. MISSING before. */
+uint32_t nagsched_close(struct nagsched_handle *caller);
+
+/* How many entries a book or a history has, one of them by its index from 0, and how many calls a book
+ * refused when out of memory. */
+uint32_t nagsched_entries(const struct nagsched_handle *book_or_history, uint64_t *count);
+uint32_t nagsched_entry(const struct nagsched_handle *book_or_history, uint64_t index, struct nagsched_entry *entry);
+uint32_t nagsched_refused(const struct nagsched_handle *book, uint64_t *count);
+
+/* Goes on with a book: it stands where it stood, has no entries and the given room; its entries move into the
+ * empty handle history. Asks for memory. */
+uint32_t nagsched_renew(struct nagsched_handle *book, size_t room, struct nagsched_handle *history);
+
+/* Gives up what a handle has, and makes it empty; an empty one stays so. A caller that waits: WRONG. The callers of a
+ * desk that is given up so can never be closed: what is left of its history goes with the last of them. */
+uint32_t nagsched_free(struct nagsched_handle *handle);
+
+/* The six calls whole: each yields the processor between its tries. */
+static inline uint32_t nagsched_take(struct nagsched_handle *caller, uint64_t now, struct nagsched_reply *reply) {
+    uint32_t status;
+    while ((status = nagsched_try_take(caller, now, reply)) == NAGSCHED_WAIT) sched_yield();
+    return status;
+}
+
+static inline uint32_t nagsched_report(struct nagsched_handle *caller, uint32_t object, uint64_t run, uint32_t code, struct nagsched_reply *reply) {
+    uint32_t status;
+    while ((status = nagsched_try_report(caller, object, run, code, reply)) == NAGSCHED_WAIT) sched_yield();
+    return status;
+}
+
+static inline uint32_t nagsched_abandon(struct nagsched_handle *caller, uint32_t object, uint64_t run, uint64_t now, struct nagsched_reply *reply) {
+    uint32_t status;
+    while ((status = nagsched_try_abandon(caller, object, run, now, reply)) == NAGSCHED_WAIT) sched_yield();
+    return status;
+}
+
+static inline uint32_t nagsched_reschedule(struct nagsched_handle *caller, uint32_t object, uint64_t time, uint32_t forced,
+                                           struct nagsched_reply *reply) {
+    uint32_t status;
+    while ((status = nagsched_try_reschedule(caller, object, time, forced, reply)) == NAGSCHED_WAIT) sched_yield();
+    return status;
+}
+
+static inline uint32_t nagsched_enable(struct nagsched_handle *caller, uint32_t object, uint32_t on, struct nagsched_reply *reply) {
+    uint32_t status;
+    while ((status = nagsched_try_enable(caller, object, on, reply)) == NAGSCHED_WAIT) sched_yield();
+    return status;
+}
+
+static inline uint32_t nagsched_status(struct nagsched_handle *caller, uint32_t object, struct nagsched_reply *reply) {
+    uint32_t status;
+    while ((status = nagsched_try_status(caller, object, reply)) == NAGSCHED_WAIT) sched_yield();
+    return status;
+}
+
+#ifdef __cplusplus
+}
+#endif
+
+#endif

@@ -1,0 +1,343 @@
+/* Makes each mistake that include/nagsched.h names, and sees that it is answered WRONG and that nothing has changed: no
+ * handle, no result, and at the end no entry that wasn't asked for.
+ *
+ * Linked with -Wl,--wrap=malloc,--wrap=realloc: a call that asks for memory holds its turn meanwhile, and there another thread
+ * makes its own call, which has to wait.
+ */
+#include "counted.h"
+
+#include <pthread.h>
+
+#define LATEST ((uint64_t)1 << 60)
+
+/* All handles, and whatever a call may write. */
+static struct everything {
+    struct nagsched_handle empty, setup, of_desk[2], theirs, book, history, two[2];
+    struct nagsched_refusal refusal;
+    struct nagsched_reply reply;
+    struct nagsched_standing standing;
+    struct nagsched_call call;
+    struct nagsched_entry entry;
+    uint64_t count;
+    uint32_t number, hosts;
+    size_t length;
+    uint8_t text[64];
+} it, was;
+
+/* The two callers of one desk. */
+#define MINE (&it.of_desk[0])
+#define YOURS (&it.of_desk[1])
+
+/* A mistake: the status is WRONG, and all is as it was. */
+#define WRONG(mistake)                                                               \
+    do {                                                                             \
+        memcpy(&was, &it, sizeof it);                                                \
+        GIVES(WRONG, mistake);                                                       \
+        has_to_be(memcmp(&was, &it, sizeof it) == 0, #mistake " changes nothing", __FILE__, __LINE__); \
+    } while (0)
+
+/* A function that wants a handle of some kinds: an empty one, and one of another kind. */
+#define NOT_BY(function, handle, ...)            \
+    do {                                         \
+        WRONG(function(&it.empty, __VA_ARGS__)); \
+        WRONG(function(handle, __VA_ARGS__));    \
+    } while (0)
+
+void *__real_malloc(size_t size);
+void *__real_realloc(void *old, size_t size);
+static int waits_for_memory;
+static uint32_t status_meanwhile;
+
+/* Another thread's try, while this one holds the turn. */
+static void *meanwhile(void *given) {
+    (void)given;
+    status_meanwhile = nagsched_try_take(YOURS, 7, &it.reply);
+    return NULL;
+}
+
+static void let_others_try(void) {
+    pthread_t other;
+    if (!waits_for_memory) return;
+    waits_for_memory = 0;
+    if (pthread_create(&other, NULL, meanwhile, NULL) == 0) pthread_join(other, NULL);
+}
+
+void *__wrap_malloc(size_t size) {
+    let_others_try();
+    return __real_malloc(size);
+}
+
+void *__wrap_realloc(void *old, size_t size) {
+    let_others_try();
+    return __real_realloc(old, size);
+}
+
+static void readings(void) {
+    const uint8_t *document = (const uint8_t *)SETUP;
+    WRONG(nagsched_read(document, strlen(SETUP), &it.setup, &it.refusal));
+}
+
+/* A text that finds no room tells its length, and writes nothing else. */
+#define NO_ROOM(wanted, call)                            \
+    do {                                                 \
+        memcpy(&was, &it, sizeof it);                    \
+        GIVES(WRONG, call);                              \
+        IS(it.length == (wanted));                       \
+        it.length = was.length;                          \
+        IS(memcmp(&was, &it, sizeof it) == 0);           \
+    } while (0)
+
+static void texts(void) {
+    struct nagsched_refusal refused = {NAGSCHED_REFUSAL_DUPLICATE, NAGSCHED_PART_HOSTS, 1, 1}, none = refused;
+    const size_t length = strlen("refused L5 Duplicate hosts 1\n"), taken = strlen("taken 1 h\n");
+    none.kind = NAGSCHED_REFUSAL_PARENT_CYCLE + 1;
+    WRONG(nagsched_refusal_text(&none, it.text, sizeof it.text, &it.length));
+    none = refused, none.part = NAGSCHED_PART_HOST_DEPENDENCIES + 1;
+    WRONG(nagsched_refusal_text(&none, it.text, sizeof it.text, &it.length));
+    none = refused, none.has_index = 2;
+    WRONG(nagsched_refusal_text(&none, it.text, sizeof it.text, &it.length));
+    NO_ROOM(length, nagsched_refusal_text(&refused, it.text, length - 1, &it.length));
+    NO_ROOM(length, nagsched_refusal_text(&refused, it.text, 0, &it.length));
+    GIVES(OK, nagsched_refusal_text(&refused, it.text, length, &it.length));
+    IS(it.length == length && memcmp(it.text, "refused L5 Duplicate hosts 1\n", length) == 0);
+
+    memset(&it.call, 0, sizeof it.call), memset(&it.reply, 0, sizeof it.reply);
+    it.reply.run = 1;
+    NOT_BY(nagsched_reply_text, &it.history, &it.call, &it.reply, it.text, sizeof it.text, &it.length);
+    NO_ROOM(taken, nagsched_reply_text(&it.setup, &it.call, &it.reply, it.text, taken - 1, &it.length));
+    GIVES(OK, nagsched_reply_text(&it.setup, &it.call, &it.reply, it.text, sizeof it.text, &it.length));
+    IS(it.length == taken && memcmp(it.text, "taken 1 h\n", taken) == 0);
+    it.reply.kind = NAGSCHED_REPLY_RUNS_SPENT + 1;
+    WRONG(nagsched_reply_text(&it.setup, &it.call, &it.reply, it.text, sizeof it.text, &it.length));
+    it.reply.kind = 0, it.call.kind = NAGSCHED_CALL_STATUS + 1;
+    WRONG(nagsched_reply_text(&it.setup, &it.call, &it.reply, it.text, sizeof it.text, &it.length));
+
+    GIVES(OK, nagsched_entry(&it.history, 0, &it.entry));
+    NOT_BY(nagsched_entry_text, &it.history, &it.entry, it.text, sizeof it.text, &it.length);
+    NO_ROOM(taken + 2, nagsched_entry_text(&it.book, &it.entry, it.text, taken + 1, &it.length));
+    it.entry.reply.kind = NAGSCHED_REPLY_RUNS_SPENT + 1;
+    WRONG(nagsched_entry_text(&it.book, &it.entry, it.text, sizeof it.text, &it.length));
+}
+
+static void names(void) {
+    const uint8_t *name = (const uint8_t *)"h;s";
+    NOT_BY(nagsched_count, &it.history, &it.number, &it.hosts);
+    NOT_BY(nagsched_number, &it.history, name, 3, &it.number);
+    NOT_BY(nagsched_name, &it.history, 0, it.text, sizeof it.text, &it.length);
+    WRONG(nagsched_name(&it.setup, 2, it.text, sizeof it.text, &it.length));
+    NO_ROOM(3, nagsched_name(&it.setup, 1, it.text, 2, &it.length));
+    NOT_BY(nagsched_host_of, &it.history, 1, &it.number);
+    WRONG(nagsched_host_of(&it.setup, 2, &it.number));
+    memcpy(&was, &it, sizeof it);
+    GIVES(MISSING, nagsched_number(&it.setup, name, 2, &it.number));
+    GIVES(MISSING, nagsched_host_of(&it.setup, 0, &it.number));
+    IS(memcmp(&was, &it, sizeof it) == 0);
+}
+
+static void openings(void) {
+    NOT_BY(nagsched_open, MINE, 0, 0, it.two, 2);
+    WRONG(nagsched_open(&it.history, 0, 0, it.two, 2));
+    WRONG(nagsched_open(&it.setup, LATEST + 1, 0, it.two, 2));
+    WRONG(nagsched_open(&it.setup, 0, 0, it.two, 0));
+    WRONG(nagsched_open(&it.setup, 0, 0, it.two, 1025));
+    WRONG(nagsched_open(&it.setup, 0, 0, &it.book, 1));
+    WRONG(nagsched_open(&it.setup, 0, 0, MINE, 1));
+    WRONG(nagsched_open_with(&it.setup, 0, 0, 0, it.two, 2));
+    WRONG(nagsched_open_with(&it.setup, 0, 0, (uint64_t)1 << 32, it.two, 2));
+    WRONG(nagsched_open_with(MINE, 0, 0, 1, it.two, 2));
+    WRONG(nagsched_open(&it.book, 0, 0, it.two, 2));
+    GIVES(OK, read_setup(&it.two[1]));
+    WRONG(nagsched_open(&it.setup, 0, 0, it.two, 2));
+    GIVES(OK, nagsched_free(&it.two[1]));
+    memcpy(&was, &it, sizeof it);
+    GIVES(NO_MEMORY, nagsched_open(&it.setup, 0, SIZE_MAX, it.two, 2));
+    GIVES(NO_MEMORY, nagsched_renew(&it.book, SIZE_MAX, &it.empty));
+    IS(memcmp(&was, &it, sizeof it) == 0);
+}
+
+static void calls(struct nagsched_handle *other_kind) {
+    NOT_BY(nagsched_try_take, other_kind, 0, &it.reply);
+    NOT_BY(nagsched_try_report, other_kind, 0, 1, 0, &it.reply);
+    NOT_BY(nagsched_try_abandon, other_kind, 0, 1, 0, &it.reply);
+    NOT_BY(nagsched_try_reschedule, other_kind, 0, 0, 0, &it.reply);
+    NOT_BY(nagsched_try_enable, other_kind, 0, 1, &it.reply);
+    NOT_BY(nagsched_try_status, other_kind, 0, &it.reply);
+    NOT_BY(nagsched_glance, other_kind, 0, &it.standing);
+    WRONG(nagsched_gather(MINE, other_kind));
+    WRONG(nagsched_gather(other_kind, MINE));
+    WRONG(nagsched_close(other_kind));
+}
+
+static void arguments(void) {
+    WRONG(nagsched_try_report(MINE, 0, 1, 4, &it.reply));
+    WRONG(nagsched_try_reschedule(MINE, 0, 0, 2, &it.reply));
+    WRONG(nagsched_try_enable(MINE, 0, 2, &it.reply));
+    WRONG(nagsched_glance(MINE, 2, &it.standing));
+}
+
+/* Callers that can't be gathered, and a desk that can't be closed. */
+static void gatherings(void) {
+    WRONG(nagsched_gather(&it.empty, MINE));
+    WRONG(nagsched_gather(MINE, &it.empty));
+    WRONG(nagsched_gather(MINE, &it.theirs));
+    WRONG(nagsched_gather(&it.theirs, MINE));
+    WRONG(nagsched_close(&it.empty));
+    memcpy(&was, &it, sizeof it);
+    GIVES(MISSING, nagsched_close(MINE));
+    GIVES(MISSING, nagsched_close(YOURS));
+    IS(memcmp(&was, &it, sizeof it) == 0);
+}
+
+static void histories(void) {
+    NOT_BY(nagsched_entries, &it.setup, &it.count);
+    WRONG(nagsched_entries(MINE, &it.count));
+    NOT_BY(nagsched_entry, &it.setup, 0, &it.entry);
+    WRONG(nagsched_entry(MINE, 0, &it.entry));
+    WRONG(nagsched_entry(&it.book, 1, &it.entry));
+    WRONG(nagsched_entry(&it.history, 1, &it.entry));
+    WRONG(nagsched_entry(&it.book, UINT64_MAX, &it.entry));
+    NOT_BY(nagsched_refused, &it.history, &it.count);
+    WRONG(nagsched_refused(&it.setup, &it.count));
+    NOT_BY(nagsched_renew, &it.setup, 0, &it.empty);
+    WRONG(nagsched_renew(MINE, 0, &it.empty));
+    WRONG(nagsched_renew(&it.history, 0, &it.empty));
+    WRONG(nagsched_renew(&it.book, 0, &it.history));
+}
+
+/* A caller that waits has its turn to come, and does nothing else before. */
+static void waiting(void) {
+    struct nagsched_reply reply;
+    waits_for_memory = 1;
+    GIVES(OK, nagsched_take(MINE, 5, &reply));
+    IS(reply.kind == NAGSCHED_REPLY_TAKEN && reply.object == 0 && reply.run == 1);
+    IS(status_meanwhile == NAGSCHED_WAIT);
+    WRONG(nagsched_try_take(YOURS, 8, &it.reply));
+    WRONG(nagsched_try_report(YOURS, 0, 7, 0, &it.reply));
+    WRONG(nagsched_try_abandon(YOURS, 0, 0, 7, &it.reply));
+    WRONG(nagsched_try_reschedule(YOURS, 0, 7, 0, &it.reply));
+    WRONG(nagsched_try_enable(YOURS, 0, 1, &it.reply));
+    WRONG(nagsched_try_status(YOURS, 0, &it.reply));
+    WRONG(nagsched_glance(YOURS, 0, &it.standing));
+    WRONG(nagsched_gather(MINE, YOURS));
+    WRONG(nagsched_gather(YOURS, MINE));
+    WRONG(nagsched_close(YOURS));
+    WRONG(nagsched_free(YOURS));
+    /* This one's ticket is behind. */
+    GIVES(WAIT, nagsched_try_report(MINE, 0, 1, 2, &reply));
+    GIVES(WAIT, nagsched_try_report(MINE, 0, 1, 2, &reply));
+    WRONG(nagsched_try_report(MINE, 1, 1, 2, &it.reply));
+    WRONG(nagsched_try_report(MINE, 0, 2, 2, &it.reply));
+    WRONG(nagsched_try_report(MINE, 0, 1, 1, &it.reply));
+    WRONG(nagsched_free(MINE));
+    GIVES(OK, nagsched_try_take(YOURS, 7, &reply));
+    IS(reply.kind == NAGSCHED_REPLY_TAKEN && reply.object == 1 && reply.run == 2);
+    GIVES(OK, nagsched_try_report(MINE, 0, 1, 2, &reply));
+    IS(reply.kind == NAGSCHED_REPLY_STANDING && reply.standing.state == NAGSCHED_STATE_DOWN && reply.changed == 1);
+    GIVES(OK, nagsched_glance(YOURS, 0, &it.standing));
+    IS(it.standing.checked == 1 && it.standing.state == NAGSCHED_STATE_DOWN && it.standing.kind == NAGSCHED_SOFT);
+}
+
+/* Numbers that the scheduler refuses are no mistakes of the call: the refusal is recorded. */
+static void refused_calls(void) {
+    struct nagsched_reply reply;
+    GIVES(OK, nagsched_take(MINE, LATEST + 1, &reply));
+    IS(reply.kind == NAGSCHED_REPLY_TIME_RANGE);
+    GIVES(OK, nagsched_status(MINE, 2, &reply));
+    IS(reply.kind == NAGSCHED_REPLY_UNKNOWN_OBJECT);
+    GIVES(OK, nagsched_report(MINE, 0, 1, 0, &reply));
+    IS(reply.kind == NAGSCHED_REPLY_NOT_RUNNING);
+    GIVES(OK, nagsched_report(MINE, 1, 1, 0, &reply));
+    IS(reply.kind == NAGSCHED_REPLY_WRONG_RUN);
+}
+
+/* What the history has to be, whatever was done wrong meanwhile. */
+static void history_of(const struct nagsched_handle *book) {
+    static const struct { uint64_t caller; uint32_t call, reply; } wanted[] = {
+        {0, NAGSCHED_CALL_TAKE, NAGSCHED_REPLY_TAKEN},          {1, NAGSCHED_CALL_TAKE, NAGSCHED_REPLY_TAKEN},
+        {0, NAGSCHED_CALL_REPORT, NAGSCHED_REPLY_STANDING},     {0, NAGSCHED_CALL_TAKE, NAGSCHED_REPLY_TIME_RANGE},
+        {0, NAGSCHED_CALL_STATUS, NAGSCHED_REPLY_UNKNOWN_OBJECT}, {0, NAGSCHED_CALL_REPORT, NAGSCHED_REPLY_NOT_RUNNING},
+        {0, NAGSCHED_CALL_REPORT, NAGSCHED_REPLY_WRONG_RUN},
+    };
+    const uint64_t entries = sizeof wanted / sizeof *wanted;
+    struct nagsched_entry entry;
+    uint64_t count = 0;
+    GIVES(OK, nagsched_entries(book, &count));
+    IS(count == entries);
+    for (uint64_t index = 0; index < entries; index++) {
+        GIVES(OK, nagsched_entry(book, index, &entry));
+        IS(entry.caller == wanted[index].caller && entry.call.kind == wanted[index].call && entry.reply.kind == wanted[index].reply);
+    }
+    GIVES(OK, nagsched_refused(book, &count));
+    IS(count == 0);
+}
+
+/* A caller with one call makes no second one. */
+static void spent(void) {
+    struct nagsched_handle setup = NAGSCHED_EMPTY, caller = NAGSCHED_EMPTY;
+    GIVES(OK, read_setup(&setup));
+    GIVES(OK, nagsched_open_with(&setup, 0, 10, 1, &caller, 1));
+    IS(setup.full == 0 && caller.full != 0);
+    GIVES(OK, nagsched_status(&caller, 0, &it.reply));
+    memcpy(&was, &it, sizeof it);
+    GIVES(SPENT, nagsched_status(&caller, 0, &it.reply));
+    IS(memcmp(&was, &it, sizeof it) == 0);
+    GIVES(OK, nagsched_close(&caller));
+    GIVES(OK, nagsched_entries(&caller, &it.count));
+    IS(it.count == 1);
+    GIVES(OK, nagsched_free(&caller));
+}
+
+/* Another desk, and a book and a history with an entry each. */
+static void others(void) {
+    struct nagsched_handle setup = NAGSCHED_EMPTY, first = NAGSCHED_EMPTY;
+    GIVES(OK, read_setup(&setup));
+    GIVES(OK, nagsched_open(&setup, 0, 1, &it.theirs, 1));
+    GIVES(OK, read_setup(&setup));
+    GIVES(OK, nagsched_open(&setup, 0, 1, &first, 1));
+    GIVES(OK, nagsched_take(&first, 0, &it.reply));
+    GIVES(OK, nagsched_close(&first));
+    GIVES(OK, nagsched_renew(&first, 1, &it.history));
+    WRONG(nagsched_open(&first, 1, 0, it.two, 2));
+    WRONG(nagsched_open(&first, 0, 1, it.two, 2));
+    GIVES(OK, nagsched_open(&first, 0, 0, &it.book, 1));
+    IS(first.full == 0);
+    GIVES(OK, nagsched_report(&it.book, 0, 1, 0, &it.reply));
+    IS(it.reply.kind == NAGSCHED_REPLY_STANDING);
+    GIVES(OK, nagsched_close(&it.book));
+}
+
+int main(void) {
+    struct nagsched_handle setup = NAGSCHED_EMPTY;
+    IS(nagsched_version() == NAGSCHED_VERSION);
+    others();
+    GIVES(OK, read_setup(&it.setup));
+    GIVES(OK, read_setup(&setup));
+    GIVES(OK, nagsched_open(&setup, 0, 0, it.of_desk, 2));
+    readings();
+    texts();
+    names();
+    openings();
+    calls(&it.setup);
+    calls(&it.book);
+    calls(&it.history);
+    arguments();
+    gatherings();
+    histories();
+    waiting();
+    refused_calls();
+    gatherings();
+    GIVES(OK, nagsched_gather(MINE, YOURS));
+    IS(YOURS->full == 0);
+    WRONG(nagsched_gather(MINE, YOURS));
+    GIVES(OK, nagsched_close(MINE));
+    history_of(MINE);
+    spent();
+    GIVES(OK, nagsched_free(&it.empty));
+    GIVES(OK, nagsched_free(&it.setup));
+    GIVES(OK, nagsched_free(&it.setup));
+    GIVES(OK, nagsched_free(MINE));
+    GIVES(OK, nagsched_free(&it.theirs));
+    GIVES(OK, nagsched_free(&it.book));
+    GIVES(OK, nagsched_free(&it.history));
+    return told("wrong");
+}

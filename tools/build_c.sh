@@ -1,0 +1,43 @@
+#!/usr/bin/env bash
+# Proves and builds the C library, and lays it down under a folder.
+#   tools/build_c.sh [PREFIX]     out/c where no folder is named
+# PREFIX gets include/nagsched.h, lib/libnagsched.a, lib/libnagsched.so and lib/pkgconfig/nagsched.pc. Of both libraries
+# only the names that the header declares are to be seen, and they need the C library alone.
+# Wants rt, cc and the binutils: ld, ar, objcopy.
+set -eu -o pipefail
+top=$(cd "$(dirname "$0")/.." && pwd)
+header=$top/include/nagsched.h
+heap=$(dirname "$(rt doc)")/c/liblibc_c.a
+mkdir -p "${1:-$top/out/c}"
+prefix=$(cd "${1:-$top/out/c}" && pwd)
+work=$(mktemp -d)
+trap 'rm -rf "$work"' EXIT
+
+(cd "$top/crates/nagsched_c" && rt lib > "$work/build.log" 2>&1) || { cat "$work/build.log"; exit 1; }
+
+version=$(sed -n 's/^#define NAGSCHED_VERSION \([0-9]*\)u$/\1/p' "$header")
+sed -n 's/^uint32_t \(nagsched_[a-z_]*\)(.*/\1/p' "$header" > "$work/names"
+{ echo '{ global:'; sed 's/$/;/' "$work/names"; echo 'local: *; };'; } > "$work/names.map"
+
+# One object with all that the library needs, whose other names are its own.
+ld -r -o "$work/nagsched.o" --whole-archive "$top/crates/nagsched_c/out/libnagsched_c.a" --no-whole-archive "$heap"
+objcopy --keep-global-symbols="$work/names" "$work/nagsched.o"
+
+mkdir -p "$prefix/include" "$prefix/lib/pkgconfig"
+cp "$header" "$prefix/include/"
+rm -f "$prefix/lib/libnagsched.a"
+ar rcs "$prefix/lib/libnagsched.a" "$work/nagsched.o"
+cc -shared -Wl,-soname,"libnagsched.so.$version" -Wl,--version-script="$work/names.map" -Wl,-z,defs \
+    -o "$prefix/lib/libnagsched.so.$version" "$work/nagsched.o"
+ln -sf "libnagsched.so.$version" "$prefix/lib/libnagsched.so"
+cat > "$prefix/lib/pkgconfig/nagsched.pc" <<END
+prefix=$prefix
+includedir=\${prefix}/include
+libdir=\${prefix}/lib
+
+Name: nagsched
+Description: The proved scheduler of active checks
+Version: $version
+Libs: -L\${libdir} -lnagsched
+Cflags: -I\${includedir}
+END
