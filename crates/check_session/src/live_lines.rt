@@ -1,6 +1,6 @@
 //! The lines of a conversation, taken one at a time: the reader is asked only where no whole line is
 //! at hand, and what was written is flushed before.
-ghost use Rattle.std.specs.Prelude.{◌≡◌, ◌++◌, ℕ, List, [], IfOk, OnOk, true, false};
+ghost use Rattle.std.specs.Prelude.{◌≡◌, ◌++◌, ℕ, List, [], IfOk, IfErr, OnOk, true, false};
 ghost use Rattle.std.specs.Io.KnownBytes.{Consumes, IsAtEnd, Keeps};
 ghost use Rattle.check_script.specs.LiveInput.{TookLine, front_of, has_feed};
 
@@ -9,7 +9,7 @@ use check_text::flush;
 use std::io::{Read, Write};
 
 /// Takes the next line, and tells whether its line feed came: where it didn't, the input has ended.
-/// Where a whole line is at hand the reader isn't asked.
+/// Where a whole line is at hand the reader isn't asked, and memory alone may be wanting.
 pub fn take_next_line<R: Read, W: Write>(
     at_hand: &mut InputBuffer,
     line: &mut KeptLine,
@@ -21,6 +21,8 @@ pub fn take_next_line<R: Read, W: Write>(
         × IfOk result (TookLine line.old.most (at_hand.old ++ given) line.new at_hand.new
         (IsAtEnd (R.remaining reader.new))) }
     ensures unasked { has_feed at_hand.old ≡ true → reader.new ≡ reader.old }
+    ensures memory { has_feed at_hand.old ≡ true
+        → IfErr result (λ e. e ≡ DriveError.Memory) }
     ensures kept { Keeps (W.contents writer.old) (W.contents writer.new) }
 {
     line.clear();
