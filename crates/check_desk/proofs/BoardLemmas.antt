@@ -1,13 +1,13 @@
 -- The board of a desk: how many words it has, and the places at which calls are posted.
 use Rattle.std.proofs.Common.{◌≡◌, ℕ, ◌<◌, [], length, sym, ap, ◌∙◌, arith, Option, Some, None, IfSome}
 use Rattle.check_objects.specs.Configuration.{object_count}
-use Rattle.check_sched.specs.declared.book.Book.{Book}
 use Rattle.check_sched.specs.declared.call.Call.{Call}
-use Rattle.check_sched.specs.Board.{book_board, book_place}
-use Rattle.check_sched.specs.BoardLaws.{board_within}
-use Rattle.check_sched.specs.BookState.{BookState}
-use Rattle.check_sched.specs.Books.{entries_of, opening_of, state_of}
-use Rattle.check_sched.proofs.PublicLaws.{state_words}
+use Rattle.check_book.specs.declared.book.Book.{Book}
+use Rattle.check_book.specs.Board.{book_board, book_place}
+use Rattle.check_book.specs.BoardLaws.{board_within}
+use Rattle.check_book.specs.BookState.{BookState}
+use Rattle.check_book.specs.Books.{entries_of, opening_of, state_of}
+use Rattle.check_book.proofs.PublicLaws.{state_words}
 
 -- whatever calls a book has, its board has a word for each object of the setup that it was opened with
 pub words_in : (book : Book) → length (book_board (state_of book)) ≡ object_count (opening_of book).sched.setup

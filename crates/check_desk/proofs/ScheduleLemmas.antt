@@ -13,11 +13,11 @@ use Rattle.ticket_steps.proofs.SeatLemmas.{alone, posts, unnumbered_calls, unnum
 use Rattle.check_objects.specs.Configuration.{Configuration}
 use Rattle.check_sched.specs.declared.call.Call.{Call}
 use Rattle.check_sched.specs.declared.call.Reply.{Reply}
-use Rattle.check_sched.specs.BookState.{BookState, book_at, book_opening, book_step}
-use Rattle.check_sched.specs.contracts.book.BookKept.TheImpl.{ghosts as kept_book}
 use Rattle.check_sched.specs.State.{State, opening}
 use Rattle.check_sched.specs.Step.{step}
-use Rattle.check_sched.proofs.PublicLaws.{book_is_legal, joined_book, joined_book_state}
+use Rattle.check_book.specs.BookState.{BookState, book_at, book_opening, book_step}
+use Rattle.check_book.specs.contracts.book.BookKept.TheImpl.{ghosts as kept_book}
+use Rattle.check_book.proofs.PublicLaws.{book_is_legal, joined_book, joined_book_state}
 use Rattle.check_desk.specs.Schedules.{IsScheduleAfter, IsScheduleOver}
 
 -- the scheduler of a book goes through its calls alone

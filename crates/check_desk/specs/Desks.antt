@@ -9,9 +9,9 @@ use Rattle.check_objects.specs.Configuration.{object_count}
 use Rattle.check_rules.specs.declared.standing.Standing.{Standing}
 use Rattle.check_sched.specs.declared.call.Call.{Call}
 use Rattle.check_sched.specs.declared.call.Reply.{Reply}
-use Rattle.check_sched.specs.BookState.{BookState, book_step}
-use Rattle.check_sched.specs.Books.{opening_of}
 use Rattle.check_sched.specs.State.{standing_at}
+use Rattle.check_book.specs.BookState.{BookState, book_step}
+use Rattle.check_book.specs.Books.{opening_of}
 use Rattle.check_desk.specs.declared.desk.Answer.{Answer}
 use Rattle.check_desk.specs.declared.desk.Answer.TheVariants as answer
 use Rattle.check_desk.specs.declared.desk.Desk.{Desk}

@@ -3,9 +3,9 @@
 use Rattle.std.specs.Prelude.{ℕ, ◌-◌, ◌^◌, [], ◌∷◌, true}
 use Rattle.ticket_lock.specs.Callers.{Caller, caller}
 use Rattle.ticket_lock.specs.Tokens.{seat_of, turn_of, hold_of, ticket_of}
-use Rattle.check_sched.specs.declared.book.Book.{Book}
 use Rattle.check_sched.specs.declared.call.Call.{Call}
 use Rattle.check_sched.specs.declared.call.Reply.{Reply}
+use Rattle.check_book.specs.declared.book.Book.{Book}
 use Rattle.check_desk.specs.declared.passes.Pass.{Pass}
 use Rattle.check_desk.specs.declared.passes.Turn.{Turn}
 use Rattle.check_desk.specs.declared.passes.Hold.{Hold}

@@ -6,10 +6,10 @@ use Rattle.ticket_steps.specs.Schedules.{Schedule, IsSchedule}
 use Rattle.check_objects.specs.Configuration.{Configuration}
 use Rattle.check_sched.specs.declared.call.Call.{Call}
 use Rattle.check_sched.specs.declared.call.Reply.{Reply}
-use Rattle.check_sched.specs.BookState.{BookState, book_at, book_opening}
-use Rattle.check_sched.specs.contracts.book.BookKept.TheImpl.{ghosts as kept_book}
 use Rattle.check_sched.specs.State.{opening}
 use Rattle.check_sched.specs.Step.{step}
+use Rattle.check_book.specs.BookState.{BookState, book_at, book_opening}
+use Rattle.check_book.specs.contracts.book.BookKept.TheImpl.{ghosts as kept_book}
 
 -- A schedule of the core, with 1 to 1,024 numbers, over a book that opens empty on this setup, at this start and with this
 -- room: any steps of any seats, one after another.

@@ -15,10 +15,10 @@ ghost use Rattle.ticket_steps.specs.Sums.{times};
 ghost use Rattle.check_objects.specs.Configuration.{Configuration};
 ghost use Rattle.check_sched.specs.declared.call.Call.{Call};
 ghost use Rattle.check_sched.specs.declared.call.Reply.{Reply};
-ghost use Rattle.check_sched.specs.BookState.{BookState};
 ghost use Rattle.check_sched.specs.Runs.{begins, runs_begun, runs_under};
 ghost use Rattle.check_sched.specs.State.{opening};
 ghost use Rattle.check_sched.specs.Step.{step};
+ghost use Rattle.check_book.specs.BookState.{BookState};
 ghost use Rattle.check_desk.specs.declared.desk.Desk.{Desk};
 ghost use Rattle.check_desk.specs.declared.passes.Pass.{Pass};
 ghost use Rattle.check_desk.specs.Desks.{AreNewPasses, IsHistoryOf, IsPassOf};
@@ -43,7 +43,7 @@ ghost use Rattle.check_desk.specs.Schedules.{IsScheduleAfter, IsScheduleOver};
 ///   all numbers, they are the calls that it tells of, and one more while it has posted a call and
 ///   not left (`all`).
 ///
-/// A book that was [renewed](check_sched::Book::renew) goes on from those before it. Of each such book,
+/// A book that was [renewed](check_book::Book::renew) goes on from those before it. Of each such book,
 /// with whatever legal history `earlier` that led to where it opened:
 ///
 /// - `earlier` followed by its entries is one thread's history from the setup's opening on

@@ -5,10 +5,10 @@
 
 ghost use Rattle.std.specs.Prelude.{◌≡◌, ◌+◌, ◌<◌, ◌≤◌, ◌^◌, false, length};
 ghost use Rattle.ticket_steps.specs.Sums.{times};
-ghost use Rattle.check_sched.specs.Books.{entries_of, refused_of};
+ghost use Rattle.check_book.specs.Books.{entries_of, refused_of};
 ghost use Rattle.ticket_lock.specs.Tokens.{has_posted, held_ticket_of, hold_of, refused_before};
 
-use check_sched::Book;
+use check_book::Book;
 use ticket_lock::Seat;
 
 /// The right to call: one caller's, for as many calls as the desk was opened with, up to 2^32 - 1,

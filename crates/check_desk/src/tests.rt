@@ -4,13 +4,14 @@
 //! Desks are opened at the second try where the first runs out of memory.
 
 ghost use Rattle.std.specs.Prelude.{◌≡◌, ◌<◌, ◌≤◌, [], IfOk, length};
-ghost use Rattle.check_sched.specs.Books.{entries_of, refused_of};
+ghost use Rattle.check_book.specs.Books.{entries_of, refused_of};
 ghost use Rattle.check_desk.specs.Desks.{AreNewPasses, AreNewPassesWith, IsHolderAt, IsPassOf, IsWaitingAt, passes_of};
 
 use crate::{Answer, Desk, Hold, Pass, Poll, Turn};
+use check_book::Book;
 use check_objects::{LoadError, Setup};
 use check_rules::{Code, Kind, Standing, State, code};
-use check_sched::{Book, Call, Reply};
+use check_sched::{Call, Reply};
 use std::alloc::{AllocError, Global};
 use std::process::Abort;
 use std::sync::Wait;

@@ -1,5 +1,3 @@
-pub mod BoardLaws
-pub mod BookLemmas
 pub mod AnswerLaws
 pub mod CandidateLaws
 pub mod EligibleLaws
@@ -19,4 +17,3 @@ pub mod StepLaws
 pub mod TakeLaws
 pub mod UpdateLaws
 pub mod ChangeLaws
-pub mod GenerationLaws

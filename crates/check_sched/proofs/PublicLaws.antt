@@ -1,8 +1,6 @@
 -- The laws of `laws.rt` as lemmas, for the proofs of crates above; above each line stands the law whose clauses they are.
 
--- board_shows_standings: few, read, read_from, words, words_from
-pub use Rattle.check_sched.proofs.BoardLaws.{few_words, opened_read, opened_words, state_read, state_words}
--- runs_once: books, numbers, once
-pub use Rattle.check_sched.proofs.RunLaws.{book_is_legal, taken_next, taken_once}
--- generations: book, book_state, legal, setup, state
-pub use Rattle.check_sched.proofs.GenerationLaws.{joined_book, joined_book_state, joined_legal, joined_setup, joined_state}
+-- runs_once: numbers, once
+pub use Rattle.check_sched.proofs.RunLaws.{taken_next, taken_once}
+-- standings_are_lawful
+pub use Rattle.check_sched.proofs.StandingLaws.{opened_standing}

@@ -1,6 +1,6 @@
 -- Laws of replies: which replies a call can have in a history.
-use Rattle.std.proofs.Common.{◌≡◌, ℕ, ◌<◌, ◌^◌, Bool, true, false, ◌==◌, cond, List, [], ◌∷◌, ◌++◌, length, Option, Some, None, Result, Ok, Err, refl, sym}
-use Rattle.std.proofs.Common.{subst, ◌∙◌, arith}
+use Rattle.std.proofs.Common.{◌≡◌, ℕ, ◌<◌, ◌^◌, Bool, true, false, ◌==◌, cond, List, [], ◌∷◌, ◌++◌, length, Option, Some, None, Result, Ok, Err, refl}
+use Rattle.std.proofs.Common.{◌∙◌, arith}
 use Rattle.std.specs.Prelude.{nat_lt, ok_or, slice_get}
 use Rattle.ticket_steps.specs.declared.kept.Entry.{Entry}
 use Rattle.ticket_steps.specs.History.{entry, replay, IsLegal}
@@ -16,12 +16,11 @@ use Rattle.check_sched.specs.Candidate.{Candidate}
 use Rattle.check_queue.specs.Order.{least}
 use Rattle.check_sched.specs.State.{State}
 use Rattle.check_sched.specs.Step.{◌>>=◌, eligible, report_taken, settled, step, take_least}
-use Rattle.check_sched.specs.BookState.{BookState, book_step}
 pub use Rattle.check_sched.specs.Reply.{IsReportRefusal, IsReportReply, IsTakeRefusal, IsTakeReply}
 use Rattle.check_sched.proofs.EligibleLaws.{waiting_cases}
 use Rattle.check_sched.proofs.OperatorLaws.{abandon_cases, enable_cases, reschedule_cases, status_cases}
 use Rattle.check_sched.proofs.ReportLaws.{report_cases}
-use Rattle.check_sched.proofs.RunLaws.{book_is_legal, eligible_there, legal_back, legal_front}
+use Rattle.check_sched.proofs.RunLaws.{eligible_there, legal_back, legal_front}
 use Rattle.check_sched.proofs.TakeLaws.{take_by, take_cases}
 use Rattle.check_sched.proofs.UpdateLaws.{length-update_at, none_there}
 
@@ -105,18 +104,8 @@ step_report s n run code there = found_by s n run code (slice_get s.objects n) r
 
 -- ---- histories
 
--- the last reply of a book's history is the scheduler's
-last_reply : (s : BookState) (h : List (Entry Call Reply)) (n : ℕ) (c : Call) (r : Reply)
-    → IsLegal book_step s (h ++ entry n c r ∷ []) → r ≡ (step (replay step s.sched h) c).1
-last_reply s h n c r legal = (legal_back s.sched h (entry n c r ∷ []) (book_is_legal s.sched s.room (h ++ entry n c r ∷ []) legal)).0
-
--- In a book's history a take is answered by a take's reply.
-pub take_reply : (s : BookState) (h : List (Entry Call Reply)) (n now : ℕ) (r : Reply)
-    → IsLegal book_step s (h ++ entry n (call.Take now) r ∷ []) → IsTakeReply r
-take_reply s h n now r legal = subst IsTakeReply (sym (last_reply s h n (call.Take now) r legal)) (step_take (replay step s.sched h) now)
-
 -- what was taken in a history is one of the objects that it began with
-taken_among : (s : State) (front back : List (Entry Call Reply)) (m now object run : ℕ)
+pub taken_among : (s : State) (front back : List (Entry Call Reply)) (m now object run : ℕ)
     → IsLegal step s ((front ++ entry m (call.Take now) (reply.Taken object run) ∷ []) ++ back) → object < length s.objects
 taken_among s front back m now object run legal =
     let taken = entry m (call.Take now) (reply.Taken object run) in
@@ -124,17 +113,3 @@ taken_among s front back m now object run legal =
     let there = taken_there (replay step s front) now object run (legal_back s front (taken ∷ []) until).0 in
     let count = replay_objects s front in
     omega (arith, there, count)
-
--- In a book's history the report of an object that was taken before is answered by its standing, or
--- refused since the object isn't running or runs under another run.
-pub report_reply : (s : BookState) (front back : List (Entry Call Reply)) (m n now object run : ℕ) (code : Code) (r : Reply)
-    → IsLegal book_step s (((front ++ entry m (call.Take now) (reply.Taken object run) ∷ []) ++ back) ++ entry n (call.Report object run code) r ∷ [])
-    → IsReportReply r
-report_reply s front back m n now object run code r legal =
-    let before = (front ++ entry m (call.Take now) (reply.Taken object run) ∷ []) ++ back in
-    let report = entry n (call.Report object run code) r in
-    let first = legal_front s.sched before (report ∷ []) (book_is_legal s.sched s.room (before ++ report ∷ []) legal) in
-    let there = taken_among s.sched front back m now object run first in
-    let count = replay_objects s.sched before in
-    let is = last_reply s before n (call.Report object run code) r legal in
-    subst IsReportReply (sym is) (step_report (replay step s.sched before) object run code (omega (arith, there, count)))

@@ -18,7 +18,6 @@ use Rattle.check_queue.specs.Order.{least}
 use Rattle.check_sched.specs.Scheduling.{Scheduling, OpenRun, candidate_time, run_under, running_from}
 use Rattle.check_sched.specs.State.{State, is_host}
 use Rattle.check_sched.specs.Step.{candidates, due, eligible, is_open, known, step, taken, update_at, waiting_reply, within_range}
-use Rattle.check_sched.specs.BookState.{book_step}
 use Rattle.check_sched.specs.Runs.{begins, begins_by, ends, ends_by, runs_begun, runs_under, takes_by}
 use Rattle.check_sched.proofs.AnswerLaws.{by_test, known_is, under_is}
 use Rattle.check_queue.proofs.LeastLaws.{all_at_least, all_filtered}
@@ -293,8 +292,3 @@ taken_next s front back e o r none legal is =
     let begun = begun_by (replay step s front) e o r (legal_back s front (e ∷ back) legal).0 is in
     let count = runs_count s front (legal_front s front (e ∷ back) legal) in
     omega (arith, begun.next, count, none)
-
--- the history of a book is one of its scheduler
-pub book_is_legal : (s : State) (room : ℕ) (h : List (Entry Call Reply)) → IsLegal book_step (record { sched = s; room = room }) h → IsLegal step s h
-book_is_legal s room [] legal = tt
-book_is_legal s room (e ∷ h) legal = (legal.0, book_is_legal (step s e.call).0 room h legal.1)

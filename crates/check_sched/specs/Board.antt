@@ -8,7 +8,6 @@ use Rattle.check_sched.specs.declared.call.Reply.{Reply}
 use Rattle.check_sched.specs.declared.call.Reply.TheVariants as reply
 use Rattle.check_sched.specs.State.{State, standing_at}
 use Rattle.check_sched.specs.Step.{step}
-use Rattle.check_sched.specs.BookState.{BookState, book_step}
 
 -- the words of the standings of all objects, in the order of their numbers
 abbrev pub board_of : State → List ℕ
@@ -23,11 +22,3 @@ place_by c r = None
 -- the place at which a call is posted that is made now
 abbrev pub place_of : State → Call → Option ℕ
 place_of s c = place_by c (step s c).1
-
--- ---- of a book
-
-abbrev pub book_board : BookState → List ℕ
-book_board s = board_of s.sched
-
-abbrev pub book_place : BookState → Call → Option ℕ
-book_place s c = place_by c (book_step s c).1

@@ -23,8 +23,7 @@ use Rattle.check_sched.specs.Report.{put_off_until}
 use Rattle.check_sched.specs.State.{State, standing_at}
 use Rattle.check_sched.specs.Step.{◌>>=◌, eligible, found_in, is_held_back, judged_in, known, put_off, report_taken, run_left, settled, step, take_least, taken}
 use Rattle.check_sched.specs.Step.{update_at, within_range}
-use Rattle.check_sched.specs.Board.{board_of, book_board, book_place, place_by}
-use Rattle.check_sched.specs.BookState.{BookState, book_step}
+use Rattle.check_sched.specs.Board.{board_of, place_by}
 
 -- ---- one place changed in a list
 
@@ -170,7 +169,7 @@ nowhere : {P : Type 0} (at : ℕ) → None ≡ Some at → P
 nowhere at e = absurd (cc)
 
 -- a posted call is posted at the place of a word
-step_within : (s : State) (c : Call) (at : ℕ) → place_by c (step s c).1 ≡ Some at → at < length (board_of s)
+pub step_within : (s : State) (c : Call) (at : ℕ) → place_by c (step s c).1 ≡ Some at → at < length (board_of s)
 step_within s (call.Report n run code) at =
     by_report (λ a. place_by (call.Report n run code) a.1 ≡ Some at → at < length (board_of s)) n run code s (λ why e. nowhere at e)
     (λ o r f e.
@@ -182,7 +181,7 @@ step_within s (call.Enable n on) at = nowhere at
 step_within s (call.Status n) at = nowhere at
 
 -- a call that isn't posted changes no word
-step_unposted : (s : State) (c : Call) → place_by c (step s c).1 ≡ None → Same s (step s c)
+pub step_unposted : (s : State) (c : Call) → place_by c (step s c).1 ≡ None → Same s (step s c)
 step_unposted s (call.Report n run code) e =
     by_report (λ a. place_by (call.Report n run code) a.1 ≡ None → Same s a) n run code s (λ why none. refl) (λ o r f none. nowhere n (sym none)) e
 step_unposted s (call.Take now) e = same_take now s
@@ -195,7 +194,7 @@ step_unposted s (call.Status n) e = same_status n s
 abbrev Posted : State → ℕ → State × Reply → Type 0
 Posted s at a = board_of a.0 ≡ slice_set (board_of s) at (slice_index (board_of a.0) at)
 
-step_posted : (s : State) (c : Call) (at : ℕ) → place_by c (step s c).1 ≡ Some at → Posted s at (step s c)
+pub step_posted : (s : State) (c : Call) (at : ℕ) → place_by c (step s c).1 ≡ Some at → Posted s at (step s c)
 step_posted s (call.Report n run code) at =
     by_report (λ a. place_by (call.Report n run code) a.1 ≡ Some at → Posted s at a) n run code s (λ why e. nowhere at e)
     (λ o r f e.
@@ -206,18 +205,3 @@ step_posted s (call.Abandon n run now) at = nowhere at
 step_posted s (call.Reschedule n time forced) at = nowhere at
 step_posted s (call.Enable n on) at = nowhere at
 step_posted s (call.Status n) at = nowhere at
-
--- ---- of a book
-
--- A call is posted at the place of a word.
-pub board_within : (s : BookState) (c : Call) (at : ℕ) → book_place s c ≡ Some at → at < length (book_board s)
-board_within s c at e = step_within s.sched c at e
-
--- No call but a report that is answered by a standing changes a word,
-pub board_unposted : (s : BookState) (c : Call) → book_place s c ≡ None → book_board (book_step s c).0 ≡ book_board s
-board_unposted s c e = step_unposted s.sched c e
-
--- and such a report changes no word but its object's.
-pub board_posted : (s : BookState) (c : Call) (at : ℕ) → book_place s c ≡ Some at
-    → book_board (book_step s c).0 ≡ slice_set (book_board s) at (slice_index (book_board (book_step s c).0) at)
-board_posted s c at e = step_posted s.sched c at e

@@ -7,12 +7,8 @@ pub mod Reply
 pub mod Report
 pub mod Step
 pub mod Sched
-pub mod BookState
-pub mod Logs
-pub mod Books
 pub mod Runs
 pub mod Results
 pub mod Flapping
 pub mod Board
 pub mod BoardLaws
-pub mod SetupLaws

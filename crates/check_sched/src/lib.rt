@@ -11,16 +11,13 @@
 //! replies, `object_state` what is kept of one object, `candidate` an object that waits for its
 //! check, `roster` the objects with the queues of those that wait, `results` the last results of
 //! each object, `report` what the result of a check makes of an object, `sched` the scheduler (in it
-//! `checks` has what workers call and `operators` what operators call), `opening` what a book began
-//! with, `book` the scheduler with the history of its calls, `laws` what follows for all calls that
-//! are made one after another.
+//! `checks` has what workers call and `operators` what operators call), `laws` what follows for all
+//! calls that are made one after another.
 
-mod book;
 mod call;
 mod candidate;
 pub mod laws;
 mod object_state;
-mod opening;
 mod report;
 mod results;
 mod roster;
@@ -28,7 +25,6 @@ mod sched;
 #[cfg(test)]
 mod tests;
 
-pub use book::Book;
 pub use call::{Call, Refusal, Reply};
 pub use check_spread::{LAST_MOMENT, LAST_TIME};
 pub use sched::{MAX_RUNS, Sched};

@@ -170,22 +170,25 @@ impl Sched {
         }
     }
 
-    /// A law without code: each scheduler is in a state that one can be in.
-    pub(crate) fn is_state(&self)
+    /// A law without code: each scheduler is in a state that one can be in. For the proofs of what
+    /// stands on it.
+    pub fn is_state(&self)
         ensures { IsState self.now }
     {
         let _ = &self.setup;
     }
 
-    /// How many words its board has: one for each object.
-    pub(crate) fn words(&self) -> u32
+    /// How many words its board has: one for each object, and so at most 4,096. The board is what a
+    /// lock shows of the scheduler to those who don't hold it.
+    pub fn words(&self) -> u32
         ensures { result ≡ length (board_of self.now) }
     {
         self.setup.len() as u32
     }
 
-    /// The word of the standing of the object with this number.
-    pub(crate) fn word(&self, number: u32) -> u64
+    /// The word of its board for the object with this number: the [`code`] of the object's standing,
+    /// which [`decode`](check_rules::decode) reads.
+    pub fn word(&self, number: u32) -> u64
         requires { number < length (board_of self.now) }
         ensures { result ≡ slice_index (board_of self.now) number }
     {
@@ -194,7 +197,7 @@ impl Sched {
 
     /// At which place of the board the call is posted, if it is made now: a report that will be
     /// answered by a standing at its object's number, and no other call at any.
-    pub(crate) fn place_of(&self, call: Call) -> Option<u32>
+    pub fn place_of(&self, call: Call) -> Option<u32>
         ensures { result ≡ place_of self.now call }
     {
         match call {
@@ -214,8 +217,8 @@ impl Sched {
         &self.setup
     }
 
-    /// Gives the setup back, and ends the scheduler.
-    pub(crate) fn into_setup(self) -> Setup
+    /// Gives the setup back, as it was handed in, and ends the scheduler.
+    pub fn into_setup(self) -> Setup
         ensures { result ≡ self.setup }
     {
         self.setup

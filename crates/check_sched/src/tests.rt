@@ -3,6 +3,9 @@
 
 ghost use Rattle.std.specs.Prelude.{◌≤◌};
 
+use crate::laws::{
+    constants, flaps_by_history, limit, never_checked, runs_once, standings_are_lawful,
+};
 use crate::{Call, LAST_MOMENT, Refusal, Reply, Sched};
 use check_objects::Setup;
 use check_rules::{Code, pending};
@@ -126,4 +129,15 @@ fn refuses_in_the_order_of_the_reasons(rt: HostRuntime) -> Result<(), Fail> {
     let too_late = Some(Refusal::TimeRange);
     assert_eq!(rt; refusal_of(&mut scheduler, abandon(1, late)), too_late);
     Ok(())
+}
+
+/// The laws have no parameters; each is called once.
+#[test]
+fn the_laws_can_be_called(_rt: HostRuntime) {
+    constants();
+    limit();
+    never_checked();
+    standings_are_lawful();
+    runs_once();
+    flaps_by_history();
 }

@@ -2,7 +2,7 @@
 //! writes the history that they made.
 ghost use Rattle.std.specs.Prelude.{◌≡◌, ◌≢◌, ◌<◌, ◌≤◌, ◌⊎◌, OnOk, OnErr, IfOk, IfErr, IfSome, length};
 ghost use Rattle.std.specs.Io.KnownBytes.{Appends, Keeps};
-ghost use Rattle.check_sched.specs.Books.{entries_of, refused_of, sched_of};
+ghost use Rattle.check_book.specs.Books.{entries_of, refused_of, sched_of};
 ghost use Rattle.check_session.specs.Drill.{AfterDrillFault, IsDrill, IsDrillOnInput};
 ghost use Rattle.check_session.specs.Drill.{WroteDrill, WroteDrillFront, WroteDrillShort, drill_outcome};
 ghost use Rattle.check_script.specs.DrillScript.{drill_script_of};
@@ -13,9 +13,10 @@ ghost use Rattle.check_text.specs.Text.{drill_text, entry_line, total_line};
 
 use crate::drive::Outcome;
 use crate::scripted::Scripted;
+use check_book::Book;
 use check_desk::Desk;
 use check_objects::Setup;
-use check_sched::{Book, Call, LAST_MOMENT, Reply};
+use check_sched::{Call, LAST_MOMENT, Reply};
 use check_script::{DrillScript, DriveError, MAX_INPUT_BYTES, read_input};
 use check_text::{flush, push_entry, push_total, write_refusal, write_text};
 use check_workers::crew;

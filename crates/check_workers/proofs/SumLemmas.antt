@@ -4,13 +4,13 @@ use Rattle.ticket_steps.specs.declared.kept.Entry.{Entry}
 use Rattle.ticket_steps.specs.History.{entry, IsLegal}
 use Rattle.ticket_lock.specs.Callers.{Caller}
 use Rattle.check_rules.specs.declared.state.Code.{Code}
-use Rattle.check_sched.specs.BookState.{BookState, book_step}
 use Rattle.check_sched.specs.declared.call.Call.{Call}
 use Rattle.check_sched.specs.declared.call.Call.TheVariants as call
 use Rattle.check_sched.specs.declared.call.Refusal.TheVariants as refusal
 use Rattle.check_sched.specs.declared.call.Reply.{Reply}
 use Rattle.check_sched.specs.declared.call.Reply.TheVariants as reply
 use Rattle.check_sched.specs.Reply.{IsReportReply, IsTakeReply}
+use Rattle.check_book.specs.BookState.{BookState, book_step}
 use Rattle.check_desk.specs.Desks.{HasRecorded}
 use Rattle.check_workers.specs.declared.tally.Tally.{Tally}
 use Rattle.check_workers.specs.Progress.{EndsInTaken}

@@ -7,8 +7,8 @@ ghost use Rattle.check_workers.specs.Tallies.{IsSum};
 
 use crate::plugin::Plugin;
 use crate::tally::{Stop, Tally};
+use check_book::laws::replies;
 use check_desk::{Answer, Desk, Pass};
-use check_sched::laws::replies;
 use check_sched::{Call, Reply};
 use std::sync::Wait;
 

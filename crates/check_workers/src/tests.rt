@@ -5,7 +5,7 @@
 
 ghost use Rattle.std.specs.Prelude.{⊤, ◌≡◌, ◌<◌, ◌≤◌, [], IfOk, length};
 ghost use Rattle.std.specs.List.{All};
-ghost use Rattle.check_sched.specs.Books.{entries_of, refused_of};
+ghost use Rattle.check_book.specs.Books.{entries_of, refused_of};
 ghost use Rattle.check_desk.specs.Desks.{IsPassOf};
 
 mod embedding;
@@ -14,10 +14,11 @@ mod spending;
 mod visiting;
 
 use crate::{CrewError, Plugin, Tally, crew, work};
+use check_book::Book;
 use check_desk::{Desk, Pass};
 use check_objects::{LoadError, Setup};
 use check_rules::{Code, Kind, Standing, State};
-use check_sched::{Book, Call, Refusal, Reply};
+use check_sched::{Call, Refusal, Reply};
 use std::alloc::Global;
 use std::hint::spin_loop;
 use std::process::Abort;

@@ -4,15 +4,15 @@
 ghost use Rattle.std.specs.Prelude.{◌≡◌, ◌<◌, [], IfOk};
 ghost use Rattle.std.specs.List.{All};
 ghost use Rattle.check_desk.specs.Desks.{IsPassOf};
-ghost use Rattle.check_sched.specs.Books.{entries_of, refused_of};
+ghost use Rattle.check_book.specs.Books.{entries_of, refused_of};
 
 use crate::fault::Fault;
 use crate::job::Job;
 use crate::operator::{Runs, begin_the_night, operate};
 use crate::room::{Machines, OBJECTS, moments};
 use crate::told::{Board, Past, write_day};
+use check_book::Book;
 use check_desk::{Desk, Pass};
-use check_sched::Book;
 use check_workers::work;
 use std::alloc::{AllocError, Global};
 use std::io::Write;

@@ -26,8 +26,8 @@ mod operator;
 mod room;
 mod told;
 
+use check_book::Book;
 use check_objects::Setup;
-use check_sched::Book;
 use day::watch_day;
 use fault::Fault;
 use job::{Job, asked};

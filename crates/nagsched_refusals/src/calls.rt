@@ -2,13 +2,14 @@
 
 ghost use Rattle.std.specs.Prelude.{◌≤◌, IfOk};
 ghost use Rattle.check_desk.specs.Desks.{IsHolderAt, IsPassOf, IsWaitingAt};
-ghost use Rattle.check_sched.specs.Books.{refused_of};
+ghost use Rattle.check_book.specs.Books.{refused_of};
 
 use crate::openings::{book_of, is_at_opening};
 use crate::outcome::{Outcome, Wrong, second, where_right};
 use crate::setups::ONE_SERVICE;
+use check_book::Book;
 use check_desk::{Answer, Desk, Hold, Pass, Poll, Turn};
-use check_sched::{Book, Call, Reply};
+use check_sched::{Call, Reply};
 use std::alloc::Global;
 use std::sync::Wait;
 use ticket_steps::Kept;

@@ -3,15 +3,15 @@
 ghost use Rattle.std.specs.Prelude.{◌≡◌, []};
 ghost use Rattle.std.specs.List.{All};
 ghost use Rattle.check_desk.specs.Desks.{IsPassOf};
-ghost use Rattle.check_sched.specs.Books.{entries_of, refused_of};
+ghost use Rattle.check_book.specs.Books.{entries_of, refused_of};
 ghost use Rattle.ticket_lock.specs.Tokens.{IsSeatOf};
 
 use crate::openings::{book_of, where_new};
 use crate::outcome::{Outcome, Wrong, second};
 use crate::setups::ONE_SERVICE;
+use check_book::Book;
+use check_book::laws::board_shows_standings;
 use check_desk::{Desk, Pass};
-use check_sched::Book;
-use check_sched::laws::board_shows_standings;
 use std::alloc::Global;
 use ticket_lock::{Seat, TicketLock};
 use ticket_steps::Core;

@@ -1,13 +1,14 @@
 //! The calls that make something: out of memory each hands back what it was given.
 
 ghost use Rattle.std.specs.Prelude.{◌≡◌, [], IfOk};
-ghost use Rattle.check_sched.specs.Books.{entries_of, refused_of};
+ghost use Rattle.check_book.specs.Books.{entries_of, refused_of};
 
 use crate::outcome::{Outcome, Wrong, second, where_right};
 use crate::setups::{ONE_SERVICE, setup_of, where_same};
+use check_book::Book;
 use check_objects::Setup;
 use check_queue::Queue;
-use check_sched::{Book, Sched};
+use check_sched::Sched;
 use check_spread::initial_times;
 use std::alloc::Global;
 use ticket_steps::Kept;

@@ -1,15 +1,16 @@
 //! Renewals: out of memory a book is handed back as it was, and renewed it goes on where it stood.
 
 ghost use Rattle.std.specs.Prelude.{◌≡◌, [], IfOk};
-ghost use Rattle.check_sched.specs.Books.{entries_of, refused_of};
+ghost use Rattle.check_book.specs.Books.{entries_of, refused_of};
 
 use crate::locks::closed_book;
 use crate::openings::book_of;
 use crate::outcome::{Outcome, Wrong, second, where_right};
 use crate::setups::{ONE_SERVICE, where_same};
+use check_book::Book;
 use check_desk::Desk;
 use check_rules::{Code, Kind, Standing, State};
-use check_sched::{Book, Call, Reply, Sched};
+use check_sched::{Call, Reply, Sched};
 use std::alloc::Global;
 use ticket_steps::{Entry, Kept};
 

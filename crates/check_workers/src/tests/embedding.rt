@@ -4,10 +4,11 @@
 ghost use Rattle.std.specs.Prelude.{⊤};
 
 use crate::{Plugin, crew};
+use check_book::Book;
 use check_desk::Desk;
 use check_objects::Setup;
 use check_rules::Code;
-use check_sched::{Book, Reply};
+use check_sched::Reply;
 use std::test::Fail;
 use ticket_steps::Kept;
 

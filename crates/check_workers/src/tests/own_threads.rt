@@ -6,10 +6,11 @@ ghost use Rattle.check_rules.specs.declared.state.Code.TheVariants as code;
 ghost use Rattle.check_desk.specs.Desks.{IsPassOf};
 
 use crate::{Plugin, work};
+use check_book::Book;
 use check_desk::{Answer, Desk, Pass};
 use check_objects::Setup;
 use check_rules::{Code, Standing, State};
-use check_sched::{Book, Call, Reply};
+use check_sched::{Call, Reply};
 use std::process::Abort;
 use std::sync::Wait;
 use std::test::Fail;

@@ -1,5 +1,5 @@
 use Rattle.std.specs.Prelude.{◌≡◌, []}
-use Rattle.check_sched.specs.Books.{entries_of, refused_of}
+use Rattle.check_book.specs.Books.{entries_of, refused_of}
 use Rattle.machine_room.proofs.watch_days.Given as goal
 
 abbrev pub invariant-loop-day : goal.invariant-loop-day

@@ -1,8 +1,8 @@
 use Rattle.std.proofs.Common.{refl, sym}
 use Rattle.ticket_steps.proofs.ScheduleLemmas.{schedule_made, schedule_of, schedule_strangers}
-use Rattle.check_sched.specs.contracts.book.BookKept.TheImpl.{ghosts as kept_book}
 use Rattle.check_sched.specs.State.{opening}
 use Rattle.check_sched.proofs.PublicLaws.{taken_next, taken_once}
+use Rattle.check_book.specs.contracts.book.BookKept.TheImpl.{ghosts as kept_book}
 use Rattle.check_desk.proofs.ScheduleLemmas.{joined_parts, legal_here, legal_joined, legal_parts, sched_here, sched_joined, taken_by_one}
 use Rattle.check_desk.proofs.laws.headline.Goals as goal
 

@@ -1,6 +1,6 @@
 use Rattle.std.proofs.Common.{refl}
 use Rattle.check_sched.specs.State.{opening}
-use Rattle.check_sched.proofs.RunLaws.{book_is_legal, taken_next, taken_once}
+use Rattle.check_sched.proofs.RunLaws.{taken_next, taken_once}
 use Rattle.check_sched.proofs.laws.runs_once.Goals as goal
 
 pub returns-clause-once : goal.returns-clause-once
@@ -8,6 +8,3 @@ returns-clause-once c = λ setup start front back e object run other legal is. t
 
 pub returns-clause-numbers : goal.returns-clause-numbers
 returns-clause-numbers c = λ setup start front back e object run legal is. taken_next (opening setup start) front back e object run refl legal is
-
-pub returns-clause-books : goal.returns-clause-books
-returns-clause-books c = λ setup start room history legal. book_is_legal (opening setup start) room history legal

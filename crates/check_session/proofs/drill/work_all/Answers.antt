@@ -1,9 +1,9 @@
 use Rattle.std.proofs.Common.{◌≡◌, ap, subst, ◌∙◌, arith}
 use Rattle.ticket_steps.specs.History.{IsLegal}
-use Rattle.check_sched.proofs.PublicLaws.{book_is_legal, joined_setup}
-use Rattle.check_sched.specs.Books.{entries_of, opening_of, refused_of}
-use Rattle.check_sched.specs.BookState.{BookState, book_opening, book_step}
 use Rattle.check_sched.specs.State.{opening}
+use Rattle.check_book.proofs.PublicLaws.{book_is_legal, joined_setup}
+use Rattle.check_book.specs.Books.{entries_of, opening_of, refused_of}
+use Rattle.check_book.specs.BookState.{BookState, book_opening, book_step}
 use Rattle.check_desk.specs.Desks.{opened_with}
 use Rattle.check_workers.specs.Crews.{AreShiftsOf}
 use Rattle.check_session.specs.Drill.{gives_scripted}

@@ -1,5 +1,5 @@
 use Rattle.std.proofs.Common.{◌≡◌, length, sym, ap, subst, ◌∙◌, arith}
-use Rattle.check_sched.specs.Books.{entries_of}
+use Rattle.check_book.specs.Books.{entries_of}
 use Rattle.check_desk.specs.Passes.{pass_of}
 use Rattle.check_workers.specs.Tallies.{IsSum}
 use Rattle.check_workers.proofs.CrewLemmas.{all_begin, all_numbers, all_tallied, are_shifts, crew_error, failed_then_so, made_then_so, missing_calls}

@@ -1,4 +1,4 @@
-use Rattle.check_sched.specs.Books.{entries_of}
+use Rattle.check_book.specs.Books.{entries_of}
 use Rattle.check_desk.specs.Desks.{passes_of}
 use Rattle.check_desk.proofs.PassLemmas.{all_below}
 use Rattle.check_desk.proofs.desk.Desk.close.Goals as goal

@@ -1,6 +1,6 @@
 use Rattle.std.proofs.Common.{◌≡◌, ◌<◌, ◌∙◌, Some, None, sym, ap, arith}
 use Rattle.check_rules.specs.Board.{standing_coded}
-use Rattle.check_sched.specs.Books.{opening_of}
+use Rattle.check_book.specs.Books.{opening_of}
 use Rattle.ticket_lock.specs.Tokens.{seat_of, start_of, words_of}
 use Rattle.check_desk.specs.Desks.{objects_of, standing_after}
 use Rattle.check_desk.proofs.BoardLemmas.{words_opened}

@@ -1,8 +1,8 @@
 use Rattle.std.proofs.Common.{◌∙◌, sym, ap}
 use Rattle.check_objects.specs.Configuration.{object_count}
-use Rattle.check_sched.specs.declared.book.Book.{Book}
-use Rattle.check_sched.specs.Books.{opening_of}
-use Rattle.check_sched.proofs.PublicLaws.{few_words}
+use Rattle.check_book.specs.declared.book.Book.{Book}
+use Rattle.check_book.specs.Books.{opening_of}
+use Rattle.check_book.proofs.PublicLaws.{few_words}
 use Rattle.check_desk.proofs.BoardLemmas.{words_in}
 use Rattle.check_desk.proofs.desk.Desk.open_with.Goals as goal
 

@@ -1,0 +1,6 @@
+pub mod BookState
+pub mod Logs
+pub mod Books
+pub mod Board
+pub mod BoardLaws
+pub mod SetupLaws

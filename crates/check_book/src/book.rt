@@ -1,0 +1,263 @@
+//! The book: the scheduler with the history of its calls.
+
+ghost use Rattle.std.specs.Prelude.{◌≡◌, ◌+◌, ◌^◌, ◌<◌, ◌≤◌, [], ◌∷◌, ◌++◌, length};
+ghost use Rattle.std.specs.Prelude.{IfOk, IfErr, OnOk, OnErr, vec_capacity, vec_len};
+ghost use Rattle.check_objects.specs.Configuration.{IsSetup};
+ghost use Rattle.check_sched.specs.State.{IsState, opening};
+ghost use Rattle.check_sched.specs.Step.{step};
+ghost use Rattle.check_book.specs.BookState.{BookState, book_at, book_opening, book_step};
+ghost use Rattle.check_book.specs.Logs.{log_opening, log_state};
+ghost use Rattle.check_book.specs.Board.{book_board, book_place};
+ghost use Rattle.check_book.specs.BoardLaws.{board_within, board_unposted, board_posted};
+ghost use Rattle.check_book.specs.SetupLaws.{IsSetup-prop, IsState-prop};
+ghost use Rattle.std.proofs.Props.{props};
+ghost use Rattle.ticket_steps.specs.History.{entry, replay, IsLegal, IsLegal-prop};
+
+use crate::opening::Opening;
+use check_objects::Setup;
+use check_sched::{Call, LAST_MOMENT, Reply, Sched};
+use std::alloc::{AllocError, Global};
+use std::mem;
+use ticket_steps::{Entry, Kept, NoMemory};
+
+#[cfg(test)]
+mod tests;
+
+/// A scheduler that keeps the history of its calls, each with its reply and under the number of the
+/// pass that made it. (Our own profile.)
+///
+/// The history is always legal: each reply is the scheduler's at its place, from the opening on, and
+/// the scheduler is in the state that those calls leave. Refused calls are entries too; a call for
+/// whose entry there is no memory isn't made, but counted.
+#[derive(Drop)]
+pub struct Book {
+    /// Behind a box, so that a book that is handed over moves a pointer.
+    log: Box<Log>,
+    ghost reserved: { log.value.room ≤ vec_capacity log.value.entries },
+    ghost opened: { IsState log.value.opened.at } by { IsState-prop log.value.opened.at },
+    ghost valid_setup: { IsSetup log.value.sched.setup } by { IsSetup-prop log.value.sched.setup },
+    ghost legal: { IsLegal book_step (log_opening log.value) log.value.entries.items } by { IsLegal-prop book_step (λ a b. Prim.hlevel props)
+        (log_opening log.value) log.value.entries.items },
+    ghost replayed: { log_state log.value
+        ≡ replay book_step (log_opening log.value) log.value.entries.items },
+}
+
+/// What a book keeps: the scheduler, and the calls that led to its state.
+#[derive(Drop)]
+struct Log {
+    sched: Sched,
+    entries: Vec<Entry<Call, Reply>>,
+    refused: u64,
+    room: usize,
+    /// The scheduler as it was when the book was opened. It takes no byte.
+    opened: Opening<Sched>,
+}
+
+impl Log {
+    /// Begins anew where the scheduler stands, with these entries, of which there are none, and their
+    /// room. Gives the entries that were there.
+    fn begin_anew(
+        &mut self,
+        entries: Vec<Entry<Call, Reply>>,
+        room: usize,
+    ) -> Vec<Entry<Call, Reply>>
+        ensures given { result ≡ self.old.entries }
+        ensures entries { self.new.entries ≡ entries }
+        ensures refused { self.new.refused ≡ 0 }
+        ensures room { self.new.room ≡ room }
+        ensures sched { self.new.sched ≡ self.old.sched }
+        ensures opened { self.new.opened.at ≡ self.old.sched }
+    {
+        let earlier = mem::replace(&mut self.entries, entries);
+        self.refused = 0;
+        self.room = room;
+        self.opened = Opening::of(&self.sched);
+        earlier
+    }
+}
+
+impl Book {
+    ghost use Rattle.check_book.specs.Books.{entries_of, opening_of, refused_of, room_of, sched_of, state_of};
+
+    /// A book without entries over a new scheduler for the objects of `setup`, which starts at the
+    /// moment `start`, in milliseconds. There is room for so many entries: their calls take no
+    /// memory.
+    ///
+    /// An Err means out of memory, and hands the setup back as it was.
+    pub fn open(alloc: Global, setup: Setup, start: u64, room: usize) -> Result<Book, Setup>
+        requires { start ≤ LAST_MOMENT }
+        ensures empty { IfOk result (λ book. (entries_of book ≡ []) × (refused_of book ≡ 0)) }
+        ensures sched { IfOk result (λ book. sched_of book ≡ opening setup start) }
+        ensures room { IfOk result (λ book. room_of book ≡ room) }
+        ensures opening { IfOk result (λ book. opening_of book ≡ book_opening setup start room) }
+        ensures err { IfErr result (λ handed_back. handed_back ≡ setup) }
+    {
+        let Ok(entries) = Vec::with_capacity(alloc, room) else {
+            return Err(setup);
+        };
+        let sched = Sched::new(alloc, setup, start)?;
+        // for the proof: the opening is a state that a scheduler can be in
+        sched.is_state();
+        let opened = Opening::of(&sched);
+        let log = Log {
+            sched,
+            entries,
+            refused: 0,
+            room,
+            opened,
+        };
+        match Box::new(alloc, log) {
+            Ok(log) => Ok(Book { log }),
+            Err(refused) => Err(refused.value.sched.into_setup()),
+        }
+    }
+
+    /// A new book that opens in the state in which this one stands, without entries and refusals, and
+    /// with room for so many entries; beside it the entries of this one. What the scheduler knows goes
+    /// on: standings, next times, checks that are out, the results kept, and how many runs were handed
+    /// out. The entries are moved, not copied: memory is taken for the room alone. The count of
+    /// refusals ends with this book, so read [`refused`](Kept::refused) before.
+    ///
+    /// An Err means out of memory, and hands this book back as it was.
+    pub fn renew(self, alloc: Global, room: usize) -> Result<(Book, Vec<Entry<Call, Reply>>), Book>
+        ensures opening { IfOk result (λ made. opening_of made.0 ≡ book_at (sched_of self) room) }
+        ensures state { IfOk result (λ made. state_of made.0 ≡ book_at (sched_of self) room) }
+        ensures empty { IfOk result (λ made. (entries_of made.0 ≡ []) × (refused_of made.0 ≡ 0)) }
+        ensures entries { IfOk result (λ made. made.1.items ≡ entries_of self) }
+        ensures err { IfErr result (λ handed_back. handed_back ≡ self) }
+    {
+        let Ok(entries) = Vec::with_capacity(alloc, room) else {
+            return Err(self);
+        };
+        let Book { mut log } = self;
+        // for the proof: what it stands at is a state that a scheduler can be in
+        log.sched.is_state();
+        let earlier = (*log).begin_anew(entries, room);
+        Ok((Book { log }, earlier))
+    }
+
+    /// Gives the setup back, and ends the book.
+    pub fn into_setup(self) -> Setup
+        ensures { result ≡ (sched_of self).setup }
+    {
+        let Book { log } = self;
+        Box::into_inner(log).sched.into_setup()
+    }
+
+    /// The scheduler, in the state that the entries' calls leave.
+    pub fn sched(&self) -> &Sched
+        ensures { result.now ≡ sched_of self.now }
+    {
+        &self.log.sched
+    }
+
+    /// For how many entries there was room from the start.
+    pub fn room(&self) -> usize
+        ensures { result ≡ room_of self.now }
+    {
+        self.log.room
+    }
+}
+
+impl Kept for Book {
+    ghost use Rattle.check_book.specs.Books.{capacity_of, entries_of, opening_of, refused_of, room_of, sched_of, state_of};
+
+    type Call = Call;
+
+    type Reply = Reply;
+
+    ghost State = { BookState };
+
+    ghost step = { book_step };
+
+    ghost board = { book_board };
+
+    ghost posts_at = { book_place };
+
+    ghost opening = { opening_of };
+
+    ghost state = { state_of };
+
+    ghost history = { entries_of };
+
+    ghost refusals = { refused_of };
+
+    ghost legal = { λ book. book.legal };
+
+    ghost replayed = { λ book. book.replayed };
+
+    ghost within = { board_within };
+
+    ghost unposted = { board_unposted };
+
+    ghost posted = { board_posted };
+
+    /// Makes one call on the scheduler, and keeps it with its reply. Room for the entry is made
+    /// first; where there is no memory for it, the call isn't made, but counted. `NoMemory` comes
+    /// only where the entries have reached the room, and fill all that was reserved since.
+    fn record(&mut self, pass: u32, call: Call) -> Result<Reply, NoMemory>
+        requires { refused_of self.old < 2 ^ 60 }
+        ensures same { opening_of self.new ≡ opening_of self.old }
+        ensures replied { IfOk result (λ reply.
+            (entries_of self.new ≡ entries_of self.old ++ entry pass call reply ∷ [])
+            × (refused_of self.new ≡ refused_of self.old)) }
+        ensures refused { OnErr result (
+            (entries_of self.new ≡ entries_of self.old)
+            × (state_of self.new ≡ state_of self.old)
+            × (refused_of self.new ≡ refused_of self.old + 1)) }
+        ensures step { IfOk result (λ reply. (reply ≡ (step (sched_of self.old) call).1)
+            × (sched_of self.new ≡ (step (sched_of self.old) call).0)) }
+        ensures full { OnErr result (room_of self.old ≤ length (entries_of self.old)) }
+        ensures used_up { OnErr result (capacity_of self.old ≤ length (entries_of self.old)) }
+    {
+        let log = &mut *self.log;
+        if grow(&mut log.entries, log.room).is_err() {
+            log.refused += 1;
+            return Err(NoMemory);
+        }
+        let reply = log.sched.apply(call);
+        log.entries.push_reserved(Entry { pass, call, reply });
+        Ok(reply)
+    }
+
+    fn entries(&self) -> &[Entry<Call, Reply>] {
+        self.log.entries.as_slice()
+    }
+
+    fn refused(&self) -> u64 {
+        self.log.refused
+    }
+
+    /// The number of the setup's objects, at most 4,096.
+    fn words(&self) -> u32 {
+        self.log.sched.words()
+    }
+
+    /// The [`code`](check_rules::code) of the standing of the object with this number, which
+    /// [`decode`](check_rules::decode) reads: see
+    /// [`board_shows_standings`](crate::laws::board_shows_standings).
+    fn word(&self, place: u32) -> u64 {
+        self.log.sched.word(place)
+    }
+
+    /// The object's number for a report of the run under which the object is being checked. No other
+    /// call is posted: neither a report that will be refused, nor what changes no standing.
+    fn posts(&self, call: Call) -> Option<u32> {
+        self.log.sched.place_of(call)
+    }
+}
+
+/// Makes room for one more entry. Below the room that was there from the start it takes no memory.
+fn grow(entries: &mut Vec<Entry<Call, Reply>>, room: usize) -> Result<(), AllocError>
+    requires { room ≤ vec_capacity entries.old }
+    ensures same { entries.new.items ≡ entries.old.items }
+    ensures capacity { vec_capacity entries.old ≤ vec_capacity entries.new }
+    ensures ok { OnOk result (vec_len entries.new < vec_capacity entries.new) }
+    ensures room { OnErr result (room ≤ length entries.old.items) }
+    ensures used_up { OnErr result (vec_capacity entries.old ≤ length entries.old.items) }
+{
+    if entries.len() < room {
+        return Ok(());
+    }
+    entries.reserve(1)
+}

@@ -1,0 +1,97 @@
+//! Laws of the definitions, each the contract of a function without parameters and code.
+
+ghost use Rattle.std.specs.Prelude.{ℕ, ◌≡◌, ◌<◌, ◌≤◌, List, ◌∷◌, ◌++◌, [], Some, length, slice_index};
+ghost use Rattle.ticket_steps.specs.declared.kept.Entry.{Entry};
+ghost use Rattle.ticket_steps.specs.History.{entry, replay, IsLegal};
+ghost use Rattle.check_objects.specs.Configuration.{Configuration, IsSetup, object_count};
+ghost use Rattle.check_rules.specs.Board.{standing_coded};
+ghost use Rattle.check_rules.specs.declared.state.Code.{Code};
+ghost use Rattle.check_sched.specs.declared.call.Call.{Call};
+ghost use Rattle.check_sched.specs.declared.call.Call.TheVariants as call;
+ghost use Rattle.check_sched.specs.declared.call.Reply.{Reply};
+ghost use Rattle.check_sched.specs.declared.call.Reply.TheVariants as reply;
+ghost use Rattle.check_sched.specs.Reply.{IsReportReply, IsTakeReply};
+ghost use Rattle.check_sched.specs.State.{IsState, State, opening, standing_at};
+ghost use Rattle.check_sched.specs.Step.{step};
+ghost use Rattle.check_book.specs.declared.book.Book.{Book};
+ghost use Rattle.check_book.specs.Board.{book_board};
+ghost use Rattle.check_book.specs.Books.{opening_of, sched_of, state_of};
+ghost use Rattle.check_book.specs.BookState.{BookState, book_at, book_opening, book_step};
+
+/// The history of a book is a history of its scheduler (`books`): so what
+/// [`runs_once`](check_sched::laws::runs_once) and
+/// [`flaps_by_history`](check_sched::laws::flaps_by_history) say holds of it.
+pub fn histories()
+    ensures books { (setup : Configuration) → (start room : ℕ)
+        → (history : List (Entry Call Reply))
+        → IsLegal book_step (book_opening setup start room) history
+        → IsLegal step (opening setup start) history }
+{}
+
+/// Which replies come in the history of a book, whatever it was opened with. A take is answered with an
+/// object that is taken or put off, or that none is due, or that the limit is reached, or it is refused
+/// for its moment or because no run is left (`take`). The report of an object that was taken before is answered with the object's standing, or
+/// refused because the object isn't being checked, or is under another run (`report`).
+pub fn replies()
+    ensures take { (opened : BookState) → (front : List (Entry Call Reply)) → (pass now : ℕ)
+        → (answer : Reply)
+        → IsLegal book_step opened (front ++ entry pass (call.Take now) answer ∷ [])
+        → IsTakeReply answer }
+    ensures report { (opened : BookState) → (front between : List (Entry Call Reply))
+        → (taker pass now object run : ℕ) → (code : Code) → (answer : Reply)
+        → IsLegal book_step opened
+        (((front ++ entry taker (call.Take now) (reply.Taken object run) ∷ []) ++ between)
+        ++ entry pass (call.Report object run code) answer ∷ [])
+        → IsReportReply answer }
+{}
+
+/// What the board of a book shows, whatever calls were made since it was opened, one after another: a
+/// word for each object of the setup (`words`), which [`decode`](check_rules::decode) reads as the
+/// standing of the object with that number (`read`). It is so from every state on that a scheduler can
+/// be in (`words_from`, `read_from`), and each book opens in such a state (`opened`), a renewed one
+/// too. Each book is over a setup as [`Setup`](check_objects::Setup) has it (`books`), and so its board
+/// has at most 4,096 words (`few`).
+pub fn board_shows_standings()
+    ensures words { (setup : Configuration) → (start room : ℕ)
+        → (history : List (Entry Call Reply))
+        → length (book_board (replay book_step (book_opening setup start room) history))
+        ≡ object_count setup }
+    ensures read { (setup : Configuration) → (start room : ℕ)
+        → (history : List (Entry Call Reply)) → (object : ℕ)
+        → IsSetup setup → object < object_count setup
+        → standing_coded (slice_index (book_board (replay book_step (book_opening setup start room) history)) object)
+        ≡ Some (standing_at (replay book_step (book_opening setup start room) history).sched.standings object) }
+    ensures words_from { (opened : BookState) → (history : List (Entry Call Reply))
+        → IsState opened.sched
+        → length (book_board (replay book_step opened history)) ≡ object_count opened.sched.setup }
+    ensures read_from { (opened : BookState) → (history : List (Entry Call Reply)) → (object : ℕ)
+        → IsState opened.sched → object < object_count opened.sched.setup
+        → standing_coded (slice_index (book_board (replay book_step opened history)) object)
+        ≡ Some (standing_at (replay book_step opened history).sched.standings object) }
+    ensures opened { (book : Book) → IsState (opening_of book).sched }
+    ensures books { (book : Book) → IsSetup (sched_of book).setup }
+    ensures few { (book : Book) → length (book_board (state_of book)) ≤ 4096 }
+{}
+
+/// Histories go on from one book to the next. Where `earlier` is legal from a state, as from a
+/// scheduler's opening, and `later` is legal from the state that `earlier` leaves, `earlier` followed by
+/// `later` is legal from the first state (`legal`) and leaves the same state (`state`). The same holds of
+/// the schedulers of books, whatever their rooms (`book`, `book_state`), and no call changes a book's
+/// setup (`setup`). So each law of legal histories holds of the joined history of books that were
+/// [renewed](crate::Book::renew).
+pub fn generations()
+    ensures legal { (opened : State) → (earlier later : List (Entry Call Reply))
+        → IsLegal step opened earlier → IsLegal step (replay step opened earlier) later
+        → IsLegal step opened (earlier ++ later) }
+    ensures state { (opened : State) → (earlier later : List (Entry Call Reply))
+        → replay step opened (earlier ++ later) ≡ replay step (replay step opened earlier) later }
+    ensures book { (opened : State) → (room : ℕ) → (earlier later : List (Entry Call Reply))
+        → IsLegal step opened earlier
+        → IsLegal book_step (book_at (replay step opened earlier) room) later
+        → IsLegal step opened (earlier ++ later) }
+    ensures book_state { (opened : State) → (room : ℕ) → (earlier later : List (Entry Call Reply))
+        → (replay book_step (book_at (replay step opened earlier) room) later).sched
+        ≡ replay step opened (earlier ++ later) }
+    ensures setup { (opened : BookState) → (later : List (Entry Call Reply))
+        → (replay book_step opened later).sched.setup ≡ opened.sched.setup }
+{}
