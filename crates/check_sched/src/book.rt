@@ -255,3 +255,15 @@ fn grow(entries: &mut Vec<Entry<Call, Reply>>, room: usize) -> Result<(), AllocE
     }
     entries.reserve(1)
 }
+
+impl Book {
+    ghost use Rattle.check_sched.specs.Books.{sched_of};
+
+    /// Ends the book, and gives back the setup that its scheduler works on.
+    pub fn into_setup(self) -> Setup
+        ensures { result ≡ (sched_of self).setup }
+    {
+        let log = Box::into_inner(self.log);
+        log.sched.into_setup()
+    }
+}

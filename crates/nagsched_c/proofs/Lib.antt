@@ -1,0 +1,3 @@
+pub mod Unboxing
+pub mod Raws
+pub mod Options
