@@ -11,7 +11,8 @@ ghost use Rattle.check_desk.specs.Passes.{pass_of};
 ghost use Rattle.check_sched.specs.BookState.{book_opening};
 ghost use Rattle.check_sched.specs.Books.{entries_of, opening_of, refused_of};
 ghost use Rattle.nagsched_c.specs.Handles.{contents_of};
-ghost use Rattle.nagsched_c.specs.Opening.{AreCallersFrom, AreEmpty, HasOpened, IsAsSetup, IsBack, IsBackOf, IsBookBack, IsEmptyBack, IsOpenedBy, IsOpenedWith, IsSetupBack, IsSource};
+ghost use Rattle.nagsched_c.specs.Seats.{AreSeats};
+ghost use Rattle.nagsched_c.specs.Opening.{AreCallersFrom, AreEmpty, HasOpened, IsAsSetup, IsBack, IsBackOf, IsBookBack, IsEmptyBack, IsFreshPassOf, IsOpenedBy, IsOpenedWith, IsSetupBack, IsSource};
 
 use crate::caller::Caller;
 use crate::handle::Handle;
@@ -238,8 +239,12 @@ struct Seats {
 }
 
 /// Asks for the memory that so many callers need.
-fn prepare_seats(alloc: Global, names: &Arc<Setup, Global>, count: usize) -> Result<Seats, AllocError>
-    ensures { IfOk result (λ made. Rattle.nagsched_c.specs.Seats.AreSeats (arc_value names.now) count made) }
+fn prepare_seats(
+    alloc: Global,
+    names: &Arc<Setup, Global>,
+    count: usize,
+) -> Result<Seats, AllocError>
+    ensures { IfOk result (λ made. AreSeats (arc_value names.now) count made) }
 {
     let mut places = Vec::with_capacity(alloc, count)?;
     let mut all = Vec::with_capacity(alloc, count)?;
@@ -267,7 +272,7 @@ fn seat_all(
     requires names { arc_value names ≡ (opened_with desk).sched.setup }
     requires new { AreNewPassesWith (calls_of desk) desk 0 passes.items }
     requires count { (length passes.items ≡ passes_of desk) × (length callers.old ≡ passes_of desk) × (0 < passes_of desk) }
-    requires seats { Rattle.nagsched_c.specs.Seats.AreSeats (arc_value names) (passes_of desk) seats }
+    requires seats { AreSeats (arc_value names) (passes_of desk) seats }
     ensures ok { OnOk result (IsOpenedWith (calls_of desk) (opened_with desk) callers.new) }
     ensures err { IfErr result (λ back. IsBackOf (opened_with desk) back × (callers.new ≡ callers.old)) }
 {
@@ -317,7 +322,7 @@ fn share(
 /// one caller with all passes.
 fn unshared(shared: Arc<Shared, Global>, passes: Vec<Pass>, names: Arc<Setup, Global>) -> Lodged
     requires names { arc_value names ≡ (opened_with (arc_value shared).desk).sched.setup }
-    requires new { AreNewPassesWith (calls_of (arc_value shared).desk) (arc_value shared).desk 0 passes.items }
+    requires fresh { All (IsFreshPassOf (arc_value shared).desk) passes.items }
     requires count { (length passes.items ≡ passes_of (arc_value shared).desk) × (0 < passes_of (arc_value shared).desk) }
     ensures { IsBackOf (opened_with (arc_value shared).desk) result }
 {
@@ -334,7 +339,7 @@ fn unshared(shared: Arc<Shared, Global>, passes: Vec<Pass>, names: Arc<Setup, Gl
 /// The book of a desk whose passes have made no call.
 fn reclaim(desk: Desk, passes: Vec<Pass>, names: Arc<Setup, Global>) -> Ledger
     requires names { arc_value names ≡ (opened_with desk).sched.setup }
-    requires new { AreNewPassesWith (calls_of desk) desk 0 passes.items }
+    requires fresh { All (IsFreshPassOf desk) passes.items }
     requires count { (length passes.items ≡ passes_of desk) × (0 < passes_of desk) }
     ensures { (opening_of result.book ≡ opened_with desk) × (entries_of result.book ≡ [])
         × (refused_of result.book ≡ 0) }
@@ -348,7 +353,7 @@ fn reclaim(desk: Desk, passes: Vec<Pass>, names: Arc<Setup, Global>) -> Ledger
 
 /// All passes of a desk, which have made no call, as one.
 fn gather_all(desk: &Desk, passes: Vec<Pass>) -> Pass
-    requires new { AreNewPassesWith (calls_of desk.now) desk.now 0 passes.items }
+    requires fresh { All (IsFreshPassOf desk.now) passes.items }
     requires some { 0 < length passes.items }
     ensures desk { IsPassOf desk.now result }
     ensures all { length (pass_of result).numbers ≡ length passes.items }
