@@ -1,6 +1,6 @@
 -- What opening a desk needs and gives.
-use Rattle.std.specs.Prelude.{◌≡◌, ◌⊎◌, ◌+◌, ◌<◌, ◌≤◌, ◌^◌, ⊤, ℕ, List, [], ◌∷◌, length, Option, Some, None}
-use Rattle.std.specs.List.{All}
+use Rattle.std.specs.Prelude.{◌≡◌, ◌⊎◌, ◌+◌, ◌<◌, ◌≤◌, ◌^◌, ⊤, ℕ, Bool, not, is_some, List, [], ◌∷◌, length, Option, Some, None}
+use Rattle.std.specs.List.{list_all}
 use Rattle.check_desk.specs.declared.desk.Desk.{Desk}
 use Rattle.check_desk.specs.declared.passes.Pass.{Pass}
 use Rattle.check_desk.specs.Desks.{opened_with, passes_of, IsPassOf}
@@ -18,9 +18,9 @@ use Rattle.nagsched_c.specs.declared.stage.Stage.TheVariants as stage
 use Rattle.nagsched_c.specs.Desks.{desk_of}
 use Rattle.nagsched_c.specs.Handles.{contents_of}
 
--- these handles lead to nothing
-abbrev pub AreEmpty : List Handle → Type 0
-AreEmpty handles = All (λ handle. contents_of handle ≡ None) handles
+-- whether these handles all lead to nothing
+abbrev pub are_empty : List Handle → Bool
+are_empty handles = list_all (λ handle. not (is_some (contents_of handle))) handles
 
 -- a desk can be opened on it, at this start and with this room: on a setup, or on a book without entries and refusals, whose start and
 -- room are its own

@@ -12,7 +12,7 @@ ghost use Rattle.check_sched.specs.BookState.{book_opening};
 ghost use Rattle.check_sched.specs.Books.{entries_of, opening_of, refused_of};
 ghost use Rattle.nagsched_c.specs.Handles.{contents_of};
 ghost use Rattle.nagsched_c.specs.Seats.{AreSeats};
-ghost use Rattle.nagsched_c.specs.Opening.{AreCallersFrom, AreEmpty, HasOpened, IsAsSetup, IsBack, IsBackOf, IsBookBack, IsEmptyBack, IsFreshPassOf, IsOpenedBy, IsOpenedWith, IsSetupBack, IsSource};
+ghost use Rattle.nagsched_c.specs.Opening.{are_empty, AreCallersFrom, HasOpened, IsAsSetup, IsBack, IsBackOf, IsBookBack, IsEmptyBack, IsFreshPassOf, IsOpenedBy, IsOpenedWith, IsSetupBack, IsSource};
 
 use crate::caller::Caller;
 use crate::handle::Handle;
@@ -113,14 +113,9 @@ fn open_desk(
 
 /// Whether all of these handles are empty.
 fn are_empty(handles: &[Handle]) -> bool
-    ensures { result ≡ true → AreEmpty handles.now }
+    ensures { result ≡ are_empty handles.now }
 {
-    for handle in handles {
-        if !handle.is_empty() {
-            return false;
-        }
-    }
-    true
+    handles.iter().all(|handle| handle.is_empty())
 }
 
 /// Whether a desk can be opened on this, at this start and with this room.
@@ -271,7 +266,7 @@ fn seat_all(
 ) -> Result<(), Lodged>
     requires names { arc_value names ≡ (opened_with desk).sched.setup }
     requires new { AreNewPassesWith (calls_of desk) desk 0 passes.items }
-    requires count { (length passes.items ≡ passes_of desk) × (length callers.old ≡ passes_of desk) × (0 < passes_of desk) }
+    requires count { (length passes.items ≡ passes_of desk) × (length callers.old ≡ passes_of desk) × (0 < passes_of desk) × (length passes.items ≤ 1024) }
     requires seats { AreSeats (arc_value names) (passes_of desk) seats }
     ensures ok { OnOk result (IsOpenedWith (calls_of desk) (opened_with desk) callers.new) }
     ensures err { IfErr result (λ back. IsBackOf (opened_with desk) back × (callers.new ≡ callers.old)) }
@@ -323,7 +318,7 @@ fn share(
 fn unshared(shared: Arc<Shared, Global>, passes: Vec<Pass>, names: Arc<Setup, Global>) -> Lodged
     requires names { arc_value names ≡ (opened_with (arc_value shared).desk).sched.setup }
     requires fresh { All (IsFreshPassOf (arc_value shared).desk) passes.items }
-    requires count { (length passes.items ≡ passes_of (arc_value shared).desk) × (0 < passes_of (arc_value shared).desk) }
+    requires count { (length passes.items ≡ passes_of (arc_value shared).desk) × (0 < passes_of (arc_value shared).desk) × (length passes.items ≤ 1024) }
     ensures { IsBackOf (opened_with (arc_value shared).desk) result }
 {
     match Arc::try_unwrap(shared) {
