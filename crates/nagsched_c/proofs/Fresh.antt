@@ -49,7 +49,9 @@ new_last calls desk n (q ∷ ps) p new =
 
 pub new_popped : (calls : ℕ) (desk : Desk) (old new : List Pass) (p : Pass) → old ≡ new ++ p ∷ [] → AreNewPassesWith calls desk 0 old
     → AreNewPassesWith calls desk 0 new × IsPassOf desk p × (pass_of p ≡ new_pass_with calls (length new))
-new_popped calls desk old new p is all = new_last calls desk 0 new p (subst (AreNewPassesWith calls desk 0) is all)
+new_popped calls desk old new p is all =
+    let last = new_last calls desk 0 new p (subst (AreNewPassesWith calls desk 0) is all) in
+    (last.0, last.1, last.2 ∙ ap (new_pass_with calls) (let s : 0 + length new ≡ length new = omega arith in s))
 
 pub fresh_all : (calls : ℕ) (desk : Desk) (n : ℕ) (ps : List Pass) → AreNewPassesWith calls desk n ps → All (IsFreshPassOf desk) ps
 fresh_all calls desk n [] new = All-nil (IsFreshPassOf desk)

@@ -1,7 +1,7 @@
 use Rattle.std.proofs.Common.{◌≡◌, ◌+◌, ◌-◌, ◌≤◌, length, drop}
 use Rattle.std.specs.List.{All}
 use Rattle.std_alloc.specs.Arc.{arc_value}
-use Rattle.check_desk.specs.Desks.{calls_of, opened_with, AreNewPassesWith}
+use Rattle.check_desk.specs.Desks.{opened_with, AreNewPassesWith}
 use Rattle.nagsched_c.specs.Opening.{AreCallersFrom}
 use Rattle.nagsched_c.proofs.opening.hand_out.Given as goal
 
@@ -12,5 +12,5 @@ invariant-loop-done l =
     × (length l.names.items + l.done ≡ l.count) × (length l.desks.items + l.done ≡ l.count)
     × All (λ one. arc_value one ≡ (opened_with desk).sched.setup) l.names.items
     × All (λ one. arc_value one ≡ arc_value l.shared) l.desks.items
-    × AreNewPassesWith (calls_of desk) desk 0 l.passes.items
-    × AreCallersFrom (calls_of desk) desk (l.count - l.done) (drop (l.count - l.done) l.callers)
+    × AreNewPassesWith l.calls desk 0 l.passes.items
+    × AreCallersFrom l.calls desk (l.count - l.done) (drop (l.count - l.done) l.callers)
