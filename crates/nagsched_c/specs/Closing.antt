@@ -1,5 +1,5 @@
 -- What comes of callers that are put together, of a desk that is ended, and of a book that goes on.
-use Rattle.std.specs.Prelude.{◌≡◌, ◌⊎◌, ◌+◌, ⊤, ℕ, Bool, true, false, [], length, Option, Some, None}
+use Rattle.std.specs.Prelude.{◌≡◌, ◌⊎◌, ◌+◌, ◌≤◌, ⊤, ℕ, Bool, true, false, [], length, Option, Some, None}
 use Rattle.check_desk.specs.declared.desk.Desk.{Desk}
 use Rattle.check_desk.specs.Desks.{opened_with, passes_of}
 use Rattle.check_desk.specs.Passes.{pass_of}
@@ -42,7 +42,7 @@ IsResting other = ⊥
 -- the book of a desk, all of whose passes are gathered in this one: it opened as the desk did, has the history that the pass has
 -- seen, and its entries and refusals are all calls that were made
 abbrev pub IsBookAfter : Desk → Stage → Ledger → Type 0
-IsBookAfter desk (stage.Resting pass) ledger = (opening_of ledger.book ≡ opened_with desk) × (length (pass_of pass).numbers ≡ passes_of desk)
+IsBookAfter desk (stage.Resting pass) ledger = (opening_of ledger.book ≡ opened_with desk) × (passes_of desk ≤ length (pass_of pass).numbers)
     × (entries_of ledger.book ≡ (pass_of pass).seen) × (length (entries_of ledger.book) + refused_of ledger.book ≡ (pass_of pass).calls)
 IsBookAfter desk other ledger = ⊥
 
@@ -69,6 +69,16 @@ abbrev pub IsRenewed : ℕ → Ledger → Ledger → Option Lodged → Type 0
 IsRenewed room before after (Some (lodged.History entries)) = IsNext room before after × (entries.items ≡ entries_of before.book)
 IsRenewed room before after None = after.book ≡ before.book
 IsRenewed room before after other = ⊥
+
+-- a book
+abbrev pub IsBook : Lodged → Type 0
+IsBook (lodged.Book ledger) = ⊤
+IsBook other = ⊥
+
+-- a book has gone on, or is as it was
+abbrev pub HasGoneOn : ℕ → Lodged → Lodged → Option Lodged → Type 0
+HasGoneOn room (lodged.Book before) (lodged.Book after) past = IsRenewed room before after past
+HasGoneOn room before after past = ⊥
 
 -- The book goes on, and its history is in the other handle; or memory was refused, and the book is as it was; or nothing was done.
 abbrev pub HasRenewed : ℕ → Option Lodged → Option Lodged → ℕ → Option Lodged → Option Lodged → Type 0

@@ -1,7 +1,9 @@
 -- What opening a desk needs and gives.
-use Rattle.std.specs.Prelude.{◌≡◌, ◌⊎◌, ◌+◌, ◌<◌, ◌≤◌, ◌^◌, ⊤, ℕ, List, [], ◌∷◌, length, Option, Some, None}
+use Rattle.std.specs.Prelude.{◌≡◌, ◌⊎◌, ◌+◌, ◌<◌, ◌≤◌, ◌^◌, ⊤, ℕ, Bool, not, is_some, List, [], ◌∷◌, length, Option, Some, None}
+use Rattle.std.specs.List.{list_all}
 use Rattle.check_desk.specs.declared.desk.Desk.{Desk}
-use Rattle.check_desk.specs.Desks.{opened_with, passes_of}
+use Rattle.check_desk.specs.declared.passes.Pass.{Pass}
+use Rattle.check_desk.specs.Desks.{opened_with, passes_of, IsPassOf}
 use Rattle.check_desk.specs.Passes.{new_pass_with, pass_of}
 use Rattle.check_sched.specs.BookState.{BookState, book_opening}
 use Rattle.check_sched.specs.Books.{entries_of, opening_of, refused_of}
@@ -16,10 +18,9 @@ use Rattle.nagsched_c.specs.declared.stage.Stage.TheVariants as stage
 use Rattle.nagsched_c.specs.Desks.{desk_of}
 use Rattle.nagsched_c.specs.Handles.{contents_of}
 
--- these handles lead to nothing
-abbrev pub AreEmpty : List Handle → Type 0
-AreEmpty [] = ⊤
-AreEmpty (handle ∷ handles) = (contents_of handle ≡ None) × AreEmpty handles
+-- whether these handles all lead to nothing
+abbrev pub are_empty : List Handle → Bool
+are_empty handles = list_all (λ handle. not (is_some (contents_of handle))) handles
 
 -- a desk can be opened on it, at this start and with this room: on a setup, or on a book without entries and refusals, whose start and
 -- room are its own
@@ -38,6 +39,13 @@ opens_with start room other = None
 abbrev pub IsNewAtRest : ℕ → ℕ → Stage → Type 0
 IsNewAtRest calls number (stage.Resting pass) = pass_of pass ≡ new_pass_with calls number
 IsNewAtRest calls number other = ⊥
+
+-- a pass of this desk that stands for itself alone, and has made no call and seen nothing
+pub record IsFreshPassOf (desk : Desk) (pass : Pass) : Type 0 where
+  pub own : IsPassOf desk pass
+  pub alone : length (pass_of pass).numbers ≡ 1
+  pub calls : (pass_of pass).calls ≡ 0
+  pub seen : (pass_of pass).seen ≡ []
 
 -- a caller of this desk with this number, which has so many calls and has made none
 abbrev pub IsNewCaller : ℕ → Desk → ℕ → Option Lodged → Type 0

@@ -1,7 +1,7 @@
 //! Callers put together, a desk ended, and its book gone on with.
 
 ghost use Rattle.std.specs.Prelude.{◌≡◌, ◌↔◌, true, false, Some};
-ghost use Rattle.nagsched_c.specs.Closing.{AreOfOneDesk, HasClosed, HasGathered, HasRenewed, HasShut, IsGathered, IsRenewed, IsResting};
+ghost use Rattle.nagsched_c.specs.Closing.{AreOfOneDesk, HasClosed, HasGathered, HasGoneOn, HasRenewed, HasShut, IsBook, IsGathered, IsRenewed, IsResting};
 ghost use Rattle.nagsched_c.specs.Handles.{boxed, contents_of};
 
 use crate::handle::Handle;
@@ -120,29 +120,45 @@ pub extern "C" fn nagsched_renew(
     let Some(mut lodged) = book.take(alloc) else {
         return WRONG;
     };
-    let status = match replace(&mut *lodged, Lodged::Nothing) {
-        Lodged::Book(ledger) => {
-            let (ledger, past) = renew(alloc, ledger, room);
-            *lodged = Lodged::Book(ledger);
-            match past {
-                Some(past) => {
-                    *history = Handle::of(past);
-                    OK
-                }
-                None => NO_MEMORY,
-            }
-        }
-        other => {
-            *lodged = other;
-            WRONG
-        }
-    };
+    if !is_book(&lodged) {
+        *book = Handle::of(lodged);
+        return WRONG;
+    }
+    let (now, past) = go_on(alloc, replace(&mut *lodged, Lodged::Nothing), room);
+    *lodged = now;
     *book = Handle::of(lodged);
-    status
+    match past {
+        Some(past) => {
+            *history = Handle::of(past);
+            OK
+        }
+        None => NO_MEMORY,
+    }
+}
+
+/// Whether it is a book.
+fn is_book(lodged: &Lodged) -> bool
+    ensures { (result ≡ true) ↔ IsBook lodged.now }
+{
+    matches!(lodged, Lodged::Book(_))
 }
 
 /// The book that goes on, and the entries of the one before; without them, where memory was refused, the
 /// book as it was.
+fn go_on(alloc: Global, lodged: Lodged, room: usize) -> (Lodged, Option<Box<Lodged>>)
+    requires { IsBook lodged }
+    ensures { HasGoneOn room lodged result.0 (boxed result.1) }
+{
+    match lodged {
+        Lodged::Book(ledger) => {
+            let (ledger, past) = renew(alloc, ledger, room);
+            (Lodged::Book(ledger), past)
+        }
+        other => (other, None),
+    }
+}
+
+/// The same of a book.
 fn renew(alloc: Global, ledger: Ledger, room: usize) -> (Ledger, Option<Box<Lodged>>)
     ensures { IsRenewed room ledger result.0 (boxed result.1) }
 {

@@ -3,12 +3,11 @@
 //! A handle is zeroed before its first use, and then as the last call left it. A call that uses what the
 //! handle leads to takes it out and puts it back: that asks for no memory.
 
-ghost use Rattle.std.specs.Prelude.{◌≡◌, ◌==◌, not, is_some, Some, None, option_map};
+ghost use Rattle.std.specs.Prelude.{◌≡◌, ◌==◌, not, is_some, Some, None};
 
 use crate::lodged::Lodged;
 use crate::raw::Raw;
 use crate::unboxed::Unboxed;
-use check_objects::Setup;
 use std::alloc::Global;
 use std::mem::replace;
 
@@ -80,17 +79,5 @@ impl Handle {
             Some(lodged) => Handle::of(lodged),
             None => Handle::none(),
         };
-    }
-}
-
-/// The setup whose objects are meant by a handle, of which this was taken out. None of a handle that
-/// is empty, or leads to a history.
-pub(crate) fn names_in(lodged: &Option<Box<Lodged>>) -> Option<&Setup>
-    ensures { option_map (λ setup. setup.now) result
-        ≡ Rattle.nagsched_c.specs.Handles.named_in (Rattle.nagsched_c.specs.Handles.boxed lodged.now) }
-{
-    match lodged {
-        Some(lodged) => lodged.names(),
-        None => None,
     }
 }

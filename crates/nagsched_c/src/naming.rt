@@ -5,7 +5,8 @@ ghost use Rattle.check_objects.specs.Configuration.{host_count, object_count};
 ghost use Rattle.nagsched_c.specs.Handles.{boxed, contents_of, named_in, MatchNamed};
 ghost use Rattle.nagsched_c.specs.Names.{HasHostOf, HasName, HasNumber, IsPut};
 
-use crate::handle::{Handle, names_in};
+use crate::handle::Handle;
+use crate::lodged::Lodged;
 use crate::status::{MISSING, OK, WRONG};
 use check_objects::Setup;
 use std::alloc::Global;
@@ -164,5 +165,17 @@ fn find_host(setup: &Setup, number: u32, host: &mut u32) -> u32
             OK
         }
         None => MISSING,
+    }
+}
+
+/// The setup whose objects are meant by a handle, of which this was taken out. None of a handle that
+/// is empty, or leads to a history.
+fn names_in(lodged: &Option<Box<Lodged>>) -> Option<&Setup>
+    ensures { option_map (λ setup. setup.now) result
+        ≡ named_in (boxed lodged.now) }
+{
+    match lodged {
+        Some(lodged) => lodged.names(),
+        None => None,
     }
 }

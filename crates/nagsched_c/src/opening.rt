@@ -6,12 +6,13 @@
 ghost use Rattle.std.specs.Prelude.{◌≡◌, ◌<◌, ◌≤◌, [], length, true, IfOk, IfErr, OnOk, vec_capacity};
 ghost use Rattle.std.specs.List.{All};
 ghost use Rattle.std_alloc.specs.Arc.{arc_value};
-ghost use Rattle.check_desk.specs.Desks.{calls_of, opened_with, passes_of, AreNewPassesWith, IsPassOf};
+ghost use Rattle.check_desk.specs.Desks.{opened_with, passes_of, AreNewPassesWith, IsPassOf};
 ghost use Rattle.check_desk.specs.Passes.{pass_of};
 ghost use Rattle.check_sched.specs.BookState.{book_opening};
 ghost use Rattle.check_sched.specs.Books.{entries_of, opening_of, refused_of};
 ghost use Rattle.nagsched_c.specs.Handles.{contents_of};
-ghost use Rattle.nagsched_c.specs.Opening.{AreCallersFrom, AreEmpty, HasOpened, IsAsSetup, IsBack, IsBackOf, IsBookBack, IsEmptyBack, IsOpenedBy, IsOpenedWith, IsSetupBack, IsSource};
+ghost use Rattle.nagsched_c.specs.Seats.{AreSeats};
+ghost use Rattle.nagsched_c.specs.Opening.{are_empty, AreCallersFrom, HasOpened, IsAsSetup, IsBack, IsBackOf, IsBookBack, IsEmptyBack, IsFreshPassOf, IsOpenedBy, IsOpenedWith, IsSetupBack, IsSource};
 
 use crate::caller::Caller;
 use crate::handle::Handle;
@@ -112,14 +113,9 @@ fn open_desk(
 
 /// Whether all of these handles are empty.
 fn are_empty(handles: &[Handle]) -> bool
-    ensures { result ≡ true → AreEmpty handles.now }
+    ensures { result ≡ are_empty handles.now }
 {
-    for handle in handles {
-        if !handle.is_empty() {
-            return false;
-        }
-    }
-    true
+    handles.iter().all(|handle| handle.is_empty())
 }
 
 /// Whether a desk can be opened on this, at this start and with this room.
@@ -221,7 +217,7 @@ fn open_ledger(
         return Err(Lodged::Book(Ledger { book, names }));
     };
     match Desk::open_with(alloc, book, count as u32, calls) {
-        Ok((desk, passes)) => seat_all(alloc, desk, passes, names, seats, callers),
+        Ok((desk, passes)) => seat_all(alloc, desk, calls, passes, names, seats, callers),
         Err(book) => Err(Lodged::Book(Ledger { book, names })),
     }
 }
@@ -238,8 +234,12 @@ struct Seats {
 }
 
 /// Asks for the memory that so many callers need.
-fn prepare_seats(alloc: Global, names: &Arc<Setup, Global>, count: usize) -> Result<Seats, AllocError>
-    ensures { IfOk result (λ made. Rattle.nagsched_c.specs.Seats.AreSeats (arc_value names.now) count made) }
+fn prepare_seats(
+    alloc: Global,
+    names: &Arc<Setup, Global>,
+    count: usize,
+) -> Result<Seats, AllocError>
+    ensures { IfOk result (λ made. AreSeats (arc_value names.now) count made) }
 {
     let mut places = Vec::with_capacity(alloc, count)?;
     let mut all = Vec::with_capacity(alloc, count)?;
@@ -255,20 +255,21 @@ fn prepare_seats(alloc: Global, names: &Arc<Setup, Global>, count: usize) -> Res
     })
 }
 
-/// Seats a caller for each pass at the desk, or hands the book back.
+/// Seats a caller for each pass at the desk, or hands the book back. Each pass has so many calls.
 fn seat_all(
     alloc: Global,
     desk: Desk,
+    calls: u32,
     passes: Vec<Pass>,
     names: Arc<Setup, Global>,
     seats: Seats,
     callers: &mut [Handle],
 ) -> Result<(), Lodged>
     requires names { arc_value names ≡ (opened_with desk).sched.setup }
-    requires new { AreNewPassesWith (calls_of desk) desk 0 passes.items }
-    requires count { (length passes.items ≡ passes_of desk) × (length callers.old ≡ passes_of desk) × (0 < passes_of desk) }
-    requires seats { Rattle.nagsched_c.specs.Seats.AreSeats (arc_value names) (passes_of desk) seats }
-    ensures ok { OnOk result (IsOpenedWith (calls_of desk) (opened_with desk) callers.new) }
+    requires new { AreNewPassesWith calls desk 0 passes.items }
+    requires count { (length passes.items ≡ passes_of desk) × (length callers.old ≡ passes_of desk) × (0 < passes_of desk) × (length passes.items ≤ 1024) }
+    requires seats { AreSeats (arc_value names) (passes_of desk) seats }
+    ensures ok { OnOk result (IsOpenedWith calls (opened_with desk) callers.new) }
     ensures err { IfErr result (λ back. IsBackOf (opened_with desk) back × (callers.new ≡ callers.old)) }
 {
     let count = passes.len();
@@ -284,7 +285,7 @@ fn seat_all(
     match Arc::new(alloc, shared) {
         Ok(shared) => match share(&shared, desks, count) {
             Ok(desks) => {
-                hand_out(&shared, passes, places, all, desks, callers);
+                hand_out(&shared, calls, passes, places, all, desks, callers);
                 Ok(())
             }
             Err(_) => Err(unshared(shared, passes, names)),
@@ -317,8 +318,8 @@ fn share(
 /// one caller with all passes.
 fn unshared(shared: Arc<Shared, Global>, passes: Vec<Pass>, names: Arc<Setup, Global>) -> Lodged
     requires names { arc_value names ≡ (opened_with (arc_value shared).desk).sched.setup }
-    requires new { AreNewPassesWith (calls_of (arc_value shared).desk) (arc_value shared).desk 0 passes.items }
-    requires count { (length passes.items ≡ passes_of (arc_value shared).desk) × (0 < passes_of (arc_value shared).desk) }
+    requires fresh { All (IsFreshPassOf (arc_value shared).desk) passes.items }
+    requires count { (length passes.items ≡ passes_of (arc_value shared).desk) × (0 < passes_of (arc_value shared).desk) × (length passes.items ≤ 1024) }
     ensures { IsBackOf (opened_with (arc_value shared).desk) result }
 {
     match Arc::try_unwrap(shared) {
@@ -334,7 +335,7 @@ fn unshared(shared: Arc<Shared, Global>, passes: Vec<Pass>, names: Arc<Setup, Gl
 /// The book of a desk whose passes have made no call.
 fn reclaim(desk: Desk, passes: Vec<Pass>, names: Arc<Setup, Global>) -> Ledger
     requires names { arc_value names ≡ (opened_with desk).sched.setup }
-    requires new { AreNewPassesWith (calls_of desk) desk 0 passes.items }
+    requires fresh { All (IsFreshPassOf desk) passes.items }
     requires count { (length passes.items ≡ passes_of desk) × (0 < passes_of desk) }
     ensures { (opening_of result.book ≡ opened_with desk) × (entries_of result.book ≡ [])
         × (refused_of result.book ≡ 0) }
@@ -348,7 +349,7 @@ fn reclaim(desk: Desk, passes: Vec<Pass>, names: Arc<Setup, Global>) -> Ledger
 
 /// All passes of a desk, which have made no call, as one.
 fn gather_all(desk: &Desk, passes: Vec<Pass>) -> Pass
-    requires new { AreNewPassesWith (calls_of desk.now) desk.now 0 passes.items }
+    requires fresh { All (IsFreshPassOf desk.now) passes.items }
     requires some { 0 < length passes.items }
     ensures desk { IsPassOf desk.now result }
     ensures all { length (pass_of result).numbers ≡ length passes.items }
@@ -365,16 +366,18 @@ fn gather_all(desk: &Desk, passes: Vec<Pass>) -> Pass
     whole
 }
 
-/// Gives each handle a caller: the first that of the first pass.
+/// Gives each handle a caller: the first that of the first pass. Each has so many calls, which is for
+/// the proof alone.
 fn hand_out(
     shared: &Arc<Shared, Global>,
+    calls: u32,
     passes: Vec<Pass>,
     places: Vec<Box<Lodged>>,
     names: Vec<Arc<Setup, Global>>,
     desks: Vec<Arc<Shared, Global>>,
     callers: &mut [Handle],
 )
-    requires new { AreNewPassesWith (calls_of (arc_value shared.now).desk) (arc_value shared.now).desk 0 passes.items }
+    requires new { AreNewPassesWith calls (arc_value shared.now).desk 0 passes.items }
     requires count { (length callers.old ≡ passes_of (arc_value shared.now).desk) × (length passes.items ≡ length callers.old)
         × (length places.items ≡ length callers.old) × (length callers.old ≤ 1024) }
     requires names { (length names.items ≡ length callers.old)
@@ -382,7 +385,7 @@ fn hand_out(
     requires desks { (length desks.items ≡ length callers.old)
         × All (λ one. arc_value one ≡ arc_value shared.now) desks.items }
     ensures { (length callers.new ≡ length callers.old)
-        × AreCallersFrom (calls_of (arc_value shared.now).desk) (arc_value shared.now).desk 0 callers.new }
+        × AreCallersFrom calls (arc_value shared.now).desk 0 callers.new }
 {
     let count = callers.len();
     let mut passes = passes;

@@ -1,6 +1,6 @@
 //! What a caller has in hand between two calls of C: its pass, or the turn of a call that waits.
 
-ghost use Rattle.std.specs.Prelude.{⊤};
+ghost use Rattle.std.specs.Prelude.{◌≡◌};
 ghost use Rattle.check_desk.specs.Desks.{IsWaitingAt, opened_with};
 ghost use Rattle.nagsched_c.specs.Stages.{IsStageOf};
 ghost use Rattle.nagsched_c.specs.Tries.{HasAdvanced, HasLooked, step_of};
