@@ -198,7 +198,7 @@ uint32_t nagsched_host_of(const struct nagsched_handle *named, uint32_t number, 
 /* Opens a desk, with a caller for each of count empty handles, 1 to 1024; the handle that is given is empty then.
  * Of a setup: start is the moment at which scheduling starts; room is how many entries the history has memory for
  * at once (it grows; only a call past it asks for memory). Of a book without entries, which nagsched_renew makes:
- * start and room are the book's own, and have to be 0 here. Each caller has 2^32 - 1 calls, or calls, at least 1.
+ * start and room are the book's own, and have to be 0 here. Each caller has 2^32 - 1 calls, or calls, 1 to that many.
  * Ask for memory; NO_MEMORY leaves all handles as they were. */
 uint32_t nagsched_open(struct nagsched_handle *setup_or_book, uint64_t start, size_t room, struct nagsched_handle *callers, size_t count);
 uint32_t nagsched_open_with(struct nagsched_handle *setup_or_book, uint64_t start, size_t room, uint64_t calls, struct nagsched_handle *callers,
@@ -213,10 +213,12 @@ uint32_t nagsched_try_reschedule(struct nagsched_handle *caller, uint32_t object
 uint32_t nagsched_try_enable(struct nagsched_handle *caller, uint32_t object, uint32_t on, struct nagsched_reply *reply);
 uint32_t nagsched_try_status(struct nagsched_handle *caller, uint32_t object, struct nagsched_reply *reply);
 
-/* What is known of an object, by one load: whoever holds the desk, it doesn't wait. Not while the caller waits. */
+/* What is known of an object, by one load: whoever holds the desk, it doesn't wait. Not while the caller waits, and
+ * not of a number that no object has: WRONG. */
 uint32_t nagsched_glance(struct nagsched_handle *caller, uint32_t object, struct nagsched_standing *standing);
 
-/* Adds another caller of the same desk to this one; the other handle is empty then. */
+/* Adds another caller of the same desk to this one; the other handle is empty then. Callers of two desks, or one that
+ * waits: WRONG. */
 uint32_t nagsched_gather(struct nagsched_handle *caller, struct nagsched_handle *other);
 
 /* Ends the desk: the caller, when all others are gathered in it, becomes the desk's book. MISSING before. */

@@ -1,0 +1,7 @@
+pub mod Unboxing
+pub mod Raws
+pub mod Options
+pub mod Books
+pub mod Steps
+pub mod Closings
+pub mod Fresh

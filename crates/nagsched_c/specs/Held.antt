@@ -1,0 +1,16 @@
+-- What a handle owns: nothing while it is empty, else a value at its address, with the right to free its block.
+use Rattle.std.specs.Prelude.{Option, Some, None}
+use base.Fml.{Fml, ftrue}
+use denote.RattleType.{RattleType}
+use denote.RawPtr.{Ptr}
+use Rattle.std.specs.declared.alloc.Global.{Global}
+use Rattle.std.specs.contracts.impls.GlobalAllocator.TheImpl.{ghosts}
+use Rattle.std.specs.Box.Ownership.{box_owns}
+
+-- the heap of the C library: there is one
+abbrev pub heap : Global
+heap = record { memory = record { seal = tt } }
+
+abbrev pub held : (R : RattleType) → Ptr → Option R.Denot → Fml
+held R at None = ftrue
+held R at (Some value) = box_owns (ghosts.dealloc_token heap) R at value

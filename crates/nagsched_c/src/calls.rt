@@ -1,0 +1,169 @@
+//! The six calls, a try each.
+//!
+//! A try looks once whether the caller's turn has come, and makes the call then; C tries again until it
+//! has. So no caller holds the book between two calls of C.
+
+ghost use Rattle.std.specs.Prelude.{◌≡◌, Option, Some, None};
+ghost use Rattle.check_sched.specs.declared.call.Call.TheVariants as call;
+ghost use Rattle.nagsched_c.specs.Handles.{contents_of};
+ghost use Rattle.nagsched_c.specs.Plain.{code_of, flag_of};
+ghost use Rattle.nagsched_c.specs.Tries.{reply_after, status_of, HasTried, HasTriedIf};
+
+use crate::handle::Handle;
+use crate::lodged::Lodged;
+use crate::plain::{PlainReply, code_of, flag_of, plain_reply};
+use crate::stage::Step;
+use crate::status::{NO_MEMORY, OK, SPENT, WAIT, WRONG};
+use check_sched::Call;
+use std::alloc::Global;
+
+/// Asks which object is to be checked at the moment `now`, and begins its check.
+///
+/// What a try of any of the six calls does: where the turn has come the call is made and recorded, and
+/// the struct has its reply (`OK`). Where it hasn't the caller waits, and the same call with the same
+/// arguments is to be made again (`WAIT`). `SPENT`: the caller has no call left. `NO_MEMORY`: there was
+/// none for the entry; the call wasn't made, but is counted. `WRONG`, where the handle is no caller's, or
+/// the caller waits for the turn of another call: nothing was done.
+#[unsafe(no_mangle)]
+pub extern "C" fn nagsched_try_take(
+    alloc: Global,
+    caller: &mut Handle,
+    now: u64,
+    reply: &mut PlainReply,
+) -> u32
+    ensures { HasTried (call.Take now) (contents_of caller.old) reply.old result
+        (contents_of caller.new) reply.new }
+{
+    try_call(alloc, caller, Call::Take { now }, reply)
+}
+
+/// Tells what the check of an object returned that was handed out under the number `run`, and ends that
+/// run. A code above 3 is `WRONG`. The rest is as of [`nagsched_try_take`].
+#[unsafe(no_mangle)]
+pub extern "C" fn nagsched_try_report(
+    alloc: Global,
+    caller: &mut Handle,
+    object: u32,
+    run: u64,
+    code: u32,
+    reply: &mut PlainReply,
+) -> u32
+    ensures { HasTriedIf (code_of code) (λ known. call.Report object run known)
+        (contents_of caller.old) reply.old result (contents_of caller.new) reply.new }
+{
+    match code_of(code) {
+        Some(code) => try_call(alloc, caller, Call::Report { object, run, code }, reply),
+        None => WRONG,
+    }
+}
+
+/// Gives up, at the moment `now`, the check of an object that was handed out under the number `run`, and
+/// ends that run without a result. The rest is as of [`nagsched_try_take`].
+#[unsafe(no_mangle)]
+pub extern "C" fn nagsched_try_abandon(
+    alloc: Global,
+    caller: &mut Handle,
+    object: u32,
+    run: u64,
+    now: u64,
+    reply: &mut PlainReply,
+) -> u32
+    ensures { HasTried (call.Abandon object run now) (contents_of caller.old) reply.old result
+        (contents_of caller.new) reply.new }
+{
+    try_call(alloc, caller, Call::Abandon { object, run, now }, reply)
+}
+
+/// Sets the next check of an object to the moment `time`, forced where `forced` is 1. Another number than
+/// 0 and 1 is `WRONG`. The rest is as of [`nagsched_try_take`].
+#[unsafe(no_mangle)]
+pub extern "C" fn nagsched_try_reschedule(
+    alloc: Global,
+    caller: &mut Handle,
+    object: u32,
+    time: u64,
+    forced: u32,
+    reply: &mut PlainReply,
+) -> u32
+    ensures { HasTriedIf (flag_of forced) (λ known. call.Reschedule object time known)
+        (contents_of caller.old) reply.old result (contents_of caller.new) reply.new }
+{
+    match flag_of(forced) {
+        Some(forced) => {
+            let call = Call::Reschedule {
+                object,
+                time,
+                forced,
+            };
+            try_call(alloc, caller, call, reply)
+        }
+        None => WRONG,
+    }
+}
+
+/// Turns the active checks of an object on, where `on` is 1, or off, where it is 0. Another number is
+/// `WRONG`. The rest is as of [`nagsched_try_take`].
+#[unsafe(no_mangle)]
+pub extern "C" fn nagsched_try_enable(
+    alloc: Global,
+    caller: &mut Handle,
+    object: u32,
+    on: u32,
+    reply: &mut PlainReply,
+) -> u32
+    ensures { HasTriedIf (flag_of on) (λ known. call.Enable object known)
+        (contents_of caller.old) reply.old result (contents_of caller.new) reply.new }
+{
+    match flag_of(on) {
+        Some(on) => try_call(alloc, caller, Call::Enable { object, on }, reply),
+        None => WRONG,
+    }
+}
+
+/// Asks what is known of an object, and changes nothing but the history. The rest is as of
+/// [`nagsched_try_take`].
+#[unsafe(no_mangle)]
+pub extern "C" fn nagsched_try_status(
+    alloc: Global,
+    caller: &mut Handle,
+    object: u32,
+    reply: &mut PlainReply,
+) -> u32
+    ensures { HasTried (call.Status object) (contents_of caller.old) reply.old result
+        (contents_of caller.new) reply.new }
+{
+    try_call(alloc, caller, Call::Status { object }, reply)
+}
+
+/// A try to make the call.
+fn try_call(alloc: Global, caller: &mut Handle, call: Call, reply: &mut PlainReply) -> u32
+    ensures { HasTried call (contents_of caller.old) reply.old result (contents_of caller.new)
+        reply.new }
+{
+    let Some(mut lodged) = caller.take(alloc) else {
+        return WRONG;
+    };
+    let status = match &mut *lodged {
+        Lodged::Caller(caller) => tell(caller.step(call), reply),
+        _ => WRONG,
+    };
+    *caller = Handle::of(lodged);
+    status
+}
+
+/// Tells C what came of a try.
+fn tell(step: Step, reply: &mut PlainReply) -> u32
+    ensures status { result ≡ status_of step }
+    ensures reply { reply.new ≡ reply_after step reply.old }
+{
+    match step {
+        Step::Replied(made) => {
+            *reply = plain_reply(made);
+            OK
+        }
+        Step::NotYet => WAIT,
+        Step::Spent => SPENT,
+        Step::NoMemory => NO_MEMORY,
+        Step::OtherWaits => WRONG,
+    }
+}

@@ -1,0 +1,41 @@
+//! A glance at an object, without a turn.
+
+ghost use Rattle.nagsched_c.specs.Glances.{HasGlanced};
+ghost use Rattle.nagsched_c.specs.Handles.{contents_of};
+
+use crate::handle::Handle;
+use crate::lodged::Lodged;
+use crate::plain::{PlainStanding, plain_standing};
+use crate::status::{OK, WRONG};
+use std::alloc::Global;
+
+/// Reads what is known of an object, by one load: whoever holds the desk, it doesn't wait.
+///
+/// Wrong where the handle is no caller's, where the caller waits for its turn, or where there is no
+/// object of this number: nothing was done then.
+#[unsafe(no_mangle)]
+pub extern "C" fn nagsched_glance(
+    alloc: Global,
+    caller: &mut Handle,
+    object: u32,
+    standing: &mut PlainStanding,
+) -> u32
+    ensures { HasGlanced object (contents_of caller.old) standing.old result
+        (contents_of caller.new) standing.new }
+{
+    let Some(mut lodged) = caller.take(alloc) else {
+        return WRONG;
+    };
+    let status = match &mut *lodged {
+        Lodged::Caller(caller) => match caller.glance(object) {
+            Some(known) => {
+                *standing = plain_standing(known);
+                OK
+            }
+            None => WRONG,
+        },
+        _ => WRONG,
+    };
+    *caller = Handle::of(lodged);
+    status
+}

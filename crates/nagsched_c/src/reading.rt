@@ -1,0 +1,93 @@
+//! A setup read from a document, and what is given up.
+
+ghost use Rattle.std.specs.Prelude.{◌≡◌, ◌≢◌, ◌⊎◌, ◌↔◌, true, is_some, Ok, Err, None, Some, IfOk, IfErr};
+ghost use Rattle.check_objects.specs.Setup.{setup_of};
+ghost use Rattle.check_drafts.specs.declared.error.LoadError.TheVariants.{Memory};
+ghost use Rattle.nagsched_c.specs.Handles.{contents_of};
+ghost use Rattle.nagsched_c.specs.Reading.{IsRefusalOf, IsSetupOf, IsTurnWaitingIn};
+
+use crate::handle::Handle;
+use crate::lodged::{Lodged, Prepared};
+use crate::plain::{PlainRefusal, plain_refusal};
+use crate::stage::Stage;
+use crate::status::{NO_MEMORY, OK, REFUSED, WRONG};
+use check_drafts::LoadError;
+use check_objects::Setup;
+use std::alloc::Global;
+use std::sync::Arc;
+
+/// Reads a setup of a JSON document into an empty handle. The document is read twice: callers keep the
+/// names of the objects beside the desk.
+///
+/// Refused, where the document is no setup: the struct tells why and where. Wrong, exactly where the
+/// handle isn't empty. Where memory is refused the status tells so; nothing is said of the document.
+/// But where the setup was made the handle is as it was, and but for a refusal the struct is.
+#[unsafe(no_mangle)]
+pub extern "C" fn nagsched_read(
+    alloc: Global,
+    document: &[u8],
+    setup: &mut Handle,
+    refusal: &mut PlainRefusal,
+) -> u32
+    ensures status { (result ≡ 0) ⊎ ((result ≡ 3) ⊎ ((result ≡ 4) ⊎ (result ≡ 6))) }
+    ensures wrong { (result ≡ 6) ↔ (is_some (contents_of setup.old) ≡ true) }
+    ensures read { result ≡ 0 → IsSetupOf document.now (contents_of setup.new) }
+    ensures refused { result ≡ 4 → IsRefusalOf document.now refusal.new }
+    ensures handle { result ≢ 0 → contents_of setup.new ≡ contents_of setup.old }
+    ensures told { result ≢ 4 → refusal.new ≡ refusal.old }
+{
+    if !setup.is_empty() {
+        return WRONG;
+    }
+    match prepare(alloc, document) {
+        Ok(lodged) => {
+            *setup = Handle::of(lodged);
+            OK
+        }
+        Err(LoadError::Memory) => NO_MEMORY,
+        Err(error) => {
+            *refusal = plain_refusal(error);
+            REFUSED
+        }
+    }
+}
+
+/// The setup of a document, for a desk and for the names.
+fn prepare(alloc: Global, document: &[u8]) -> Result<Box<Lodged>, LoadError>
+    ensures read { IfOk result (λ lodged. IsSetupOf document.now (Some lodged.value)) }
+    ensures refused { IfErr result (λ error. (error ≡ Memory) ⊎ (setup_of document.now ≡ Err error)) }
+{
+    let setup = Setup::read(alloc, document)?;
+    let names = Arc::new(alloc, Setup::read(alloc, document)?)?;
+    Ok(Box::new(alloc, Lodged::Setup(Prepared { setup, names }))?)
+}
+
+/// Gives up what the handle leads to, and makes it empty; an empty one stays so.
+///
+/// Wrong, exactly where it is a caller that waits for its turn: then it is as it was, since its ticket
+/// would stop all others.
+#[unsafe(no_mangle)]
+pub extern "C" fn nagsched_free(alloc: Global, handle: &mut Handle) -> u32
+    ensures freed { (result ≡ 0) × (contents_of handle.new ≡ None)
+        ⊎ (result ≡ 6) × (contents_of handle.new ≡ contents_of handle.old) }
+    ensures wrong { (result ≡ 6) ↔ IsTurnWaitingIn (contents_of handle.old) }
+{
+    let lodged = handle.take(alloc);
+    if let Some(lodged) = lodged {
+        if waits(&lodged) {
+            *handle = Handle::of(lodged);
+            return WRONG;
+        }
+    }
+    OK
+}
+
+/// Whether it is a caller that waits for its turn.
+fn waits(lodged: &Lodged) -> bool
+    ensures { (result ≡ true) ↔ IsTurnWaitingIn (Some lodged.now) }
+{
+    match lodged {
+        Lodged::Caller(caller) => matches!(caller.stage, Stage::Waiting(_, _)),
+        _ => false,
+    }
+}
