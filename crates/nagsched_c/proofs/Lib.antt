@@ -5,3 +5,4 @@ pub mod Books
 pub mod Steps
 pub mod Closings
 pub mod Fresh
+pub mod PlainLaws

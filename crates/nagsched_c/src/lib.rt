@@ -8,7 +8,7 @@
 //! The modules: `raw` and `handle` have the handle, `lodged` what it leads to, `shared`, `caller` and
 //! `stage` a caller of a desk, `plain` the structs, `status` what each function gives. The functions are
 //! in `reading` (a setup, and giving up), `naming` (objects), `opening` (a desk), `calls` (the six calls),
-//! `glancing`, `closing` (callers put together, a desk ended, a book gone on with) and `history`.
+//! `glancing`, `closing` (callers put together, a desk ended, a book gone on with), `history` and `texts`; `laws` has what no code does.
 
 ghost use Rattle.std.specs.Prelude.{◌≡◌};
 
@@ -18,6 +18,7 @@ mod closing;
 mod glancing;
 mod handle;
 mod history;
+pub mod laws;
 mod lodged;
 mod naming;
 mod opening;
@@ -27,6 +28,7 @@ mod reading;
 mod shared;
 mod stage;
 mod status;
+mod texts;
 mod unboxed;
 
 /// The number of the surface that `nagsched.h` describes.

@@ -170,7 +170,7 @@ fn find_host(setup: &Setup, number: u32, host: &mut u32) -> u32
 
 /// The setup whose objects are meant by a handle, of which this was taken out. None of a handle that
 /// is empty, or leads to a history.
-fn names_in(lodged: &Option<Box<Lodged>>) -> Option<&Setup>
+pub(crate) fn names_in(lodged: &Option<Box<Lodged>>) -> Option<&Setup>
     ensures { option_map (λ setup. setup.now) result
         ≡ named_in (boxed lodged.now) }
 {

@@ -3,7 +3,7 @@
 //! Each has the layout that `nagsched.h` gives it: no hole and no `bool`. A field for which a kind has
 //! no use is 0. Two values with the same struct are the same ([`crate::laws`]).
 
-ghost use Rattle.std.specs.Prelude.{◌≡◌};
+ghost use Rattle.std.specs.Prelude.{◌≡◌, IfSome};
 ghost use Rattle.nagsched_c.specs.Plain.{code_number, code_of, flag, flag_of, has_time, kind_number, part_number, refusal_number, state_number, time_or_0};
 ghost use Rattle.nagsched_c.specs.Plain.{plain_call, plain_entry, plain_refusal, plain_reply, plain_standing, refusal_at, refusal_nowhere, reply_struct};
 
@@ -14,7 +14,7 @@ use ticket_steps::Entry;
 
 /// What is known of an object.
 #[repr(C)]
-#[derive(Clone, Copy)]
+#[derive(Clone, Copy, PartialEq)]
 pub struct PlainStanding {
     /// 1 where a result has come in, else 0.
     pub checked: u32,
@@ -32,7 +32,7 @@ pub struct PlainStanding {
 
 /// A call, as a history keeps it.
 #[repr(C)]
-#[derive(Clone, Copy)]
+#[derive(Clone, Copy, PartialEq)]
 pub struct PlainCall {
     /// Take, report, abandon, reschedule, enable and status are 0 to 5.
     pub kind: u32,
@@ -50,7 +50,7 @@ pub struct PlainCall {
 
 /// What a call is answered.
 #[repr(C)]
-#[derive(Clone, Copy)]
+#[derive(Clone, Copy, PartialEq)]
 pub struct PlainReply {
     /// Taken, put off, idle, at limit, standing, freed and done are 0 to 6; 7 to 11 are refusals.
     pub kind: u32,
@@ -70,7 +70,7 @@ pub struct PlainReply {
 
 /// An entry of a history: who called, the call, the reply.
 #[repr(C)]
-#[derive(Clone, Copy)]
+#[derive(Clone, Copy, PartialEq)]
 pub struct PlainEntry {
     /// The number of the caller, from 0.
     pub caller: u64,
@@ -82,7 +82,7 @@ pub struct PlainEntry {
 
 /// Why a document is no setup, and where.
 #[repr(C)]
-#[derive(Clone, Copy)]
+#[derive(Clone, Copy, PartialEq)]
 pub struct PlainRefusal {
     /// The reason, 0 to 10.
     pub kind: u32,
@@ -393,4 +393,190 @@ pub(crate) fn plain_refusal(error: LoadError) -> PlainRefusal
         LoadError::ParentCycle => refusal_nowhere(10),
         LoadError::Memory => refusal_nowhere(11),
     }
+}
+
+/// The call with this struct, where a call has it.
+pub(crate) fn call_of(plain: PlainCall) -> Option<Call>
+    ensures { IfSome result (λ call. plain_call call ≡ plain) }
+{
+    let call = read_call(plain)?;
+    if plain_call(call) == plain {
+        Some(call)
+    } else {
+        None
+    }
+}
+
+/// The call that the fields of a struct name, if they are those of a call.
+fn read_call(plain: PlainCall) -> Option<Call> {
+    let object = plain.object;
+    let call = match plain.kind {
+        0 => Call::Take { now: plain.moment },
+        1 => Call::Report {
+            object,
+            run: plain.run,
+            code: code_of(plain.code)?,
+        },
+        2 => Call::Abandon {
+            object,
+            run: plain.run,
+            now: plain.moment,
+        },
+        3 => Call::Reschedule {
+            object,
+            time: plain.moment,
+            forced: flag_of(plain.flag)?,
+        },
+        4 => Call::Enable {
+            object,
+            on: flag_of(plain.flag)?,
+        },
+        5 => Call::Status { object },
+        _ => return None,
+    };
+    Some(call)
+}
+
+/// The reply with this struct, where a reply has it.
+pub(crate) fn reply_of(plain: PlainReply) -> Option<Reply>
+    ensures { IfSome result (λ reply. plain_reply reply ≡ plain) }
+{
+    let reply = read_reply(plain)?;
+    if plain_reply(reply) == plain {
+        Some(reply)
+    } else {
+        None
+    }
+}
+
+/// The reply that the fields of a struct name, if they are those of a reply.
+fn read_reply(plain: PlainReply) -> Option<Reply> {
+    let object = plain.object;
+    let time = if plain.has_time == 0 {
+        None
+    } else {
+        Some(plain.time)
+    };
+    let reply = match plain.kind {
+        0 => Reply::Taken {
+            object,
+            run: plain.run,
+        },
+        1 => Reply::PutOff {
+            object,
+            until: time,
+        },
+        2 => Reply::Idle { next: time },
+        3 => Reply::AtLimit,
+        4 => Reply::Standing {
+            standing: read_standing(plain.standing)?,
+            changed: flag_of(plain.changed)?,
+            next: time,
+        },
+        5 => Reply::Freed { next: plain.time },
+        6 => Reply::Done,
+        7 => Reply::Refused(Refusal::UnknownObject),
+        8 => Reply::Refused(Refusal::TimeRange),
+        9 => Reply::Refused(Refusal::NotRunning),
+        10 => Reply::Refused(Refusal::WrongRun),
+        11 => Reply::Refused(Refusal::RunsSpent),
+        _ => return None,
+    };
+    Some(reply)
+}
+
+/// The standing that the fields of a struct name, if they are those of a standing.
+fn read_standing(plain: PlainStanding) -> Option<Standing> {
+    let Ok(attempt) = u8::try_from(plain.attempt) else {
+        return None;
+    };
+    let kind = match plain.kind {
+        0 => Kind::Soft,
+        1 => Kind::Hard,
+        _ => return None,
+    };
+    Some(Standing {
+        checked: flag_of(plain.checked)?,
+        state: state_of(plain.state)?,
+        kind,
+        attempt,
+        last_hard: state_of(plain.last_hard)?,
+        flapping: flag_of(plain.flapping)?,
+    })
+}
+
+/// The state of this number.
+fn state_of(number: u32) -> Option<State> {
+    match number {
+        0 => Some(State::Ok),
+        1 => Some(State::Warning),
+        2 => Some(State::Critical),
+        3 => Some(State::Unknown),
+        4 => Some(State::Up),
+        5 => Some(State::Down),
+        6 => Some(State::Unreachable),
+        _ => None,
+    }
+}
+
+/// The entry with this struct, where an entry has it.
+pub(crate) fn entry_of(plain: PlainEntry) -> Option<Entry<Call, Reply>>
+    ensures { IfSome result (λ entry. plain_entry entry ≡ plain) }
+{
+    let Ok(pass) = u32::try_from(plain.caller) else {
+        return None;
+    };
+    let call = call_of(plain.call)?;
+    let reply = reply_of(plain.reply)?;
+    Some(Entry { pass, call, reply })
+}
+
+/// The refusal of a document with this struct, where a document can be refused so.
+pub(crate) fn refusal_of(plain: PlainRefusal) -> Option<LoadError>
+    ensures { IfSome result (λ error. plain_refusal error ≡ plain) }
+{
+    let error = read_refusal(plain)?;
+    if plain_refusal(error) == plain {
+        Some(error)
+    } else {
+        None
+    }
+}
+
+/// The refusal that the fields of a struct name, if they are those of a refusal.
+fn read_refusal(plain: PlainRefusal) -> Option<LoadError> {
+    let error = match plain.kind {
+        0 => LoadError::TooLong,
+        1 => LoadError::NotJson,
+        2 => LoadError::Shape(read_place(plain)?),
+        3 => LoadError::TooMany,
+        4 => LoadError::BadName(read_place(plain)?),
+        5 => LoadError::Duplicate(read_place(plain)?),
+        6 => LoadError::UnknownHost(read_place(plain)?),
+        7 => LoadError::UnknownMaster(read_place(plain)?),
+        8 => LoadError::Range(read_place(plain)?),
+        9 => LoadError::DependencyCycle,
+        10 => LoadError::ParentCycle,
+        _ => return None,
+    };
+    Some(error)
+}
+
+/// The place that the fields of a struct name, if they name one.
+fn read_place(plain: PlainRefusal) -> Option<Place> {
+    let part = match plain.part {
+        1 => Part::Document,
+        2 => Part::Options,
+        3 => Part::Hosts,
+        4 => Part::Services,
+        5 => Part::ServiceDependencies,
+        6 => Part::HostDependencies,
+        _ => return None,
+    };
+    let index = if plain.has_index == 0 {
+        None
+    } else {
+        Some(plain.index as usize)
+    };
+    Some(Place { part, index })
 }

@@ -1,0 +1,136 @@
+//! The texts that the program writes, of a refusal, a reply and an entry.
+
+ghost use Rattle.nagsched_c.specs.Handles.{contents_of, named_in, MatchNamed};
+ghost use Rattle.std.specs.Prelude.{◌≡◌};
+ghost use Rattle.nagsched_c.specs.Texts.{HasEntryText, HasRefusalText, HasReplyText};
+
+use crate::handle::Handle;
+use crate::naming::{names_in, put};
+use crate::plain::{
+    PlainCall, PlainEntry, PlainRefusal, PlainReply, call_of, entry_of, refusal_of, reply_of,
+};
+use crate::status::{NO_MEMORY, WRONG};
+use check_objects::Setup;
+use check_script::InputRefusal;
+use check_text::{push_entry, push_refusal, push_reply};
+use std::alloc::Global;
+
+/// The text of a refusal of a document, into the room at `text`; `bytes` is its length.
+///
+/// Wrong where no document is refused so, or where the text is longer than the room: nothing is written
+/// then, but in the last case its length. Where memory is refused nothing is written.
+#[unsafe(no_mangle)]
+pub extern "C" fn nagsched_refusal_text(
+    alloc: Global,
+    refusal: &PlainRefusal,
+    text: &mut [u8],
+    bytes: &mut usize,
+) -> u32
+    ensures { HasRefusalText refusal.now text.old bytes.old result text.new bytes.new }
+{
+    let Some(error) = refusal_of(*refusal) else {
+        return WRONG;
+    };
+    let mut line = String::new(alloc);
+    match push_refusal(&mut line, InputRefusal::Setup(error)) {
+        Ok(()) => put(line.as_bytes(), text, bytes),
+        Err(_) => NO_MEMORY,
+    }
+}
+
+/// The text of the reply to a call, into the room at `text`; `bytes` is its length. The objects are
+/// those of a setup, a caller or a book; one that it doesn't have has no name in the text.
+///
+/// Wrong where the handle is none of these, where no call or reply has such a struct, or where the text
+/// is longer than the room: nothing is written then, but in the last case its length. Where memory is
+/// refused nothing is written.
+#[unsafe(no_mangle)]
+pub extern "C" fn nagsched_reply_text(
+    alloc: Global,
+    named: &mut Handle,
+    call: &PlainCall,
+    reply: &PlainReply,
+    text: &mut [u8],
+    bytes: &mut usize,
+) -> u32
+    ensures handle { contents_of named.new ≡ contents_of named.old }
+    ensures told { MatchNamed (named_in (contents_of named.old))
+        (λ setup. HasReplyText setup call.now reply.now text.old bytes.old result text.new bytes.new)
+        ((result ≡ 6) × (text.new ≡ text.old) × (bytes.new ≡ bytes.old)) }
+{
+    let lodged = named.take(alloc);
+    let status = match names_in(&lodged) {
+        Some(setup) => put_reply(alloc, setup, call, reply, text, bytes),
+        None => WRONG,
+    };
+    named.put_back(lodged);
+    status
+}
+
+/// Puts the text of the reply to a call.
+fn put_reply(
+    alloc: Global,
+    setup: &Setup,
+    call: &PlainCall,
+    reply: &PlainReply,
+    text: &mut [u8],
+    bytes: &mut usize,
+) -> u32
+    ensures { HasReplyText setup.now call.now reply.now text.old bytes.old result text.new bytes.new }
+{
+    let Some(call) = call_of(*call) else {
+        return WRONG;
+    };
+    let Some(reply) = reply_of(*reply) else {
+        return WRONG;
+    };
+    let mut line = String::new(alloc);
+    match push_reply(&mut line, setup, call, reply) {
+        Ok(()) => put(line.as_bytes(), text, bytes),
+        Err(_) => NO_MEMORY,
+    }
+}
+
+/// The text of an entry of a history, into the room at `text`; `bytes` is its length. The rest is as of
+/// [`nagsched_reply_text`].
+#[unsafe(no_mangle)]
+pub extern "C" fn nagsched_entry_text(
+    alloc: Global,
+    named: &mut Handle,
+    entry: &PlainEntry,
+    text: &mut [u8],
+    bytes: &mut usize,
+) -> u32
+    ensures handle { contents_of named.new ≡ contents_of named.old }
+    ensures told { MatchNamed (named_in (contents_of named.old))
+        (λ setup. HasEntryText setup entry.now text.old bytes.old result text.new bytes.new)
+        ((result ≡ 6) × (text.new ≡ text.old) × (bytes.new ≡ bytes.old)) }
+{
+    let lodged = named.take(alloc);
+    let status = match names_in(&lodged) {
+        Some(setup) => put_entry(alloc, setup, entry, text, bytes),
+        None => WRONG,
+    };
+    named.put_back(lodged);
+    status
+}
+
+/// Puts the text of an entry.
+fn put_entry(
+    alloc: Global,
+    setup: &Setup,
+    entry: &PlainEntry,
+    text: &mut [u8],
+    bytes: &mut usize,
+) -> u32
+    ensures { HasEntryText setup.now entry.now text.old bytes.old result text.new bytes.new }
+{
+    let Some(entry) = entry_of(*entry) else {
+        return WRONG;
+    };
+    let mut line = String::new(alloc);
+    match push_entry(&mut line, setup, &entry) {
+        Ok(()) => put(line.as_bytes(), text, bytes),
+        Err(_) => NO_MEMORY,
+    }
+}
