@@ -1,5 +1,5 @@
 -- What opening a desk needs and gives.
-use Rattle.std.specs.Prelude.{◌≡◌, ◌⊎◌, ◌+◌, ◌<◌, ◌≤◌, ◌^◌, ⊤, ℕ, Bool, not, is_some, List, [], ◌∷◌, length, Option, Some, None}
+use Rattle.std.specs.Prelude.{◌≡◌, ◌⊎◌, ◌+◌, ◌≤◌, ◌^◌, ⊤, ℕ, Bool, not, is_some, List, [], ◌∷◌, length, Option, Some, None}
 use Rattle.std.specs.List.{list_all}
 use Rattle.check_desk.specs.declared.desk.Desk.{Desk}
 use Rattle.check_desk.specs.declared.passes.Pass.{Pass}
@@ -7,7 +7,6 @@ use Rattle.check_desk.specs.Desks.{opened_with, passes_of, IsPassOf}
 use Rattle.check_desk.specs.Passes.{new_pass_with, pass_of}
 use Rattle.check_sched.specs.BookState.{BookState, book_opening}
 use Rattle.check_sched.specs.Books.{entries_of, opening_of, refused_of}
-use Rattle.nagsched_c.specs.declared.caller.Caller.{Caller}
 use Rattle.nagsched_c.specs.declared.handle.Handle.{Handle}
 use Rattle.nagsched_c.specs.declared.lodged.Ledger.{Ledger}
 use Rattle.nagsched_c.specs.declared.lodged.Lodged.{Lodged}
