@@ -3,7 +3,7 @@
 //! All that a desk needs beside it is asked for before it, so that where memory is refused the setup or
 //! the book can be handed back.
 
-ghost use Rattle.std.specs.Prelude.{◌≡◌, ◌<◌, ◌≤◌, [], length, true, IfOk, IfErr, OnOk, vec_capacity};
+ghost use Rattle.std.specs.Prelude.{◌≡◌, ◌↔◌, ◌<◌, ◌≤◌, [], length, true, IfOk, IfErr, OnOk, vec_capacity};
 ghost use Rattle.std.specs.List.{All};
 ghost use Rattle.std_alloc.specs.Arc.{arc_value};
 ghost use Rattle.check_desk.specs.Desks.{opened_with, passes_of, AreNewPassesWith, IsPassOf};
@@ -12,7 +12,7 @@ ghost use Rattle.check_sched.specs.BookState.{book_opening};
 ghost use Rattle.check_sched.specs.Books.{entries_of, opening_of, refused_of};
 ghost use Rattle.nagsched_c.specs.Handles.{contents_of};
 ghost use Rattle.nagsched_c.specs.Seats.{AreSeats};
-ghost use Rattle.nagsched_c.specs.Opening.{are_empty, AreCallersFrom, HasOpened, IsAsSetup, IsBack, IsBackOf, IsBookBack, IsEmptyBack, IsFreshPassOf, IsOpenedBy, IsOpenedWith, IsSetupBack, IsSource};
+ghost use Rattle.nagsched_c.specs.Opening.{are_empty, AreCallersFrom, ArePlaces, HasOpened, IsAsSetup, IsBack, IsBackOf, IsBookBack, IsEmptyBack, IsFreshPassOf, IsOpenedBy, IsOpenedWith, IsSetupBack, IsSource};
 
 use crate::caller::Caller;
 use crate::handle::Handle;
@@ -83,8 +83,7 @@ fn open_desk(
     ensures { HasOpened calls start room (contents_of source.old) callers.old result
         (contents_of source.new) callers.new }
 {
-    let count = callers.len();
-    if count == 0 || 1024 < count || !are_empty(callers) {
+    if !are_places(callers) {
         return WRONG;
     }
     let Some(mut lodged) = source.take(alloc) else {
@@ -111,6 +110,14 @@ fn open_desk(
     }
 }
 
+/// Whether these are 1 to 1,024 empty handles.
+fn are_places(callers: &[Handle]) -> bool
+    ensures { (result ≡ true) ↔ ArePlaces callers.now }
+{
+    let count = callers.len();
+    0 < count && count <= 1024 && are_empty(callers)
+}
+
 /// Whether all of these handles are empty.
 fn are_empty(handles: &[Handle]) -> bool
     ensures { result ≡ are_empty handles.now }
@@ -120,7 +127,7 @@ fn are_empty(handles: &[Handle]) -> bool
 
 /// Whether a desk can be opened on this, at this start and with this room.
 fn is_source(lodged: &Lodged, start: u64, room: usize) -> bool
-    ensures { result ≡ true → IsSource start room lodged.now }
+    ensures { (result ≡ true) ↔ IsSource start room lodged.now }
 {
     match lodged {
         Lodged::Setup(_) => start <= LAST_MOMENT,
