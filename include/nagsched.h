@@ -217,8 +217,9 @@ uint32_t nagsched_try_status(struct nagsched_handle *caller, uint32_t object, st
  * not of a number that no object has: WRONG. */
 uint32_t nagsched_glance(struct nagsched_handle *caller, uint32_t object, struct nagsched_standing *standing);
 
-/* Adds another caller of the same desk to this one; the other handle is empty then. Callers of two desks, or one that
- * waits: WRONG. */
+/* Adds another caller of the same desk to this one; the other handle is empty then. One that waits, or callers of two
+ * desks: WRONG. (Two desks are seen by a mark that is raised through one caller and read through the other, eight times;
+ * no clause covers it, and another gather on the second desk in those very instants could hide it: keep desks apart.) */
 uint32_t nagsched_gather(struct nagsched_handle *caller, struct nagsched_handle *other);
 
 /* Ends the desk: the caller, when all others are gathered in it, becomes the desk's book. MISSING before. */

@@ -1,6 +1,5 @@
 -- What C is told of a desk that was ended, and of a book that goes on.
-use Rattle.std.proofs.Common.{◌≡◌, ℕ, inl, inr, refl, true, false, Some, None}
-use Rattle.std.specs.Prelude.{Option}
+use Rattle.std.proofs.Common.{ℕ, inl, inr, refl, true, false, Some, None}
 use Rattle.nagsched_c.specs.declared.lodged.Lodged.{Lodged}
 use Rattle.nagsched_c.specs.declared.lodged.Lodged.TheVariants as lodged
 use Rattle.nagsched_c.specs.Closing.{HasClosed, HasGoneOn, HasRenewed, HasShut}

@@ -18,14 +18,13 @@ use Rattle.check_sched.specs.declared.call.Call.{Call}
 use Rattle.check_sched.specs.declared.call.Call.TheVariants as call
 use Rattle.check_sched.specs.declared.call.Reply.{Reply}
 use Rattle.check_sched.specs.declared.call.Reply.TheVariants as reply
-use Rattle.check_sched.specs.declared.call.Refusal.{Refusal}
 use Rattle.check_sched.specs.declared.call.Refusal.TheVariants as refused
 use Rattle.nagsched_c.specs.declared.plain.PlainStanding.{PlainStanding}
 use Rattle.nagsched_c.specs.declared.plain.PlainCall.{PlainCall}
 use Rattle.nagsched_c.specs.declared.plain.PlainReply.{PlainReply}
 use Rattle.nagsched_c.specs.declared.plain.PlainEntry.{PlainEntry}
 use Rattle.nagsched_c.specs.declared.plain.PlainRefusal.{PlainRefusal}
-use Rattle.nagsched_c.specs.Plain.{code_number, flag, has_time, kind_number, part_number, refusal_number, state_number, time_or_0}
+use Rattle.nagsched_c.specs.Plain.{code_number, flag, has_time, kind_number, part_number, state_number, time_or_0}
 use Rattle.nagsched_c.specs.Plain.{plain_call, plain_entry, plain_refusal, plain_reply, plain_standing, refusal_at}
 
 -- what can be read back tells values apart

@@ -1,13 +1,12 @@
 -- What both walks of `Unboxed` share: the type at its parameters, and what the calls that take a box apart and make it whole again ask
 -- and give. Parts own what the box owned: the two are one to the logic.
-use mathlib.Core.List.{List, [], ◌∷◌}
+use mathlib.Core.List.{[], ◌∷◌}
 use mathlib.Core.Path.{◌≡◌}
 use seplogic.Ra.Ura.{Ura}
 use mir.Syntax.{Dict}
 use mir.Val.{Val}
 use base.Logic.{SProp}
-use base.Fml.{ftrue, fsep, flft}
-use contract.BorrowLft.{◌⊑◌}
+use base.Fml.{ftrue, fsep}
 use contract.Monad.{Fun, fact}
 use prog.Memory.{Memory}
 use prog.Routine.{Routine}

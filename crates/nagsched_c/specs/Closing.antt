@@ -1,5 +1,5 @@
 -- What comes of callers that are put together, of a desk that is ended, and of a book that goes on.
-use Rattle.std.specs.Prelude.{◌≡◌, ◌⊎◌, ◌+◌, ◌≤◌, ⊤, ℕ, Bool, true, false, [], length, Option, Some, None}
+use Rattle.std.specs.Prelude.{◌≡◌, ◌⊎◌, ◌+◌, ◌≤◌, ⊤, ℕ, Bool, true, false, [], length, is_some, Option, Some, None}
 use Rattle.check_desk.specs.declared.desk.Desk.{Desk}
 use Rattle.check_desk.specs.Desks.{opened_with, passes_of}
 use Rattle.check_desk.specs.Passes.{pass_of}
@@ -52,12 +52,18 @@ HasShut (lodged.Caller caller) true (lodged.Book ledger) = IsBookAfter (desk_of 
 HasShut (lodged.Caller caller) false (lodged.Caller same) = IsSameCaller caller same
 HasShut before closed after = ⊥
 
--- The desk was ended, and the handle has its book; or passes are missing, and the caller is as it was; or nothing was done.
+-- a caller with its pass in hand, in a handle
+abbrev pub IsRestingIn : Option Lodged → Type 0
+IsRestingIn (Some lodged) = IsResting lodged
+IsRestingIn None = ⊥
+
+-- The desk was ended, and the handle has its book; or passes are missing, and the caller is as it was; or the handle has no caller
+-- that rests, and nothing was done.
 abbrev pub HasClosed : Option Lodged → ℕ → Option Lodged → Type 0
 HasClosed before status after =
     ((caller : Caller) × (before ≡ Some (lodged.Caller caller)) × (status ≡ 0) × ((ledger : Ledger) × (after ≡ Some (lodged.Book ledger)) × IsBookAfter (desk_of caller) caller.stage ledger))
     ⊎ (((caller : Caller) × (before ≡ Some (lodged.Caller caller)) × (status ≡ 5) × ((same : Caller) × (after ≡ Some (lodged.Caller same)) × IsSameCaller caller same))
-    ⊎ ((status ≡ 6) × (after ≡ before)))
+    ⊎ ((status ≡ 6) × (after ≡ before) × (IsRestingIn before → ⊥)))
 
 -- a book that goes on where one stood, with this room and without entries
 abbrev pub IsNext : ℕ → Ledger → Ledger → Type 0
@@ -80,9 +86,15 @@ abbrev pub HasGoneOn : ℕ → Lodged → Lodged → Option Lodged → Type 0
 HasGoneOn room (lodged.Book before) (lodged.Book after) past = IsRenewed room before after past
 HasGoneOn room before after past = ⊥
 
--- The book goes on, and its history is in the other handle; or memory was refused, and the book is as it was; or nothing was done.
+-- a book, in a handle
+abbrev pub IsBookIn : Option Lodged → Type 0
+IsBookIn (Some lodged) = IsBook lodged
+IsBookIn None = ⊥
+
+-- The book goes on, and its history is in the other handle; or memory was refused, and the book is as it was; or the handle has no book
+-- or the other isn't empty, and nothing was done.
 abbrev pub HasRenewed : ℕ → Option Lodged → Option Lodged → ℕ → Option Lodged → Option Lodged → Type 0
 HasRenewed room book history status book' history' =
     ((history ≡ None) × (status ≡ 0) × ((before : Ledger) × (after : Ledger) × (book ≡ Some (lodged.Book before)) × (book' ≡ Some (lodged.Book after)) × IsRenewed room before after history'))
     ⊎ (((history' ≡ history) × (status ≡ 3) × ((before : Ledger) × (after : Ledger) × (book ≡ Some (lodged.Book before)) × (book' ≡ Some (lodged.Book after)) × (after.book ≡ before.book)))
-    ⊎ ((status ≡ 6) × (book' ≡ book) × (history' ≡ history)))
+    ⊎ ((status ≡ 6) × (book' ≡ book) × (history' ≡ history) × (IsBookIn book → is_some history ≡ true)))

@@ -1,7 +1,6 @@
 -- What clauses see of a caller: its desk, its objects, and which of its parts stay from call to call.
-use Rattle.std.specs.Prelude.{◌≡◌, ℕ}
+use Rattle.std.specs.Prelude.{◌≡◌}
 use Rattle.std_alloc.specs.Arc.{arc_value}
-use Rattle.check_objects.specs.Configuration.{Configuration}
 use Rattle.check_desk.specs.declared.desk.Desk.{Desk}
 use Rattle.nagsched_c.specs.declared.caller.Caller.{Caller}
 

@@ -1,5 +1,5 @@
 -- What a glance shows.
-use Rattle.std.specs.Prelude.{◌≡◌, ◌<◌, ◌≤◌, ℕ, ⊤, Option, Some, None}
+use Rattle.std.specs.Prelude.{◌≡◌, ◌<◌, ◌≤◌, ℕ, Option, Some, None}
 use Rattle.ticket_lock.specs.Callers.{having_seen}
 use Rattle.ticket_lock.specs.Views.{Follows}
 use Rattle.check_desk.specs.declared.desk.Desk.{Desk}
@@ -7,7 +7,6 @@ use Rattle.check_desk.specs.declared.passes.Pass.{Pass}
 use Rattle.check_desk.specs.Desks.{objects_of, standing_after, IsHistoryOf}
 use Rattle.check_desk.specs.Passes.{pass_of}
 use Rattle.check_rules.specs.declared.standing.Standing.{Standing}
-use Rattle.nagsched_c.specs.declared.caller.Caller.{Caller}
 use Rattle.nagsched_c.specs.declared.lodged.Lodged.{Lodged}
 use Rattle.nagsched_c.specs.declared.lodged.Lodged.TheVariants as lodged
 use Rattle.nagsched_c.specs.declared.plain.PlainStanding.{PlainStanding}

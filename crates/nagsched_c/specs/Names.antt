@@ -1,5 +1,5 @@
 -- What C is told of an object's name, number and host.
-use Rattle.std.specs.Prelude.{◌≡◌, ◌⊎◌, ◌<◌, ◌≤◌, ◌++◌, ℕ, List, length, drop, IsUtf8, Option, Some, None}
+use Rattle.std.specs.Prelude.{◌≡◌, ◌⊎◌, ◌<◌, ◌≤◌, ◌++◌, ℕ, List, length, drop, IsUtf8, Some, None}
 use Rattle.check_objects.specs.Configuration.{Configuration, host_of, name_of, number_of, object_count}
 
 -- The number of an object was written, or else there is no object of that name. A name that isn't UTF-8 is no object's.

@@ -1,5 +1,5 @@
 -- What opening a desk needs and gives.
-use Rattle.std.specs.Prelude.{◌≡◌, ◌⊎◌, ◌+◌, ◌<◌, ◌≤◌, ◌^◌, ⊤, ℕ, Bool, not, is_some, List, [], ◌∷◌, length, Option, Some, None}
+use Rattle.std.specs.Prelude.{◌≡◌, ◌⊎◌, ◌+◌, ◌<◌, ◌≤◌, ◌^◌, ⊤, ℕ, Bool, true, not, is_some, List, [], ◌∷◌, length, Option, Some, None}
 use Rattle.std.specs.List.{list_all}
 use Rattle.check_desk.specs.declared.desk.Desk.{Desk}
 use Rattle.check_desk.specs.declared.passes.Pass.{Pass}
@@ -7,7 +7,6 @@ use Rattle.check_desk.specs.Desks.{opened_with, passes_of, IsPassOf}
 use Rattle.check_desk.specs.Passes.{new_pass_with, pass_of}
 use Rattle.check_book.specs.BookState.{BookState, book_opening}
 use Rattle.check_book.specs.Books.{entries_of, opening_of, refused_of}
-use Rattle.nagsched_c.specs.declared.caller.Caller.{Caller}
 use Rattle.nagsched_c.specs.declared.handle.Handle.{Handle}
 use Rattle.nagsched_c.specs.declared.lodged.Ledger.{Ledger}
 use Rattle.nagsched_c.specs.declared.lodged.Lodged.{Lodged}
@@ -101,10 +100,23 @@ IsAsSetup (lodged.Book ledger) (lodged.Setup prepared) = prepared.setup ≡ (ope
 IsAsSetup (lodged.Book ledger) other = ⊥
 IsAsSetup back same = same ≡ back
 
+-- 1 to 1,024 empty handles
+abbrev pub ArePlaces : List Handle → Type 0
+ArePlaces callers = (0 < length callers) × (length callers ≤ 1024) × (are_empty callers ≡ true)
+
+-- what a handle leads to can be opened
+abbrev pub IsSourceIn : ℕ → ℕ → Option Lodged → Type 0
+IsSourceIn start room (Some source) = IsSource start room source
+IsSourceIn start room None = ⊥
+
+-- all that opening needs but memory
+abbrev pub MayOpen : ℕ → ℕ → ℕ → Option Lodged → List Handle → Type 0
+MayOpen calls start room before callers = ArePlaces callers × IsSourceIn start room before × (0 < calls) × (calls ≤ 4294967295)
+
 -- The three answers: a desk was opened, and the handle that was given is empty; memory was refused, and the source is handed back; or
--- nothing was done.
+-- it can't be opened so, and nothing was done.
 abbrev pub HasOpened : ℕ → ℕ → ℕ → Option Lodged → List Handle → ℕ → Option Lodged → List Handle → Type 0
 HasOpened calls start room before callers status after opened =
     ((status ≡ 0) × (after ≡ None) × ((source : Lodged) × (before ≡ Some source) × IsSource start room source × IsOpenedBy start room calls source opened))
     ⊎ (((status ≡ 3) × (opened ≡ callers) × ((source : Lodged) × (back : Lodged) × (before ≡ Some source) × (after ≡ Some back) × IsBack start room source back))
-    ⊎ ((status ≡ 6) × (after ≡ before) × (opened ≡ callers)))
+    ⊎ ((status ≡ 6) × (after ≡ before) × (opened ≡ callers) × (MayOpen calls start room before callers → ⊥)))

@@ -1,8 +1,7 @@
 -- What a document gives, and which handles can't be given up.
-use Rattle.std.specs.Prelude.{◌≡◌, ◌≢◌, ⊤, ℕ, List, Ok, Err, Option, Some, None}
+use Rattle.std.specs.Prelude.{◌≡◌, ⊤, ℕ, List, Ok, Err, Option, Some}
 use Rattle.check_drafts.specs.declared.error.LoadError.{LoadError}
 use Rattle.check_objects.specs.Setup.{setup_of}
-use Rattle.nagsched_c.specs.declared.caller.Caller.{Caller}
 use Rattle.nagsched_c.specs.declared.lodged.Lodged.{Lodged}
 use Rattle.nagsched_c.specs.declared.lodged.Lodged.TheVariants as lodged
 use Rattle.nagsched_c.specs.declared.plain.PlainRefusal.{PlainRefusal}

@@ -1,8 +1,7 @@
 -- What a try of one of the six calls does: it makes the call at the end of a history that the caller sees, or leaves the caller
 -- waiting, or does nothing.
-use Rattle.std.specs.Prelude.{◌≡◌, ◌≢◌, ⊤, ◌≤◌, ℕ, length, List, Option, Some, None}
+use Rattle.std.specs.Prelude.{◌≡◌, ◌≢◌, ◌≤◌, ℕ, length, List, Option, Some, None}
 use Rattle.core.specs.Mem.{manually_drop_value}
-use Rattle.std_alloc.specs.Arc.{arc_value}
 use Rattle.ticket_steps.specs.declared.kept.Entry.{Entry}
 use Rattle.ticket_lock.specs.Callers.{Caller as Seen, drawn, ended}
 use Rattle.ticket_lock.specs.Views.{Follows}

@@ -6,8 +6,8 @@ ghost use Rattle.std_alloc.specs.Arc.{arc_value};
 ghost use Rattle.check_book.specs.Books.{sched_of};
 
 use crate::caller::Caller;
-use check_objects::Setup;
 use check_book::Book;
+use check_objects::Setup;
 use check_sched::{Call, Reply};
 use std::alloc::Global;
 use std::sync::Arc;

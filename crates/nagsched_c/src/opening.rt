@@ -3,7 +3,7 @@
 //! All that a desk needs beside it is asked for before it, so that where memory is refused the setup or
 //! the book can be handed back.
 
-ghost use Rattle.std.specs.Prelude.{◌≡◌, ◌<◌, ◌≤◌, [], length, true, IfOk, IfErr, OnOk, vec_capacity};
+ghost use Rattle.std.specs.Prelude.{◌≡◌, ◌↔◌, ◌<◌, ◌≤◌, [], length, true, IfOk, IfErr, OnOk, vec_capacity};
 ghost use Rattle.std.specs.List.{All};
 ghost use Rattle.std_alloc.specs.Arc.{arc_value};
 ghost use Rattle.check_desk.specs.Desks.{opened_with, passes_of, AreNewPassesWith, IsPassOf};
@@ -12,16 +12,16 @@ ghost use Rattle.check_book.specs.BookState.{book_opening};
 ghost use Rattle.check_book.specs.Books.{entries_of, opening_of, refused_of};
 ghost use Rattle.nagsched_c.specs.Handles.{contents_of};
 ghost use Rattle.nagsched_c.specs.Seats.{AreSeats};
-ghost use Rattle.nagsched_c.specs.Opening.{are_empty, AreCallersFrom, HasOpened, IsAsSetup, IsBack, IsBackOf, IsBookBack, IsEmptyBack, IsFreshPassOf, IsOpenedBy, IsOpenedWith, IsSetupBack, IsSource};
+ghost use Rattle.nagsched_c.specs.Opening.{are_empty, AreCallersFrom, ArePlaces, HasOpened, IsAsSetup, IsBack, IsBackOf, IsBookBack, IsEmptyBack, IsFreshPassOf, IsOpenedBy, IsOpenedWith, IsSetupBack, IsSource};
 
 use crate::caller::Caller;
 use crate::handle::Handle;
 use crate::lodged::{Ledger, Lodged, Prepared};
 use crate::shared::Shared;
 use crate::status::{NO_MEMORY, OK, WRONG};
+use check_book::Book;
 use check_desk::{Desk, Pass};
 use check_objects::Setup;
-use check_book::Book;
 use check_sched::LAST_MOMENT;
 use std::alloc::{AllocError, Global};
 use std::mem::replace;
@@ -84,8 +84,7 @@ fn open_desk(
     ensures { HasOpened calls start room (contents_of source.old) callers.old result
         (contents_of source.new) callers.new }
 {
-    let count = callers.len();
-    if count == 0 || 1024 < count || !are_empty(callers) {
+    if !are_places(callers) {
         return WRONG;
     }
     let Some(mut lodged) = source.take(alloc) else {
@@ -112,6 +111,14 @@ fn open_desk(
     }
 }
 
+/// Whether these are 1 to 1,024 empty handles.
+fn are_places(callers: &[Handle]) -> bool
+    ensures { (result ≡ true) ↔ ArePlaces callers.now }
+{
+    let count = callers.len();
+    0 < count && count <= 1024 && are_empty(callers)
+}
+
 /// Whether all of these handles are empty.
 fn are_empty(handles: &[Handle]) -> bool
     ensures { result ≡ are_empty handles.now }
@@ -121,7 +128,7 @@ fn are_empty(handles: &[Handle]) -> bool
 
 /// Whether a desk can be opened on this, at this start and with this room.
 fn is_source(lodged: &Lodged, start: u64, room: usize) -> bool
-    ensures { result ≡ true → IsSource start room lodged.now }
+    ensures { (result ≡ true) ↔ IsSource start room lodged.now }
 {
     match lodged {
         Lodged::Setup(_) => start <= LAST_MOMENT,

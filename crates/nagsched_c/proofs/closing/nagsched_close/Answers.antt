@@ -1,4 +1,4 @@
-use Rattle.std.proofs.Common.{◌≡◌, ◌∙◌, Bool, true, false, subst}
+use Rattle.std.proofs.Common.{◌∙◌, Bool, subst}
 use Rattle.nagsched_c.specs.declared.lodged.Lodged.{Lodged}
 use Rattle.nagsched_c.specs.Closing.{HasShut}
 use Rattle.nagsched_c.proofs.Closings.{ended, open_still}

@@ -1,4 +1,4 @@
-use Rattle.std.proofs.Common.{◌≡◌, ◌∙◌, Some, None, subst}
+use Rattle.std.proofs.Common.{◌≡◌, ◌∙◌, None, subst}
 use Rattle.std.specs.Prelude.{Option}
 use Rattle.std.specs.declared.alloc.Global.{Global}
 use Rattle.std_alloc.specs.declared.boxed.Box.{Box}

@@ -1,4 +1,4 @@
-use Rattle.std.proofs.Common.{◌≡◌, ◌+◌, ◌-◌, ◌≤◌, length, drop}
+use Rattle.std.proofs.Common.{◌≡◌, ◌+◌, ◌-◌, length, drop}
 use Rattle.std.specs.List.{All}
 use Rattle.std_alloc.specs.Arc.{arc_value}
 use Rattle.check_desk.specs.Desks.{opened_with, AreNewPassesWith}

@@ -1,6 +1,5 @@
-use Rattle.std.proofs.Common.{◌≡◌, ◌∙◌, refl, sym, ap, subst, length}
+use Rattle.std.proofs.Common.{◌∙◌, refl, sym, subst}
 use Rattle.std.specs.List.{All}
-use Rattle.std_alloc.specs.Arc.{arc_value}
 use Rattle.nagsched_c.specs.declared.shared.Shared.{Shared}
 use Rattle.nagsched_c.specs.Opening.{AreCallersFrom, IsFreshPassOf}
 use Rattle.nagsched_c.proofs.Fresh.{fresh_all}

@@ -1,5 +1,5 @@
 -- The parts of a box are handed to `from_raw`, which makes it whole.
-use Rattle.std.proofs.Common.{◌≡◌, List, [], ◌∷◌, ◌++◌, refl, sym, ap, subst}
+use Rattle.std.proofs.Common.{List, [], ◌∷◌, ◌++◌, refl, sym, ap, subst}
 use mir.Syntax.{a_type, dcons, dnil}
 use lib.Dec.{T as IsTrue}
 use mir.Val.{Val, vptr, has_ty, WT}
