@@ -54,13 +54,12 @@ pub const MAX_RUNS: u64 = 1 << 60;
 pub struct Sched {
     setup: Setup,
     start: u64,
+    roster: Roster,
     standings: Vec<Standing>,
     results: Results,
+    runs: u64,
     /// Scratch of the search through dependencies: a mark for each object.
     marks: Vec<bool>,
-    roster: Roster,
-    /// Behind the roster, whose counts a call writes too.
-    runs: u64,
 }
 
 impl Model for Sched {
