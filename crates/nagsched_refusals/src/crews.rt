@@ -4,10 +4,9 @@ ghost use Rattle.std.specs.Prelude.{⊤, IfOk};
 ghost use Rattle.std.specs.List.{All};
 ghost use Rattle.check_desk.specs.Desks.{IsPassOf};
 
-use crate::calls::desk_of;
 use crate::openings::book_of;
 use crate::outcome::{Outcome, Wrong, second, where_right};
-use crate::setups::TWO_SERVICES;
+use crate::setups::{ONE_SERVICE, TWO_SERVICES};
 use check_book::Book;
 use check_desk::{Desk, Pass};
 use check_rules::Code;
@@ -101,6 +100,20 @@ fn crew_once<R: Threads + Wait + Sync>(
         Err(CrewError::NoThread(_desk)) => Ok(Outcome::Refused),
         Err(CrewError::NoPass(_desk)) => Err(Wrong),
         Err(CrewError::Missing(_desk, _pass)) => Err(Wrong),
+    }
+}
+
+/// A desk without room, and its one pass.
+fn desk_of(alloc: Global, room: usize) -> Result<(Desk, Pass), Wrong>
+    ensures { IfOk result (λ made. IsPassOf made.0 made.1) }
+{
+    let (desk, mut passes) = match Desk::open(alloc, book_of(alloc, ONE_SERVICE, room)?, 1) {
+        Ok(made) => made,
+        Err(book) => second(Desk::open(alloc, book, 1))?,
+    };
+    match passes.pop() {
+        Some(pass) => Ok((desk, pass)),
+        None => Err(Wrong),
     }
 }
 

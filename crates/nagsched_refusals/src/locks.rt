@@ -1,8 +1,6 @@
-//! A core, a lock and a desk over a book: out of memory each hands the book back.
+//! A core and a lock over a book: out of memory each hands the book back.
 
 ghost use Rattle.std.specs.Prelude.{◌≡◌, []};
-ghost use Rattle.std.specs.List.{All};
-ghost use Rattle.check_desk.specs.Desks.{IsPassOf};
 ghost use Rattle.check_book.specs.Books.{entries_of, refused_of};
 ghost use Rattle.ticket_lock.specs.Tokens.{IsSeatOf};
 
@@ -11,7 +9,6 @@ use crate::outcome::{Outcome, Wrong, second};
 use crate::setups::ONE_SERVICE;
 use check_book::Book;
 use check_book::laws::board_shows_standings;
-use check_desk::{Desk, Pass};
 use std::alloc::Global;
 use ticket_lock::{Seat, TicketLock};
 use ticket_steps::Core;
@@ -90,50 +87,5 @@ fn close_lock(
     match lock.close(seat) {
         Ok(book) => where_new(alloc, &book, ONE_SERVICE, outcome),
         Err((_lock, _seat)) => Err(Wrong),
-    }
-}
-
-/// Makes a desk with one pass over a book, and closes it.
-pub(crate) fn open_desk(alloc: Global) -> Result<Outcome, Wrong> {
-    match Desk::open(alloc, book_of(alloc, ONE_SERVICE, 4)?, 1) {
-        Ok((desk, passes)) => {
-            let book = closed_book(desk, passes)?;
-            where_new(alloc, &book, ONE_SERVICE, Outcome::Answered)
-        }
-        Err(back) => open_desk_again(alloc, back),
-    }
-}
-
-/// The same with a pass of three calls.
-pub(crate) fn open_desk_with_calls(alloc: Global) -> Result<Outcome, Wrong> {
-    match Desk::open_with(alloc, book_of(alloc, ONE_SERVICE, 4)?, 1, 3) {
-        Ok((desk, passes)) => {
-            let book = closed_book(desk, passes)?;
-            where_new(alloc, &book, ONE_SERVICE, Outcome::Answered)
-        }
-        Err(back) => open_desk_again(alloc, back),
-    }
-}
-
-/// Makes a desk over the book that came back.
-fn open_desk_again(alloc: Global, back: Book) -> Result<Outcome, Wrong>
-    requires { (entries_of back ≡ []) × (refused_of back ≡ 0) }
-{
-    let outcome = where_new(alloc, &back, ONE_SERVICE, Outcome::Refused)?;
-    let (desk, passes) = second(Desk::open(alloc, back, 1))?;
-    where_new(alloc, &closed_book(desk, passes)?, ONE_SERVICE, outcome)
-}
-
-/// The book of a desk that closes.
-pub(crate) fn closed_book(desk: Desk, passes: Vec<Pass>) -> Result<Book, Wrong>
-    requires { All (IsPassOf desk) passes.items }
-{
-    let mut passes = passes;
-    let Some(pass) = passes.pop() else {
-        return Err(Wrong);
-    };
-    match desk.close(pass) {
-        Ok(book) => Ok(book),
-        Err((_desk, _pass)) => Err(Wrong),
     }
 }

@@ -1,20 +1,20 @@
 #![tactic(auto)]
-//! The program `nagsched_refusals`: makes each call of the library that may run out of memory, and
-//! writes a line for each, to show that a refused request for memory is told and loses nothing.
+//! The program `nagsched_refusals`: makes each call of the library that may run out of memory and that
+//! no function of the C library makes, and writes a line for each, to show that a refused request for
+//! memory is told and loses nothing. The others are tried from C (`tests/c/refused.c`).
 //!
 //! With ample memory each line ends in `answered`. It is meant to be run with its Nth request
 //! refused, for N = 1, 2, 3 and on (`rt try --fail-alloc N`). The call whose request was refused has
 //! to say so and to leave what it was given as it was, and a second try has to give the answer of
 //! ample memory: its line then ends in `refused, then answered`. Anything else ends in `WRONG` and
-//! the exit status 1. Four calls ask for more memory than there can be, so that they are refused
-//! in every run.
+//! the exit status 1. One call asks for more memory than there can be, so that it is refused in every
+//! run.
 
 mod calls;
 mod crews;
 mod locks;
 mod openings;
 mod outcome;
-mod renewals;
 mod setups;
 mod words;
 
@@ -35,26 +35,23 @@ fn main(rt: HostRuntime) -> ExitCode {
 /// Makes all calls, and writes their lines, up to the first that went wrong.
 fn make_all<R: AllocGlobal + Print + Threads + Wait + Sync>(rt: &R) -> Result<(), Wrong> {
     let alloc = rt.alloc();
-    make_setups(rt, alloc)?;
+    find_times(rt, alloc)?;
     make_schedulers(rt, alloc)?;
     make_locks(rt, alloc)?;
-    make_calls(rt, alloc)?;
-    renew_books(rt, alloc)?;
+    tell(rt, "Book::record", calls::record(alloc))?;
     run_workers(rt, alloc)?;
     tell(rt, "job", words::read(alloc))
 }
 
-/// Reads setups, and finds the first times of their objects.
-fn make_setups(rt: &impl Print, alloc: Global) -> Result<(), Wrong> {
-    tell(rt, "Setup::read", setups::read(alloc, ONE_SERVICE, 2))?;
-    tell(rt, "Setup::read of a chain", setups::read(alloc, CHAIN, 4))?;
+/// Finds the first times of the objects of setups.
+fn find_times(rt: &impl Print, alloc: Global) -> Result<(), Wrong> {
     let times = openings::find_times(alloc, ONE_SERVICE, &[None, Some(0)]);
     tell(rt, "initial_times", times)?;
     let times = openings::find_times(alloc, CHAIN, &[None, Some(0), Some(0), Some(0)]);
     tell(rt, "initial_times of a chain", times)
 }
 
-/// Makes a queue, schedulers and books.
+/// Makes a queue, schedulers and a counter book.
 fn make_schedulers(rt: &impl Print, alloc: Global) -> Result<(), Wrong> {
     tell(rt, "Queue::new", openings::open_queue(alloc))?;
     tell(rt, "Sched::new", openings::open_sched(alloc, ONE_SERVICE))?;
@@ -65,45 +62,17 @@ fn make_schedulers(rt: &impl Print, alloc: Global) -> Result<(), Wrong> {
     )?;
     tell(rt, "CounterBook::open", openings::open_counter(alloc))?;
     let counter = openings::open_counter_of_any_room(alloc);
-    tell(rt, "CounterBook::open of any room", counter)?;
-    tell(rt, "Book::open", openings::open_book(alloc, ONE_SERVICE))?;
-    tell(
-        rt,
-        "Book::open of a chain",
-        openings::open_book(alloc, CHAIN),
-    )?;
-    let book = openings::open_book_of_any_room(alloc);
-    tell(rt, "Book::open of any room", book)
+    tell(rt, "CounterBook::open of any room", counter)
 }
 
-/// Makes a core, a lock and a desk.
+/// Makes a core and a lock.
 fn make_locks(rt: &impl Print, alloc: Global) -> Result<(), Wrong> {
     tell(rt, "Core::open", locks::open_core(alloc))?;
     let core = locks::open_core_with_draws(alloc);
     tell(rt, "Core::open_with", core)?;
     tell(rt, "TicketLock::open", locks::open_lock(alloc))?;
     let lock = locks::open_lock_with_draws(alloc);
-    tell(rt, "TicketLock::open_with", lock)?;
-    tell(rt, "Desk::open", locks::open_desk(alloc))?;
-    tell(rt, "Desk::open_with", locks::open_desk_with_calls(alloc))
-}
-
-/// Makes calls past the room of a book.
-fn make_calls(rt: &(impl Print + Wait), alloc: Global) -> Result<(), Wrong> {
-    tell(rt, "Book::record", calls::record(alloc))?;
-    tell(rt, "Desk::finish", calls::finish(rt, alloc))?;
-    tell(rt, "Desk::ask", calls::ask(rt, alloc))
-}
-
-/// Renews books, and goes on with them.
-fn renew_books(rt: &impl Print, alloc: Global) -> Result<(), Wrong> {
-    tell(rt, "Book::renew", renewals::renew(alloc))?;
-    let book = renewals::renew_to_any_room(alloc);
-    tell(rt, "Book::renew to any room", book)?;
-    let book = renewals::record_unrenewed(alloc);
-    tell(rt, "Book::record where it isn't renewed", book)?;
-    let desk = renewals::open_desk(alloc);
-    tell(rt, "Desk::open on a renewed book", desk)
+    tell(rt, "TicketLock::open_with", lock)
 }
 
 /// Has a worker and crews do their work.

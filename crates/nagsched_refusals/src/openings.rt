@@ -4,7 +4,7 @@ ghost use Rattle.std.specs.Prelude.{◌≡◌, [], IfOk};
 ghost use Rattle.check_book.specs.Books.{entries_of, refused_of};
 
 use crate::outcome::{Outcome, Wrong, second, where_right};
-use crate::setups::{ONE_SERVICE, setup_of, where_same};
+use crate::setups::{setup_of, where_same};
 use check_book::Book;
 use check_objects::Setup;
 use check_queue::Queue;
@@ -89,38 +89,6 @@ pub(crate) fn open_counter_of_any_room(alloc: Global) -> Result<Outcome, Wrong> 
             Ok(Outcome::Refused)
         }
     }
-}
-
-/// Makes a book.
-pub(crate) fn open_book(alloc: Global, text: &[u8]) -> Result<Outcome, Wrong> {
-    open_book_on(alloc, setup_of(alloc, text)?, text)
-}
-
-/// Asks for a book with more room than there can be, and then for one with some.
-pub(crate) fn open_book_of_any_room(alloc: Global) -> Result<Outcome, Wrong> {
-    match Book::open(alloc, setup_of(alloc, ONE_SERVICE)?, 0, usize::MAX) {
-        Ok(_book) => Err(Wrong),
-        Err(back) => {
-            let outcome = where_same(alloc, &back, ONE_SERVICE, Outcome::Refused)?;
-            open_book_on(alloc, back, ONE_SERVICE)?;
-            Ok(outcome)
-        }
-    }
-}
-
-/// Makes a book on the setup of this text.
-fn open_book_on(alloc: Global, setup: Setup, text: &[u8]) -> Result<Outcome, Wrong> {
-    match Book::open(alloc, setup, 0, 4) {
-        Ok(book) => where_new(alloc, &book, text, Outcome::Answered),
-        Err(back) => open_book_again(alloc, back, text),
-    }
-}
-
-/// Makes a book on the setup that came back.
-fn open_book_again(alloc: Global, back: Setup, text: &[u8]) -> Result<Outcome, Wrong> {
-    let outcome = where_same(alloc, &back, text, Outcome::Refused)?;
-    let book = second(Book::open(alloc, back, 0, 4))?;
-    where_new(alloc, &book, text, outcome)
 }
 
 /// The outcome, where a book with room for 4 entries is as it is made on the setup of this text.

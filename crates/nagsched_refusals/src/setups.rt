@@ -4,7 +4,7 @@ ghost use Rattle.std.specs.Prelude.{◌<◌};
 ghost use Rattle.check_objects.specs.Configuration.{object_count};
 
 use crate::outcome::{Outcome, Wrong, second, where_right};
-use check_objects::{LoadError, Setup};
+use check_objects::Setup;
 use std::alloc::Global;
 
 /// A host that is never due, and its service 1, due at 0, with 3 attempts.
@@ -19,17 +19,6 @@ pub(crate) const CHAIN: &[u8] =
 /// The same as the first with the services 1 and 2, both due at 0.
 pub(crate) const TWO_SERVICES: &[u8] =
     br#"{"options":{"service_inter_check_delay_method":"n","host_inter_check_delay_method":"n"},"hosts":[{"name":"h","check_interval":0,"max_check_attempts":3}],"services":[{"host":"h","description":"a","max_check_attempts":3},{"host":"h","description":"b","max_check_attempts":3}]}"#;
-
-/// Reads a setup of so many objects.
-pub(crate) fn read(alloc: Global, text: &[u8], objects: usize) -> Result<Outcome, Wrong> {
-    let (setup, outcome) = match Setup::read(alloc, text) {
-        Ok(setup) => (setup, Outcome::Answered),
-        Err(LoadError::Memory) => (second(Setup::read(alloc, text))?, Outcome::Refused),
-        Err(_fault) => return Err(Wrong),
-    };
-    let outcome = where_right(setup.len() == objects, outcome)?;
-    where_same(alloc, &setup, text, outcome)
-}
 
 /// The setup of this text, at the second try where the first runs out of memory.
 pub(crate) fn setup_of(alloc: Global, text: &[u8]) -> Result<Setup, Wrong> {
