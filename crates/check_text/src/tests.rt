@@ -1,6 +1,6 @@
 //! The lines of replies, as they are written.
 
-use crate::{push_refusal, push_reply};
+use crate::{push_refusal, push_reply, write_text};
 use check_objects::Setup;
 use check_rules::{Kind, Standing, State};
 use check_sched::{Call, Refusal, Reply};
@@ -123,5 +123,16 @@ fn tells_a_late_line(rt: HostRuntime) -> Result<(), Fail> {
     };
     push_refusal(&mut line, refusal)?;
     assert_eq!(rt; line.as_str(), "refused S3 Shape 1000000\n");
+    Ok(())
+}
+
+/// A writer that takes all bytes has no fault, and none where there is no byte.
+#[test]
+fn writes_what_there_is(rt: HostRuntime) -> Result<(), Fail> {
+    let mut written = Vec::new(rt.alloc());
+    for text in ["", "idle none\n", ""] {
+        assert!(rt; write_text(&mut written, text.as_bytes()).is_ok());
+    }
+    assert_eq!(rt; written.as_slice(), b"idle none\n".as_slice());
     Ok(())
 }
