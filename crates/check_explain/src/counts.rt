@@ -1,8 +1,8 @@
 //! Counts past their limits.
 
-use crate::line::Line;
-use crate::places::{items, push_no_fault};
+use crate::no_fault::push_no_fault;
 use check_objects::{MAX_DEPENDENCIES, MAX_OBJECTS, MAX_PARENTS, Part};
+use check_places::{Line, items};
 use serde_json::Value;
 use std::alloc::AllocError;
 

@@ -1,9 +1,9 @@
 //! Cycles: objects that lead back to themselves, through one link or more.
 
-use crate::line::Line;
 use crate::links::{Link, dependencies_of, dependency_links, parent_links};
-use crate::places::{items, part_name, push_name, push_no_fault};
+use crate::no_fault::push_no_fault;
 use check_objects::Part;
+use check_places::{Line, items, part_name, push_name};
 use serde_json::Value;
 use std::alloc::{AllocError, Global};
 

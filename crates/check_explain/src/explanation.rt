@@ -1,15 +1,15 @@
 //! The explanation of a refusal.
 ghost use Rattle.std.specs.Prelude.{IfOk, string_bytes};
-ghost use Rattle.check_explain.specs.Feeds.{HasNoFeed};
+ghost use Rattle.check_places.specs.Feeds.{HasNoFeed};
 
 use crate::counts::push_count;
 use crate::cycle::{push_dependency_cycle, push_parent_cycle};
-use crate::line::Line;
 use crate::names::{push_bad_name, push_duplicate, push_unknown_end, push_unknown_host};
-use crate::places::push_no_fault;
+use crate::no_fault::push_no_fault;
 use crate::ranges::push_range;
 use crate::shapes::push_shape;
 use check_objects::{LoadError, MAX_DOCUMENT_BYTES};
+use check_places::Line;
 use serde_json::{Error, Value};
 use std::alloc::{AllocError, Global};
 

@@ -1,18 +1,15 @@
 //! Why a setup document is refused, in plain words: the place by the name that stands there, and what
 //! is wrong with what stands there.
 //!
-//! [`explain`] is the one function; `line` has the line that it writes, which has no line feed.
+//! [`explain`] is the one function; what it writes has no line feed, being a `Line` of check_places.
 #![tactic(auto)]
 
 mod counts;
 mod cycle;
 mod explanation;
-mod kinds;
-mod line;
 mod links;
-mod members;
 mod names;
-mod places;
+mod no_fault;
 mod ranges;
 mod shapes;
 #[cfg(test)]

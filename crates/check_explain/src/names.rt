@@ -1,10 +1,8 @@
 //! Faults of names: bad ones, repeated ones, and names of what isn't there.
 
-use crate::line::Line;
-use crate::places::{
-    items, push_no_fault, push_part_and_index, push_place, text_of, texts_of, value_at,
-};
+use crate::no_fault::push_no_fault;
 use check_objects::{MAX_NAME_BYTES, Part, Place};
+use check_places::{Line, items, push_part_and_index, push_place, text_of, texts_of, value_at};
 use serde_json::Value;
 use std::alloc::AllocError;
 

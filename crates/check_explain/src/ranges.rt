@@ -1,9 +1,8 @@
 //! Numbers out of their ranges.
 
-use crate::line::Line;
-use crate::members::{Member, members_at};
-use crate::places::{push_no_fault, push_place, value_at};
+use crate::no_fault::push_no_fault;
 use check_objects::{Part, Place};
+use check_places::{Line, Member, members_at, push_place, value_at};
 use serde_json::Value;
 use std::alloc::AllocError;
 

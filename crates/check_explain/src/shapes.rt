@@ -1,10 +1,11 @@
 //! Faults of shape: a member that is unknown, missing or of the wrong kind.
 
-use crate::kinds::{Kind, push_value};
-use crate::line::Line;
-use crate::members::{Member, members_at, misfit, missing_member, unknown_member};
-use crate::places::{push_no_fault, push_place, value_at};
+use crate::no_fault::push_no_fault;
 use check_objects::Place;
+use check_places::{
+    Kind, Line, Member, members_at, misfit, missing_member, push_place, push_value, unknown_member,
+    value_at,
+};
 use serde_json::Value;
 use std::alloc::{AllocError, Global};
 

@@ -13,7 +13,7 @@ use Rattle.check_script.specs.Input.{without_last_feed}
 use Rattle.check_line.specs.Line.{OfTree}
 use Rattle.check_summary.specs.Summary.{summary_of}
 use Rattle.check_summary.specs.Text.{summary_text}
-use Rattle.check_explain.specs.Feeds.{HasNoFeed}
+use Rattle.check_places.specs.Feeds.{HasNoFeed}
 use Rattle.check_text.specs.Output.{WroteFront}
 use Rattle.check_text.specs.Text.{refusal_line}
 use Rattle.check_session.specs.declared.drive.Outcome.{Outcome}

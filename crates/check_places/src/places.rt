@@ -6,7 +6,7 @@ use serde_json::Value;
 use std::alloc::AllocError;
 
 /// The word for a part of the document: its member, or `document`.
-pub(crate) fn part_name(part: Part) -> &'static str {
+pub fn part_name(part: Part) -> &'static str {
     match part {
         Part::Document => "document",
         Part::Options => "options",
@@ -18,7 +18,7 @@ pub(crate) fn part_name(part: Part) -> &'static str {
 }
 
 /// What stands at a place, or None where the document has no such place.
-pub(crate) fn value_at(tree: &Value, place: Place) -> Option<&Value> {
+pub fn value_at(tree: &Value, place: Place) -> Option<&Value> {
     match (place.part, place.index) {
         (Part::Document, _) => Some(tree),
         (part, None) => tree.get(part_name(part)),
@@ -27,7 +27,7 @@ pub(crate) fn value_at(tree: &Value, place: Place) -> Option<&Value> {
 }
 
 /// The items of a list of the document. One that is absent or no array has none.
-pub(crate) fn items(tree: &Value, part: Part) -> &[Value] {
+pub fn items(tree: &Value, part: Part) -> &[Value] {
     match tree.get(part_name(part)).and_then(Value::as_array) {
         Some(values) => values.as_slice(),
         None => &[],
@@ -35,16 +35,12 @@ pub(crate) fn items(tree: &Value, part: Part) -> &[Value] {
 }
 
 /// The text of a member of an object, or None where it has no such text.
-pub(crate) fn text_of<'v>(item: &'v Value, member: &str) -> Option<&'v str> {
+pub fn text_of<'v>(item: &'v Value, member: &str) -> Option<&'v str> {
     item.get(member).and_then(Value::as_str)
 }
 
 /// The texts of two members of an object, or None where it doesn't have both.
-pub(crate) fn texts_of<'v>(
-    item: &'v Value,
-    first: &str,
-    second: &str,
-) -> Option<(&'v str, &'v str)> {
+pub fn texts_of<'v>(item: &'v Value, first: &str, second: &str) -> Option<(&'v str, &'v str)> {
     match (text_of(item, first), text_of(item, second)) {
         (Some(first), Some(second)) => Some((first, second)),
         _ => None,
@@ -53,7 +49,7 @@ pub(crate) fn texts_of<'v>(
 
 /// Appends a place, a colon and a space: its part, and of an item of a list its index and the name
 /// that stands there.
-pub(crate) fn push_place(line: &mut Line, tree: &Value, place: Place) -> Result<(), AllocError> {
+pub fn push_place(line: &mut Line, tree: &Value, place: Place) -> Result<(), AllocError> {
     push_part_and_index(line, place.part, place.index)?;
     if place.index.is_some() {
         push_name_at(line, tree, place)?;
@@ -62,7 +58,7 @@ pub(crate) fn push_place(line: &mut Line, tree: &Value, place: Place) -> Result<
 }
 
 /// Appends a part of the document, and the index in its list where there is one.
-pub(crate) fn push_part_and_index(
+pub fn push_part_and_index(
     line: &mut Line,
     part: Part,
     index: Option<usize>,
@@ -105,7 +101,7 @@ fn has_name(item: &Value, part: Part) -> bool {
 
 /// Appends the name of an item: of a host or a service its full name, of a dependency both of its
 /// ends. An item without a name adds nothing.
-pub(crate) fn push_name(line: &mut Line, item: &Value, part: Part) -> Result<(), AllocError> {
+pub fn push_name(line: &mut Line, item: &Value, part: Part) -> Result<(), AllocError> {
     match part {
         Part::Document | Part::Options => Ok(()),
         Part::Hosts => push_host_name(line, item),
@@ -143,9 +139,4 @@ fn push_ends(line: &mut Line, item: &Value) -> Result<(), AllocError> {
         }
         None => Ok(()),
     }
-}
-
-/// Appends that the document has no fault of this sort, as a refusal of another document has it.
-pub(crate) fn push_no_fault(line: &mut Line) -> Result<(), AllocError> {
-    line.push_words("the document has no such fault")
 }

@@ -1,6 +1,6 @@
 //! A line of text that grows, and never has a line feed in it.
 ghost use Rattle.std.specs.Prelude.{◌≢◌, string_bytes};
-ghost use Rattle.check_explain.specs.Feeds.{HasNoFeed};
+ghost use Rattle.check_places.specs.Feeds.{HasNoFeed};
 
 use itoa::Buffer;
 use std::alloc::{AllocError, Global};
@@ -11,13 +11,13 @@ const SHOWN: usize = 80;
 
 /// A line of text without a line feed. Contracts see its bytes.
 #[derive(Drop)]
-pub(crate) struct Line {
+pub struct Line {
     text: String,
 }
 
 impl Model for Line {
     ghost use Rattle.std.specs.Prelude.{List, ℕ, string_bytes};
-    ghost use Rattle.check_explain.specs.Feeds.{HasNoFeed};
+    ghost use Rattle.check_places.specs.Feeds.{HasNoFeed};
 
     ghost Value = { List ℕ };
 
@@ -28,15 +28,15 @@ impl Model for Line {
 
 impl Line {
     /// A line without a byte.
-    pub(crate) fn new(alloc: Global) -> Line {
+    pub fn new(alloc: Global) -> Line {
         Line {
             text: String::new(alloc),
         }
     }
 
     /// The text of the line.
-    pub(crate) fn into_text(self) -> String
-        ensures { HasNoFeed (string_bytes result) }
+    pub fn into_text(self) -> String
+        ensures line { HasNoFeed (string_bytes result) }
     {
         self.text
     }
@@ -46,8 +46,8 @@ impl Line {
         self.text.push(without_feed(character))
     }
 
-    /// Appends words of ours.
-    pub(crate) fn push_words(&mut self, words: &str) -> Result<(), AllocError> {
+    /// Appends words of ours, with a space in place of each line feed.
+    pub fn push_words(&mut self, words: &str) -> Result<(), AllocError> {
         for character in words.chars() {
             self.push_char(character)?;
         }
@@ -55,13 +55,13 @@ impl Line {
     }
 
     /// Appends a number in decimal.
-    pub(crate) fn push_number(&mut self, number: u64) -> Result<(), AllocError> {
+    pub fn push_number(&mut self, number: u64) -> Result<(), AllocError> {
         let mut buffer = Buffer::new();
         self.push_words(buffer.format(number))
     }
 
     /// Appends a text of the document as a JSON string, cut behind 80 characters.
-    pub(crate) fn push_text(&mut self, text: &str) -> Result<(), AllocError> {
+    pub fn push_text(&mut self, text: &str) -> Result<(), AllocError> {
         self.push_words("\"")?;
         self.push_cut(text)?;
         self.push_words("\"")

@@ -9,13 +9,13 @@ use serde_json::{Map, Value};
 
 /// A member that an object may have.
 #[derive(Clone, Copy)]
-pub(crate) struct Member {
+pub struct Member {
     /// Its name.
-    pub(crate) name: &'static str,
+    pub name: &'static str,
     /// What its value has to be.
-    pub(crate) kind: Kind,
+    pub kind: Kind,
     /// Whether an object without it is refused.
-    pub(crate) is_required: bool,
+    pub is_required: bool,
 }
 
 const LENGTH: Kind = Kind::Number {
@@ -47,6 +47,52 @@ const PERCENT: Kind = Kind::Number {
     low: 0,
     high: MAX_FLAP_THRESHOLD,
 };
+
+// ---- members that objects of two sorts have
+
+const CHECK_INTERVAL: Member = Member {
+    name: "check_interval",
+    kind: UNITS,
+    is_required: false,
+};
+
+const RETRY_INTERVAL: Member = Member {
+    name: "retry_interval",
+    kind: UNITS,
+    is_required: false,
+};
+
+const MAX_CHECK_ATTEMPTS: Member = Member {
+    name: "max_check_attempts",
+    kind: ATTEMPTS,
+    is_required: true,
+};
+
+const ENABLED: Member = Member {
+    name: "enabled",
+    kind: Kind::Switch,
+    is_required: false,
+};
+
+const DEPENDENT: Member = Member {
+    name: "dependent",
+    kind: Kind::Text,
+    is_required: true,
+};
+
+const MASTER: Member = Member {
+    name: "master",
+    kind: Kind::Text,
+    is_required: true,
+};
+
+const INHERITS_PARENT: Member = Member {
+    name: "inherits_parent",
+    kind: Kind::Switch,
+    is_required: false,
+};
+
+// ---- the members of each sort of object
 
 /// The members of the document.
 static DOCUMENT: [Member; 5] = [
@@ -158,26 +204,10 @@ static HOST: [Member; 6] = [
         kind: Kind::Texts,
         is_required: false,
     },
-    Member {
-        name: "check_interval",
-        kind: UNITS,
-        is_required: false,
-    },
-    Member {
-        name: "retry_interval",
-        kind: UNITS,
-        is_required: false,
-    },
-    Member {
-        name: "max_check_attempts",
-        kind: ATTEMPTS,
-        is_required: true,
-    },
-    Member {
-        name: "enabled",
-        kind: Kind::Switch,
-        is_required: false,
-    },
+    CHECK_INTERVAL,
+    RETRY_INTERVAL,
+    MAX_CHECK_ATTEMPTS,
+    ENABLED,
 ];
 
 /// The members of a service.
@@ -192,78 +222,40 @@ static SERVICE: [Member; 6] = [
         kind: Kind::Text,
         is_required: true,
     },
-    Member {
-        name: "check_interval",
-        kind: UNITS,
-        is_required: false,
-    },
-    Member {
-        name: "retry_interval",
-        kind: UNITS,
-        is_required: false,
-    },
-    Member {
-        name: "max_check_attempts",
-        kind: ATTEMPTS,
-        is_required: true,
-    },
-    Member {
-        name: "enabled",
-        kind: Kind::Switch,
-        is_required: false,
-    },
+    CHECK_INTERVAL,
+    RETRY_INTERVAL,
+    MAX_CHECK_ATTEMPTS,
+    ENABLED,
 ];
 
 /// The members of a dependency between services.
 static SERVICE_DEPENDENCY: [Member; 4] = [
-    Member {
-        name: "dependent",
-        kind: Kind::Text,
-        is_required: true,
-    },
-    Member {
-        name: "master",
-        kind: Kind::Text,
-        is_required: true,
-    },
+    DEPENDENT,
+    MASTER,
     Member {
         name: "criteria",
         kind: Kind::ServiceLetters,
         is_required: true,
     },
-    Member {
-        name: "inherits_parent",
-        kind: Kind::Switch,
-        is_required: false,
-    },
+    INHERITS_PARENT,
 ];
 
 /// The members of a dependency between hosts.
 static HOST_DEPENDENCY: [Member; 4] = [
-    Member {
-        name: "dependent",
-        kind: Kind::Text,
-        is_required: true,
-    },
-    Member {
-        name: "master",
-        kind: Kind::Text,
-        is_required: true,
-    },
+    DEPENDENT,
+    MASTER,
     Member {
         name: "criteria",
         kind: Kind::HostLetters,
         is_required: true,
     },
-    Member {
-        name: "inherits_parent",
-        kind: Kind::Switch,
-        is_required: false,
-    },
+    INHERITS_PARENT,
 ];
 
+// ---- the member at fault
+
 /// The members that the object at a place may have. None where a list has to stand there.
-pub(crate) fn members_at(place: Place) -> Option<&'static [Member]> {
+pub fn members_at(place: Place) -> Option<&'static [Member]> {
     match (place.part, place.index) {
         (Part::Document, _) => Some(&DOCUMENT),
         (Part::Options, _) => Some(&OPTIONS),
@@ -276,10 +268,7 @@ pub(crate) fn members_at(place: Place) -> Option<&'static [Member]> {
 }
 
 /// The first member of an object, by the order of names, that isn't one of these.
-pub(crate) fn unknown_member<'v>(
-    object: &'v Map<String, Value>,
-    members: &[Member],
-) -> Option<&'v str> {
+pub fn unknown_member<'v>(object: &'v Map<String, Value>, members: &[Member]) -> Option<&'v str> {
     for name in object.keys() {
         if !is_known(name.as_str(), members) {
             return Some(name.as_str());
@@ -293,7 +282,7 @@ fn is_known(name: &str, members: &[Member]) -> bool {
 }
 
 /// The first of these members that an object has to have and doesn't.
-pub(crate) fn missing_member(object: &Value, members: &[Member]) -> Option<Member> {
+pub fn missing_member(object: &Value, members: &[Member]) -> Option<Member> {
     for member in members {
         if member.is_required && object.get(member.name).is_none() {
             return Some(*member);
@@ -303,7 +292,7 @@ pub(crate) fn missing_member(object: &Value, members: &[Member]) -> Option<Membe
 }
 
 /// The first of these members whose value in an object is of another kind, and that value.
-pub(crate) fn misfit<'v>(object: &'v Value, members: &[Member]) -> Option<(Member, &'v Value)> {
+pub fn misfit<'v>(object: &'v Value, members: &[Member]) -> Option<(Member, &'v Value)> {
     for member in members {
         if let Some(value) = object.get(member.name)
             && !member.kind.has(value)

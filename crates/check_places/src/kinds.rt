@@ -13,7 +13,7 @@ const HOST_LETTERS: [&str; 5] = ["o", "u", "d", "p", "n"];
 
 /// What the value of a member has to be.
 #[derive(Clone, Copy)]
-pub(crate) enum Kind {
+pub enum Kind {
     /// A part of the document, whose faults are told at places of their own.
     Part,
     /// A text.
@@ -56,7 +56,7 @@ impl Kind {
     }
 
     /// The least and the most that a number of the kind can be. None for a kind without numbers.
-    pub(crate) fn limits(self) -> Option<(u64, u64)> {
+    pub fn limits(self) -> Option<(u64, u64)> {
         match self {
             Kind::Number { low, high } => Some((low, high)),
             Kind::Delay => Some((0, MAX_DELAY)),
@@ -66,7 +66,7 @@ impl Kind {
     }
 
     /// The kind in words, as the end of a sentence.
-    pub(crate) fn words(self) -> &'static str {
+    pub fn words(self) -> &'static str {
         match self {
             Kind::Part => "a part of the document",
             Kind::Text => "a text",
@@ -120,7 +120,7 @@ fn is_among(piece: &str, letters: &[&str]) -> bool {
 
 /// Appends what a value is, as the end of a sentence: a text, a number and the like itself, and of an
 /// array or an object that it is one.
-pub(crate) fn push_value(alloc: Global, line: &mut Line, value: &Value) -> Result<(), AllocError> {
+pub fn push_value(alloc: Global, line: &mut Line, value: &Value) -> Result<(), AllocError> {
     match value {
         Value::Null => line.push_words("null"),
         Value::Bool(true) => line.push_words("true"),
