@@ -16,6 +16,16 @@ HELP_OF = {
     "run": (["run", "--help"], ["run", "--start", "7", "--help"], ["run", "--start", "x", "--help"], ["help", "run"]),
     "drill": (["drill", "--help"], ["drill", "--workers", "0", "-h"], ["help", "drill"]),
 }
+# What a help tells beside: the limits and defaults of options, lines of the input and of the output, what each subcommand does.
+TOLD = {
+    ("--help",): (b"Makes the calls of a script on one scheduler", b"Has workers share one scheduler", b"1  the input was refused", b"4  out of memory"),
+    ("run", "--help"): (b'["take",now]', b"standing STATE KIND"),
+    ("live", "--help"): (b"A blank line has no answer",),
+    ("check", "--help"): (b"--line",),
+    ("drill", "--help"): (b"from 0 to 2^60 [default: 0]", b"from 1 to 64 [default: 2]", b"from 0 to 1000000 [default: 1000]",
+                          b'["plugin",name,code,..]', b'["moment",now]', b"total ENTRIES REFUSED"),
+}
+COLUMNS = 80
 NO_TEXT = ([b"\xff"], [b"run", b"--start", b"\xff"], [b"drill", b"--workers", b"1", b"\xc3"], [b"--help", b"\xed\xa0\x80"])
 
 
@@ -50,6 +60,14 @@ def helps(held):
             held.compare(f"{words}: {option}", wanted, option in text)
 
 
+def told(held):
+    """Each help tells what it has to, in lines of 80 columns."""
+    for words, parts in TOLD.items():
+        text, _ = unread(held, words)
+        held.compare(f"{words}: what isn't told", [], [part for part in parts if part not in text])
+        held.compare(f"{words}: lines that are too long", [], [line for line in text.decode().splitlines() if len(line) > COLUMNS])
+
+
 def refused_words(held):
     """Words that are no text are refused, and nothing is read."""
     for words in NO_TEXT:
@@ -70,6 +88,7 @@ def faults(held):
 
 held = Held("session")
 helps(held)
+told(held)
 refused_words(held)
 faults(held)
 held.end()

@@ -1,6 +1,9 @@
-//! Tests of what no clause says: which words are accepted, and what the help tells.
+//! What no clause says and no case of the program reaches: that words are accepted where there are none.
 
-mod check_words;
-mod drill_words;
-mod live_words;
-mod run_words;
+use crate::job::job;
+use crate::words::Job;
+
+#[test]
+fn no_words_are_a_run(rt: HostRuntime) {
+    assert!(rt; job(rt.alloc(), &[]).ok() == Some(Job::Run { start: 0 }));
+}
