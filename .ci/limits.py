@@ -43,9 +43,12 @@ def many(**last):
     return {"hosts": [host(f"host{n:02}") for n in range(HOSTS)], "services": services}
 
 
-def refused(held, what, line, **members):
-    """A document is refused by this line."""
-    held.compare(what, (lines(f"refused {line}"), 1), held.run([], lines(setup(**members))))
+def refused(held, what, line, explanation=None, **members):
+    """A document is refused by this line, and a check explains it so."""
+    document = lines(setup(**members))
+    held.compare(what, (lines(f"refused {line}"), 1), held.run([], document))
+    if explanation:
+        held.compare(f"{what}, explained", (lines(f"refused {line}", explanation), 1), held.run(["check"], document))
 
 
 def many_objects(held):
@@ -79,7 +82,16 @@ def many_parents(held):
         commands.append(command)
         wanted.append(reply)
     held.compare("16,384 parents", (lines(*wanted), 0), held.run([], lines(setup(hosts=hosts), *commands)))
-    refused(held, "16,385 parents", "L3 TooMany", hosts=[host("router", parents=[*parents, names[0]]), *map(host, names)])
+    explanation = "there are 16385 parents of all hosts; there can be 16384"
+    refused(held, "16,385 parents", "L3 TooMany", explanation, hosts=[host("router", parents=[*parents, names[0]]), *map(host, names)])
+
+
+def too_many(held):
+    """One object and one dependency more than there can be."""
+    explanation = "there are 4097 hosts and services; there can be 4096"
+    refused(held, "4,097 objects", "L3 TooMany", explanation, hosts=[host("h")], services=[service("h", f"s{n}") for n in range(4_096)])
+    explanation = "there are 16385 dependencies of both sorts; there can be 16384"
+    refused(held, "16,385 dependencies", "L3 TooMany", explanation, host_dependencies=[depends("a", "b", criteria="d")] * (PARENTS + 1))
 
 
 def long_chain(held):
@@ -167,6 +179,6 @@ def long_inputs(held):
 
 
 held = Held("limits")
-for part in (many_objects, many_parents, long_chain, long_cycles, last_of_many, places, long_inputs):
+for part in (many_objects, many_parents, too_many, long_chain, long_cycles, last_of_many, places, long_inputs):
     part(held)
 held.end()

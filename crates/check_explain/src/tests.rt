@@ -1,31 +1,48 @@
-//! What no clause says: the words of each explanation.
-
-mod counts;
-mod cycles;
-mod names;
-mod ranges;
-mod shapes;
-mod texts;
+//! What no clause says and no document of the program reaches: refusals of another document. The words
+//! of each other explanation are cases of the built program.
 
 use crate::explain;
-use check_objects::Setup;
-use std::alloc::Global;
-use std::process::Abort;
+use check_objects::{LoadError, Place};
 use std::test::Fail;
 
-/// The explanation of why a document is refused.
-fn explained(alloc: Global, document: &[u8]) -> Result<String, Fail> {
-    match Setup::read(alloc, document) {
-        Ok(_) => Ok(String::from_str(alloc, "the document is good")?),
-        Err(refusal) => Ok(explain(alloc, document, refusal)?),
-    }
+#[test]
+fn explains_what_no_document_needs(rt: HostRuntime) -> Result<(), Fail> {
+    let alloc = rt.alloc();
+    let line = explain(alloc, b"{}", LoadError::TooLong)?;
+    assert_eq!(rt;
+        line.as_str(),
+        "the document has 2 bytes; it can have 16777216"
+    );
+    let line = explain(alloc, b"{}", LoadError::Memory)?;
+    assert_eq!(rt;
+        line.as_str(),
+        "memory ran out; that says nothing of the document"
+    );
+    Ok(())
 }
 
-/// Asserts that each document is refused, and explained by the line beside it.
-fn assert_explained<R: Abort>(rt: &R, alloc: Global, rows: &[(&str, &str)]) -> Result<(), Fail> {
-    for (document, wanted) in rows {
-        let line = explained(alloc, document.as_bytes())?;
-        assert_eq!(rt; line.as_str(), *wanted, "of {document}");
+#[test]
+fn tells_a_refusal_of_another_document(rt: HostRuntime) -> Result<(), Fail> {
+    let alloc = rt.alloc();
+    for refusal in [
+        LoadError::NotJson,
+        LoadError::TooMany,
+        LoadError::DependencyCycle,
+        LoadError::ParentCycle,
+    ] {
+        let line = explain(alloc, b"{}", refusal)?;
+        assert_eq!(rt; line.as_str(), "the document has no such fault");
+    }
+    for refusal in [
+        LoadError::Shape(Place::host(7)),
+        LoadError::BadName(Place::host(7)),
+        LoadError::Duplicate(Place::host(7)),
+        LoadError::UnknownHost(Place::host(7)),
+        LoadError::UnknownMaster(Place::host(7)),
+        LoadError::Range(Place::host(7)),
+    ] {
+        let line = explain(alloc, b"{}", refusal)?;
+        assert_eq!(rt; line.as_str(), "hosts 7: the document has no such fault");
     }
     Ok(())
 }
