@@ -150,15 +150,15 @@ def places(held):
     refused(held, "a service out of its limits", "L8 Range services 0", hosts=[host("a")], services=[service("a", "s", check_interval=525_601)])
 
 
-def run_file(held, front, byte, size):
-    """Runs on a file of a front and copies of a byte, and tells too how many bytes of it the program has read."""
+def run_file(held, front, byte, size, words=()):
+    """Runs, by these words, on a file of a front and copies of a byte, and tells too how many bytes of it the program has read."""
     with tempfile.TemporaryFile() as file:
         file.write(front)
         for left in range(size - len(front), 0, -(1 << 20)):
             file.write(byte * min(left, 1 << 20))
         file.flush()
         os.lseek(file.fileno(), 0, os.SEEK_SET)
-        return *held.run([], file.fileno()), os.lseek(file.fileno(), 0, os.SEEK_CUR)
+        return *held.run(words, file.fileno()), os.lseek(file.fileno(), 0, os.SEEK_CUR)
 
 
 def long_inputs(held):
@@ -168,6 +168,10 @@ def long_inputs(held):
     past = (lines("refused L12 TooLong"), 1, DOCUMENT + 1)
     held.compare("a document past its limit", past, run_file(held, b"{}", b" ", DOCUMENT + 1))
     held.compare("spaces past the limit", past, run_file(held, b"", b" ", DOCUMENT + 1))
+    checked = ["check", "--line"]
+    held.compare("a check at the limit", (lines("{}"), 0, DOCUMENT), run_file(held, b"{}", b" ", DOCUMENT, checked))
+    explained = lines("refused L12 TooLong", f"the document has {DOCUMENT + 1} bytes; it can have {DOCUMENT}")
+    held.compare("a check past the limit", (explained, 1, DOCUMENT + 1), run_file(held, b"{}", b" ", DOCUMENT + 1, checked))
     held.compare("an input at its limit", (b"", 0, WHOLE_INPUT), run_file(held, b"{}", b"\n", WHOLE_INPUT))
     held.compare("an input past its limit", (*too_long, WHOLE_INPUT + 1), run_file(held, b"{}", b"\n", WHOLE_INPUT + 1))
     held.compare("an input far past its limit", (*too_long, WHOLE_INPUT + 1), run_file(held, b"{}", b"\n", WHOLE_INPUT + 5_000_000))

@@ -12,7 +12,5 @@ mod names;
 mod no_fault;
 mod ranges;
 mod shapes;
-#[cfg(test)]
-mod tests;
 
 pub use explanation::explain;

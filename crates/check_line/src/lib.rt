@@ -4,7 +4,5 @@
 //! The module `line` writes it.
 
 mod line;
-#[cfg(test)]
-mod tests;
 
 pub use line::write_line;

@@ -9,8 +9,6 @@ mod kinds;
 mod line;
 mod members;
 mod places;
-#[cfg(test)]
-mod tests;
 
 pub use kinds::{Kind, push_value};
 pub use line::Line;

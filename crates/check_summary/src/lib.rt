@@ -12,8 +12,6 @@ mod depths;
 pub mod laws;
 mod spans;
 mod summary;
-#[cfg(test)]
-mod tests;
 mod text;
 
 pub use chains::Chains;

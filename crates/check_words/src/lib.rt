@@ -5,6 +5,4 @@
 //! and a type `Job` can't stand side by side at the root.
 
 pub mod job;
-#[cfg(test)]
-mod tests;
 pub mod words;

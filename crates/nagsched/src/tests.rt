@@ -1,9 +1,11 @@
 //! Tests of what no clause says and no case of `conformance/` can: readers and writers of our own that
-//! fail, flushes, sessions over such devices, conversations in pieces, and drills of several workers.
+//! fail, flushes, sessions over such devices, conversations in pieces, drills of several workers, and
+//! explanations of a refusal that another document had.
 
 mod devices;
 mod drill_faults;
 mod drills;
+mod explanations;
 mod faults;
 mod live;
 mod sessions;

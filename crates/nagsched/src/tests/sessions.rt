@@ -24,6 +24,7 @@ fn words_decide_the_status(rt: HostRuntime) -> Result<(), Fail> {
     for (words, status, text) in [
         (["nagsched", "run", "--start", "7"].as_slice(), 0, TAKEN),
         (["nagsched"].as_slice(), 0, TAKEN),
+        ([].as_slice(), 0, TAKEN),
         (
             ["nagsched", "run", "--start", "x"].as_slice(),
             2,

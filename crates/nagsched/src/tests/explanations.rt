@@ -1,7 +1,7 @@
-//! What no clause says and no document of the program reaches: refusals of another document. The words
-//! of each other explanation are cases of the built program.
+//! Explanations that no document of the program reaches: of a refusal that another document had. The
+//! words of all others are cases of the built program.
 
-use crate::explain;
+use check_explain::explain;
 use check_objects::{LoadError, Place};
 use std::test::Fail;
 
