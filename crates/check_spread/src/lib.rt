@@ -13,8 +13,6 @@
 pub mod laws;
 mod limits;
 mod spread;
-#[cfg(test)]
-mod tests;
 mod times;
 mod visits;
 

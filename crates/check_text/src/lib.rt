@@ -7,8 +7,6 @@
 
 pub mod laws;
 mod output;
-#[cfg(test)]
-mod tests;
 mod text;
 
 pub use output::{flush, write_refusal, write_text};

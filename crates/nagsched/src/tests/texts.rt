@@ -1,10 +1,11 @@
-//! The lines of replies, as they are written.
+//! Lines that no call of the program leads to, or no case shows: the last run, what embedders alone are
+//! refused, and a writer that is given nothing.
 
-use crate::{push_refusal, push_reply, write_text};
 use check_objects::Setup;
 use check_rules::{Kind, Standing, State};
 use check_sched::{Call, Refusal, Reply};
 use check_script::{InputRefusal, LineFault};
+use check_text::{push_refusal, push_reply, write_text};
 use std::alloc::Global;
 use std::process::Abort;
 use std::test::Fail;
