@@ -1,8 +1,9 @@
 -- What C is told of a desk that was ended, and of a book that goes on.
 use Rattle.std.proofs.Common.{ℕ, inl, inr, refl, true, false, Some, None}
-use Rattle.nagsched_c.specs.declared.lodged.Lodged.{Lodged}
-use Rattle.nagsched_c.specs.declared.lodged.Lodged.TheVariants as lodged
-use Rattle.nagsched_c.specs.Closing.{HasClosed, HasGoneOn, HasRenewed, HasShut}
+use Rattle.check_handles.specs.declared.lodged.Lodged.{Lodged}
+use Rattle.check_handles.specs.declared.lodged.Lodged.TheVariants as lodged
+use Rattle.check_handles.specs.Closing.{HasGoneOn, HasShut}
+use Rattle.nagsched_c.specs.Closing.{HasClosed, HasRenewed}
 
 pub ended : (before after : Lodged) → HasShut before true after → HasClosed (Some before) 0 (Some after)
 ended (lodged.Caller caller) (lodged.Book ledger) shut = inl (caller, refl, refl, (ledger, refl, shut))

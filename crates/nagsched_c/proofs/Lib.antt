@@ -1,8 +1,1 @@
-pub mod Unboxing
-pub mod Raws
-pub mod Options
-pub mod Books
-pub mod Steps
 pub mod Closings
-pub mod Fresh
-pub mod PlainLaws

@@ -1,35 +1,12 @@
--- What a glance shows.
-use Rattle.std.specs.Prelude.{◌≡◌, ◌<◌, ◌≤◌, ℕ, Option, Some, None}
-use Rattle.ticket_lock.specs.Callers.{having_seen}
-use Rattle.ticket_lock.specs.Views.{Follows}
-use Rattle.check_desk.specs.declared.desk.Desk.{Desk}
-use Rattle.check_desk.specs.declared.passes.Pass.{Pass}
-use Rattle.check_desk.specs.Desks.{objects_of, standing_after, IsHistoryOf}
-use Rattle.check_desk.specs.Passes.{pass_of}
+-- What C is told of a glance.
+use Rattle.std.specs.Prelude.{◌≡◌, ℕ, Option, Some, None}
 use Rattle.check_rules.specs.declared.standing.Standing.{Standing}
-use Rattle.nagsched_c.specs.declared.lodged.Lodged.{Lodged}
-use Rattle.nagsched_c.specs.declared.lodged.Lodged.TheVariants as lodged
-use Rattle.nagsched_c.specs.declared.plain.PlainStanding.{PlainStanding}
-use Rattle.nagsched_c.specs.declared.stage.Stage.{Stage}
-use Rattle.nagsched_c.specs.declared.stage.Stage.TheVariants as stage
-use Rattle.nagsched_c.specs.Desks.{AreOneDesk, desk_of}
-use Rattle.nagsched_c.specs.Plain.{plain_standing}
-
--- The standing is the object's after a history of the desk that begins with all that the pass had seen, and has nothing new of the
--- numbers that it answers for. The pass has seen that history now.
-pub record HasGlimpsed (desk : Desk) (object : ℕ) (before after : Pass) (standing : Standing) : Type 0 where
-  pub there : object < objects_of desk
-  pub pass : pass_of after ≡ having_seen (pass_of after).seen (pass_of before)
-  pub follows : Follows (pass_of before).numbers (pass_of before).seen (pass_of after).seen
-  pub legal : IsHistoryOf desk (pass_of after).seen
-  pub standing_is : standing ≡ standing_after desk (pass_of after).seen object
-
--- a caller that rests, and has no standing exactly where there is no such object; one that waits sees nothing
-abbrev pub HasLookedAt : Desk → ℕ → Stage → Option Standing → Stage → Type 0
-HasLookedAt desk object (stage.Resting before) (Some standing) (stage.Resting after) = HasGlimpsed desk object before after standing
-HasLookedAt desk object (stage.Resting before) None after = (objects_of desk ≤ object) × (after ≡ stage.Resting before)
-HasLookedAt desk object before None after = after ≡ before
-HasLookedAt desk object before seen after = ⊥
+use Rattle.check_handles.specs.declared.lodged.Lodged.{Lodged}
+use Rattle.check_handles.specs.declared.lodged.Lodged.TheVariants as lodged
+use Rattle.check_records.specs.declared.plain.PlainStanding.{PlainStanding}
+use Rattle.check_handles.specs.Desks.{AreOneDesk, desk_of}
+use Rattle.check_handles.specs.Glances.{HasLookedAt}
+use Rattle.check_records.specs.Plain.{plain_standing}
 
 -- what C is told of a standing, and where there is none
 abbrev pub IsTold : Option Standing → PlainStanding → ℕ → PlainStanding → Type 0

@@ -3,17 +3,12 @@ use Rattle.std.specs.Prelude.{◌≡◌, ℕ, List, slice_get, Option, Some, Non
 use Rattle.ticket_steps.specs.declared.kept.Entry.{Entry}
 use Rattle.check_sched.specs.declared.call.Call.{Call}
 use Rattle.check_sched.specs.declared.call.Reply.{Reply}
-use Rattle.check_book.specs.Books.{entries_of, refused_of}
-use Rattle.nagsched_c.specs.declared.lodged.Lodged.{Lodged}
-use Rattle.nagsched_c.specs.declared.lodged.Lodged.TheVariants as lodged
-use Rattle.nagsched_c.specs.declared.plain.PlainEntry.{PlainEntry}
-use Rattle.nagsched_c.specs.Plain.{plain_entry}
-
--- the entries of a book or a history, oldest first
-abbrev pub entries_by : Lodged → Option (List (Entry Call Reply))
-entries_by (lodged.Book ledger) = Some (entries_of ledger.book)
-entries_by (lodged.History entries) = Some entries.items
-entries_by other = None
+use Rattle.check_book.specs.Books.{refused_of}
+use Rattle.check_handles.specs.declared.lodged.Lodged.{Lodged}
+use Rattle.check_handles.specs.declared.lodged.Lodged.TheVariants as lodged
+use Rattle.check_handles.specs.Histories.{entries_by}
+use Rattle.check_records.specs.declared.plain.PlainEntry.{PlainEntry}
+use Rattle.check_records.specs.Plain.{plain_entry}
 
 abbrev pub entries_in : Option Lodged → Option (List (Entry Call Reply))
 entries_in (Some lodged) = entries_by lodged

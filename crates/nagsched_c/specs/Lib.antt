@@ -1,14 +1,7 @@
-pub mod Plain
-pub mod Held
-pub mod Stages
-pub mod Desks
-pub mod Handles
 pub mod Names
 pub mod Reading
 pub mod Tries
-pub mod Seats
 pub mod Opening
-pub mod Joining
 pub mod Closing
 pub mod Glances
 pub mod Histories

@@ -7,12 +7,12 @@ use Rattle.check_sched.specs.declared.call.Call.{Call}
 use Rattle.check_sched.specs.declared.call.Reply.{Reply}
 use Rattle.check_script.specs.declared.refusal.InputRefusal.TheVariants as refusal
 use Rattle.check_text.specs.Text.{entry_line, refusal_line, reply_line}
-use Rattle.nagsched_c.specs.declared.plain.PlainCall.{PlainCall}
-use Rattle.nagsched_c.specs.declared.plain.PlainEntry.{PlainEntry}
-use Rattle.nagsched_c.specs.declared.plain.PlainRefusal.{PlainRefusal}
-use Rattle.nagsched_c.specs.declared.plain.PlainReply.{PlainReply}
+use Rattle.check_records.specs.declared.plain.PlainCall.{PlainCall}
+use Rattle.check_records.specs.declared.plain.PlainEntry.{PlainEntry}
+use Rattle.check_records.specs.declared.plain.PlainRefusal.{PlainRefusal}
+use Rattle.check_records.specs.declared.plain.PlainReply.{PlainReply}
 use Rattle.nagsched_c.specs.Names.{IsPut}
-use Rattle.nagsched_c.specs.Plain.{plain_call, plain_entry, plain_refusal, plain_reply}
+use Rattle.check_records.specs.Plain.{plain_call, plain_entry, plain_refusal, plain_reply}
 
 -- nothing was written: memory was refused, or the struct is one that is never given
 abbrev pub IsUntold : List ℕ → ℕ → ℕ → List ℕ → ℕ → Type 0

@@ -5,15 +5,13 @@
 
 ghost use Rattle.std.specs.Prelude.{◌≡◌, Option, Some, None};
 ghost use Rattle.check_sched.specs.declared.call.Call.TheVariants as call;
-ghost use Rattle.nagsched_c.specs.Handles.{contents_of};
-ghost use Rattle.nagsched_c.specs.Plain.{code_of, flag_of};
+ghost use Rattle.check_handles.specs.Handles.{contents_of};
+ghost use Rattle.check_records.specs.Plain.{code_of, flag_of};
 ghost use Rattle.nagsched_c.specs.Tries.{reply_after, status_of, HasTried, HasTriedIf};
 
-use crate::handle::Handle;
-use crate::lodged::Lodged;
-use crate::plain::{PlainReply, code_of, flag_of, plain_reply};
-use crate::stage::Step;
 use crate::status::{NO_MEMORY, OK, SPENT, WAIT, WRONG};
+use check_handles::{Handle, Lodged, Step};
+use check_records::{PlainReply, code_of, flag_of, plain_reply};
 use check_sched::Call;
 use std::alloc::Global;
 

@@ -1,13 +1,12 @@
 //! Callers put together, a desk ended, and its book gone on with.
 
-ghost use Rattle.std.specs.Prelude.{◌≡◌, ◌↔◌, true, false, Some};
-ghost use Rattle.nagsched_c.specs.Closing.{AreOfOneDesk, HasClosed, HasGathered, HasGoneOn, HasRenewed, HasShut, IsBook, IsGathered, IsRenewed, IsResting};
-ghost use Rattle.nagsched_c.specs.Handles.{boxed, contents_of};
+ghost use Rattle.check_handles.specs.Closing.{AreOfOneDesk};
+ghost use Rattle.check_handles.specs.Handles.{contents_of};
+ghost use Rattle.nagsched_c.specs.Closing.{HasClosed, HasGathered, HasRenewed};
 
-use crate::handle::Handle;
-use crate::lodged::{Ledger, Lodged};
-use crate::stage::Stage;
 use crate::status::{MISSING, NO_MEMORY, OK, WRONG};
+use check_handles::closing::{close, go_on, is_book, put_together, rests};
+use check_handles::{Handle, Lodged};
 use std::alloc::Global;
 use std::mem::replace;
 
@@ -39,21 +38,6 @@ pub extern "C" fn nagsched_gather(alloc: Global, caller: &mut Handle, other: &mu
     }
 }
 
-/// Puts the second caller's pass to the first's, where both are callers of one desk that rest.
-fn put_together(first: &mut Lodged, second: &mut Lodged) -> bool
-    requires { AreOfOneDesk (Some first.old) (Some second.old) }
-    ensures gathered { result ≡ true → IsGathered first.old second.old first.new }
-    ensures same { result ≡ false → (first.new ≡ first.old) × (second.new ≡ second.old) }
-{
-    match first {
-        Lodged::Caller(first) => match second {
-            Lodged::Caller(second) => first.join(second),
-            _ => false,
-        },
-        _ => false,
-    }
-}
-
 /// Ends the desk, where all its passes were gathered into this caller: the handle has the book then.
 ///
 /// Missing where they weren't, and wrong where the handle is no caller's or the caller waits for its
@@ -73,30 +57,6 @@ pub extern "C" fn nagsched_close(alloc: Global, caller: &mut Handle) -> u32
     *lodged = now;
     *caller = Handle::of(lodged);
     if closed { OK } else { MISSING }
-}
-
-/// Whether it is a caller that has its pass in hand.
-fn rests(lodged: &Lodged) -> bool
-    ensures { (result ≡ true) ↔ IsResting lodged.now }
-{
-    match lodged {
-        Lodged::Caller(caller) => matches!(caller.stage, Stage::Resting(_)),
-        _ => false,
-    }
-}
-
-/// The book of a caller's desk, where all passes were gathered into it. Else the caller.
-fn close(lodged: Lodged) -> (Lodged, bool)
-    requires { IsResting lodged }
-    ensures { HasShut lodged result.1 result.0 }
-{
-    match lodged {
-        Lodged::Caller(caller) => match caller.close() {
-            Ok(ledger) => (Lodged::Book(ledger), true),
-            Err(caller) => (Lodged::Caller(caller), false),
-        },
-        other => (other, false),
-    }
 }
 
 /// Goes on with a book: it opens where it stood, without entries and with room for so many. Its entries
@@ -133,44 +93,5 @@ pub extern "C" fn nagsched_renew(
             OK
         }
         None => NO_MEMORY,
-    }
-}
-
-/// Whether it is a book.
-fn is_book(lodged: &Lodged) -> bool
-    ensures { (result ≡ true) ↔ IsBook lodged.now }
-{
-    matches!(lodged, Lodged::Book(_))
-}
-
-/// The book that goes on, and the entries of the one before; without them, where memory was refused, the
-/// book as it was.
-fn go_on(alloc: Global, lodged: Lodged, room: usize) -> (Lodged, Option<Box<Lodged>>)
-    requires { IsBook lodged }
-    ensures { HasGoneOn room lodged result.0 (boxed result.1) }
-{
-    match lodged {
-        Lodged::Book(ledger) => {
-            let (ledger, past) = renew(alloc, ledger, room);
-            (Lodged::Book(ledger), past)
-        }
-        other => (other, None),
-    }
-}
-
-/// The same of a book.
-fn renew(alloc: Global, ledger: Ledger, room: usize) -> (Ledger, Option<Box<Lodged>>)
-    ensures { IsRenewed room ledger result.0 (boxed result.1) }
-{
-    let Ok(mut place) = Box::new(alloc, Lodged::Nothing) else {
-        return (ledger, None);
-    };
-    let Ledger { book, names } = ledger;
-    match book.renew(alloc, room) {
-        Ok((book, entries)) => {
-            *place = Lodged::History(entries);
-            (Ledger { book, names }, Some(place))
-        }
-        Err(book) => (Ledger { book, names }, None),
     }
 }

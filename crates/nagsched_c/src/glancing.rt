@@ -1,12 +1,11 @@
 //! A glance at an object, without a turn.
 
 ghost use Rattle.nagsched_c.specs.Glances.{HasGlanced};
-ghost use Rattle.nagsched_c.specs.Handles.{contents_of};
+ghost use Rattle.check_handles.specs.Handles.{contents_of};
 
-use crate::handle::Handle;
-use crate::lodged::Lodged;
-use crate::plain::{PlainStanding, plain_standing};
 use crate::status::{OK, WRONG};
+use check_handles::{Handle, Lodged};
+use check_records::{PlainStanding, plain_standing};
 use std::alloc::Global;
 
 /// Reads what is known of an object, by one load: whoever holds the desk, it doesn't wait.

@@ -2,13 +2,12 @@
 
 ghost use Rattle.std.specs.Prelude.{◌≡◌, length};
 ghost use Rattle.check_book.specs.Books.{refused_of};
-ghost use Rattle.nagsched_c.specs.Handles.{contents_of};
+ghost use Rattle.check_handles.specs.Handles.{contents_of};
 ghost use Rattle.nagsched_c.specs.Histories.{entries_in, refused_in, HasEntry, MatchKept};
 
-use crate::handle::Handle;
-use crate::lodged::Lodged;
-use crate::plain::{PlainEntry, plain_entry};
 use crate::status::{OK, WRONG};
+use check_handles::{Handle, Lodged};
+use check_records::{PlainEntry, plain_entry};
 use std::alloc::Global;
 use ticket_steps::Kept;
 

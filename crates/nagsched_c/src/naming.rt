@@ -2,12 +2,11 @@
 
 ghost use Rattle.std.specs.Prelude.{◌≡◌, ◌<◌, ◌≤◌, ◌++◌, ℕ, ⊤, length, drop, option_map, Some};
 ghost use Rattle.check_objects.specs.Configuration.{host_count, object_count};
-ghost use Rattle.nagsched_c.specs.Handles.{boxed, contents_of, named_in, MatchNamed};
+ghost use Rattle.check_handles.specs.Handles.{boxed, contents_of, named_in, MatchNamed};
 ghost use Rattle.nagsched_c.specs.Names.{HasHostOf, HasName, HasNumber, IsPut};
 
-use crate::handle::Handle;
-use crate::lodged::Lodged;
 use crate::status::{MISSING, OK, WRONG};
+use check_handles::{Handle, Lodged};
 use check_objects::Setup;
 use std::alloc::Global;
 use std::str::from_utf8;

@@ -1,20 +1,16 @@
 //! A setup read from a document, and what is given up.
 
-ghost use Rattle.std.specs.Prelude.{◌≡◌, ◌≢◌, ◌⊎◌, ◌↔◌, true, is_some, Ok, Err, None, Some, IfOk, IfErr};
-ghost use Rattle.check_objects.specs.Setup.{setup_of};
-ghost use Rattle.check_drafts.specs.declared.error.LoadError.TheVariants.{Memory};
-ghost use Rattle.nagsched_c.specs.Handles.{contents_of};
-ghost use Rattle.nagsched_c.specs.Reading.{IsRefusalOf, IsSetupOf, IsTurnWaitingIn};
+ghost use Rattle.std.specs.Prelude.{◌≡◌, ◌≢◌, ◌⊎◌, ◌↔◌, true, is_some, None};
+ghost use Rattle.check_handles.specs.Handles.{contents_of};
+ghost use Rattle.check_handles.specs.Reading.{IsSetupOf, IsTurnWaitingIn};
+ghost use Rattle.nagsched_c.specs.Reading.{IsRefusalOf};
 
-use crate::handle::Handle;
-use crate::lodged::{Lodged, Prepared};
-use crate::plain::{PlainRefusal, plain_refusal};
-use crate::stage::Stage;
 use crate::status::{NO_MEMORY, OK, REFUSED, WRONG};
 use check_drafts::LoadError;
-use check_objects::Setup;
+use check_handles::Handle;
+use check_handles::reading::{prepare, waits};
+use check_records::{PlainRefusal, plain_refusal};
 use std::alloc::Global;
-use std::sync::Arc;
 
 /// Reads a setup of a JSON document into an empty handle. The document is read twice: callers keep the
 /// names of the objects beside the desk.
@@ -52,16 +48,6 @@ pub extern "C" fn nagsched_read(
     }
 }
 
-/// The setup of a document, for a desk and for the names.
-fn prepare(alloc: Global, document: &[u8]) -> Result<Box<Lodged>, LoadError>
-    ensures read { IfOk result (λ lodged. IsSetupOf document.now (Some lodged.value)) }
-    ensures refused { IfErr result (λ error. (error ≡ Memory) ⊎ (setup_of document.now ≡ Err error)) }
-{
-    let setup = Setup::read(alloc, document)?;
-    let names = Arc::new(alloc, Setup::read(alloc, document)?)?;
-    Ok(Box::new(alloc, Lodged::Setup(Prepared { setup, names }))?)
-}
-
 /// Gives up what the handle leads to, and makes it empty; an empty one stays so.
 ///
 /// Wrong, exactly where it is a caller that waits for its turn: then it is as it was, since its ticket
@@ -80,14 +66,4 @@ pub extern "C" fn nagsched_free(alloc: Global, handle: &mut Handle) -> u32
         }
     }
     OK
-}
-
-/// Whether it is a caller that waits for its turn.
-fn waits(lodged: &Lodged) -> bool
-    ensures { (result ≡ true) ↔ IsTurnWaitingIn (Some lodged.now) }
-{
-    match lodged {
-        Lodged::Caller(caller) => matches!(caller.stage, Stage::Waiting(_, _)),
-        _ => false,
-    }
 }

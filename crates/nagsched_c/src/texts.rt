@@ -1,16 +1,16 @@
 //! The texts that the program writes, of a refusal, a reply and an entry.
 
-ghost use Rattle.nagsched_c.specs.Handles.{contents_of, named_in, MatchNamed};
+ghost use Rattle.check_handles.specs.Handles.{contents_of, named_in, MatchNamed};
 ghost use Rattle.std.specs.Prelude.{◌≡◌};
 ghost use Rattle.nagsched_c.specs.Texts.{HasEntryText, HasRefusalText, HasReplyText};
 
-use crate::handle::Handle;
 use crate::naming::{names_in, put};
-use crate::plain::{
+use crate::status::{NO_MEMORY, WRONG};
+use check_handles::Handle;
+use check_objects::Setup;
+use check_records::{
     PlainCall, PlainEntry, PlainRefusal, PlainReply, call_of, entry_of, refusal_of, reply_of,
 };
-use crate::status::{NO_MEMORY, WRONG};
-use check_objects::Setup;
 use check_script::InputRefusal;
 use check_text::{push_entry, push_refusal, push_reply};
 use std::alloc::Global;

@@ -1,6 +1,6 @@
 use Rattle.std.proofs.Common.{◌∙◌, Bool, subst}
-use Rattle.nagsched_c.specs.declared.lodged.Lodged.{Lodged}
-use Rattle.nagsched_c.specs.Closing.{HasShut}
+use Rattle.check_handles.specs.declared.lodged.Lodged.{Lodged}
+use Rattle.check_handles.specs.Closing.{HasShut}
 use Rattle.nagsched_c.proofs.Closings.{ended, open_still}
 use Rattle.nagsched_c.proofs.closing.nagsched_close.Goals as goal
 

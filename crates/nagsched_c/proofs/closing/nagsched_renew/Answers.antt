@@ -2,11 +2,11 @@ use Rattle.std.proofs.Common.{◌≡◌, ◌∙◌, None, subst}
 use Rattle.std.specs.Prelude.{Option}
 use Rattle.std.specs.declared.alloc.Global.{Global}
 use Rattle.std_alloc.specs.declared.boxed.Box.{Box}
-use Rattle.nagsched_c.specs.declared.lodged.Lodged.{Lodged}
-use Rattle.nagsched_c.specs.Closing.{HasGoneOn}
-use Rattle.nagsched_c.specs.Handles.{boxed, contents_of}
+use Rattle.check_handles.specs.declared.lodged.Lodged.{Lodged}
+use Rattle.check_handles.specs.Closing.{HasGoneOn}
+use Rattle.check_handles.specs.Handles.{boxed, contents_of}
 use Rattle.nagsched_c.proofs.Closings.{gone_on, as_it_was}
-use Rattle.nagsched_c.proofs.Options.{none_of}
+use Rattle.check_handles.proofs.Options.{none_of}
 use Rattle.nagsched_c.proofs.closing.nagsched_renew.Goals as goal
 
 pub returns-in-Some-past : goal.returns-in-Some-past

@@ -1,0 +1,21 @@
+-- What a try of a caller with a pass is.
+use Rattle.std.proofs.Common.{◌≡◌, ℕ}
+use mathlib.Core.Logic.{◌≢◌}
+use Rattle.ticket_lock.specs.Callers.{drawn}
+use Rattle.check_sched.specs.declared.call.Call.{Call}
+use Rattle.check_desk.specs.declared.passes.Pass.{Pass}
+use Rattle.check_desk.specs.declared.passes.Turn.{Turn}
+use Rattle.check_desk.specs.Passes.{pass_of, waiting_of}
+use Rattle.check_handles.specs.declared.stage.Stage.{Stage}
+use Rattle.check_handles.specs.declared.stage.Step.{Step}
+use Rattle.check_handles.specs.declared.stage.Step.TheVariants as tried
+use Rattle.check_handles.specs.Tries.{HasBegun, HasLooked}
+
+-- one that has drawn a ticket looks, and isn't told that its calls are spent
+pub begun : (room : ℕ) (call : Call) (pass : Pass) (turn : Turn) (made : Step) (after : Stage) → (pass_of pass).left ≢ 0
+    → waiting_of turn ≡ drawn (pass_of pass) → HasLooked room call turn made after → HasBegun room call pass made after
+begun room call pass turn (tried.Replied reply) after left is looked = (left, (turn, is, looked))
+begun room call pass turn tried.NoMemory after left is looked = (left, (turn, is, looked))
+begun room call pass turn tried.Spent after left is looked = absurd looked
+begun room call pass turn tried.NotYet after left is looked = (left, (turn, is, looked))
+begun room call pass turn tried.OtherWaits after left is looked = (left, (turn, is, looked))

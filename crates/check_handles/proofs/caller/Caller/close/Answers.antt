@@ -1,0 +1,22 @@
+use Rattle.std.proofs.Common.{◌≡◌, ◌≤◌, ◌∙◌, sym, ap, arith, length}
+use Rattle.std_alloc.specs.Arc.{arc_value}
+use Rattle.check_book.specs.Books.{opening_of}
+use Rattle.check_book.specs.BookState.{BookState}
+use Rattle.check_desk.specs.Desks.{opened_with, passes_of}
+use Rattle.check_desk.specs.Passes.{pass_of}
+use Rattle.check_handles.specs.declared.shared.Shared.{Shared}
+use Rattle.check_handles.proofs.Books.{book_setup}
+use Rattle.check_handles.proofs.caller.Caller.close.Goals as goal
+
+pub invariant_of-result : goal.invariant_of-result
+invariant_of-result c =
+    let opened : opening_of c.in-Ok-close.book ≡ opened_with (arc_value c.args.self.shared).desk =
+    c.in-Ok-close.ensures.opening ∙ ap (λ (s : Shared). opened_with s.desk) c.in-Ok.ensures.ok in
+    record { same = c.args.self.named ∙ sym (book_setup c.in-Ok-close.book ∙ ap (λ (s : BookState). s.sched.setup) opened) }
+
+pub returns-in-Ok-close-clause-closed : goal.returns-in-Ok-close-clause-closed
+returns-in-Ok-close-clause-closed c =
+    let all : passes_of (arc_value c.args.self.shared).desk ≤ length (pass_of c.in-Resting.pass).numbers =
+    omega (arith, c.args.self.all_are, c.gathered.ensures.numbers, c.if-gathered-all.false) in
+    rw c.in-Resting.is
+    (c.in-Ok-close.ensures.opening ∙ ap (λ (s : Shared). opened_with s.desk) c.in-Ok.ensures.ok, all, c.in-Ok-close.ensures.history, c.in-Ok-close.ensures.calls)

@@ -1,0 +1,22 @@
+-- A handle may go to another thread, since what it leads to may.
+use Rattle.std.specs.Prelude.{Option, Some, None}
+use mir.Raw.{raw}
+use base.Fraction.{full_share}
+use base.Shift.{Keyless}
+use denote.Memory.{lone}
+use denote.Param.Send.{IsSend, part_keyless, owning_send, plain_send}
+use denote.RawPtr.{Ptr, block_ptr, null_ptr}
+use Rattle.std.proofs.Crossing.{frees}
+use Rattle.check_handles.specs.Held.{heap, held}
+use Rattle.check_handles.specs.declared.lodged.Lodged.{Lodged}
+use Rattle.check_handles.specs.contracts.lodged.Lodged.{the_row as lodged_row}
+use Rattle.check_handles.proofs.lodged.Lodged.TheSendSync.{the_send as lodged_send}
+use Rattle.check_handles.specs.contracts.raw.Raw.{the_row, the_type}
+
+held_keyless : (p : Ptr) (x : Option Lodged) → Keyless (held lodged_row p x)
+held_keyless p None = tt
+held_keyless (block_ptr b o) (Some x) = (part_keyless lodged_row lodged_send full_share x b o, frees.frees heap (raw (lone lodged_row.mir)) (block_ptr b o))
+held_keyless null_ptr (Some x) = (tt, frees.frees heap (raw (lone lodged_row.mir)) null_ptr)
+
+pub send : IsSend the_row
+send = owning_send the_type (plain_send _ _ _ _ _, tt) (λ d. held_keyless d.at d.value) (λ k d w. tt)

@@ -1,0 +1,12 @@
+pub mod Held
+pub mod Stages
+pub mod Desks
+pub mod Handles
+pub mod Reading
+pub mod Tries
+pub mod Seats
+pub mod Opening
+pub mod Joining
+pub mod Closing
+pub mod Glances
+pub mod Histories

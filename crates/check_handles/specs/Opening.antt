@@ -1,0 +1,96 @@
+-- What opening a desk needs and gives.
+use Rattle.std.specs.Prelude.{◌≡◌, ◌+◌, ◌≤◌, ◌^◌, ⊤, ℕ, List, [], ◌∷◌, length, Option, Some, None}
+use Rattle.check_desk.specs.declared.desk.Desk.{Desk}
+use Rattle.check_desk.specs.declared.passes.Pass.{Pass}
+use Rattle.check_desk.specs.Desks.{opened_with, passes_of, IsPassOf}
+use Rattle.check_desk.specs.Passes.{new_pass_with, pass_of}
+use Rattle.check_book.specs.BookState.{BookState, book_opening}
+use Rattle.check_book.specs.Books.{entries_of, opening_of, refused_of}
+use Rattle.check_handles.specs.declared.handle.Handle.{Handle}
+use Rattle.check_handles.specs.declared.lodged.Ledger.{Ledger}
+use Rattle.check_handles.specs.declared.lodged.Lodged.{Lodged}
+use Rattle.check_handles.specs.declared.lodged.Lodged.TheVariants as lodged
+use Rattle.check_handles.specs.declared.lodged.Prepared.{Prepared}
+use Rattle.check_handles.specs.declared.stage.Stage.{Stage}
+use Rattle.check_handles.specs.declared.stage.Stage.TheVariants as stage
+use Rattle.check_handles.specs.Desks.{desk_of}
+use Rattle.check_handles.specs.Handles.{contents_of}
+
+-- a desk can be opened on it, at this start and with this room: on a setup, or on a book without entries and refusals, whose start and
+-- room are its own
+abbrev pub IsSource : ℕ → ℕ → Lodged → Type 0
+IsSource start room (lodged.Setup prepared) = start ≤ 2 ^ 60
+IsSource start room (lodged.Book ledger) = (start ≡ 0) × (room ≡ 0) × (entries_of ledger.book ≡ []) × (refused_of ledger.book ≡ 0)
+IsSource start room other = ⊥
+
+-- the state with which a desk on it opens
+abbrev pub opens_with : ℕ → ℕ → Lodged → Option BookState
+opens_with start room (lodged.Setup prepared) = Some (book_opening prepared.setup start room)
+opens_with start room (lodged.Book ledger) = Some (opening_of ledger.book)
+opens_with start room other = None
+
+-- a pass at rest that has made no call
+abbrev pub IsNewAtRest : ℕ → ℕ → Stage → Type 0
+IsNewAtRest calls number (stage.Resting pass) = pass_of pass ≡ new_pass_with calls number
+IsNewAtRest calls number other = ⊥
+
+-- a pass of this desk that stands for itself alone, and has made no call and seen nothing
+pub record IsFreshPassOf (desk : Desk) (pass : Pass) : Type 0 where
+  pub own : IsPassOf desk pass
+  pub alone : length (pass_of pass).numbers ≡ 1
+  pub calls : (pass_of pass).calls ≡ 0
+  pub seen : (pass_of pass).seen ≡ []
+
+-- a caller of this desk with this number, which has so many calls and has made none
+abbrev pub IsNewCaller : ℕ → Desk → ℕ → Option Lodged → Type 0
+IsNewCaller calls desk number (Some (lodged.Caller caller)) = (desk_of caller ≡ desk) × IsNewAtRest calls number caller.stage
+IsNewCaller calls desk number other = ⊥
+
+-- new callers of a desk in the order of their numbers, from this one on
+abbrev pub AreCallersFrom : ℕ → Desk → ℕ → List Handle → Type 0
+AreCallersFrom calls desk number [] = ⊤
+AreCallersFrom calls desk number (handle ∷ handles) = IsNewCaller calls desk number (contents_of handle) × AreCallersFrom calls desk (number + 1) handles
+
+-- the callers of a desk that opened with this state, each with so many calls
+pub record IsOpenedWith (calls : ℕ) (opening : BookState) (callers : List Handle) : Type 0 where
+  pub desk : Desk
+  pub opened : opened_with desk ≡ opening
+  pub all : passes_of desk ≡ length callers
+  pub new : AreCallersFrom calls desk 0 callers
+
+-- a desk was opened on it
+pub record IsOpenedBy (start room calls : ℕ) (source : Lodged) (callers : List Handle) : Type 0 where
+  pub opening : BookState
+  pub from : opens_with start room source ≡ Some opening
+  pub opened : IsOpenedWith calls opening callers
+
+-- what was handed back of a desk that opened with this state: a book without entries; or else, which never comes, its one caller
+abbrev pub IsBackOf : BookState → Lodged → Type 0
+IsBackOf opening (lodged.Book ledger) = (opening_of ledger.book ≡ opening) × (entries_of ledger.book ≡ []) × (refused_of ledger.book ≡ 0)
+IsBackOf opening (lodged.Caller caller) = opened_with (desk_of caller) ≡ opening
+IsBackOf opening other = ⊥
+
+abbrev pub IsBookBack : Ledger → Lodged → Type 0
+IsBookBack ledger back = IsBackOf (opening_of ledger.book) back
+
+abbrev pub IsSetupBack : ℕ → ℕ → Prepared → Lodged → Type 0
+IsSetupBack start room prepared (lodged.Setup back) = back.setup ≡ prepared.setup
+IsSetupBack start room prepared (lodged.Caller caller) = opened_with (desk_of caller) ≡ book_opening prepared.setup start room
+IsSetupBack start room prepared other = ⊥
+
+-- what was handed back of it, where memory was refused
+abbrev pub IsBack : ℕ → ℕ → Lodged → Lodged → Type 0
+IsBack start room (lodged.Setup prepared) back = IsSetupBack start room prepared back
+IsBack start room (lodged.Book ledger) back = IsBookBack ledger back
+IsBack start room other back = ⊥
+
+-- a book among what was handed back has no entries
+abbrev pub IsEmptyBack : Lodged → Type 0
+IsEmptyBack (lodged.Book ledger) = entries_of ledger.book ≡ []
+IsEmptyBack other = ⊤
+
+-- a book as the setup that its scheduler works on; all else stays
+abbrev pub IsAsSetup : Lodged → Lodged → Type 0
+IsAsSetup (lodged.Book ledger) (lodged.Setup prepared) = prepared.setup ≡ (opening_of ledger.book).sched.setup
+IsAsSetup (lodged.Book ledger) other = ⊥
+IsAsSetup back same = same ≡ back

@@ -1,0 +1,59 @@
+-- What a try of one of the six calls does: it makes the call at the end of a history that the caller sees, or leaves the caller
+-- waiting, or does nothing.
+use Rattle.std.specs.Prelude.{◌≡◌, ◌≢◌, ◌≤◌, ℕ, length, List}
+use Rattle.core.specs.Mem.{manually_drop_value}
+use Rattle.ticket_steps.specs.declared.kept.Entry.{Entry}
+use Rattle.ticket_lock.specs.Callers.{Caller as Seen, drawn, ended}
+use Rattle.ticket_lock.specs.Views.{Follows}
+use Rattle.check_sched.specs.declared.call.Call.{Call}
+use Rattle.check_sched.specs.declared.call.Reply.{Reply}
+use Rattle.check_desk.specs.declared.desk.Answer.{Answer}
+use Rattle.check_desk.specs.declared.desk.Answer.TheVariants as answer
+use Rattle.check_desk.specs.declared.passes.Pass.{Pass}
+use Rattle.check_desk.specs.declared.passes.Turn.{Turn}
+use Rattle.check_desk.specs.Desks.{recorded}
+use Rattle.check_desk.specs.Passes.{drawn_ticket, pass_of, waiting_of}
+use Rattle.check_handles.specs.declared.stage.Stage.{Stage}
+use Rattle.check_handles.specs.declared.stage.Stage.TheVariants as stage
+use Rattle.check_handles.specs.declared.stage.Step.{Step}
+use Rattle.check_handles.specs.declared.stage.Step.TheVariants as tried
+
+-- what came of a try whose call was answered so
+abbrev pub step_of : Answer → Step
+step_of (answer.Reply reply) = tried.Replied reply
+step_of answer.NoMemory = tried.NoMemory
+step_of answer.Spent = tried.Spent
+
+-- The call was made when the turn came: the history before it begins with all that the caller had seen, and has nothing new of its
+-- numbers; behind it stands the entry, under the caller's own number.
+pub record HasMade (call : Call) (reply : Reply) (waiting after : Seen Call Reply) : Type 0 where
+  pub history : List (Entry Call Reply)
+  pub follows : Follows waiting.numbers waiting.seen history
+  pub after_is : after ≡ recorded call reply history waiting
+
+-- There was no memory for its entry: nothing of the caller's numbers is new, and the history has reached the room.
+pub record HasFailed (room : ℕ) (waiting after : Seen Call Reply) : Type 0 where
+  pub follows : Follows waiting.numbers waiting.seen after.seen
+  pub after_is : after ≡ ended after.seen waiting
+  pub full : room ≤ length after.seen
+
+-- what a caller that waits has after a look: where the turn hasn't come the same ticket, for this call
+abbrev pub HasLooked : ℕ → Call → Turn → Step → Stage → Type 0
+HasLooked room call turn (tried.Replied reply) (stage.Resting pass) = HasMade call reply (waiting_of turn) (pass_of pass)
+HasLooked room call turn tried.NoMemory (stage.Resting pass) = HasFailed room (waiting_of turn) (pass_of pass)
+HasLooked room call turn tried.NotYet (stage.Waiting again asked) =
+    (waiting_of (manually_drop_value again) ≡ waiting_of turn) × (drawn_ticket (manually_drop_value again) ≡ drawn_ticket turn) × (asked ≡ call)
+HasLooked room call turn made after = ⊥
+
+-- what a caller with a pass has after a try: it takes a ticket by one of its calls, and looks; without a call left it does nothing
+abbrev pub HasBegun : ℕ → Call → Pass → Step → Stage → Type 0
+HasBegun room call pass tried.Spent after = ((pass_of pass).left ≡ 0) × (after ≡ stage.Resting pass)
+HasBegun room call pass made after =
+    ((pass_of pass).left ≢ 0) × ((turn : Turn) × (waiting_of turn ≡ drawn (pass_of pass)) × HasLooked room call turn made after)
+
+-- what a caller has after a try: one that waits looks again, by the same call, or does nothing, by another
+abbrev pub HasAdvanced : ℕ → Call → Stage → Step → Stage → Type 0
+HasAdvanced room call (stage.Resting pass) made after = HasBegun room call pass made after
+HasAdvanced room call (stage.Waiting turn asked) tried.OtherWaits after = (asked ≢ call) × (after ≡ stage.Waiting turn asked)
+HasAdvanced room call (stage.Waiting turn asked) made after = (asked ≡ call) × HasLooked room call (manually_drop_value turn) made after
+HasAdvanced room call stage.Gone made after = (made ≡ tried.OtherWaits) × (after ≡ stage.Gone)

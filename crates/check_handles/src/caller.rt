@@ -1,0 +1,149 @@
+//! A caller of a desk.
+
+ghost use Rattle.std.specs.Prelude.{◌≡◌};
+ghost use Rattle.std_alloc.specs.Arc.{arc_value};
+ghost use Rattle.check_desk.specs.Desks.{opened_with, passes_of};
+ghost use Rattle.check_handles.specs.Stages.{IsStageOf, IsStageOf-prop};
+
+use crate::lodged::Ledger;
+use crate::shared::Shared;
+use crate::stage::{Stage, Step, advance};
+use check_desk::Pass;
+use check_objects::Setup;
+use check_rules::Standing;
+use check_sched::Call;
+use std::alloc::Global;
+use std::mem::replace;
+use std::sync::Arc;
+
+/// A caller of a desk, which it keeps together with the others.
+#[derive(Drop)]
+pub struct Caller {
+    /// The desk.
+    pub(crate) shared: Arc<Shared, Global>,
+    /// The setup of the desk, for the names of its objects: the desk's own lies behind its lock.
+    pub(crate) names: Arc<Setup, Global>,
+    /// Its pass, or the turn of a call that waits.
+    pub(crate) stage: Stage,
+    /// How many passes the desk has.
+    pub(crate) all: u32,
+    ghost all_are: { passes_of (arc_value shared).desk ≡ all },
+    ghost own: { IsStageOf (arc_value shared).desk stage } by { IsStageOf-prop (arc_value shared).desk stage },
+    ghost named: { arc_value names ≡ (opened_with (arc_value shared).desk).sched.setup },
+}
+
+impl Caller {
+    ghost use Rattle.std.specs.Prelude.{◌↔◌, true, false, IfOk, IfErr};
+    ghost use Rattle.check_desk.specs.Desks.{IsPassOf};
+    ghost use Rattle.check_handles.specs.Closing.{IsAtRest, IsBookAfter};
+    ghost use Rattle.check_handles.specs.Desks.{AreOneDesk, IsSameCaller, desk_of};
+    ghost use Rattle.check_handles.specs.Glances.{HasLookedAt};
+    ghost use Rattle.check_handles.specs.Joining.{HasJoined};
+    ghost use Rattle.check_handles.specs.Tries.{HasAdvanced};
+
+    /// Tries to make the call.
+    pub fn step(&mut self, call: Call) -> Step
+        ensures desk { AreOneDesk self.old self.new }
+        ensures advanced { HasAdvanced (opened_with (desk_of self.old)).room call self.old.stage
+            result self.new.stage }
+    {
+        let stage = replace(&mut self.stage, Stage::Gone);
+        let (stage, step) = advance(&self.shared.desk, stage, call);
+        self.stage = stage;
+        step
+    }
+
+    /// What is known of an object. None where there is no such object, and where the caller waits.
+    pub fn glance(&mut self, object: u32) -> Option<Standing>
+        ensures desk { AreOneDesk self.old self.new }
+        ensures seen { HasLookedAt (desk_of self.old) object self.old.stage result self.new.stage }
+    {
+        match replace(&mut self.stage, Stage::Gone) {
+            Stage::Resting(pass) => {
+                let (pass, standing) = self.shared.desk.glance(pass, object);
+                self.stage = Stage::Resting(pass);
+                standing
+            }
+            other => {
+                self.stage = other;
+                None
+            }
+        }
+    }
+
+    /// Puts the pass of another caller of the same desk to its own. Nothing is done where one of the two
+    /// has no pass in hand, or where they are seen to be of two desks.
+    pub(crate) fn join(&mut self, other: &mut Caller) -> bool
+        requires { AreOneDesk self.old other.old }
+        ensures desk { AreOneDesk self.old self.new }
+        ensures joined { result ≡ true → HasJoined self.old.stage other.old.stage self.new.stage }
+        ensures same { result ≡ false → (self.new ≡ self.old) × (other.new ≡ other.old) }
+    {
+        if !self.rests() || !other.rests() || !self.shared.is_one_with(&other.shared) {
+            return false;
+        }
+        let Stage::Resting(own) = replace(&mut self.stage, Stage::Gone) else {
+            unreachable!()
+        };
+        let Stage::Resting(others) = replace(&mut other.stage, Stage::Gone) else {
+            unreachable!()
+        };
+        self.stage = Stage::Resting(self.shared.desk.gather(own, others));
+        true
+    }
+
+    /// Whether it has its pass in hand.
+    pub(crate) fn rests(&self) -> bool
+        ensures { (result ≡ true) ↔ IsAtRest self.now.stage }
+    {
+        matches!(self.stage, Stage::Resting(_))
+    }
+
+    /// Ends the desk, where all passes were gathered into this one and nobody else shares the desk.
+    pub(crate) fn close(self) -> Result<Ledger, Caller>
+        requires { IsAtRest self.stage }
+        ensures closed { IfOk result (λ ledger. IsBookAfter (desk_of self) self.stage ledger) }
+        ensures same { IfErr result (λ same. IsSameCaller self same) }
+    {
+        let Caller {
+            shared,
+            names,
+            stage,
+            all,
+        } = self;
+        let Stage::Resting(pass) = stage else {
+            unreachable!()
+        };
+        if pass.gathered() < all {
+            return Err(Caller::resting(shared, names, pass, all));
+        }
+        match Arc::try_unwrap(shared) {
+            Ok(Shared { desk, mark: _ }) => match desk.close(pass) {
+                Ok(book) => Ok(Ledger { book, names }),
+                Err(_) => unreachable!(),
+            },
+            Err(shared) => Err(Caller::resting(shared, names, pass, all)),
+        }
+    }
+
+    /// A caller that has its pass in hand.
+    pub(crate) fn resting(
+        shared: Arc<Shared, Global>,
+        names: Arc<Setup, Global>,
+        pass: Pass,
+        all: u32,
+    ) -> Caller
+        requires pass { IsPassOf (arc_value shared).desk pass }
+        requires all { passes_of (arc_value shared).desk ≡ all }
+        requires names { arc_value names ≡ (opened_with (arc_value shared).desk).sched.setup }
+        ensures shared { (result.shared ≡ shared) × (result.names ≡ names) × (result.all ≡ all) }
+        ensures stage { result.stage ≡ Stage.Resting pass }
+    {
+        Caller {
+            shared,
+            names,
+            stage: Stage::Resting(pass),
+            all,
+        }
+    }
+}

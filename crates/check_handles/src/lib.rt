@@ -1,0 +1,26 @@
+#![tactic(auto)]
+//! What C keeps of the library: a [`Handle`], which owns what lies on the heap and leads to it.
+//!
+//! A handle leads to a setup, a caller of a desk, a book or an old history. What is in it is taken out,
+//! gone on with, and put back. No status and no struct of C's is here: whoever exports a function says
+//! what C is told.
+//!
+//! The modules: `handle` has the handle, `raw` and `unboxed` the address in it, `lodged` what it leads to,
+//! `shared`, `caller` and `stage` a caller of a desk. `reading` makes a setup, `opening` the callers of a
+//! desk; `closing` puts callers together, ends a desk, and goes on with a book.
+
+mod caller;
+pub mod closing;
+mod handle;
+mod lodged;
+pub mod opening;
+mod raw;
+pub mod reading;
+mod shared;
+mod stage;
+mod unboxed;
+
+pub use caller::Caller;
+pub use handle::Handle;
+pub use lodged::{Ledger, Lodged, Prepared};
+pub use stage::Step;

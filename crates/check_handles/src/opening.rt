@@ -1,0 +1,319 @@
+//! A desk opened, on a setup or on a book without entries.
+//!
+//! All that a desk needs beside it is asked for before it, so that where memory is refused the setup or
+//! the book can be handed back.
+
+ghost use Rattle.std.specs.Prelude.{◌≡◌, ◌↔◌, ◌<◌, ◌≤◌, [], length, true, IfOk, IfErr, OnOk, vec_capacity};
+ghost use Rattle.std.specs.List.{All};
+ghost use Rattle.std_alloc.specs.Arc.{arc_value};
+ghost use Rattle.check_desk.specs.Desks.{opened_with, passes_of, AreNewPassesWith, IsPassOf};
+ghost use Rattle.check_desk.specs.Passes.{pass_of};
+ghost use Rattle.check_book.specs.BookState.{book_opening};
+ghost use Rattle.check_book.specs.Books.{entries_of, opening_of, refused_of};
+ghost use Rattle.check_handles.specs.Seats.{AreSeats};
+ghost use Rattle.check_handles.specs.Opening.{AreCallersFrom, IsAsSetup, IsBack, IsBackOf, IsBookBack, IsEmptyBack, IsFreshPassOf, IsOpenedBy, IsOpenedWith, IsSetupBack, IsSource};
+
+use crate::caller::Caller;
+use crate::handle::Handle;
+use crate::lodged::{Ledger, Lodged, Prepared};
+use crate::shared::Shared;
+use check_book::Book;
+use check_desk::{Desk, Pass};
+use check_objects::Setup;
+use check_sched::LAST_MOMENT;
+use std::alloc::{AllocError, Global};
+use std::sync::Arc;
+use std::sync::atomic::AtomicU64;
+use ticket_steps::Kept;
+
+/// Whether a desk can be opened on this, at this start and with this room.
+pub fn is_source(lodged: &Lodged, start: u64, room: usize) -> bool
+    ensures { (result ≡ true) ↔ IsSource start room lodged.now }
+{
+    match lodged {
+        Lodged::Setup(_) => start <= LAST_MOMENT,
+        Lodged::Book(ledger) => {
+            start == 0
+                && room == 0
+                && ledger.book.entries().is_empty()
+                && ledger.book.refused() == 0
+        }
+        _ => false,
+    }
+}
+
+/// Opens a desk on a setup or a book, or hands it back.
+pub fn open_source(
+    alloc: Global,
+    source: Lodged,
+    start: u64,
+    room: usize,
+    calls: u32,
+    callers: &mut [Handle],
+) -> Result<(), Lodged>
+    requires source { IsSource start room source }
+    requires calls { 0 < calls }
+    requires some { (0 < length callers.old) × (length callers.old ≤ 1024) }
+    ensures ok { OnOk result (IsOpenedBy start room calls source callers.new) }
+    ensures err { IfErr result (λ back. IsBack start room source back × (callers.new ≡ callers.old)) }
+{
+    match source {
+        Lodged::Setup(prepared) => open_setup(alloc, prepared, start, room, calls, callers),
+        Lodged::Book(ledger) => open_ledger(alloc, ledger, calls, callers),
+        other => Err(other),
+    }
+}
+
+/// Opens a desk on a setup, or hands it back.
+fn open_setup(
+    alloc: Global,
+    prepared: Prepared,
+    start: u64,
+    room: usize,
+    calls: u32,
+    callers: &mut [Handle],
+) -> Result<(), Lodged>
+    requires start { start ≤ LAST_MOMENT }
+    requires calls { 0 < calls }
+    requires some { (0 < length callers.old) × (length callers.old ≤ 1024) }
+    ensures ok { OnOk result (IsOpenedWith calls (book_opening prepared.setup start room) callers.new) }
+    ensures err { IfErr result (λ back. IsSetupBack start room prepared back × (callers.new ≡ callers.old)) }
+{
+    let Prepared { setup, names } = prepared;
+    match Book::open(alloc, setup, start, room) {
+        Ok(book) => match open_ledger(alloc, Ledger { book, names }, calls, callers) {
+            Ok(()) => Ok(()),
+            Err(back) => Err(as_setup(back)),
+        },
+        Err(setup) => Err(Lodged::Setup(Prepared { setup, names })),
+    }
+}
+
+/// A book as the setup that it was opened on; a caller stays one.
+fn as_setup(back: Lodged) -> Lodged
+    requires { IsEmptyBack back }
+    ensures { IsAsSetup back result }
+{
+    match back {
+        Lodged::Book(ledger) => {
+            let Ledger { book, names } = ledger;
+            Lodged::Setup(Prepared {
+                setup: book.into_setup(),
+                names,
+            })
+        }
+        other => other,
+    }
+}
+
+/// Opens a desk on a book without entries, or hands it back.
+fn open_ledger(
+    alloc: Global,
+    ledger: Ledger,
+    calls: u32,
+    callers: &mut [Handle],
+) -> Result<(), Lodged>
+    requires empty { (entries_of ledger.book ≡ []) × (refused_of ledger.book ≡ 0) }
+    requires calls { 0 < calls }
+    requires some { (0 < length callers.old) × (length callers.old ≤ 1024) }
+    ensures ok { OnOk result (IsOpenedWith calls (opening_of ledger.book) callers.new) }
+    ensures err { IfErr result (λ back. IsBookBack ledger back × (callers.new ≡ callers.old)) }
+{
+    let count = callers.len();
+    let Ledger { book, names } = ledger;
+    let Ok(seats) = prepare_seats(alloc, &names, count) else {
+        return Err(Lodged::Book(Ledger { book, names }));
+    };
+    match Desk::open_with(alloc, book, count as u32, calls) {
+        Ok((desk, passes)) => seat_all(alloc, desk, calls, passes, names, seats, callers),
+        Err(book) => Err(Lodged::Book(Ledger { book, names })),
+    }
+}
+
+/// What callers need beside their passes.
+#[derive(Drop)]
+struct Seats {
+    /// A place on the heap for each.
+    places: Vec<Box<Lodged>>,
+    /// The names, for each.
+    names: Vec<Arc<Setup, Global>>,
+    /// Room for the desk, for each.
+    desks: Vec<Arc<Shared, Global>>,
+}
+
+/// Asks for the memory that so many callers need.
+fn prepare_seats(
+    alloc: Global,
+    names: &Arc<Setup, Global>,
+    count: usize,
+) -> Result<Seats, AllocError>
+    ensures { IfOk result (λ made. AreSeats (arc_value names.now) count made) }
+{
+    let mut places = Vec::with_capacity(alloc, count)?;
+    let mut all = Vec::with_capacity(alloc, count)?;
+    for _caller in 0..count {
+        let place = Box::new(alloc, Lodged::Nothing)?;
+        places.push_reserved(place);
+        all.push_reserved(Arc::try_clone(names)?);
+    }
+    Ok(Seats {
+        places,
+        names: all,
+        desks: Vec::with_capacity(alloc, count)?,
+    })
+}
+
+/// Seats a caller for each pass at the desk, or hands the book back. Each pass has so many calls.
+fn seat_all(
+    alloc: Global,
+    desk: Desk,
+    calls: u32,
+    passes: Vec<Pass>,
+    names: Arc<Setup, Global>,
+    seats: Seats,
+    callers: &mut [Handle],
+) -> Result<(), Lodged>
+    requires names { arc_value names ≡ (opened_with desk).sched.setup }
+    requires new { AreNewPassesWith calls desk 0 passes.items }
+    requires count { (length passes.items ≡ passes_of desk) × (length callers.old ≡ passes_of desk) × (0 < passes_of desk) × (length passes.items ≤ 1024) }
+    requires seats { AreSeats (arc_value names) (passes_of desk) seats }
+    ensures ok { OnOk result (IsOpenedWith calls (opened_with desk) callers.new) }
+    ensures err { IfErr result (λ back. IsBackOf (opened_with desk) back × (callers.new ≡ callers.old)) }
+{
+    let count = passes.len();
+    let Seats {
+        places,
+        names: all,
+        desks,
+    } = seats;
+    let shared = Shared {
+        desk,
+        mark: AtomicU64::new(0),
+    };
+    match Arc::new(alloc, shared) {
+        Ok(shared) => match share(&shared, desks, count) {
+            Ok(desks) => {
+                hand_out(&shared, calls, passes, places, all, desks, callers);
+                Ok(())
+            }
+            Err(_) => Err(unshared(shared, passes, names)),
+        },
+        Err(refused) => {
+            let Shared { desk, mark: _ } = refused.value;
+            Err(Lodged::Book(reclaim(desk, passes, names)))
+        }
+    }
+}
+
+/// The desk for so many callers.
+fn share(
+    shared: &Arc<Shared, Global>,
+    desks: Vec<Arc<Shared, Global>>,
+    count: usize,
+) -> Result<Vec<Arc<Shared, Global>>, AllocError>
+    requires { (desks.items ≡ []) × (count ≤ vec_capacity desks) }
+    ensures { IfOk result (λ all. (length all.items ≡ count)
+        × All (λ one. arc_value one ≡ arc_value shared.now) all.items) }
+{
+    let mut desks = desks;
+    for _caller in 0..count {
+        desks.push_reserved(Arc::try_clone(shared)?);
+    }
+    Ok(desks)
+}
+
+/// The book of a desk that nobody shares. A desk that is shared all the same, which never comes, has
+/// one caller with all passes.
+fn unshared(shared: Arc<Shared, Global>, passes: Vec<Pass>, names: Arc<Setup, Global>) -> Lodged
+    requires names { arc_value names ≡ (opened_with (arc_value shared).desk).sched.setup }
+    requires fresh { All (IsFreshPassOf (arc_value shared).desk) passes.items }
+    requires count { (length passes.items ≡ passes_of (arc_value shared).desk) × (0 < passes_of (arc_value shared).desk) × (length passes.items ≤ 1024) }
+    ensures { IsBackOf (opened_with (arc_value shared).desk) result }
+{
+    match Arc::try_unwrap(shared) {
+        Ok(Shared { desk, mark: _ }) => Lodged::Book(reclaim(desk, passes, names)),
+        Err(shared) => {
+            let all = passes.len() as u32;
+            let pass = gather_all(&shared.desk, passes);
+            Lodged::Caller(Caller::resting(shared, names, pass, all))
+        }
+    }
+}
+
+/// The book of a desk whose passes have made no call.
+fn reclaim(desk: Desk, passes: Vec<Pass>, names: Arc<Setup, Global>) -> Ledger
+    requires names { arc_value names ≡ (opened_with desk).sched.setup }
+    requires fresh { All (IsFreshPassOf desk) passes.items }
+    requires count { (length passes.items ≡ passes_of desk) × (0 < passes_of desk) }
+    ensures { (opening_of result.book ≡ opened_with desk) × (entries_of result.book ≡ [])
+        × (refused_of result.book ≡ 0) }
+{
+    let pass = gather_all(&desk, passes);
+    match desk.close(pass) {
+        Ok(book) => Ledger { book, names },
+        Err(_) => unreachable!(),
+    }
+}
+
+/// All passes of a desk, which have made no call, as one.
+fn gather_all(desk: &Desk, passes: Vec<Pass>) -> Pass
+    requires fresh { All (IsFreshPassOf desk.now) passes.items }
+    requires some { 0 < length passes.items }
+    ensures desk { IsPassOf desk.now result }
+    ensures all { length (pass_of result).numbers ≡ length passes.items }
+    ensures fresh { ((pass_of result).seen ≡ []) × ((pass_of result).calls ≡ 0) }
+{
+    let mut rest = passes;
+    let last = rest.pop();
+    let Some(mut whole) = last else {
+        unreachable!()
+    };
+    while let Some(pass) = rest.pop() {
+        whole = desk.gather(whole, pass);
+    }
+    whole
+}
+
+/// Gives each handle a caller: the first that of the first pass. Each has so many calls, which is for
+/// the proof alone.
+fn hand_out(
+    shared: &Arc<Shared, Global>,
+    calls: u32,
+    passes: Vec<Pass>,
+    places: Vec<Box<Lodged>>,
+    names: Vec<Arc<Setup, Global>>,
+    desks: Vec<Arc<Shared, Global>>,
+    callers: &mut [Handle],
+)
+    requires new { AreNewPassesWith calls (arc_value shared.now).desk 0 passes.items }
+    requires count { (length callers.old ≡ passes_of (arc_value shared.now).desk) × (length passes.items ≡ length callers.old)
+        × (length places.items ≡ length callers.old) × (length callers.old ≤ 1024) }
+    requires names { (length names.items ≡ length callers.old)
+        × All (λ one. arc_value one ≡ (opened_with (arc_value shared.now).desk).sched.setup) names.items }
+    requires desks { (length desks.items ≡ length callers.old)
+        × All (λ one. arc_value one ≡ arc_value shared.now) desks.items }
+    ensures { (length callers.new ≡ length callers.old)
+        × AreCallersFrom calls (arc_value shared.now).desk 0 callers.new }
+{
+    let count = callers.len();
+    let mut passes = passes;
+    let mut places = places;
+    let mut names = names;
+    let mut desks = desks;
+    for done in 0..count {
+        let Some(pass) = passes.pop() else {
+            unreachable!()
+        };
+        let Some(mut place) = places.pop() else {
+            unreachable!()
+        };
+        let Some(names) = names.pop() else {
+            unreachable!()
+        };
+        let Some(shared) = desks.pop() else {
+            unreachable!()
+        };
+        *place = Lodged::Caller(Caller::resting(shared, names, pass, count as u32));
+        callers[count - 1 - done] = Handle::of(place);
+    }
+}

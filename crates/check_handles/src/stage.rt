@@ -1,0 +1,89 @@
+//! What a caller has in hand between two calls of C: its pass, or the turn of a call that waits.
+
+ghost use Rattle.std.specs.Prelude.{◌≡◌};
+ghost use Rattle.check_desk.specs.Desks.{IsWaitingAt, opened_with};
+ghost use Rattle.check_handles.specs.Stages.{IsStageOf};
+ghost use Rattle.check_handles.specs.Tries.{HasAdvanced, HasLooked, step_of};
+
+use check_desk::{Answer, Desk, Pass, Poll, Turn};
+use check_sched::{Call, Reply};
+use std::mem::ManuallyDrop;
+
+/// What a caller has in hand.
+#[derive(Drop)]
+pub enum Stage {
+    /// Nothing: only while a call is made.
+    Gone,
+    /// Its pass.
+    Resting(Pass),
+    /// A ticket whose turn hasn't come, and the call for which it was taken. C makes the same call
+    /// again until its turn has come: nobody else makes it.
+    Waiting(ManuallyDrop<Turn>, Call),
+}
+
+/// What came of a try.
+#[derive(Clone, Copy, PartialEq, Eq)]
+pub enum Step {
+    /// The call was made, and is recorded with this reply.
+    Replied(Reply),
+    /// There was no memory for the entry: the call wasn't made, but it is counted.
+    NoMemory,
+    /// The caller has no call left. Nothing was done.
+    Spent,
+    /// The turn hasn't come.
+    NotYet,
+    /// The caller waits for the turn of another call. Nothing was done.
+    OtherWaits,
+}
+
+/// Takes a ticket, where the caller has none, looks whether its turn has come, and makes the call
+/// then. A ticket that was taken for another call is left as it is.
+pub(crate) fn advance(desk: &Desk, stage: Stage, call: Call) -> (Stage, Step)
+    requires { IsStageOf desk.now stage }
+    ensures own { IsStageOf desk.now result.0 }
+    ensures advanced { HasAdvanced (opened_with desk.now).room call stage result.1 result.0 }
+{
+    match stage {
+        Stage::Gone => (Stage::Gone, Step::OtherWaits),
+        Stage::Resting(pass) => match desk.begin(pass) {
+            Ok(turn) => look(desk, turn, call),
+            Err(pass) => (Stage::Resting(pass), Step::Spent),
+        },
+        Stage::Waiting(turn, asked) => {
+            if asked == call {
+                look(desk, ManuallyDrop::into_inner(turn), call)
+            } else {
+                (Stage::Waiting(turn, asked), Step::OtherWaits)
+            }
+        }
+    }
+}
+
+/// Looks whether the turn has come, and makes the call then.
+fn look(desk: &Desk, turn: Turn, call: Call) -> (Stage, Step)
+    requires { IsWaitingAt desk.now turn }
+    ensures own { IsStageOf desk.now result.0 }
+    ensures looked { HasLooked (opened_with desk.now).room call turn result.1 result.0 }
+{
+    match desk.poll(turn) {
+        Poll::Mine(hold) => {
+            let (pass, answer) = desk.finish(hold, call);
+            (Stage::Resting(pass), step_of(answer))
+        }
+        Poll::NotYet(turn) => {
+            let turn = unsafe { ManuallyDrop::new_unchecked(turn) };
+            (Stage::Waiting(turn, call), Step::NotYet)
+        }
+    }
+}
+
+/// What came of a try whose call was answered so.
+fn step_of(answer: Answer) -> Step
+    ensures { result ≡ step_of answer }
+{
+    match answer {
+        Answer::Reply(reply) => Step::Replied(reply),
+        Answer::NoMemory => Step::NoMemory,
+        Answer::Spent => Step::Spent,
+    }
+}

@@ -1,0 +1,11 @@
+use Rattle.check_records.proofs.PlainLaws.{calls_told, entries_told, refusals_told, replies_told, standings_told}
+use Rattle.check_records.proofs.laws.structs_tell.Goals as goal
+
+pub returns : goal.returns
+returns c = record {
+  standings = λ a b same. standings_told a b same;
+  calls = λ a b same. calls_told a b same;
+  replies = λ a b same. replies_told a b same;
+  entries = λ a b same. entries_told a b same;
+  refusals = λ a b same. refusals_told a b same;
+}

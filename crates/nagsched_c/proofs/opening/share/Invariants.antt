@@ -1,8 +1,0 @@
-use Rattle.std.proofs.Common.{◌≡◌, ◌≤◌, length}
-use Rattle.std.specs.Prelude.{vec_capacity}
-use Rattle.std.specs.List.{All}
-use Rattle.std_alloc.specs.Arc.{arc_value}
-use Rattle.nagsched_c.proofs.opening.share.Given as goal
-
-abbrev pub invariant-loop-caller : goal.invariant-loop-caller
-invariant-loop-caller l = (length l.desks.items ≡ l._caller) × (l.count ≤ vec_capacity l.desks) × All (λ one. arc_value one ≡ arc_value l.shared) l.desks.items
