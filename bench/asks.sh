@@ -1,53 +1,71 @@
 #!/usr/bin/env bash
-# Times asks at one desk by threads that wait for each other, and prints one table. Run by hand; no part of the gate.
+# Times calls at one desk by threads that wait for each other, and prints one table. Run by hand; no part of the gate.
 #   bench/asks.sh [REPEATS]     the middle one of so many runs is told, 5 where no number is given
-#   BEFORE=PROGRAM bench/asks.sh [REPEATS]     another build's `nagsched_bench` by turns with ours: its time, and its ratio to ours
+#   PREFIX=FOLDER               where tools/build_c.sh has laid the C library down; out/c where none is named
+#   BEFORE=FOLDER               where another build of it lies: a row more, by turns with ours
 # Microseconds of a call, takes and reports alike, over 4, 16 and 4,096 objects on all cores, and over 16 on two cores:
-# the time of the slowest thread, by the calls of all. Nothing is read or written meanwhile.
-set -eu
+# the time of the slowest thread, by the calls of all. Nothing is read or written meanwhile. The rows, by turns:
+#   desk     each thread has a caller of its own
+#   apart    the same, where no two of these callers share a cache line
+#   ticket   all threads use one caller, behind a ticket lock of C's that yields while it waits
+#   mutex    the same behind a mutex
+#   before   as desk, by the other build
+set -eu -o pipefail
 repeats=${1:-5}
 takes=100000
-crate=$(cd "$(dirname "$0")/../crates/nagsched_bench" && pwd)
-program=$crate/out/nagsched_bench
+top=$(cd "$(dirname "$0")/.." && pwd)
 work=$(mktemp -d)
 trap 'rm -rf "$work"' EXIT
-
-# Proves and builds the program where it isn't yet.
-(cd "$crate" && rt run -- cycle 64 1000 > "$work/build.log" 2>&1) || { cat "$work/build.log"; exit 1; }
+. "$top/bench/best.sh"
+build_c_asks "${PREFIX:-$top/out/c}" "$work/c_asks"
+counts='1 2 4 16 64'
+rows='desk apart ticket mutex'
+if [[ -n ${BEFORE:-} ]]; then
+    build_c_asks "$BEFORE" "$work/c_asks_before"
+    rows="$rows before"
+fi
 
 # The words before a program that keep it to some cores: none for all.
 on_cores=()
 
-# The microseconds of a call: of a program, by so many threads over so many objects.
+# The microseconds of a call: of a row, by so many threads over so many objects.
 one() {
-    ${on_cores[@]+"${on_cores[@]}"} "$1" "ask$2" "$3" "$takes" | tr '=' ' ' | awk '{ printf "%.3f\n", $2 / $4 / 1000 }'
+    local program=$work/c_asks workload=$1
+    [[ $1 != before ]] || program=$work/c_asks_before workload=desk
+    ${on_cores[@]+"${on_cores[@]}"} "$program" "$workload" "$2" "$3" "$takes" | tr '=' ' ' | awk '{ printf "%.3f\n", $2 / $4 / 1000 }'
 }
 
-. "$(dirname "$0")/best.sh"
-
-# A row of the table: over so many objects.
-over() {
-    local objects=$1 threads ours before
-    printf '%-22s' "$objects objects$2"
-    for threads in 1 2 4 16 64; do
-        : > "$work/before"
-        for _ in $(seq "$repeats"); do
-            [[ -z ${BEFORE:-} ]] || one "$BEFORE" "$threads" "$objects" >> "$work/before"
-            one "$program" "$threads" "$objects"
-        done > "$work/ours"
-        ours=$(middle < "$work/ours") before=$(middle < "$work/before")
-        awk -v ours="$ours" -v before="$before" 'BEGIN {
-            printf " %14s", before == "" ? sprintf("%.2f", ours) : sprintf("%.2f %.2f %.2f", ours, before, before / ours)
-        }'
+# The times of all rows by so many threads over so many objects, each row by turns with the others.
+by_threads() {
+    local row
+    for _ in $(seq "$repeats"); do
+        for row in $rows; do
+            one "$row" "$1" "$2" >> "$work/times.$row.$1"
+        done
     done
-    echo
 }
 
-printf '%-22s %14s %14s %14s %14s %14s\n' threads 1 2 4 16 64
+# The rows over so many objects.
+over() {
+    local threads row
+    rm -f "$work"/times.*
+    for threads in $counts; do
+        by_threads "$threads" "$1"
+    done
+    for row in $rows; do
+        printf '%-24s %-8s' "$1 objects$2" "$row"
+        for threads in $counts; do
+            printf ' %8.2f' "$(middle < "$work/times.$row.$threads")"
+        done
+        echo
+    done
+}
+
+printf '%-33s %8s %8s %8s %8s %8s\n' threads $counts
 for objects in 4 16 4096; do
     over "$objects" ''
 done
-if command -v taskset > /dev/null; then
+if command -v taskset > "$work/output"; then
     on_cores=(taskset -c 0,1)
     over 16 ', 2 cores'
 fi

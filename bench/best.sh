@@ -1,5 +1,16 @@
 # What the benchmarks share; each of them reads it in.
 
+# Builds the program bench/c_asks.c over the C library that lies under a folder: tools/build_c.sh lays it down there where it isn't yet.
+build_c_asks() {
+    [[ -f $1/lib/libnagsched.a ]] || "$top/tools/build_c.sh" "$1"
+    cc -std=c11 -O2 -Wall -Wextra -I"$1/include" "$top/bench/c_asks.c" "$1/lib/libnagsched.a" -lpthread -o "$2"
+}
+
+# The instructions of a program, from its words and standard input, by valgrind's callgrind.
+instructions() {
+    valgrind --tool=callgrind --callgrind-out-file=/dev/null "$@" 2>&1 > "$work/output" | sed -n 's/.*Collected : //p'
+}
+
 # The best time of a command over an input, in milliseconds: `repeats` runs of it write to $work/output.
 best() {
     local least=999999999

@@ -1,8 +1,9 @@
-/* Calls over the C library by threads that wait for each other, and locks of C with the same work inside. bench/c_asks.sh builds it.
+/* Calls over the C library by threads that wait for each other, and locks of C with the same work inside. The scripts
+ * bench/asks.sh, bench/glance.sh and bench/instructions.sh build it.
  *
  *     c_asks WORKLOAD THREADS OBJECTS TAKES [untimed]     prints ns=TIME ops=CALLS sum=SUM, the slowest thread's time
  *
- * one     one caller takes a check at the time of the first object and reports it: the workload `ask` of nagsched_bench
+ * one     one caller takes a check at the time of the first object and reports it: the calls of the workload `cycle` of nagsched_bench
  * desk    TAKES takes, each with its report, divided among the threads, each by a caller of its own
  * apart   as desk, where the callers that are used don't share a cache line
  * ticket  as desk, but all threads use one caller, behind a ticket lock that yields while it waits

@@ -1,34 +1,26 @@
 #!/usr/bin/env bash
 # Times glances at the board of a desk, and prints one table. Run by hand; no part of the gate.
 #   bench/glance.sh [REPEATS]     the best of so many runs is told, 5 where no number is given
+#   PREFIX=FOLDER                 where tools/build_c.sh has laid the C library down; out/c where none is named
 # 1, 2 and 4 threads glance at 64 objects in turn, each so many times, while one thread more takes checks and
 # reports them. The ratio is to one thread, in the same run. Where valgrind is there, the instructions of a glance
 # are counted, with nobody reporting: the difference of two counts, so that reading the setup cancels.
-set -eu
+set -eu -o pipefail
 export GLIBC_TUNABLES=glibc.cpu.x86_rep_stosb_threshold=100000000:glibc.cpu.x86_rep_movsb_threshold=100000000
 repeats=${1:-5}
 objects=64
 glances=20000000
-crate=$(cd "$(dirname "$0")/../crates/nagsched_bench" && pwd)
-program=$crate/out/nagsched_bench
+top=$(cd "$(dirname "$0")/.." && pwd)
 work=$(mktemp -d)
 trap 'rm -rf "$work"' EXIT
-
-# Proves and builds the program where it isn't yet.
-mapfile -t words < "$crate/args"
-(cd "$crate" && rt run -- "${words[@]}" > "$work/build.log" 2>&1) || { cat "$work/build.log"; exit 1; }
+. "$top/bench/best.sh"
+build_c_asks "${PREFIX:-$top/out/c}" "$work/c_asks"
 
 # The least time of the slowest thread, in nanoseconds, where so many threads glance.
 least() {
     for _ in $(seq "$repeats"); do
-        "$program" "glance$1" "$objects" "$glances"
-    done | sed -n 's/^ns=\([0-9]*\) .*/\1/p' | sort -n | head -n 1
-}
-
-# The instructions of so many glances of one thread, with all that comes before.
-instructions() {
-    valgrind --tool=callgrind --callgrind-out-file=/dev/null "$program" glance "$objects" "$1" untimed 2>&1 > "$work/output" \
-        | sed -n 's/.*Collected : //p'
+        "$work/c_asks" glance "$1" "$objects" "$glances"
+    done | sed -n 's/^ns=\([0-9]*\) .*/\1/p' | sort -n | sed -n 1p
 }
 
 printf '%8s %8s %18s %10s %8s\n' threads ms 'glances a second' 'ns each' 'to one'
@@ -41,7 +33,7 @@ for threads in 1 2 4; do
     }'
 done
 if command -v valgrind > "$work/output"; then
-    few=$(instructions 100000)
-    many=$(instructions 300000)
+    few=$(instructions "$work/c_asks" glance 0 "$objects" 100000 untimed)
+    many=$(instructions "$work/c_asks" glance 0 "$objects" 300000 untimed)
     echo "instructions a glance: $(((many - few) / 200000))"
 fi

@@ -1,22 +1,25 @@
 #!/usr/bin/env bash
 # Counts instructions by valgrind's callgrind, and prints one table. Run by hand; no part of the gate.
 #   bench/instructions.sh
+#   PREFIX=FOLDER     where tools/build_c.sh has laid the C library down; out/c where none is named
 # A figure is the difference of two lengths of the same workload, by their cycles, so that reading the
 # setup cancels. Instructions are steady on any machine, as times aren't. The rows:
 #   queue    the first of n entries is taken out and put back 5 minutes later
 #   calls    a check of one of n objects is taken and reported, by the scheduler alone
 #   run      the same by the whole program: two lines read, two written
 # and, without the instructions of `calls` at as many objects:
-#   ask      a call by a pass of a desk: its lock, its turn and its history
+#   caller   a call by a caller of the C library: its handle, its lock, its turn and its history
 #   depend   a check of a service that depends on the first service: what looking for masters that hold it back costs
 #   inherit  the same, where the dependency inherits, and the first service depends on the second
 #   lines    a check whose two replies are written as lines of text
 set -eu
 # Valgrind counts a string store byte by byte; the C library is told to store by words.
 export GLIBC_TUNABLES=glibc.cpu.x86_rep_stosb_threshold=100000000:glibc.cpu.x86_rep_movsb_threshold=100000000
-crates=$(cd "$(dirname "$0")/../crates" && pwd)
+top=$(cd "$(dirname "$0")/.." && pwd)
+crates=$top/crates
 work=$(mktemp -d)
 trap 'rm -rf "$work"' EXIT
+. "$top/bench/best.sh"
 
 # Proves and builds the programs where they aren't yet.
 for crate in nagsched nagsched_bench; do
@@ -26,24 +29,29 @@ for crate in nagsched nagsched_bench; do
     [[ -f $crates/$crate/args ]] && mapfile -t words < "$crates/$crate/args"
     (cd "$crates/$crate" && rt run -- "${words[@]}" < "$input" > "$work/build.log" 2>&1) || { cat "$work/build.log"; exit 1; }
 done
+build_c_asks "${PREFIX:-$top/out/c}" "$work/c_asks"
 
-# The instructions of a program, from its words and standard input.
-instructions() {
-    valgrind --tool=callgrind --callgrind-out-file=/dev/null "$@" 2>&1 > "$work/output" \
-        | sed -n 's/.*Collected : //p'
+# A cycle's instructions of a program's workload, once 21 results of each object are kept.
+by_cycles() {
+    local few many
+    few=$(instructions "$@" 100000 untimed)
+    many=$(instructions "$@" 140000 untimed)
+    echo $(((many - few) / 40000))
 }
 
-# A cycle's instructions: of WORKLOAD at n numbers, once 21 results of each object are kept.
+# A cycle's instructions: of WORKLOAD at n numbers.
 by_workload() {
-    local few many
-    few=$(instructions "$crates/nagsched_bench/out/nagsched_bench" "$1" "$2" 100000)
-    many=$(instructions "$crates/nagsched_bench/out/nagsched_bench" "$1" "$2" 140000)
-    echo $(((many - few) / 40000))
+    by_cycles "$crates/nagsched_bench/out/nagsched_bench" "$1" "$2"
 }
 
 # A cycle's instructions of WORKLOAD at n numbers, without those of `calls`.
 beyond_calls() {
     echo $(($(by_workload "$1" "$2") - $(by_workload cycle "$2")))
+}
+
+# What a caller of the C library adds to each of the two calls of a cycle at n objects.
+by_caller() {
+    echo $((($(by_cycles "$work/c_asks" one 1 "$1") - $(by_workload cycle "$1")) / 2))
 }
 
 # A setup of so many hosts, and so many takes with their reports.
@@ -80,9 +88,8 @@ done
 for numbers in 64 512 4096; do
     printf '%8s %8d %14d\n' run "$numbers" "$(by_run "$numbers")"
 done
-# A cycle has two calls.
 for numbers in 64 4096; do
-    printf '%8s %8d %14d\n' ask "$numbers" "$(($(beyond_calls ask "$numbers") / 2))"
+    printf '%8s %8d %14d\n' caller "$numbers" "$(by_caller "$numbers")"
 done
 for workload in depend inherit lines; do
     for numbers in 64 512 4096; do

@@ -67,7 +67,7 @@ BY_HAND = {
 
 def is_by_hand(command):
     """Whether a command is no part of the gate: those of bench/ measure, each for minutes on a machine with nothing else to do."""
-    return command in BY_HAND or re.fullmatch(r"bench/\w+\.sh", command) is not None
+    return command in BY_HAND or re.fullmatch(r"bench/\w+\.(?:sh|py)", command) is not None
 
 
 def is_in_the_gate(command):

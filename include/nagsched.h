@@ -16,15 +16,16 @@
  * Times are in milliseconds of a clock that the caller chooses: 0 to 2^60.
  *
  * Every function gives a status. Texts come in by pointer and length, and go out into a buffer of the
- * caller's: they have no zero at their end.
+ * caller's: they have no zero at their end. No pointer may be NULL, that of an empty text or buffer neither, and
+ * none may be given for two things of one type, as one handle for two: WRONG.
  *
  * The caller keeps what no call can see:
  *   - a handle is zeroed (NAGSCHED_EMPTY) before its first use, and never copied, read or written;
  *   - one call at a time is made with a handle, whichever thread makes it;
  *   - a call that was answered NAGSCHED_WAIT is made again until it is answered otherwise: its turn stops all others;
  *   - no call is made from a signal handler, or in a child after fork, with a handle from before it;
- *   - no pointer is NULL, that of an empty text or buffer neither; what it points to is as large as its type, or as
- *     the length says, and no two pointers of a call lead to one place;
+ *   - what a pointer leads to is as large as its type, or as the length says, and no two pointers of a call lead
+ *     to the same memory;
  *   - the process has one allocator (malloc, free) for the whole life of a handle.
  */
 #ifndef NAGSCHED_H
@@ -57,7 +58,7 @@ enum nagsched_result {
     NAGSCHED_NO_MEMORY = 3, /* memory was refused; of the six calls: it wasn't made, but is counted, nagsched_refused */
     NAGSCHED_REFUSED = 4,   /* the document is no setup: the refusal tells why and where */
     NAGSCHED_MISSING = 5,   /* callers that aren't gathered yet, no object of that name, no host of a host */
-    NAGSCHED_WRONG = 6      /* a mistake of the caller's: the handle or an argument isn't one for this function */
+    NAGSCHED_WRONG = 6      /* a mistake of the caller's: a handle, a pointer or a number isn't one for this function */
 };
 
 /* What the check of an object returned. */

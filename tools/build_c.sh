@@ -19,8 +19,14 @@ version=$(sed -n 's/^#define NAGSCHED_VERSION \([0-9]*\)u$/\1/p' "$header")
 sed -n 's/^uint32_t \(nagsched_[a-z_]*\)(.*/\1/p' "$header" > "$work/names"
 { echo '{ global:'; sed 's/$/;/' "$work/names"; echo 'local: *; };'; } > "$work/names.map"
 
+# The proved functions step behind the guard, by another name: all but those without a pointer.
+sed -n '/(void)/d; s/^uint32_t nagsched_\([a-z_]*\)(.*/nagsched_\1 nagsched_proved_\1/p' "$header" > "$work/names.proved"
+ld -r -o "$work/proved.o" --whole-archive "$top/crates/nagsched_c/out/libnagsched_c.a" --no-whole-archive "$heap"
+objcopy --redefine-syms="$work/names.proved" "$work/proved.o"
+cc -std=c11 -O2 -Wall -Wextra -Werror -fPIC -I"$top/include" -c "$top/bindings/c/guard.c" -o "$work/guard.o"
+
 # One object with all that the library needs, whose other names are its own.
-ld -r -o "$work/nagsched.o" --whole-archive "$top/crates/nagsched_c/out/libnagsched_c.a" --no-whole-archive "$heap"
+ld -r -o "$work/nagsched.o" "$work/guard.o" "$work/proved.o"
 objcopy --keep-global-symbols="$work/names" "$work/nagsched.o"
 
 mkdir -p "$prefix/include" "$prefix/lib/pkgconfig"

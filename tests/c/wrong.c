@@ -155,6 +155,119 @@ static void openings(void) {
     IS(memcmp(&was, &it, sizeof it) == 0);
 }
 
+static void no_document(void) {
+    const uint8_t *document = (const uint8_t *)SETUP;
+    WRONG(nagsched_read(NULL, strlen(SETUP), &it.empty, &it.refusal));
+    WRONG(nagsched_read(NULL, 0, &it.empty, &it.refusal));
+    WRONG(nagsched_read(document, strlen(SETUP), NULL, &it.refusal));
+    WRONG(nagsched_read(document, strlen(SETUP), &it.empty, NULL));
+    WRONG(nagsched_free(NULL));
+}
+
+/* A function that writes a text: no text, though there is no room either, and no length. */
+#define NO_TEXT(function, ...)                                          \
+    do {                                                                \
+        WRONG(function(__VA_ARGS__, NULL, sizeof it.text, &it.length)); \
+        WRONG(function(__VA_ARGS__, NULL, 0, &it.length));              \
+        WRONG(function(__VA_ARGS__, it.text, sizeof it.text, NULL));    \
+    } while (0)
+
+static void no_texts(void) {
+    struct nagsched_refusal refused = {NAGSCHED_REFUSAL_NOT_JSON, NAGSCHED_PART_NONE, 0, 0};
+    memset(&it.call, 0, sizeof it.call), memset(&it.reply, 0, sizeof it.reply), memset(&it.entry, 0, sizeof it.entry);
+    WRONG(nagsched_refusal_text(NULL, it.text, sizeof it.text, &it.length));
+    NO_TEXT(nagsched_refusal_text, &refused);
+    WRONG(nagsched_reply_text(NULL, &it.call, &it.reply, it.text, sizeof it.text, &it.length));
+    WRONG(nagsched_reply_text(&it.setup, NULL, &it.reply, it.text, sizeof it.text, &it.length));
+    WRONG(nagsched_reply_text(&it.setup, &it.call, NULL, it.text, sizeof it.text, &it.length));
+    NO_TEXT(nagsched_reply_text, &it.setup, &it.call, &it.reply);
+    WRONG(nagsched_entry_text(NULL, &it.entry, it.text, sizeof it.text, &it.length));
+    WRONG(nagsched_entry_text(&it.setup, NULL, it.text, sizeof it.text, &it.length));
+    NO_TEXT(nagsched_entry_text, &it.setup, &it.entry);
+}
+
+static void no_names(void) {
+    const uint8_t *name = (const uint8_t *)"h;s";
+    WRONG(nagsched_count(NULL, &it.number, &it.hosts));
+    WRONG(nagsched_count(&it.setup, NULL, &it.hosts));
+    WRONG(nagsched_count(&it.setup, &it.number, NULL));
+    WRONG(nagsched_number(NULL, name, 3, &it.number));
+    WRONG(nagsched_number(&it.setup, NULL, 3, &it.number));
+    WRONG(nagsched_number(&it.setup, NULL, 0, &it.number));
+    WRONG(nagsched_number(&it.setup, name, 3, NULL));
+    WRONG(nagsched_name(NULL, 1, it.text, sizeof it.text, &it.length));
+    NO_TEXT(nagsched_name, &it.setup, 1);
+    WRONG(nagsched_host_of(NULL, 1, &it.number));
+    WRONG(nagsched_host_of(&it.setup, 1, NULL));
+}
+
+/* A call, as a try and whole: no caller, and no reply. */
+#define NO_CALL(call, ...)                                            \
+    do {                                                              \
+        WRONG(nagsched_try_##call(NULL, __VA_ARGS__, &it.reply));     \
+        WRONG(nagsched_try_##call(MINE, __VA_ARGS__, NULL));          \
+        WRONG(nagsched_##call(NULL, __VA_ARGS__, &it.reply));         \
+        WRONG(nagsched_##call(MINE, __VA_ARGS__, NULL));              \
+    } while (0)
+
+static void no_calls(void) {
+    NO_CALL(take, 0);
+    NO_CALL(report, 0, 1, 0);
+    NO_CALL(abandon, 0, 1, 0);
+    NO_CALL(reschedule, 0, 0, 0);
+    NO_CALL(enable, 0, 1);
+    NO_CALL(status, 0);
+    WRONG(nagsched_glance(NULL, 0, &it.standing));
+    WRONG(nagsched_glance(MINE, 0, NULL));
+}
+
+static void no_handles(void) {
+    WRONG(nagsched_open(NULL, 0, 0, it.two, 2));
+    WRONG(nagsched_open(&it.setup, 0, 0, NULL, 2));
+    WRONG(nagsched_open(&it.setup, 0, 0, NULL, 0));
+    WRONG(nagsched_open_with(NULL, 0, 0, 1, it.two, 2));
+    WRONG(nagsched_open_with(&it.setup, 0, 0, 1, NULL, 2));
+    WRONG(nagsched_gather(NULL, MINE));
+    WRONG(nagsched_gather(MINE, NULL));
+    WRONG(nagsched_close(NULL));
+    WRONG(nagsched_entries(NULL, &it.count));
+    WRONG(nagsched_entries(&it.book, NULL));
+    WRONG(nagsched_entry(NULL, 0, &it.entry));
+    WRONG(nagsched_entry(&it.book, 0, NULL));
+    WRONG(nagsched_refused(NULL, &it.count));
+    WRONG(nagsched_refused(&it.book, NULL));
+    WRONG(nagsched_renew(NULL, 0, &it.empty));
+    WRONG(nagsched_renew(&it.book, 0, NULL));
+}
+
+/* One pointer given for two things. A setup that lies beside the callers' handles is none of them. */
+static void one_for_two(void) {
+    WRONG(nagsched_count(&it.setup, &it.number, &it.number));
+    WRONG(nagsched_gather(MINE, MINE));
+    WRONG(nagsched_renew(&it.book, 0, &it.book));
+    WRONG(nagsched_open(&it.setup, 0, 0, &it.setup, 1));
+    WRONG(nagsched_open_with(&it.setup, 0, 0, 1, &it.setup, 1));
+    for (size_t source = 0; source < 2; source++) {
+        struct nagsched_handle *caller = &it.two[1 - source];
+        GIVES(OK, read_setup(&it.two[source]));
+        WRONG(nagsched_open(&it.two[source], 0, 0, it.two, 2));
+        WRONG(nagsched_open_with(&it.two[source], 0, 0, 1, it.two, 2));
+        GIVES(OK, nagsched_open(&it.two[source], 0, 0, caller, 1));
+        IS(it.two[source].full == 0 && caller->full != 0);
+        GIVES(OK, nagsched_free(caller));
+    }
+}
+
+/* Pointers that are NULL, and pointers that are the same. */
+static void pointers(void) {
+    no_document();
+    no_texts();
+    no_names();
+    no_calls();
+    no_handles();
+    one_for_two();
+}
+
 static void calls(struct nagsched_handle *other_kind) {
     NOT_BY(nagsched_try_take, other_kind, 0, &it.reply);
     NOT_BY(nagsched_try_report, other_kind, 0, 1, 0, &it.reply);
@@ -317,6 +430,7 @@ int main(void) {
     texts();
     names();
     openings();
+    pointers();
     calls(&it.setup);
     calls(&it.book);
     calls(&it.history);

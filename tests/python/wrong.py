@@ -1,7 +1,9 @@
-"""Makes mistakes with bindings/python/nagsched.py: each raises, and none changes anything.
+"""Makes mistakes with bindings/python/nagsched.py: each raises, and none changes anything. NULL, which that file gives to no
+function, is WRONG to each of the shared library's.
 
 Wants NAGSCHED_LIBRARY and PYTHONPATH. The last line counts what was compared.
 """
+import ctypes
 import json
 import sys
 import threading
@@ -142,6 +144,16 @@ def interrupted():
             is_so("an interrupt", came is not None and not answers and len(book) == 1)
 
 
+def nothing():
+    """Each function that takes pointers, with NULL in place of each."""
+    numbers = (ctypes.c_uint32, ctypes.c_uint64, ctypes.c_size_t)
+    for name, arguments in nagsched.FUNCTIONS.items():
+        given = [0 if argument in numbers else None for argument in arguments]
+        if None in given:
+            is_so(f"nagsched_{name} of NULL", getattr(nagsched._LIBRARY, name)(*given) == nagsched.Result.WRONG)
+
+
+nothing()
 calls(setups())
 spent()
 interrupted()

@@ -3,10 +3,9 @@
 use std::io;
 use std::time::{Clock, Instant};
 
-/// What a thread, or all of a workload's together, took and saw.
+/// How long a workload took, and the sum of what it saw.
 #[derive(Clone, Copy)]
 pub(crate) struct Made {
-    /// The nanoseconds of the slowest thread.
     pub(crate) nanos: u128,
     pub(crate) sum: u64,
 }

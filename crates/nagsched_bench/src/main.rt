@@ -17,33 +17,21 @@
 //! | `depend` | as `cycle`, where every service but the first depends on the first |
 //! | `inherit` | as `depend`, where these dependencies inherit, and the first service depends on the second |
 //! | `lines` | as `cycle`, and the replies are written as lines of text |
-//! | `ask` | the calls of `cycle`, by the only pass of a desk |
-//! | `ask1`, `ask2`, `ask4`, `ask16`, `ask64` | a take at a desk of n objects and its report, divided among 1, 2, 4, 16 or 64 threads; the line tells their calls in place of the cycles, and the slowest thread's time |
-//! | `glance` | glances at one of n objects of a desk |
-//! | `glance1`, `glance2`, `glance4` | the same by 1, 2 or 4 threads, each so many times, while another thread reports; the time is the slowest thread's |
 //!
-//! `queue_work` has the workloads of the queue, `sched_work` those of the scheduler, `ask_work` and
-//! `crowd_work` those of the desk, `glance_work` those of its board, `random` the numbers.
+//! `queue_work` has the workloads of the queue, `sched_work` those of the scheduler, `random` the
+//! numbers. What a shared scheduler costs is measured over the C library, by `bench/c_asks.c`.
 
-mod ask_work;
-mod crowd_work;
-mod glance_work;
 mod made;
 mod queue_work;
 mod random;
 mod sched_work;
 
-use ask_work::asks;
-use crowd_work::asks_of_a_crowd;
-use glance_work::glances;
 use made::{Made, nanos_since};
 use queue_work::{QueueWork, QueueWorkload};
 use sched_work::{Masters, cycle, lines, scheduler};
 use std::alloc::Global;
 use std::env;
 use std::process::ExitCode;
-use std::sync::Wait;
-use std::thread::Threads;
 use std::time::{Clock, Instant};
 
 /// The most numbers of a workload.
@@ -56,12 +44,6 @@ enum Workload {
     Scheduler(Masters),
     /// The scheduler's, with the lines of its replies.
     Lines,
-    /// One pass asks.
-    Desk,
-    /// So many threads ask.
-    Crowd(u32),
-    /// So many threads glance while another reports; with 0 the only one glances.
-    Board(u32),
 }
 
 /// What the words ask for.
@@ -91,21 +73,11 @@ fn main(rt: HostRuntime) -> ExitCode {
 
 /// Makes what is asked for; tells what it took and saw, and how many cycles were made. None where there
 /// is no memory, or it can't be made of so many numbers.
-fn work_on<R: Threads + Wait + Clock + Sync>(
-    rt: &R,
-    alloc: Global,
-    job: &Job,
-) -> Option<(Made, u64)> {
+fn work_on(rt: &impl Clock, alloc: Global, job: &Job) -> Option<(Made, u64)> {
     match job.workload {
         Workload::Queue(workload) => queue_cycles(rt, alloc, workload, job),
         Workload::Scheduler(masters) => scheduler_cycles(rt, alloc, masters, job),
         Workload::Lines => line_cycles(rt, alloc, job),
-        Workload::Desk => Some((asks(rt, alloc, job.numbers, job.cycles)?, job.cycles)),
-        Workload::Crowd(threads) => { asks_of_a_crowd(rt, alloc, threads, job.numbers, job.cycles) }
-        Workload::Board(threads) => {
-            let made = glances(rt, alloc, threads, job.numbers, job.cycles)?;
-            Some((made, job.cycles))
-        }
     }
 }
 
@@ -153,16 +125,6 @@ fn workload_of(word: &str) -> Option<Workload> {
         "depend" => Some(Workload::Scheduler(Masters::First)),
         "inherit" => Some(Workload::Scheduler(Masters::FirstAndItsMasters)),
         "lines" => Some(Workload::Lines),
-        "ask" => Some(Workload::Desk),
-        "ask1" => Some(Workload::Crowd(1)),
-        "ask2" => Some(Workload::Crowd(2)),
-        "ask4" => Some(Workload::Crowd(4)),
-        "ask16" => Some(Workload::Crowd(16)),
-        "ask64" => Some(Workload::Crowd(64)),
-        "glance" => Some(Workload::Board(0)),
-        "glance1" => Some(Workload::Board(1)),
-        "glance2" => Some(Workload::Board(2)),
-        "glance4" => Some(Workload::Board(4)),
         _ => None,
     }
 }

@@ -1,0 +1,62 @@
+/* The guard of the C library: what the proved functions can't see of a pointer. It is C, read and tested, not proved.
+ *
+ * A function that is declared in nagsched.h and takes pointers stands here. It answers NAGSCHED_WRONG where one of them is
+ * NULL, or where two of one type are the same, and goes on to the proved function otherwise. tools/build_c.sh gives the
+ * proved nagsched_open the name nagsched_proved_open, and so on, and links them behind these.
+ */
+#include "nagsched.h"
+
+/* A function of the header: its name behind nagsched_, its parameters, what has to be so of them, and their names. */
+#define GUARDED(name, parameters, has_to_be, names)  \
+    uint32_t nagsched_proved_##name parameters;      \
+    uint32_t nagsched_##name parameters {            \
+        if (!(has_to_be)) return NAGSCHED_WRONG;     \
+        return nagsched_proved_##name names;         \
+    }
+
+/* Whether a handle is none of so many others. */
+#define IS_NONE_OF(handle, others, count) ((uintptr_t)(handle) - (uintptr_t)(others) >= (count) * sizeof *(others))
+
+typedef struct nagsched_handle handle;
+typedef struct nagsched_refusal refusal;
+typedef struct nagsched_call call;
+typedef struct nagsched_reply reply;
+typedef struct nagsched_entry entry;
+typedef struct nagsched_standing standing;
+
+GUARDED(read, (const uint8_t *document, size_t bytes, handle *setup, refusal *told), document && setup && told, (document, bytes, setup, told))
+
+GUARDED(refusal_text, (const refusal *told, uint8_t *text, size_t room, size_t *length), told && text && length, (told, text, room, length))
+GUARDED(reply_text, (const handle *named, const call *made, const reply *came, uint8_t *text, size_t room, size_t *length),
+        named && made && came && text && length, (named, made, came, text, room, length))
+GUARDED(entry_text, (const handle *named, const entry *told, uint8_t *text, size_t room, size_t *length), named && told && text && length,
+        (named, told, text, room, length))
+
+GUARDED(count, (const handle *named, uint32_t *objects, uint32_t *hosts), named && objects && hosts && objects != hosts, (named, objects, hosts))
+GUARDED(number, (const handle *named, const uint8_t *name, size_t bytes, uint32_t *number), named && name && number, (named, name, bytes, number))
+GUARDED(name, (const handle *named, uint32_t number, uint8_t *name, size_t room, size_t *length), named && name && length,
+        (named, number, name, room, length))
+GUARDED(host_of, (const handle *named, uint32_t number, uint32_t *host), named && host, (named, number, host))
+
+GUARDED(open, (handle *source, uint64_t start, size_t room, handle *callers, size_t count),
+        source && callers && IS_NONE_OF(source, callers, count), (source, start, room, callers, count))
+GUARDED(open_with, (handle *source, uint64_t start, size_t room, uint64_t calls, handle *callers, size_t count),
+        source && callers && IS_NONE_OF(source, callers, count), (source, start, room, calls, callers, count))
+
+GUARDED(try_take, (handle *caller, uint64_t now, reply *came), caller && came, (caller, now, came))
+GUARDED(try_report, (handle *caller, uint32_t object, uint64_t run, uint32_t code, reply *came), caller && came, (caller, object, run, code, came))
+GUARDED(try_abandon, (handle *caller, uint32_t object, uint64_t run, uint64_t now, reply *came), caller && came, (caller, object, run, now, came))
+GUARDED(try_reschedule, (handle *caller, uint32_t object, uint64_t time, uint32_t forced, reply *came), caller && came,
+        (caller, object, time, forced, came))
+GUARDED(try_enable, (handle *caller, uint32_t object, uint32_t on, reply *came), caller && came, (caller, object, on, came))
+GUARDED(try_status, (handle *caller, uint32_t object, reply *came), caller && came, (caller, object, came))
+
+GUARDED(glance, (handle *caller, uint32_t object, standing *seen), caller && seen, (caller, object, seen))
+GUARDED(gather, (handle *caller, handle *other), caller && other && caller != other, (caller, other))
+GUARDED(close, (handle *caller), caller, (caller))
+
+GUARDED(entries, (const handle *kept, uint64_t *count), kept && count, (kept, count))
+GUARDED(entry, (const handle *kept, uint64_t index, entry *told), kept && told, (kept, index, told))
+GUARDED(refused, (const handle *book, uint64_t *count), book && count, (book, count))
+GUARDED(renew, (handle *book, size_t room, handle *history), book && history && book != history, (book, room, history))
+GUARDED(free, (handle *given), given, (given))
