@@ -4,6 +4,7 @@
  *     c_asks WORKLOAD THREADS OBJECTS TAKES [untimed]     prints ns=TIME ops=CALLS sum=SUM, the slowest thread's time
  *
  * one     one caller takes a check at the time of the first object and reports it: the calls of the workload `cycle` of nagsched_bench
+ * turns   as one, by two callers that share no cache line, in one thread: each for one check, after the other's
  * desk    TAKES takes, each with its report, divided among the threads, each by a caller of its own
  * apart   as desk, where the callers that are used don't share a cache line
  * ticket  as desk, but all threads use one caller, behind a ticket lock that yields while it waits
@@ -128,6 +129,7 @@ static void report_often(struct thread *me) {
     for (uint64_t cycle = 0; cycle < me->takes; cycle++) {
         if (left == 0) left = objects - 1, now += MINUTES_5;
         left--;
+        if (is("turns")) me->caller = &callers[cycle % 2 * APART];
         CYCLE(me, now, nagsched_take, nagsched_report);
     }
 }
@@ -146,7 +148,7 @@ static void *work(void *given) {
     pthread_barrier_wait(&all_there);
     const uint64_t begun = now_ns();
     uint64_t now = 0;
-    if (is("one") || (is("glance") && me->caller == callers && me[1].caller)) {
+    if (is("one") || is("turns") || (is("glance") && me->caller == callers && me[1].caller)) {
         report_often(me);
     } else if (is("glance")) {
         glance_often(me);
@@ -169,10 +171,10 @@ int main(int argc, char **argv) {
     workload = argv[1], objects = (uint32_t)atoi(argv[3]), takes = strtoull(argv[4], NULL, 10);
     const int glances = is("glance"), apart = is("apart") ? APART : 1, asked = atoi(argv[2]);
     /* The thread that reports while others glance is the first one. */
-    const int count = is("one") ? 1 : asked + glances, shared = is("ticket") || is("mutex");
+    const int count = is("one") || is("turns") ? 1 : asked + glances, shared = is("ticket") || is("mutex");
     if (count < 1 || count > MOST_THREADS || objects < 2) return 2;
     read_setup(&setup);
-    must(nagsched_open(&setup, 0, glances ? 0 : (size_t)takes * 2, callers, (size_t)(shared ? 1 : count * apart)));
+    must(nagsched_open(&setup, 0, glances ? 0 : (size_t)takes * 2, callers, (size_t)(shared ? 1 : is("turns") ? APART + 1 : count * apart)));
     pthread_barrier_init(&all_there, NULL, (unsigned)count);
     for (int at = 0; at < count; at++) {
         threads[at].caller = &callers[shared ? 0 : at * apart];

@@ -1,12 +1,15 @@
 #!/usr/bin/env python3
-"""Counts the lines of the cache that a call over the C library writes and touches, outside the stack. Run by hand; no part of the gate.
+"""Counts the lines of the cache that a call over the C library writes and touches, and that another caller's call comes to as well. Run by
+hand; no part of the gate.
 
     bench/lines.py [OBJECTS] [TAKES]     16 and 1,500 where no number is given; PREFIX=FOLDER where tools/build_c.sh has laid it down
 
-Valgrind's lackey traces the loads and stores of the workload `one` of bench/c_asks.c: one caller takes a check and reports it. The trace
-is cut where the program counts its calls, and the distinct lines of 64 bytes between two cuts are counted, in the second half of the run.
+Valgrind's lackey traces the loads and stores of the workload `turns` of bench/c_asks.c: two callers by turns take a check and report it.
+The trace is cut where the program counts its calls, and the distinct lines of 64 bytes between two cuts are counted, in the second half of
+the run. The stack isn't counted, and neither is what is one caller's own: lines that its calls come to often, and the other's never.
 Wants cc, nm and valgrind.
 """
+import collections
 import os
 import pathlib
 import re
@@ -21,6 +24,8 @@ LINE = 64
 CALLS, THREADS = 16, 66 * 128
 # Above this is the stack.
 STACK = 0x1F00000000
+# As often come to by one caller, and never by the other, a line is its own: a line of the history is written by a call or two.
+OFTEN = 8
 ACCESS = re.compile(r"^(?: ([LSM])|I ) +([0-9a-f]+),(\d+)$")
 
 
@@ -52,14 +57,22 @@ def windows(trace, threads):
                 written.update(lines)
 
 
+def owned(calls):
+    """The lines that are one caller's own. Each caller makes two calls, and then the other one does."""
+    often = [collections.Counter(line for at in (0, 1) for call in calls[2 * caller + at::4] for line in call) for caller in (0, 1)]
+    return {line for mine, others in (often, often[::-1]) for line, times in mine.items() if times >= OFTEN and line not in others}
+
+
 def main():
     objects, takes = (sys.argv[1:] + ["16", "1500"][len(sys.argv) - 1:])[:2]
     with tempfile.TemporaryDirectory() as name:
         program, threads = built(pathlib.Path(name))
-        words = ["valgrind", "--tool=lackey", "--trace-mem=yes", program, "one", "1", objects, takes, "untimed"]
+        words = ["valgrind", "--tool=lackey", "--trace-mem=yes", program, "turns", "1", objects, takes, "untimed"]
         traced = subprocess.Popen(words, stdout=subprocess.DEVNULL, stderr=subprocess.PIPE, text=True)
-        calls = [(len(written), len(touched)) for written, touched in windows(traced.stderr, threads)]
-    half = calls[len(calls) // 4 * 2:]
+        calls = list(windows(traced.stderr, threads))
+    half = calls[len(calls) // 8 * 4:]
+    own = owned([touched for _, touched in half])
+    half = [(len(written - own), len(touched - own)) for written, touched in half]
     print(f"{'':10} {'written':>8} {'touched':>8}")
     for what, some in {"a take": half[0::2], "a report": half[1::2], "a call": half}.items():
         print(f"{what:10} {sum(it[0] for it in some) / len(some):8.1f} {sum(it[1] for it in some) / len(some):8.1f}")

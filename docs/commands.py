@@ -50,6 +50,7 @@ IN_THE_GATE = {
     "examples/monitor.py": ".ci/monitor.py",
     "examples/monitor.py setup.json commands.json --workers 8 --journal office.journal": ".ci/monitor.py",
     "docs/map.py": "docs/check.py",
+    "docs/commands.py": "docs/check.py",
 }
 # Why it is no part of the gate.
 MINUTES, NAGIOS = "takes minutes, and proves nothing more", "wants Nagios"
