@@ -109,7 +109,8 @@ same_time es es' ps ps' n n' k bound long place to from = by (has_entry es ps n 
     by true e =
         let s = stands_by es ps n k e in
         let t = to s in
-        let there : StandsAt es' ps' n' k (place_at ps k) = record { bound = omega arith; is = place; within = t.0; number = ap (λ x. x.number) t.1 ∙ s.number } in
+        let same = ap (λ x. x.number) t.1 ∙ s.number in
+        let there : StandsAt es' ps' n' k (place_at ps k) = record { bound = omega arith; is = place; within = t.0; number = same } in
         time_standing es' ps' n' k _ there ∙ ap (λ x. Some x.time) t.1 ∙ sym (time_standing es ps n k _ s)
     by false e = time_away es' ps' n' k (λ l m. let f = from (record { bound = omega arith; is = place; within = rw (← place) l; number = rw (← place) m }) in
         let h = has_entry_by es ps n k (record { bound = bound; is = refl; within = f.0; number = f.1 }) in cc) ∙ sym (rw e refl)

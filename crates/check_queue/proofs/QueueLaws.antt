@@ -1,6 +1,7 @@
 -- What the queue's calls need of the heap.
-use Rattle.std.proofs.Common.{◌≡◌, ◌≢◌, ℕ, zero, suc, ◌+◌, ◌-◌, ◌/◌, ◌<◌, ◌≤◌, ◌^◌, true, false, cond, List, length, get_or, replicate, Option, Some, None, refl, sym, ap, ◌∙◌}
-use Rattle.std.proofs.Common.{arith, inl, inr, Vec, Global}
+use Rattle.std.proofs.Common.{◌≡◌, ◌≢◌, ℕ, zero, suc, ◌+◌, ◌-◌, ◌/◌, ◌<◌, ◌≤◌, ◌^◌, true, false, cond, List, length, get_or, replicate}
+use Rattle.std.proofs.Common.{Option, Some, None, refl, sym, ap}
+use Rattle.std.proofs.Common.{◌∙◌, arith, inl, inr, Vec, Global}
 use Rattle.std.specs.Prelude.{count_by, is_some}
 use Rattle.std.specs.Vec.{with_items}
 use Rattle.std.proofs.Math.ListN.{set}
@@ -15,7 +16,8 @@ use Rattle.check_queue.specs.Times.{pairs_of}
 use Rattle.check_queue.proofs.EntryLaws.{no_later, not_itself}
 use Rattle.check_queue.proofs.LeastLaws.{least_found}
 use Rattle.check_queue.proofs.TimesLaws.{least_by_times, none_by_times}
-use Rattle.check_queue.proofs.PlaceLaws.{StandsAt, reads, times_length, found, time_standing, time_away, same_time, one_time_set, time_at_place, no_time_of_none, place_found}
+use Rattle.check_queue.proofs.PlaceLaws.{StandsAt, reads, times_length, found, time_standing, time_away, same_time, one_time_set}
+use Rattle.check_queue.proofs.PlaceLaws.{time_at_place, no_time_of_none, place_found}
 use Rattle.check_queue.proofs.SiftLaws.{by, time_written, time_lost, time_kept}
 
 -- ---- the root
@@ -190,7 +192,7 @@ pub record Written (es es' : List Entry) (ps ps' : List ℕ) (n n' k : ℕ) (o :
   pub times : times_in es' ps' n' ≡ set (times_in es ps n) k o
 
 -- the same of the vectors that hold the entries and places
-pub in_vectors : (v : Vec Entry Global) (w : Vec ℕ Global) (es' : List Entry) (ps' : List ℕ) (n n' k : ℕ) (o : Option ℕ)
+in_vectors : (v : Vec Entry Global) (w : Vec ℕ Global) (es' : List Entry) (ps' : List ℕ) (n n' k : ℕ) (o : Option ℕ)
     → length w.items ≡ length v.items → length es' ≡ length v.items → Written v.items es' w.items ps' n n' k o
     → Written v.items (with_items v es').items w.items (with_items w ps').items n n' k o
 in_vectors v w es' ps' n n' k o same long a =
@@ -200,16 +202,18 @@ in_vectors v w es' ps' n n' k o same long a =
     rw (with_items_is v es' (omega arith), with_items_is w ps' (omega arith)) a
 
 -- a number without a time got one
-pub joined : (es es' : List Entry) (ps ps' : List ℕ) (n k t : ℕ) → IsOrdered es ps n → count (times_in es ps n) ≡ n → k < length (times_in es ps n)
-    → None ≡ place_in es ps n k → IsSettled es es' ps ps' (n + 1) n (record { time = t; number = k }) → Written es es' ps ps' n (n + 1) k (Some t)
-joined es es' ps ps' n k t o size bound none s =
-    let long = times_length es ps n in
+pub joined : (v : Vec Entry Global) (w : Vec ℕ Global) (es' : List Entry) (ps' : List ℕ) (n k t : ℕ) → IsOrdered v.items w.items n
+    → count (times_in v.items w.items n) ≡ n → k < length (times_in v.items w.items n) → None ≡ place_in v.items w.items n k
+    → IsSettled v.items es' w.items ps' (n + 1) n (record { time = t; number = k })
+    → Written v.items (with_items v es').items w.items (with_items w ps').items n (n + 1) k (Some t)
+joined v w es' ps' n k t o size bound none s =
+    let long = times_length v.items w.items n in
     let same = o.linked.one_place_each in
-    let free = sym (no_time_of_none es ps n k none) in
-    let room = has_room (times_in es ps n) k bound free in
-    let times = s.times ∙ times_joined es ps n k t same (omega arith) (omega arith) in
-    let more = count_more (times_in es ps n) k t bound free in
-    record { ordered = s.ordered; size = ap count times ∙ more ∙ (omega arith); times = times }
+    let free = sym (no_time_of_none v.items w.items n k none) in
+    let room = has_room (times_in v.items w.items n) k bound free in
+    let times = s.times ∙ times_joined v.items w.items n k t same (omega arith) (omega arith) in
+    let more = count_more (times_in v.items w.items n) k t bound free in
+    in_vectors v w es' ps' n (n + 1) k (Some t) same s.size (record { ordered = s.ordered; size = ap count times ∙ more ∙ (omega arith); times = times })
 
 -- ---- a number that moves
 
@@ -251,15 +255,17 @@ times_after_move es ps n k p t o s =
     ])
 
 -- a number with a time got another
-pub moved : (es es' : List Entry) (ps ps' : List ℕ) (n k p t : ℕ) → IsOrdered es ps n → count (times_in es ps n) ≡ n → Some p ≡ place_in es ps n k
-    → IsSettled es es' ps ps' n p (record { time = t; number = k }) → Written es es' ps ps' n n k (Some t)
-moved es es' ps ps' n k p t o size found s =
-    let stands = place_found es ps n k p found in
-    let long = times_length es ps n in
+pub moved : (v : Vec Entry Global) (w : Vec ℕ Global) (es' : List Entry) (ps' : List ℕ) (n k p t : ℕ) → IsOrdered v.items w.items n
+    → count (times_in v.items w.items n) ≡ n → Some p ≡ place_in v.items w.items n k
+    → IsSettled v.items es' w.items ps' n p (record { time = t; number = k })
+    → Written v.items (with_items v es').items w.items (with_items w ps').items n n k (Some t)
+moved v w es' ps' n k p t o size found s =
+    let stands = place_found v.items w.items n k p found in
+    let long = times_length v.items w.items n in
     let bound = stands.bound in
-    let times = s.times ∙ times_after_move es ps n k p t o stands in
-    let same = count_same (times_in es ps n) k t _ (omega arith) (sym (time_at_place es ps n k p found)) in
-    record { ordered = s.ordered; size = ap count times ∙ same ∙ size; times = times }
+    let times = s.times ∙ times_after_move v.items w.items n k p t o stands in
+    let same = count_same (times_in v.items w.items n) k t _ (omega arith) (sym (time_at_place v.items w.items n k p found)) in
+    in_vectors v w es' ps' n n k (Some t) o.linked.one_place_each s.size (record { ordered = s.ordered; size = ap count times ∙ same ∙ size; times = times })
 
 -- ---- whether a number has a time
 
@@ -337,7 +343,8 @@ leaves_last es ps n m o e =
       };
     }
 
-pub times_left_last : (es : List Entry) (ps : List ℕ) (n m k p : ℕ) → n ≡ m + 1 → StandsAt es ps n k p → m ≤ p → times_in es ps m ≡ set (times_in es ps n) k None
+pub times_left_last : (es : List Entry) (ps : List ℕ) (n m k p : ℕ) → n ≡ m + 1 → StandsAt es ps n k p → m ≤ p
+    → times_in es ps m ≡ set (times_in es ps n) k None
 times_left_last es ps n m k p e s le =
     let within = s.within in
     let at : m ≡ p = omega arith in
@@ -352,13 +359,17 @@ count_left es ps n m k p size e found =
     let less = count_less (times_in es ps n) k _ (omega arith) (sym (time_at_place es ps n k p found)) in
     omega arith
 
--- a number with a time lost it
-pub left : (es es' : List Entry) (ps ps' : List ℕ) (n m k p : ℕ) → IsOrdered es ps n → count (times_in es ps n) ≡ n → n ≡ m + 1 → Some p ≡ place_in es ps n k
-    → p < m → IsSettled es es' ps ps' m p (entry_at es m) → Written es es' ps ps' n m k None
-left es es' ps ps' n m k p o size e found lt s =
-    let times = s.times ∙ times_left es ps n m k p o e (place_found es ps n k p found) lt in
-    record { ordered = s.ordered; size = ap count times ∙ count_left es ps n m k p size e found; times = times }
+-- a number with a time lost it, and the last entry came into its place
+pub left : (v : Vec Entry Global) (w : Vec ℕ Global) (es' : List Entry) (ps' : List ℕ) (n m k p : ℕ) → IsOrdered v.items w.items n
+    → count (times_in v.items w.items n) ≡ n → n ≡ m + 1 → Some p ≡ place_in v.items w.items n k → p < m
+    → IsSettled v.items es' w.items ps' m p (entry_at v.items m)
+    → Written v.items (with_items v es').items w.items (with_items w ps').items n m k None
+left v w es' ps' n m k p o size e found lt s =
+    let times = s.times ∙ times_left v.items w.items n m k p o e (place_found v.items w.items n k p found) lt in
+    let less = count_left v.items w.items n m k p size e found in
+    in_vectors v w es' ps' n m k None o.linked.one_place_each s.size (record { ordered = s.ordered; size = ap count times ∙ less; times = times })
 
+-- the same where it was the last
 pub left_last : (es : List Entry) (ps : List ℕ) (n m k p : ℕ) → IsOrdered es ps n → count (times_in es ps n) ≡ n → n ≡ m + 1 → Some p ≡ place_in es ps n k
     → m ≤ p → Written es es ps ps n m k None
 left_last es ps n m k p o size e found le =

@@ -198,7 +198,8 @@ times_moved es ps n hole q x ne lt a =
     let last = length-set ps x.number hole in
     same_times _ _ _ _ n n (omega arith) (λ k l. elim (cases_eq k x.number) [
       | inl f ↦ ap (λ m. time_in (set (set es hole e) q x) (set (set ps e.number hole) x.number q) n m) f
-          ∙ time_written (set es hole e) (set ps e.number hole) n q x lt (omega arith) (omega arith) ∙ sym (time_written es ps n hole x in' (omega arith) (omega arith))
+          ∙ time_written (set es hole e) (set ps e.number hole) n q x lt (omega arith) (omega arith)
+          ∙ sym (time_written es ps n hole x in' (omega arith) (omega arith))
           ∙ sym (ap (λ m. time_in (set es hole x) (set ps x.number hole) n m) f)
       | inr u ↦ elim (cases_eq k e.number) [
         | inl f ↦
@@ -213,7 +214,8 @@ times_moved es ps n hole q x ne lt a =
             let at : place_at (set ps e.number hole) k ≡ place_at ps k = get_or-set_other ps e.number k hole 0 v in
             elim (cases_eq (place_at ps k) q) [
               | inl f ↦ time_lost (set es hole e) (set ps e.number hole) n q k x (omega arith) u (at ∙ f)
-                  ∙ sym (time_away es ps n k (λ _ g. v (sym g ∙ ap (λ m. (entry_at es m).number) f))) ∙ sym (time_kept es ps n hole k x (omega arith) u (omega arith))
+                  ∙ sym (time_away es ps n k (λ _ g. v (sym g ∙ ap (λ m. (entry_at es m).number) f)))
+                  ∙ sym (time_kept es ps n hole k x (omega arith) u (omega arith))
               | inr w ↦ time_kept (set es hole e) (set ps e.number hole) n q k x (omega arith) u (omega arith)
                   ∙ elim (cases_eq (place_at ps k) hole) [
                     | inl f ↦ time_lost es ps n hole k e (omega arith) v f ∙ sym (time_lost es ps n hole k x (omega arith) u f)

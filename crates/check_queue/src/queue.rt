@@ -16,8 +16,8 @@ use std::marker::Model;
 pub struct Queue {
     /// A heap, in its first `len` entries.
     entries: Vec<Entry>,
-    /// The place of each number in the heap, if it has a time: if not, what stands there is past the
-    /// heap's end, or the place of another.
+    /// The place of each number in the heap, if it has a time. Else it is one past the heap's end, or
+    /// another number's.
     places: Vec<u32>,
     len: usize,
 }

@@ -2,7 +2,7 @@ use Rattle.std.proofs.Common.{◌≡◌, ◌+◌, ◌<◌, length, Some, None, a
 use Rattle.std.proofs.Math.ListN.{set}
 use Rattle.check_queue.specs.Heap.{place_in, times_in, IsSettled}
 use Rattle.check_queue.proofs.PlaceLaws.{place_found}
-use Rattle.check_queue.proofs.QueueLaws.{joins, joined, moves, moved, in_vectors}
+use Rattle.check_queue.proofs.QueueLaws.{joins, joined, moves, moved}
 use Rattle.check_queue.proofs.queue.Queue.put.Goals as goal
 
 pub sift_up-requires : goal.sift_up-requires
@@ -22,8 +22,7 @@ invariant_of-self c =
     let none : None ≡ place_in q.entries.items q.places.items q.len k = rw (← c.deref.ensures.value, ← c.deref-2.ensures.value) c.in-None.ensures in
     let after : IsSettled q.entries.items c.sift_up.new.entries q.places.items c.sift_up.new.places (q.len + 1) q.len
     (record { time = c.args.time; number = k }) = rw (← c.deref_mut.ensures.value, ← c.deref_mut-in-None.ensures.value) c.sift_up.ensures in
-    let o = c.self.invariant.ordered in
-    let w = in_vectors q.entries q.places _ _ _ _ _ _ o.linked.one_place_each after.size (joined _ _ _ _ q.len k c.args.time o c.self.invariant.size bound none after) in
+    let w = joined q.entries q.places _ _ q.len k c.args.time c.self.invariant.ordered c.self.invariant.size bound none after in
     record { ordered = w.ordered; size = w.size }
 
 pub returns-in-None : goal.returns-in-None
@@ -34,10 +33,8 @@ returns-in-None c =
     let none : None ≡ place_in q.entries.items q.places.items q.len k = rw (← c.deref.ensures.value, ← c.deref-2.ensures.value) c.in-None.ensures in
     let after : IsSettled q.entries.items c.sift_up.new.entries q.places.items c.sift_up.new.places (q.len + 1) q.len
     (record { time = c.args.time; number = k }) = rw (← c.deref_mut.ensures.value, ← c.deref_mut-in-None.ensures.value) c.sift_up.ensures in
-    let o = c.self.invariant.ordered in
-    let w = in_vectors q.entries q.places _ _ _ _ _ _ o.linked.one_place_each after.size (joined _ _ _ _ q.len k c.args.time o c.self.invariant.size bound none after) in
-    w.times
-    ∙ ap (λ ts. set ts k (Some c.args.time)) c.self.view_is
+    let w = joined q.entries q.places _ _ q.len k c.args.time c.self.invariant.ordered c.self.invariant.size bound none after in
+    w.times ∙ ap (λ ts. set ts k (Some c.args.time)) c.self.view_is
 
 pub sift-requires-clause-linked : goal.sift-requires-clause-linked
 sift-requires-clause-linked c =
@@ -46,7 +43,7 @@ sift-requires-clause-linked c =
     let found : Some c.in-Some.hole ≡ place_in q.entries.items q.places.items q.len k =
     rw (← c.deref.ensures.value, ← c.deref-2.ensures.value) c.in-Some.ensures in
     rw (c.deref_mut-in-Some.ensures.value, c.deref_mut-in-Some-2.ensures.value)
-    (moves q.entries.items q.places.items q.len k c.in-Some.hole c.args.time c.self.invariant.ordered (place_found q.entries.items q.places.items q.len k _ found))
+    (moves q.entries.items q.places.items q.len k _ c.args.time c.self.invariant.ordered (place_found q.entries.items q.places.items q.len k _ found))
 
 pub invariant_of-self-in-Some : goal.invariant_of-self-in-Some
 invariant_of-self-in-Some c =
@@ -56,9 +53,7 @@ invariant_of-self-in-Some c =
     rw (← c.deref.ensures.value, ← c.deref-2.ensures.value) c.in-Some.ensures in
     let after : IsSettled q.entries.items c.sift.new.entries q.places.items c.sift.new.places q.len c.in-Some.hole (record { time = c.args.time; number = k }) =
     rw (← c.deref_mut-in-Some.ensures.value, ← c.deref_mut-in-Some-2.ensures.value) c.sift.ensures in
-    let o = c.self.invariant.ordered in
-    let w = in_vectors q.entries q.places _ _ _ _ _ _ o.linked.one_place_each after.size
-    (moved _ _ _ _ q.len k c.in-Some.hole c.args.time o c.self.invariant.size found after) in
+    let w = moved q.entries q.places _ _ q.len k _ c.args.time c.self.invariant.ordered c.self.invariant.size found after in
     record { ordered = w.ordered; size = w.size }
 
 pub returns-in-Some : goal.returns-in-Some
@@ -69,8 +64,5 @@ returns-in-Some c =
     rw (← c.deref.ensures.value, ← c.deref-2.ensures.value) c.in-Some.ensures in
     let after : IsSettled q.entries.items c.sift.new.entries q.places.items c.sift.new.places q.len c.in-Some.hole (record { time = c.args.time; number = k }) =
     rw (← c.deref_mut-in-Some.ensures.value, ← c.deref_mut-in-Some-2.ensures.value) c.sift.ensures in
-    let o = c.self.invariant.ordered in
-    let w = in_vectors q.entries q.places _ _ _ _ _ _ o.linked.one_place_each after.size
-    (moved _ _ _ _ q.len k c.in-Some.hole c.args.time o c.self.invariant.size found after) in
-    w.times
-    ∙ ap (λ ts. set ts k (Some c.args.time)) c.self.view_is
+    let w = moved q.entries q.places _ _ q.len k _ c.args.time c.self.invariant.ordered c.self.invariant.size found after in
+    w.times ∙ ap (λ ts. set ts k (Some c.args.time)) c.self.view_is

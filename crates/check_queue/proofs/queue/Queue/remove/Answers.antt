@@ -3,7 +3,7 @@ use Rattle.std.proofs.Math.ListN.{set}
 use Rattle.std.proofs.lemmas.List.{get_or_read}
 use Rattle.check_queue.specs.Heap.{entry_at, place_in, IsSettled}
 use Rattle.check_queue.proofs.PlaceLaws.{place_found}
-use Rattle.check_queue.proofs.QueueLaws.{had, had_none, in_vectors, leaves, left, left_last, stays}
+use Rattle.check_queue.proofs.QueueLaws.{had, had_none, leaves, left, left_last, stays}
 use Rattle.check_queue.proofs.queue.Queue.remove.Goals as goal
 
 pub returns-in_default-clause-had : goal.returns-in_default-clause-had
@@ -31,7 +31,8 @@ sift-requires-clause-linked c =
     let o = c.self.invariant.ordered in
     let room = o.linked.room in
     let last = get_or_read q.entries.items (q.len - 1) c.index-last.result.now (omega arith) c.index-last.ensures (record { time = 0; number = 0 }) in
-    rw (c.deref_mut.ensures.value, c.deref_mut-then-hole-self.ensures.value, last) (leaves q.entries.items q.places.items q.len (q.len - 1) k _ o (omega arith) stands (omega arith))
+    rw (c.deref_mut.ensures.value, c.deref_mut-then-hole-self.ensures.value, last)
+    (leaves q.entries.items q.places.items q.len (q.len - 1) k _ o (omega arith) stands (omega arith))
 
 pub invariant_of-self : goal.invariant_of-self
 invariant_of-self c =
@@ -43,10 +44,10 @@ invariant_of-self c =
     let o = c.self.invariant.ordered in
     let room = o.linked.room in
     let last = get_or_read q.entries.items (q.len - 1) c.index-last.result.now (omega arith) c.index-last.ensures (record { time = 0; number = 0 }) in
-    let after : IsSettled q.entries.items c.sift.new.entries q.places.items c.sift.new.places (q.len - 1) c.in-Some.hole (entry_at q.entries.items (q.len - 1)) =
+    let after : IsSettled q.entries.items c.sift.new.entries q.places.items c.sift.new.places (q.len - 1) c.in-Some.hole
+    (entry_at q.entries.items (q.len - 1)) =
     rw (← last, ← c.deref_mut.ensures.value, ← c.deref_mut-then-hole-self.ensures.value) c.sift.ensures in
-    let w = in_vectors q.entries q.places _ _ _ _ _ _ o.linked.one_place_each after.size
-    (left _ _ _ _ q.len (q.len - 1) k c.in-Some.hole o c.self.invariant.size (omega arith) found (omega arith) after) in
+    let w = left q.entries q.places _ _ q.len (q.len - 1) k _ o c.self.invariant.size (omega arith) found (omega arith) after in
     record { ordered = w.ordered; size = w.size }
 
 pub invariant_of-self-else-hole-self : goal.invariant_of-self-else-hole-self
@@ -56,7 +57,8 @@ invariant_of-self-else-hole-self c =
     let found : Some c.in-Some.hole ≡ place_in q.entries.items q.places.items q.len k =
     rw (← c.deref.ensures.value, ← c.deref-2.ensures.value) c.in-Some.ensures in
     let within = (place_found q.entries.items q.places.items q.len k _ found).within in
-    let w = left_last q.entries.items q.places.items q.len (q.len - 1) k c.in-Some.hole c.self.invariant.ordered c.self.invariant.size (omega arith) found (omega arith) in
+    let o = c.self.invariant.ordered in
+    let w = left_last q.entries.items q.places.items q.len (q.len - 1) k _ o c.self.invariant.size (omega arith) found (omega arith) in
     record { ordered = w.ordered; size = w.size }
 
 pub returns-then-hole-self-clause-had : goal.returns-then-hole-self-clause-had
@@ -77,10 +79,10 @@ returns-then-hole-self-clause-after c =
     let o = c.self.invariant.ordered in
     let room = o.linked.room in
     let last = get_or_read q.entries.items (q.len - 1) c.index-last.result.now (omega arith) c.index-last.ensures (record { time = 0; number = 0 }) in
-    let after : IsSettled q.entries.items c.sift.new.entries q.places.items c.sift.new.places (q.len - 1) c.in-Some.hole (entry_at q.entries.items (q.len - 1)) =
+    let after : IsSettled q.entries.items c.sift.new.entries q.places.items c.sift.new.places (q.len - 1) c.in-Some.hole
+    (entry_at q.entries.items (q.len - 1)) =
     rw (← last, ← c.deref_mut.ensures.value, ← c.deref_mut-then-hole-self.ensures.value) c.sift.ensures in
-    let w = in_vectors q.entries q.places _ _ _ _ _ _ o.linked.one_place_each after.size
-    (left _ _ _ _ q.len (q.len - 1) k c.in-Some.hole o c.self.invariant.size (omega arith) found (omega arith) after) in
+    let w = left q.entries q.places _ _ q.len (q.len - 1) k _ o c.self.invariant.size (omega arith) found (omega arith) after in
     w.times ∙ ap (λ ts. set ts k None) c.self.view_is
 
 pub returns-else-hole-self-clause-had : goal.returns-else-hole-self-clause-had
@@ -98,5 +100,6 @@ returns-else-hole-self-clause-after c =
     let found : Some c.in-Some.hole ≡ place_in q.entries.items q.places.items q.len k =
     rw (← c.deref.ensures.value, ← c.deref-2.ensures.value) c.in-Some.ensures in
     let within = (place_found q.entries.items q.places.items q.len k _ found).within in
-    let w = left_last q.entries.items q.places.items q.len (q.len - 1) k c.in-Some.hole c.self.invariant.ordered c.self.invariant.size (omega arith) found (omega arith) in
+    let o = c.self.invariant.ordered in
+    let w = left_last q.entries.items q.places.items q.len (q.len - 1) k _ o c.self.invariant.size (omega arith) found (omega arith) in
     w.times ∙ ap (λ ts. set ts k None) c.self.view_is
