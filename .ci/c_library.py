@@ -207,12 +207,28 @@ def conformance(held, library):
             held.compare(name, (wanted, 0, b""), (made.stdout, made.returncode, made.stderr))
 
 
-def page(held):
-    """The page on embedding shows the two examples as they are."""
+def as_the_page_says(held, library, page):
+    """The commands that the page and the examples name link and run the examples, in a folder like the repository."""
+    for name in ("include", "examples", "bindings"):
+        (library.folder / name).symlink_to(TOP / name)
+    (library.folder / "out").mkdir()
+    (library.folder / "out" / "c").symlink_to(library.prefix)
+    links = [f"{command} -o embed && ./embed" for command in re.findall(r"`(cc [^`]*program\.c[^`]*)`", page)]
+    builds = re.findall(r"tools/build_c\.sh && (.*examples/embed.*)", page)
+    held.compare(f"{EMBEDDING.name}: commands", (2, 2), (len(links), len(builds)))
+    for command in [*links, *(build.replace("[MINUTES]", "1") for build in builds)]:
+        said = command.replace("PREFIX", "out/c").replace("program.c", "examples/embed.c")
+        made = ran("sh", "-c", said, cwd=library.folder, env=os.environ | {"LD_LIBRARY_PATH": str(library.prefix / "lib")})
+        held.compare(command, (0, b'{"'), (made.returncode, made.stdout[:2]))
+
+
+def page(held, library):
+    """The page on embedding shows the two examples as they are, and its commands make them."""
     text = EMBEDDING.read_text(encoding="utf-8")
     for name, language in {"embed.c": "c", "embed.py": "python"}.items():
         shown = f"```{language}\n{(EXAMPLES / name).read_text(encoding='utf-8')}```\n"
         held.compare(f"{EMBEDDING.name} shows {name}", True, shown in text)
+    as_the_page_says(held, library, text)
 
 
 def main():
@@ -223,7 +239,7 @@ def main():
         examples(held, library)
         mistakes(held, library)
         conformance(held, library)
-    page(held)
+        page(held, library)
     held.end()
 
 

@@ -1,5 +1,5 @@
 #![tactic(auto)]
-//! The desk: one scheduler for any number of callers, in any threads.
+//! The desk: one scheduler for up to 1,024 callers, in any threads.
 //!
 //! A [`Desk`] keeps a book behind a ticket lock, and hands out its [`Pass`]es, one for each caller. A
 //! caller asks by its pass: [`Desk::begin`] takes a ticket, [`Desk::poll`] looks whether its turn has

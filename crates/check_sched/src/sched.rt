@@ -54,12 +54,13 @@ pub const MAX_RUNS: u64 = 1 << 60;
 pub struct Sched {
     setup: Setup,
     start: u64,
-    roster: Roster,
     standings: Vec<Standing>,
     results: Results,
-    runs: u64,
     /// Scratch of the search through dependencies: a mark for each object.
     marks: Vec<bool>,
+    // What each call writes stands last, side by side.
+    roster: Roster,
+    runs: u64,
 }
 
 impl Model for Sched {

@@ -1,6 +1,6 @@
 //! An input that is taken line by line as it comes, in memory that doesn't grow with it: what a
 //! reader has given and nobody has taken, and what is kept of the line that is being taken.
-ghost use Rattle.std.specs.Prelude.{◌≡◌, ◌≢◌, ◌<◌, ◌≤◌, ◌+◌, ◌⊎◌, ◌++◌, ◌&&◌, ℕ, List, [], IfOk, IfErr, OnOk, false, length, drop, vec_len, ◌==◌, option_map};
+ghost use Rattle.std.specs.Prelude.{◌≡◌, ◌≢◌, ◌<◌, ◌≤◌, ◌+◌, ◌⊎◌, ◌++◌, ◌&&◌, ℕ, List, [], IfOk, IfErr, OnOk, false, length, true, drop, vec_len, ◌==◌, option_map};
 ghost use Rattle.std.specs.Io.KnownBytes.{Consumes, IsAtEnd};
 ghost use Rattle.check_script.specs.Input.{first_line_of};
 ghost use Rattle.check_script.specs.LiveInput.{LineFront, StopsSoon, TookLine, behind_line, front_of, has_feed, said_by};
@@ -157,6 +157,7 @@ impl InputBuffer {
             × OnOk result (self.new ≡ given) × (length given ≤ ASKED_BYTES) }
         ensures end { IfOk result (λ more. more ≡ false
             → (self.new ≡ []) × IsAtEnd (R.remaining reader.new)) }
+        ensures more { IfOk result (λ more. more ≡ true → 0 < length self.new) }
         ensures errors { IfErr result (λ e. e ≢ DriveError.Write) }
     {
         let mut chunk = [0; ASKED_BYTES];

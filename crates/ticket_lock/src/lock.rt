@@ -29,7 +29,7 @@ type LockTable<K> = Table<
     Global,
 >;
 
-/// A ticket lock round a book, for any number of threads.
+/// A ticket lock round a book, for threads that have seats of it.
 ///
 /// Each call of a caller takes a ticket (`draw`), looks until its ticket is served (`look`),
 /// records in the book that it is handed, posts it where the book's board is to tell of it (`post`),
