@@ -6,7 +6,8 @@ use Rattle.std.specs.Prelude.{count_by, is_some}
 use Rattle.std.specs.Vec.{with_items}
 use Rattle.std.proofs.Math.ListN.{set}
 use Rattle.std.proofs.lemmas.Bool.{cases_eq}
-use Rattle.std.proofs.lemmas.List.{length-set, set-get_or, get_or_read, get_or-replicate, length-replicate, ext_get_or, with_items_is}
+use Rattle.std.proofs.lemmas.List.{length-set, set-get_or, get_or-set_same, get_or-set_other, get_or_read, get_or-replicate}
+use Rattle.std.proofs.lemmas.List.{length-replicate, ext_get_or, with_items_is}
 use Rattle.std.proofs.lemmas.List.Sums.{sum_by-set, count_by-le-length}
 use Rattle.check_queue.specs.declared.entry.Entry.{Entry}
 use Rattle.check_queue.specs.Heap.{IsNotBefore, entry_at, time_at, place_at, place_in, time_in, times_in, times_around}
@@ -16,7 +17,7 @@ use Rattle.check_queue.specs.Times.{pairs_of}
 use Rattle.check_queue.proofs.EntryLaws.{no_later, not_itself}
 use Rattle.check_queue.proofs.LeastLaws.{least_found}
 use Rattle.check_queue.proofs.TimesLaws.{least_by_times, none_by_times}
-use Rattle.check_queue.proofs.PlaceLaws.{StandsAt, reads, times_length, found, time_standing, time_away, same_time, one_time_set}
+use Rattle.check_queue.proofs.PlaceLaws.{StandsAt, reads, times_length, found, time_standing, time_away, same_time, same_times, one_time_set}
 use Rattle.check_queue.proofs.PlaceLaws.{time_at_place, no_time_of_none, place_found}
 use Rattle.check_queue.proofs.SiftLaws.{by, time_written, time_lost, time_kept}
 
@@ -375,3 +376,36 @@ pub left_last : (es : List Entry) (ps : List ℕ) (n m k p : ℕ) → IsOrdered 
 left_last es ps n m k p o size e found le =
     let times = times_left_last es ps n m k p e (place_found es ps n k p found) le in
     record { ordered = leaves_last es ps n m o e; size = ap count times ∙ count_left es ps n m k p size e found; times = times }
+
+-- the number's place is then written over by one past the heap's end
+pub placed_past_end : (es es' : List Entry) (ps ps' : List ℕ) (n m k : ℕ) → k < length (times_in es ps n) → Written es es' ps ps' n m k None
+    → Written es es' ps (set ps' k m) n m k None
+placed_past_end es es' ps ps' n m k bound w =
+    let a = w.ordered.linked in
+    let each = a.one_place_each in
+    let size : length (times_in es' ps' m) ≡ length (times_in es ps n) = ap length w.times ∙ length-set (times_in es ps n) k None in
+    let long = times_length es' ps' m in
+    let written = length-set ps' k m in
+    let none : time_in es' ps' m k ≡ None = sym (reads es' ps' m k) ∙ ap (λ ts. time_at ts k) w.times
+    ∙ get_or-set_same (times_in es ps n) k None None bound in
+    let at : place_at (set ps' k m) k ≡ m = get_or-set_same ps' k m 0 (omega arith) in
+    let times : times_in es' (set ps' k m) m ≡ times_in es' ps' m = same_times es' es' (set ps' k m) ps' m m written (λ j l. elim (cases_eq j k) [
+      | inl e ↦ ap (λ i. time_in es' (set ps' k m) m i) e ∙ time_away es' (set ps' k m) m k (λ f. absurd (omega arith))
+          ∙ sym (ap (λ i. time_in es' ps' m i) e ∙ none)
+      | inr u ↦ same_time es' es' ps' (set ps' k m) m m j (omega arith) written (get_or-set_other ps' k j m 0 u) (λ s. (s.within, refl))
+          (λ s. (s.within, s.number))
+    ]) in
+    record {
+      ordered = record {
+        heap = w.ordered.heap;
+        linked = record {
+          room = a.room;
+          few = a.few;
+          one_place_each = written ∙ each;
+          number = a.number;
+          place = λ i l. get_or-set_other ps' k _ m 0 (not_among es' ps' m k i a none l) ∙ a.place i l;
+        };
+      };
+      size = ap count times ∙ w.size;
+      times = times ∙ w.times;
+    }

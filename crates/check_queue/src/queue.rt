@@ -105,12 +105,14 @@ impl Queue {
             let last = self.entries[self.len];
             sift(&mut self.entries, &mut self.places, self.len, hole, last);
         }
+        // Past the heap's end, so that the next to look for it reads no entry of another.
+        self.places[number as usize] = self.len as u32;
         true
     }
 }
 
-/// The place of a number in the heap, if it has a time. A number that left keeps the place where it
-/// stood, so that a place counts only if the entry there is the number's own.
+/// The place of a number in the heap, if it has a time. Where another's entry came to stand at the place
+/// that a number was left with, that counts for nothing: the entry has to be the number's own.
 fn place_of(entries: &[Entry], places: &[u32], len: usize, number: u32) -> Option<usize>
     requires { len ≤ length entries.now }
     ensures { result ≡ place_in entries.now places.now len number }
