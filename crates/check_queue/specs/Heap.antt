@@ -1,5 +1,7 @@
--- The heap: the order of entries by place, and the place of each number.
-use Rattle.std.specs.Prelude.{◌≡◌, ◌≢◌, ℕ, ◌+◌, ◌*◌, ◌<◌, ◌≤◌, ◌^◌, Bool, false, List, length, Option, Some, None, slice_index_or}
+-- The heap: the order of entries by place, and the place and time of each number.
+use Rattle.std.specs.Prelude.{◌≡◌, ◌≢◌, ℕ, ◌+◌, ◌*◌, ◌<◌, ◌≤◌, ◌^◌, Bool, false, cond, ◌&&◌, ◌==◌, nat_lt}
+use Rattle.std.specs.Prelude.{List, length, map, slice_index_or, slice_set, Option, Some, None, option_map}
+use Rattle.std.specs.List.{range_with_len}
 use Rattle.check_queue.specs.declared.entry.Entry.{Entry}
 use Rattle.check_queue.specs.Order.{is_before}
 
@@ -41,50 +43,63 @@ pub record FitsBelow (entries : List Entry) (n hole : ℕ) (held : Entry) : Type
 pub record FitsAbove (entries : List Entry) (hole : ℕ) (held : Entry) : Type 0 where
   pub above : (i : ℕ) → 2 * i + 1 ≤ hole → hole ≤ 2 * i + 2 → IsNotBefore held (entry_at entries i)
 
--- The first n entries are the numbers that have a time, with that time, and each number's place is known.
-pub record AreLinked (entries : List Entry) (places : List ℕ) (times : List (Option ℕ)) (n : ℕ) : Type 0 where
+-- Whether a number has an entry among the first n: its place is one of theirs, and the entry there is its own. A number that left keeps a place, which is
+-- past them or another's.
+abbrev pub has_entry : List Entry → List ℕ → ℕ → ℕ → Bool
+has_entry entries places n number =
+    nat_lt number (length places) && nat_lt (place_at places number) n && (entry_at entries (place_at places number)).number == number
+
+-- the place of a number that has an entry among the first n
+abbrev pub place_in : List Entry → List ℕ → ℕ → ℕ → Option ℕ
+place_in entries places n number = cond (has_entry entries places n number) (Some (place_at places number)) None
+
+-- the time of a number, which is that of its entry
+abbrev pub time_in : List Entry → List ℕ → ℕ → ℕ → Option ℕ
+time_in entries places n number = option_map (λ place. (entry_at entries place).time) (place_in entries places n number)
+
+-- the time of each number, by number
+abbrev pub times_in : List Entry → List ℕ → ℕ → List (Option ℕ)
+times_in entries places n = map (time_in entries places n) (range_with_len 0 (length places))
+
+-- the same, were held in its place, which is the hole
+abbrev pub times_around : List Entry → List ℕ → ℕ → ℕ → Entry → List (Option ℕ)
+times_around entries places n hole held = times_in (slice_set entries hole held) (slice_set places held.number hole) n
+
+-- The first n entries are those of numbers below the bound, and each one's place is known.
+pub record AreLinked (entries : List Entry) (places : List ℕ) (n : ℕ) : Type 0 where
   pub room : n ≤ length entries
   pub few : length entries < 2 ^ 32
   pub one_place_each : length places ≡ length entries
-  pub one_time_each : length times ≡ length entries
   pub number : (i : ℕ) → i < n → (entry_at entries i).number < length entries
   pub place : (i : ℕ) → i < n → place_at places (entry_at entries i).number ≡ i
-  pub time : (i : ℕ) → i < n → time_at times (entry_at entries i).number ≡ Some (entry_at entries i).time
-  pub within : (k t : ℕ) → time_at times k ≡ Some t → place_at places k < n
-  pub found : (k t : ℕ) → time_at times k ≡ Some t → (entry_at entries (place_at places k)).number ≡ k
 
 -- the same, where held is not in its place yet, which is the hole
-pub record AreLinkedAround (entries : List Entry) (places : List ℕ) (times : List (Option ℕ)) (n hole : ℕ) (held : Entry) : Type 0 where
+pub record AreLinkedAround (entries : List Entry) (places : List ℕ) (n hole : ℕ) (held : Entry) : Type 0 where
   pub inside : hole < n
   pub room : n ≤ length entries
   pub few : length entries < 2 ^ 32
   pub one_place_each : length places ≡ length entries
-  pub one_time_each : length times ≡ length entries
   pub held_number : held.number < length entries
-  pub held_time : time_at times held.number ≡ Some held.time
   pub number : (i : ℕ) → i < n → i ≢ hole → (entry_at entries i).number < length entries
   pub other : (i : ℕ) → i < n → i ≢ hole → (entry_at entries i).number ≢ held.number
   pub place : (i : ℕ) → i < n → i ≢ hole → place_at places (entry_at entries i).number ≡ i
-  pub time : (i : ℕ) → i < n → i ≢ hole → time_at times (entry_at entries i).number ≡ Some (entry_at entries i).time
-  pub within : (k t : ℕ) → time_at times k ≡ Some t → k ≢ held.number → place_at places k < n
-  pub apart : (k t : ℕ) → time_at times k ≡ Some t → k ≢ held.number → place_at places k ≢ hole
-  pub found : (k t : ℕ) → time_at times k ≡ Some t → k ≢ held.number → (entry_at entries (place_at places k)).number ≡ k
 
 -- what the loop that moves the hole up keeps
-pub record IsRising (entries : List Entry) (places : List ℕ) (times : List (Option ℕ)) (n hole : ℕ) (held : Entry) : Type 0 where
+pub record IsRising (entries : List Entry) (places : List ℕ) (n hole : ℕ) (held : Entry) : Type 0 where
   pub around : IsHeapAround entries n hole
   pub below : FitsBelow entries n hole held
-  pub linked : AreLinkedAround entries places times n hole held
+  pub linked : AreLinkedAround entries places n hole held
 
--- the entries are a heap of the numbers that have a time
-pub record IsOrdered (entries : List Entry) (places : List ℕ) (times : List (Option ℕ)) (n : ℕ) : Type 0 where
+-- the first n entries are a heap, and each one's place is known
+pub record IsOrdered (entries : List Entry) (places : List ℕ) (n : ℕ) : Type 0 where
   pub heap : IsHeap entries n
-  pub linked : AreLinked entries places times n
+  pub linked : AreLinked entries places n
 
--- what the loops leave: the lists are as long as before
-pub record IsSettled (entries entries' : List Entry) (places places' : List ℕ) (times : List (Option ℕ)) (n : ℕ) : Type 0 where
-  pub ordered : IsOrdered entries' places' times n
+-- what the loops leave: a heap, with the time of each number as it is with held in the hole
+pub record IsSettled (entries entries' : List Entry) (places places' : List ℕ) (n hole : ℕ) (held : Entry) : Type 0 where
+  pub ordered : IsOrdered entries' places' n
   pub size : length entries' ≡ length entries
+  pub times : times_in entries' places' n ≡ times_around entries places n hole held
 
 -- c is the child of hole that comes first
 pub record IsFirstChild (entries : List Entry) (n hole c : ℕ) : Type 0 where

@@ -1,6 +1,7 @@
 //! The queue.
 
-ghost use Rattle.std.specs.Prelude.{◌≡◌, ◌<◌, ℕ, IfOk, IfSome, MatchOption, Some, None, is_some, replicate, length, slice_set, slice_index_or};
+ghost use Rattle.std.specs.Prelude.{◌≡◌, ◌<◌, ◌≤◌, ℕ, IfOk, IfSome, MatchOption, Some, None, is_some, replicate, length, slice_set, slice_index_or};
+ghost use Rattle.check_queue.specs.Heap.{place_in};
 ghost use Rattle.check_queue.specs.Order.{least};
 ghost use Rattle.check_queue.specs.Times.{pairs_of};
 
@@ -15,10 +16,9 @@ use std::marker::Model;
 pub struct Queue {
     /// A heap, in its first `len` entries.
     entries: Vec<Entry>,
-    /// The place of each number in the heap, if it has a time.
+    /// The place of each number in the heap, if it has a time. Else it is one past the heap's end, or
+    /// another number's.
     places: Vec<u32>,
-    /// The time of each number.
-    times: Vec<Option<u64>>,
     len: usize,
 }
 
@@ -44,11 +44,9 @@ impl Queue {
         let n = n as usize;
         let entries = vec![in alloc; Entry { time: 0, number: 0 }; n]?;
         let places = vec![in alloc; 0; n]?;
-        let times = vec![in alloc; None; n]?;
         Ok(Queue {
             entries,
             places,
-            times,
             len: 0,
         })
     }
@@ -57,12 +55,8 @@ impl Queue {
     pub fn time_of(&self, number: u32) -> Option<u64>
         ensures { result ≡ slice_index_or self.now number None }
     {
-        let number = number as usize;
-        if number < self.times.len() {
-            self.times[number]
-        } else {
-            None
-        }
+        let place = place_of(&self.entries, &self.places, self.len, number)?;
+        Some(self.entries[place].time)
     }
 
     /// The least time with its number, and of equal times the one with the least number. None where
@@ -87,32 +81,13 @@ impl Queue {
         ensures { self.new ≡ slice_set self.old number (Some time) }
     {
         let entry = Entry { time, number };
-        let before = self.times[number as usize];
-        self.times[number as usize] = Some(time);
-        match before {
+        match place_of(&self.entries, &self.places, self.len, number) {
             None => {
                 let hole = self.len;
                 self.len += 1;
-                sift_up(
-                    &mut self.entries,
-                    &mut self.places,
-                    &self.times,
-                    self.len,
-                    hole,
-                    entry,
-                );
+                sift_up(&mut self.entries, &mut self.places, self.len, hole, entry);
             }
-            Some(_) => {
-                let hole = self.places[number as usize] as usize;
-                sift(
-                    &mut self.entries,
-                    &mut self.places,
-                    &self.times,
-                    self.len,
-                    hole,
-                    entry,
-                );
-            }
+            Some(hole) => sift(&mut self.entries, &mut self.places, self.len, hole, entry),
         }
     }
 
@@ -122,23 +97,30 @@ impl Queue {
         ensures had { result ≡ is_some (slice_index_or self.old number None) }
         ensures after { self.new ≡ slice_set self.old number None }
     {
-        if self.time_of(number).is_none() {
+        let Some(hole) = place_of(&self.entries, &self.places, self.len, number) else {
             return false;
-        }
-        let hole = self.places[number as usize] as usize;
-        self.times[number as usize] = None;
+        };
         self.len -= 1;
         if hole < self.len {
             let last = self.entries[self.len];
-            sift(
-                &mut self.entries,
-                &mut self.places,
-                &self.times,
-                self.len,
-                hole,
-                last,
-            );
+            sift(&mut self.entries, &mut self.places, self.len, hole, last);
         }
+        // Past the heap's end, so that the next to look for it reads no entry of another.
+        self.places[number as usize] = self.len as u32;
         true
+    }
+}
+
+/// The place of a number in the heap, if it has a time. Where another's entry came to stand at the place
+/// that a number was left with, that counts for nothing: the entry has to be the number's own.
+fn place_of(entries: &[Entry], places: &[u32], len: usize, number: u32) -> Option<usize>
+    requires { len ≤ length entries.now }
+    ensures { result ≡ place_in entries.now places.now len number }
+{
+    let place = *places.get(number as usize)? as usize;
+    if place < len && entries[place].number == number {
+        Some(place)
+    } else {
+        None
     }
 }

@@ -17,22 +17,15 @@ ghost use Rattle.check_queue.specs.Heap.{
 use crate::entry::{Entry, is_before};
 
 /// Puts `held` in place of the entry at `hole`, and moves it up or down to where it fits.
-pub(crate) fn sift(
-    entries: &mut [Entry],
-    places: &mut [u32],
-    times: &[Option<u64>],
-    len: usize,
-    hole: usize,
-    held: Entry,
-)
+pub(crate) fn sift(entries: &mut [Entry], places: &mut [u32], len: usize, hole: usize, held: Entry)
     requires heap { IsHeap entries.old len }
-    requires linked { AreLinkedAround entries.old places.old times.now len hole held }
-    ensures { IsSettled entries.old entries.new places.old places.new times.now len }
+    requires linked { AreLinkedAround entries.old places.old len hole held }
+    ensures { IsSettled entries.old entries.new places.old places.new len hole held }
 {
     if is_before(held, entries[hole]) {
-        sift_up(entries, places, times, len, hole, held);
+        sift_up(entries, places, len, hole, held);
     } else {
-        sift_down(entries, places, times, len, hole, held);
+        sift_down(entries, places, len, hole, held);
     }
 }
 
@@ -40,13 +33,12 @@ pub(crate) fn sift(
 pub(crate) fn sift_up(
     entries: &mut [Entry],
     places: &mut [u32],
-    times: &[Option<u64>],
     len: usize,
     mut hole: usize,
     held: Entry,
 )
-    requires { IsRising entries.old places.old times.now len hole held }
-    ensures { IsSettled entries.old entries.new places.old places.new times.now len }
+    requires { IsRising entries.old places.old len hole held }
+    ensures { IsSettled entries.old entries.new places.old places.new len hole held }
 {
     while 0 < hole {
         let parent = (hole - 1) / 2;
@@ -63,17 +55,10 @@ pub(crate) fn sift_up(
 
 /// Moves the hole down until nothing is below it, and from there up to where `held` fits. An entry
 /// that is put in low mostly belongs low, so that to go down without asking for `held` costs less.
-fn sift_down(
-    entries: &mut [Entry],
-    places: &mut [u32],
-    times: &[Option<u64>],
-    len: usize,
-    mut hole: usize,
-    held: Entry,
-)
+fn sift_down(entries: &mut [Entry], places: &mut [u32], len: usize, mut hole: usize, held: Entry)
     requires around { IsHeapAround entries.old len hole }
-    requires linked { AreLinkedAround entries.old places.old times.now len hole held }
-    ensures { IsSettled entries.old entries.new places.old places.new times.now len }
+    requires linked { AreLinkedAround entries.old places.old len hole held }
+    ensures { IsSettled entries.old entries.new places.old places.new len hole held }
 {
     while hole < (len - 1) / 2 {
         let child = first_child(entries, len, hole);
@@ -87,7 +72,7 @@ fn sift_down(
         write(entries, places, hole, below);
         hole = child;
     }
-    sift_up(entries, places, times, len, hole, held);
+    sift_up(entries, places, len, hole, held);
 }
 
 /// Of the two entries below `hole` the place of the one that comes first.

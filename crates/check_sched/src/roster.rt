@@ -23,6 +23,7 @@ pub(crate) struct Roster {
     hosts: usize,
     objects: Vec<ObjectState>,
     waiting_hosts: Queue,
+    // What a call for a service writes stands last, side by side: a queue's length is its last field.
     waiting_services: Queue,
     running_services: usize,
 }

@@ -1,6 +1,7 @@
-use Rattle.std.proofs.Common.{ap, refl, length, ◌+◌, ◌*◌, ◌∙◌, arith}
+use Rattle.std.proofs.Common.{◌≡◌, ap, refl, length, ◌+◌, ◌*◌, ◌∙◌, arith}
 use Rattle.std.proofs.lemmas.List.{length-set}
-use Rattle.check_queue.proofs.SiftLaws.{sinks, around_down, at_leaf, to_leaf}
+use Rattle.check_queue.specs.Heap.{times_around}
+use Rattle.check_queue.proofs.SiftLaws.{sinks, times_moved, times_sunk, around_down, at_leaf, to_leaf}
 use Rattle.check_queue.proofs.sift.sift_down.Goals as goal
 use Rattle.check_queue.proofs.sift.sift_down.Goals.{then-hole-len, else-hole-len}
 
@@ -11,8 +12,9 @@ loop-hole-preserved c =
     let first = c.first_child-child.ensures in
     record {
       around = rw p.entries (around_down _ _ _ _ first l.invariant.linked.room l.invariant.around);
-      linked = rw (p.entries, p.places) (sinks _ _ _ _ _ _ _ first l.invariant.linked);
+      linked = rw (p.entries, p.places) (sinks _ _ _ _ _ _ first l.invariant.linked);
       size = ap length p.entries ∙ length-set _ _ _ ∙ l.invariant.size;
+      times = rw (p.entries, p.places) (times_sunk _ _ _ _ _ _ first l.invariant.linked) ∙ l.invariant.times;
     }
 
 pub sift_up-requires : goal.sift_up-requires
@@ -20,6 +22,26 @@ sift_up-requires c =
     let l = c.loop-hole in
     elim c.if-hole-len.branch [
       | then-hole-len w ↦ rw (w.entries-is, w.places-is, w.hole-is, w.write-then-hole-len.ensures.entries, w.write-then-hole-len.ensures.places)
-          (to_leaf _ _ _ _ l.hole (2 * l.hole + 1) _ refl (omega arith) l.invariant.around l.invariant.linked)
-      | else-hole-len w ↦ rw (w.entries-is, w.places-is, w.hole-is) (at_leaf _ _ _ _ _ _ (omega arith) l.invariant.around l.invariant.linked)
+          (to_leaf _ _ _ l.hole (2 * l.hole + 1) _ refl (omega arith) l.invariant.around l.invariant.linked)
+      | else-hole-len w ↦ rw (w.entries-is, w.places-is, w.hole-is) (at_leaf _ _ _ _ _ (omega arith) l.invariant.around l.invariant.linked)
     ]
+
+pub returns : goal.returns
+returns c =
+    let l = c.loop-hole in
+    let joined = c.if-hole-len in
+    let size : length joined.entries ≡ length l.entries = elim joined.branch [
+      | then-hole-len w ↦ rw (w.entries-is, w.write-then-hole-len.ensures.entries) (length-set _ _ _)
+      | else-hole-len w ↦ rw w.entries-is refl
+    ] in
+    let times : times_around joined.entries joined.places c.args.len joined.hole c.args.held ≡ times_around l.entries l.places c.args.len l.hole c.args.held =
+    elim joined.branch [
+      | then-hole-len w ↦ rw (w.entries-is, w.places-is, w.hole-is, w.write-then-hole-len.ensures.entries, w.write-then-hole-len.ensures.places)
+          (times_moved _ _ _ l.hole (2 * l.hole + 1) c.args.held (omega arith) (omega arith) l.invariant.linked)
+      | else-hole-len w ↦ rw (w.entries-is, w.places-is, w.hole-is) refl
+    ] in
+    record {
+      ordered = c.sift_up.ensures.ordered;
+      size = c.sift_up.ensures.size ∙ size ∙ l.invariant.size;
+      times = c.sift_up.ensures.times ∙ times ∙ l.invariant.times;
+    }

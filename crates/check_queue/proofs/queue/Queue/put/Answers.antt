@@ -1,25 +1,68 @@
-use Rattle.std.proofs.Common.{◌<◌, length, arith}
-use Rattle.check_queue.proofs.QueueLaws.{joins, moves, has_room, was_read, number_read}
+use Rattle.std.proofs.Common.{◌≡◌, ◌+◌, ◌<◌, length, Some, None, ap, ◌∙◌}
+use Rattle.std.proofs.Math.ListN.{set}
+use Rattle.check_queue.specs.Heap.{place_in, times_in, IsSettled}
+use Rattle.check_queue.proofs.PlaceLaws.{place_found}
+use Rattle.check_queue.proofs.QueueLaws.{joins, joined, moves, moved}
 use Rattle.check_queue.proofs.queue.Queue.put.Goals as goal
 
 pub sift_up-requires : goal.sift_up-requires
 sift_up-requires c =
-    let o = c.self.invariant.ordered in
-    let inside : c.args.number < length c.self.inside.times.items = rw c.self.view_is c.requires in
-    let none = was_read c.self.inside.times.items c.args.number c.index-before.result.now _ inside c.index-before.ensures c.in-None.is in
-    let room = has_room c.self.inside.times.items c.args.number inside none in
-    let size = c.self.invariant.size in
-    let same = o.linked.one_time_each in
-    rw (c.deref_mut.ensures.value, c.deref_mut-in-None.ensures.value, c.deref.ensures.value)
-    (joins _ _ _ _ c.args.number c.args.time o (omega arith) inside none)
+    let q = c.self.inside in
+    let k = c.args.number in
+    let bound : k < length (times_in q.entries.items q.places.items q.len) = rw c.self.view_is c.requires in
+    let none : None ≡ place_in q.entries.items q.places.items q.len k = rw (← c.deref.ensures.value, ← c.deref-2.ensures.value) c.in-None.ensures in
+    rw (c.deref_mut.ensures.value, c.deref_mut-in-None.ensures.value)
+    (joins q.entries.items q.places.items q.len k c.args.time c.self.invariant.ordered c.self.invariant.size bound none)
+
+pub invariant_of-self : goal.invariant_of-self
+invariant_of-self c =
+    let q = c.self.inside in
+    let k = c.args.number in
+    let bound : k < length (times_in q.entries.items q.places.items q.len) = rw c.self.view_is c.requires in
+    let none : None ≡ place_in q.entries.items q.places.items q.len k = rw (← c.deref.ensures.value, ← c.deref-2.ensures.value) c.in-None.ensures in
+    let after : IsSettled q.entries.items c.sift_up.new.entries q.places.items c.sift_up.new.places (q.len + 1) q.len
+    (record { time = c.args.time; number = k }) = rw (← c.deref_mut.ensures.value, ← c.deref_mut-in-None.ensures.value) c.sift_up.ensures in
+    let w = joined q.entries q.places _ _ q.len k c.args.time c.self.invariant.ordered c.self.invariant.size bound none after in
+    record { ordered = w.ordered; size = w.size }
+
+pub returns-in-None : goal.returns-in-None
+returns-in-None c =
+    let q = c.self.inside in
+    let k = c.args.number in
+    let bound : k < length (times_in q.entries.items q.places.items q.len) = rw c.self.view_is c.requires in
+    let none : None ≡ place_in q.entries.items q.places.items q.len k = rw (← c.deref.ensures.value, ← c.deref-2.ensures.value) c.in-None.ensures in
+    let after : IsSettled q.entries.items c.sift_up.new.entries q.places.items c.sift_up.new.places (q.len + 1) q.len
+    (record { time = c.args.time; number = k }) = rw (← c.deref_mut.ensures.value, ← c.deref_mut-in-None.ensures.value) c.sift_up.ensures in
+    let w = joined q.entries q.places _ _ q.len k c.args.time c.self.invariant.ordered c.self.invariant.size bound none after in
+    w.times ∙ ap (λ ts. set ts k (Some c.args.time)) c.self.view_is
 
 pub sift-requires-clause-linked : goal.sift-requires-clause-linked
 sift-requires-clause-linked c =
-    let o = c.self.invariant.ordered in
-    let inside : c.args.number < length c.self.inside.times.items = rw c.self.view_is c.requires in
-    let was = was_read c.self.inside.times.items c.args.number c.index-before.result.now _ inside c.index-before.ensures c.in-Some.is in
-    let same = o.linked.one_time_each in
-    let same' = o.linked.one_place_each in
-    let at = number_read c.self.inside.places.items c.args.number c.index.result.now (omega arith) c.index.ensures in
-    rw (c.deref_mut-in-Some.ensures.value, c.deref_mut-in-Some-2.ensures.value, c.deref-in-Some.ensures.value, at)
-    (moves _ _ _ _ c.args.number _ c.args.time o inside was)
+    let q = c.self.inside in
+    let k = c.args.number in
+    let found : Some c.in-Some.hole ≡ place_in q.entries.items q.places.items q.len k =
+    rw (← c.deref.ensures.value, ← c.deref-2.ensures.value) c.in-Some.ensures in
+    rw (c.deref_mut-in-Some.ensures.value, c.deref_mut-in-Some-2.ensures.value)
+    (moves q.entries.items q.places.items q.len k _ c.args.time c.self.invariant.ordered (place_found q.entries.items q.places.items q.len k _ found))
+
+pub invariant_of-self-in-Some : goal.invariant_of-self-in-Some
+invariant_of-self-in-Some c =
+    let q = c.self.inside in
+    let k = c.args.number in
+    let found : Some c.in-Some.hole ≡ place_in q.entries.items q.places.items q.len k =
+    rw (← c.deref.ensures.value, ← c.deref-2.ensures.value) c.in-Some.ensures in
+    let after : IsSettled q.entries.items c.sift.new.entries q.places.items c.sift.new.places q.len c.in-Some.hole (record { time = c.args.time; number = k }) =
+    rw (← c.deref_mut-in-Some.ensures.value, ← c.deref_mut-in-Some-2.ensures.value) c.sift.ensures in
+    let w = moved q.entries q.places _ _ q.len k _ c.args.time c.self.invariant.ordered c.self.invariant.size found after in
+    record { ordered = w.ordered; size = w.size }
+
+pub returns-in-Some : goal.returns-in-Some
+returns-in-Some c =
+    let q = c.self.inside in
+    let k = c.args.number in
+    let found : Some c.in-Some.hole ≡ place_in q.entries.items q.places.items q.len k =
+    rw (← c.deref.ensures.value, ← c.deref-2.ensures.value) c.in-Some.ensures in
+    let after : IsSettled q.entries.items c.sift.new.entries q.places.items c.sift.new.places q.len c.in-Some.hole (record { time = c.args.time; number = k }) =
+    rw (← c.deref_mut-in-Some.ensures.value, ← c.deref_mut-in-Some-2.ensures.value) c.sift.ensures in
+    let w = moved q.entries q.places _ _ q.len k _ c.args.time c.self.invariant.ordered c.self.invariant.size found after in
+    w.times ∙ ap (λ ts. set ts k (Some c.args.time)) c.self.view_is
