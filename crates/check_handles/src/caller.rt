@@ -47,10 +47,7 @@ impl Caller {
         ensures advanced { HasAdvanced (opened_with (desk_of self.old)).room call self.old.stage
             result self.new.stage }
     {
-        let stage = replace(&mut self.stage, Stage::Gone);
-        let (stage, step) = advance(&self.shared.desk, stage, call);
-        self.stage = stage;
-        step
+        advance(&self.shared.desk, &mut self.stage, call)
     }
 
     /// What is known of an object. None where there is no such object, and where the caller waits.

@@ -7,7 +7,7 @@ ghost use Rattle.check_handles.specs.Tries.{HasAdvanced, HasLooked, step_of};
 
 use check_desk::{Answer, Desk, Pass, Poll, Turn};
 use check_sched::{Call, Reply};
-use std::mem::ManuallyDrop;
+use std::mem::{ManuallyDrop, replace};
 
 /// What a caller has in hand.
 #[derive(Drop)]
@@ -38,41 +38,47 @@ pub enum Step {
 
 /// Takes a ticket, where the caller has none, looks whether its turn has come, and makes the call
 /// then. A ticket that was taken for another call is left as it is.
-pub(crate) fn advance(desk: &Desk, stage: Stage, call: Call) -> (Stage, Step)
-    requires { IsStageOf desk.now stage }
-    ensures own { IsStageOf desk.now result.0 }
-    ensures advanced { HasAdvanced (opened_with desk.now).room call stage result.1 result.0 }
+pub(crate) fn advance(desk: &Desk, stage: &mut Stage, call: Call) -> Step
+    requires { IsStageOf desk.now stage.old }
+    ensures own { IsStageOf desk.now stage.new }
+    ensures advanced { HasAdvanced (opened_with desk.now).room call stage.old result stage.new }
 {
-    match stage {
-        Stage::Gone => (Stage::Gone, Step::OtherWaits),
+    match replace(stage, Stage::Gone) {
+        Stage::Gone => Step::OtherWaits,
         Stage::Resting(pass) => match desk.begin(pass) {
-            Ok(turn) => look(desk, turn, call),
-            Err(pass) => (Stage::Resting(pass), Step::Spent),
+            Ok(turn) => look(desk, stage, turn, call),
+            Err(pass) => {
+                *stage = Stage::Resting(pass);
+                Step::Spent
+            }
         },
         Stage::Waiting(turn, asked) => {
             if asked == call {
-                look(desk, ManuallyDrop::into_inner(turn), call)
+                look(desk, stage, ManuallyDrop::into_inner(turn), call)
             } else {
-                (Stage::Waiting(turn, asked), Step::OtherWaits)
+                *stage = Stage::Waiting(turn, asked);
+                Step::OtherWaits
             }
         }
     }
 }
 
-/// Looks whether the turn has come, and makes the call then.
-fn look(desk: &Desk, turn: Turn, call: Call) -> (Stage, Step)
+/// Looks whether the turn has come, and makes the call then. The stage is what the caller has afterwards.
+fn look(desk: &Desk, stage: &mut Stage, turn: Turn, call: Call) -> Step
     requires { IsWaitingAt desk.now turn }
-    ensures own { IsStageOf desk.now result.0 }
-    ensures looked { HasLooked (opened_with desk.now).room call turn result.1 result.0 }
+    ensures own { IsStageOf desk.now stage.new }
+    ensures looked { HasLooked (opened_with desk.now).room call turn result stage.new }
 {
     match desk.poll(turn) {
         Poll::Mine(hold) => {
             let (pass, answer) = desk.finish(hold, call);
-            (Stage::Resting(pass), step_of(answer))
+            *stage = Stage::Resting(pass);
+            step_of(answer)
         }
         Poll::NotYet(turn) => {
             let turn = unsafe { ManuallyDrop::new_unchecked(turn) };
-            (Stage::Waiting(turn, call), Step::NotYet)
+            *stage = Stage::Waiting(turn, call);
+            Step::NotYet
         }
     }
 }

@@ -1,5 +1,6 @@
 -- Nothing is lost on the way to C: each value can be read back from its struct.
-use Rattle.std.proofs.Common.{◌≡◌, ℕ, ◌==◌, cond, Bool, true, false, Some, None, refl, sym, ap, ◌∙◌}
+use Rattle.std.proofs.Common.{◌≡◌, ℕ, ◌<◌, ◌≤◌, ◌^◌, ◌==◌, cond, Bool, true, false, Some, None, refl, sym, ap, subst, arith, ◌∙◌}
+use mathlib.Core.Logic.{◌≢◌}
 use Rattle.std.specs.Prelude.{Option}
 use Rattle.ticket_steps.specs.declared.kept.Entry.{Entry}
 use Rattle.check_drafts.specs.declared.error.LoadError.{LoadError}
@@ -24,6 +25,8 @@ use Rattle.check_records.specs.declared.plain.PlainCall.{PlainCall}
 use Rattle.check_records.specs.declared.plain.PlainReply.{PlainReply}
 use Rattle.check_records.specs.declared.plain.PlainEntry.{PlainEntry}
 use Rattle.check_records.specs.declared.plain.PlainRefusal.{PlainRefusal}
+use Rattle.check_records.specs.Plain.{call_back, code_back, kind_back, part_back, place_back, refusal_back, reply_back, standing_back, state_back, time_back}
+use Rattle.check_records.specs.Plain.{HasByteAttempt, IsNoCall, IsNoEntry, IsNoRefusal, IsNoReply}
 use Rattle.check_records.specs.Plain.{code_number, flag, has_time, kind_number, part_number, state_number, time_or_0}
 use Rattle.check_records.specs.Plain.{plain_call, plain_entry, plain_refusal, plain_reply, plain_standing, refusal_at}
 
@@ -37,18 +40,11 @@ flag_is : (b : Bool) → (flag b == 1) ≡ b
 flag_is true = refl
 flag_is false = refl
 
-abbrev code_back : ℕ → Code
-code_back n = cond (n == 0) code.Ok (cond (n == 1) code.Warning (cond (n == 2) code.Critical code.Unknown))
-
 code_is : (c : Code) → code_back (code_number c) ≡ c
 code_is code.Ok = refl
 code_is code.Warning = refl
 code_is code.Critical = refl
 code_is code.Unknown = refl
-
-abbrev state_back : ℕ → State
-state_back n = cond (n == 0) state.Ok (cond (n == 1) state.Warning (cond (n == 2) state.Critical (cond (n == 3) state.Unknown
-    (cond (n == 4) state.Up (cond (n == 5) state.Down state.Unreachable)))))
 
 state_is : (s : State) → state_back (state_number s) ≡ s
 state_is state.Ok = refl
@@ -59,23 +55,13 @@ state_is state.Up = refl
 state_is state.Down = refl
 state_is state.Unreachable = refl
 
-abbrev kind_back : ℕ → Kind
-kind_back n = cond (n == 0) kind.Soft kind.Hard
-
 kind_is : (k : Kind) → kind_back (kind_number k) ≡ k
 kind_is kind.Soft = refl
 kind_is kind.Hard = refl
 
-abbrev time_back : ℕ → ℕ → Option ℕ
-time_back has time = cond (has == 0) None (Some time)
-
 time_is : (t : Option ℕ) → time_back (has_time t) (time_or_0 t) ≡ t
 time_is (Some time) = refl
 time_is None = refl
-
-abbrev part_back : ℕ → Part
-part_back n = cond (n == 1) part.Document (cond (n == 2) part.Options (cond (n == 3) part.Hosts (cond (n == 4) part.Services
-    (cond (n == 5) part.ServiceDependencies part.HostDependencies))))
 
 part_is : (p : Part) → part_back (part_number p) ≡ p
 part_is part.Document = refl
@@ -87,16 +73,6 @@ part_is part.HostDependencies = refl
 
 -- ---- the structs
 
-abbrev standing_back : PlainStanding → Standing
-standing_back p = record {
-  checked = p.checked == 1;
-  state = state_back p.state;
-  kind = kind_back p.kind;
-  attempt = p.attempt;
-  last_hard = state_back p.last_hard;
-  flapping = p.flapping == 1;
-}
-
 standing_is : (s : Standing) → standing_back (plain_standing s) ≡ s
 standing_is s = λ i. record {
   checked = flag_is s.checked i;
@@ -107,11 +83,6 @@ standing_is s = λ i. record {
   flapping = flag_is s.flapping i;
 }
 
-abbrev call_back : PlainCall → Call
-call_back p = cond (p.kind == 0) (call.Take p.moment) (cond (p.kind == 1) (call.Report p.object p.run (code_back p.code))
-    (cond (p.kind == 2) (call.Abandon p.object p.run p.moment) (cond (p.kind == 3) (call.Reschedule p.object p.moment (p.flag == 1))
-    (cond (p.kind == 4) (call.Enable p.object (p.flag == 1)) (call.Status p.object)))))
-
 call_is : (c : Call) → call_back (plain_call c) ≡ c
 call_is (call.Take now) = refl
 call_is (call.Report object run k) = ap (call.Report object run) (code_is k)
@@ -119,14 +90,6 @@ call_is (call.Abandon object run now) = refl
 call_is (call.Reschedule object time forced) = ap (call.Reschedule object time) (flag_is forced)
 call_is (call.Enable object on) = ap (call.Enable object) (flag_is on)
 call_is (call.Status object) = refl
-
-abbrev reply_back : PlainReply → Reply
-reply_back p = cond (p.kind == 0) (reply.Taken p.object p.run) (cond (p.kind == 1) (reply.PutOff p.object (time_back p.has_time p.time))
-    (cond (p.kind == 2) (reply.Idle (time_back p.has_time p.time)) (cond (p.kind == 3) reply.AtLimit
-    (cond (p.kind == 4) (reply.Standing (standing_back p.standing) (p.changed == 1) (time_back p.has_time p.time))
-    (cond (p.kind == 5) (reply.Freed p.time) (cond (p.kind == 6) reply.Done (cond (p.kind == 7) (reply.Refused refused.UnknownObject)
-    (cond (p.kind == 8) (reply.Refused refused.TimeRange) (cond (p.kind == 9) (reply.Refused refused.NotRunning)
-    (cond (p.kind == 10) (reply.Refused refused.WrongRun) (reply.Refused refused.RunsSpent)))))))))))
 
 reply_is : (r : Reply) → reply_back (plain_reply r) ≡ r
 reply_is (reply.Taken object run) = refl
@@ -148,17 +111,8 @@ entry_back p = record { pass = p.caller; call = call_back p.call; reply = reply_
 entry_is : (e : Entry Call Reply) → entry_back (plain_entry e) ≡ e
 entry_is e = λ i. record { pass = e.pass; call = call_is e.call i; reply = reply_is e.reply i }
 
-abbrev place_back : PlainRefusal → Place
-place_back p = record { part = part_back p.part; index = time_back p.has_index p.index }
-
 place_is : (kind : ℕ) (p : Place) → place_back (refusal_at kind p) ≡ p
 place_is kind p = λ i. record { part = part_is p.part i; index = time_is p.index i }
-
-abbrev refusal_back : PlainRefusal → LoadError
-refusal_back p = cond (p.kind == 0) load.TooLong (cond (p.kind == 1) load.NotJson (cond (p.kind == 2) (load.Shape (place_back p))
-    (cond (p.kind == 3) load.TooMany (cond (p.kind == 4) (load.BadName (place_back p)) (cond (p.kind == 5) (load.Duplicate (place_back p))
-    (cond (p.kind == 6) (load.UnknownHost (place_back p)) (cond (p.kind == 7) (load.UnknownMaster (place_back p))
-    (cond (p.kind == 8) (load.Range (place_back p)) (cond (p.kind == 9) load.DependencyCycle (cond (p.kind == 10) load.ParentCycle load.Memory))))))))))
 
 refusal_is : (e : LoadError) → refusal_back (plain_refusal e) ≡ e
 refusal_is load.TooLong = refl
@@ -188,3 +142,44 @@ entries_told = told entry_back plain_entry entry_is
 
 pub refusals_told : (a b : LoadError) → plain_refusal a ≡ plain_refusal b → a ≡ b
 refusals_told = told refusal_back plain_refusal refusal_is
+
+-- ---- structs that nothing has
+
+-- where what is read back has another struct, nothing has this one
+none_has : {X Y : Type 0} (back : Y → X) (plain : X → Y) → ((x : X) → back (plain x) ≡ x) → (y : Y) → plain (back y) ≢ y → (x : X) → plain x ≢ y
+none_has back plain is y other x has = other (subst (λ z. plain (back z) ≡ z) has (ap plain (is x)))
+
+pub no_call : (plain : PlainCall) → plain_call (call_back plain) ≢ plain → IsNoCall plain
+no_call = none_has call_back plain_call call_is
+
+pub no_reply : (plain : PlainReply) → plain_reply (reply_back plain) ≢ plain → IsNoReply plain
+no_reply plain other r few = none_has reply_back plain_reply reply_is plain other r
+
+-- an attempt that crosses is a byte
+few_attempts : (r : Reply) → HasByteAttempt r → (plain_reply r).standing.attempt < 2 ^ 8
+few_attempts (reply.Taken object run) few = omega arith
+few_attempts (reply.PutOff object until) few = omega arith
+few_attempts (reply.Idle next) few = omega arith
+few_attempts reply.AtLimit few = omega arith
+few_attempts (reply.Standing standing changed next) few = few
+few_attempts (reply.Freed next) few = omega arith
+few_attempts reply.Done few = omega arith
+few_attempts (reply.Refused why) few = omega arith
+
+pub no_reply_past : (plain : PlainReply) → 2 ^ 8 ≤ plain.standing.attempt → IsNoReply plain
+no_reply_past plain past r few has = absurd (omega (arith, past, few_attempts r few, ap (λ (p : PlainReply). p.standing.attempt) has))
+
+pub no_entry_past : (plain : PlainEntry) → 2 ^ 32 ≤ plain.caller → IsNoEntry plain
+no_entry_past plain past e few bytes has = absurd (omega (arith, past, few, ap (λ (p : PlainEntry). p.caller) has))
+
+pub no_entry_by : (plain : PlainEntry) → IsNoCall plain.call → IsNoEntry plain
+no_entry_by plain none e few bytes has = none e.call (ap (λ (p : PlainEntry). p.call) has)
+
+pub no_entry_to : (plain : PlainEntry) → IsNoReply plain.reply → IsNoEntry plain
+no_entry_to plain none e few bytes has = none e.reply bytes (ap (λ (p : PlainEntry). p.reply) has)
+
+pub no_refusal : (plain : PlainRefusal) → plain_refusal (refusal_back plain) ≢ plain → IsNoRefusal plain
+no_refusal plain other e told = none_has refusal_back plain_refusal refusal_is plain other e
+
+pub no_refusal_told : (plain : PlainRefusal) → refusal_back plain ≡ load.Memory → IsNoRefusal plain
+no_refusal_told plain memory e told has = told (sym (refusal_is e) ∙ (ap refusal_back has ∙ memory))

@@ -1,5 +1,5 @@
 -- The structs that cross to C, and the values of the scheduler for which they stand.
-use Rattle.std.specs.Prelude.{ℕ, Bool, true, false, ◌==◌, cond, Option, Some, None}
+use Rattle.std.specs.Prelude.{◌≢◌, ◌<◌, ◌^◌, ⊤, ℕ, Bool, true, false, ◌==◌, cond, Option, Some, None}
 use Rattle.ticket_steps.specs.declared.kept.Entry.{Entry}
 use Rattle.check_drafts.specs.declared.error.LoadError.{LoadError}
 use Rattle.check_drafts.specs.declared.error.LoadError.TheVariants as load
@@ -139,3 +139,74 @@ plain_refusal (load.Range p) = refusal_at 8 p
 plain_refusal load.DependencyCycle = refusal_nowhere 9
 plain_refusal load.ParentCycle = refusal_nowhere 10
 plain_refusal load.Memory = refusal_nowhere 11
+
+-- ---- read back: the value that has this struct, where one has it
+
+abbrev pub code_back : ℕ → Code
+code_back n = cond (n == 0) code.Ok (cond (n == 1) code.Warning (cond (n == 2) code.Critical code.Unknown))
+
+abbrev pub state_back : ℕ → State
+state_back n = cond (n == 0) state.Ok (cond (n == 1) state.Warning (cond (n == 2) state.Critical (cond (n == 3) state.Unknown
+    (cond (n == 4) state.Up (cond (n == 5) state.Down state.Unreachable)))))
+
+abbrev pub kind_back : ℕ → Kind
+kind_back n = cond (n == 0) kind.Soft kind.Hard
+
+abbrev pub time_back : ℕ → ℕ → Option ℕ
+time_back has time = cond (has == 0) None (Some time)
+
+abbrev pub part_back : ℕ → Part
+part_back n = cond (n == 1) part.Document (cond (n == 2) part.Options (cond (n == 3) part.Hosts (cond (n == 4) part.Services
+    (cond (n == 5) part.ServiceDependencies part.HostDependencies))))
+
+abbrev pub standing_back : PlainStanding → Standing
+standing_back p = record {
+  checked = p.checked == 1;
+  state = state_back p.state;
+  kind = kind_back p.kind;
+  attempt = p.attempt;
+  last_hard = state_back p.last_hard;
+  flapping = p.flapping == 1;
+}
+
+abbrev pub call_back : PlainCall → Call
+call_back p = cond (p.kind == 0) (call.Take p.moment) (cond (p.kind == 1) (call.Report p.object p.run (code_back p.code))
+    (cond (p.kind == 2) (call.Abandon p.object p.run p.moment) (cond (p.kind == 3) (call.Reschedule p.object p.moment (p.flag == 1))
+    (cond (p.kind == 4) (call.Enable p.object (p.flag == 1)) (call.Status p.object)))))
+
+abbrev pub reply_back : PlainReply → Reply
+reply_back p = cond (p.kind == 0) (reply.Taken p.object p.run) (cond (p.kind == 1) (reply.PutOff p.object (time_back p.has_time p.time))
+    (cond (p.kind == 2) (reply.Idle (time_back p.has_time p.time)) (cond (p.kind == 3) reply.AtLimit
+    (cond (p.kind == 4) (reply.Standing (standing_back p.standing) (p.changed == 1) (time_back p.has_time p.time))
+    (cond (p.kind == 5) (reply.Freed p.time) (cond (p.kind == 6) reply.Done (cond (p.kind == 7) (reply.Refused refused.UnknownObject)
+    (cond (p.kind == 8) (reply.Refused refused.TimeRange) (cond (p.kind == 9) (reply.Refused refused.NotRunning)
+    (cond (p.kind == 10) (reply.Refused refused.WrongRun) (reply.Refused refused.RunsSpent)))))))))))
+
+abbrev pub place_back : PlainRefusal → Place
+place_back p = record { part = part_back p.part; index = time_back p.has_index p.index }
+
+abbrev pub refusal_back : PlainRefusal → LoadError
+refusal_back p = cond (p.kind == 0) load.TooLong (cond (p.kind == 1) load.NotJson (cond (p.kind == 2) (load.Shape (place_back p))
+    (cond (p.kind == 3) load.TooMany (cond (p.kind == 4) (load.BadName (place_back p)) (cond (p.kind == 5) (load.Duplicate (place_back p))
+    (cond (p.kind == 6) (load.UnknownHost (place_back p)) (cond (p.kind == 7) (load.UnknownMaster (place_back p))
+    (cond (p.kind == 8) (load.Range (place_back p)) (cond (p.kind == 9) load.DependencyCycle (cond (p.kind == 10) load.ParentCycle load.Memory))))))))))
+
+-- ---- structs that nothing has
+
+abbrev pub IsNoCall : PlainCall → Type 0
+IsNoCall plain = (c : Call) → plain_call c ≢ plain
+
+-- a reply's attempt is a byte
+abbrev pub HasByteAttempt : Reply → Type 0
+HasByteAttempt (reply.Standing standing changed next) = standing.attempt < 2 ^ 8
+HasByteAttempt other = ⊤
+
+abbrev pub IsNoReply : PlainReply → Type 0
+IsNoReply plain = (r : Reply) → HasByteAttempt r → plain_reply r ≢ plain
+
+abbrev pub IsNoEntry : PlainEntry → Type 0
+IsNoEntry plain = (e : Entry Call Reply) → e.pass < 2 ^ 32 → HasByteAttempt e.reply → plain_entry e ≢ plain
+
+-- want of memory is told by no struct
+abbrev pub IsNoRefusal : PlainRefusal → Type 0
+IsNoRefusal plain = (e : LoadError) → e ≢ load.Memory → plain_refusal e ≢ plain

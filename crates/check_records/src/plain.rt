@@ -3,8 +3,10 @@
 //! Each has the layout that `nagsched.h` gives it: no hole and no `bool`. A field for which a kind has
 //! no use is 0. Two values with the same struct are the same ([`crate::laws`]).
 
-ghost use Rattle.std.specs.Prelude.{◌≡◌, IfSome};
+ghost use Rattle.std.specs.Prelude.{◌≡◌, ◌↔◌, ◌≤◌, ◌^◌, true, IfNone, IfSome};
 ghost use Rattle.check_records.specs.Plain.{code_number, code_of, flag, flag_of, has_time, kind_number, part_number, refusal_number, state_number, time_or_0};
+ghost use Rattle.check_records.specs.Plain.{call_back, code_back, kind_back, part_back, place_back, refusal_back, reply_back, standing_back, state_back, time_back};
+ghost use Rattle.check_records.specs.Plain.{IsNoCall, IsNoEntry, IsNoRefusal, IsNoReply};
 ghost use Rattle.check_records.specs.Plain.{plain_call, plain_entry, plain_refusal, plain_reply, plain_standing, refusal_at, refusal_nowhere, reply_struct};
 
 use check_drafts::{LoadError, Part, Place};
@@ -397,9 +399,10 @@ pub fn plain_refusal(error: LoadError) -> PlainRefusal
 
 /// The call with this struct, where a call has it.
 pub fn call_of(plain: PlainCall) -> Option<Call>
-    ensures { IfSome result (λ call. plain_call call ≡ plain) }
+    ensures some { IfSome result (λ call. plain_call call ≡ plain) }
+    ensures none { IfNone result (IsNoCall plain) }
 {
-    let call = read_call(plain)?;
+    let call = call_back(plain);
     if plain_call(call) == plain {
         Some(call)
     } else {
@@ -407,15 +410,17 @@ pub fn call_of(plain: PlainCall) -> Option<Call>
     }
 }
 
-/// The call that the fields of a struct name, if they are those of a call.
-fn read_call(plain: PlainCall) -> Option<Call> {
+/// The call that the fields of a struct name, where they are those of a call.
+fn call_back(plain: PlainCall) -> Call
+    ensures { result ≡ call_back plain }
+{
     let object = plain.object;
-    let call = match plain.kind {
+    match plain.kind {
         0 => Call::Take { now: plain.moment },
         1 => Call::Report {
             object,
             run: plain.run,
-            code: code_of(plain.code)?,
+            code: code_back(plain.code),
         },
         2 => Call::Abandon {
             object,
@@ -425,38 +430,56 @@ fn read_call(plain: PlainCall) -> Option<Call> {
         3 => Call::Reschedule {
             object,
             time: plain.moment,
-            forced: flag_of(plain.flag)?,
+            forced: plain.flag == 1,
         },
         4 => Call::Enable {
             object,
-            on: flag_of(plain.flag)?,
+            on: plain.flag == 1,
         },
-        5 => Call::Status { object },
-        _ => return None,
-    };
-    Some(call)
+        _ => Call::Status { object },
+    }
+}
+
+/// What a check returned, where the number is one of those.
+fn code_back(number: u32) -> Code
+    ensures { result ≡ code_back number }
+{
+    match number {
+        0 => Code::Ok,
+        1 => Code::Warning,
+        2 => Code::Critical,
+        _ => Code::Unknown,
+    }
 }
 
 /// The reply with this struct, where a reply has it.
 pub fn reply_of(plain: PlainReply) -> Option<Reply>
-    ensures { IfSome result (λ reply. plain_reply reply ≡ plain) }
+    ensures some { IfSome result (λ reply. plain_reply reply ≡ plain) }
+    ensures none { IfNone result (IsNoReply plain) }
 {
     let reply = read_reply(plain)?;
-    if plain_reply(reply) == plain {
+    if has_struct(reply, plain) {
         Some(reply)
     } else {
         None
     }
 }
 
-/// The reply that the fields of a struct name, if they are those of a reply.
-fn read_reply(plain: PlainReply) -> Option<Reply> {
+/// Whether this is the struct of the reply.
+fn has_struct(reply: Reply, plain: PlainReply) -> bool
+    ensures { (result ≡ true) ↔ (plain_reply reply ≡ plain) }
+{
+    plain_reply(reply) == plain
+}
+
+/// The reply that the fields of a struct name, where they are those of a reply. None where the attempt of
+/// a standing is past a byte.
+fn read_reply(plain: PlainReply) -> Option<Reply>
+    ensures some { IfSome result (λ reply. reply ≡ reply_back plain) }
+    ensures none { IfNone result (2 ^ 8 ≤ plain.standing.attempt) }
+{
     let object = plain.object;
-    let time = if plain.has_time == 0 {
-        None
-    } else {
-        Some(plain.time)
-    };
+    let time = time_back(plain.has_time, plain.time);
     let reply = match plain.kind {
         0 => Reply::Taken {
             object,
@@ -470,7 +493,7 @@ fn read_reply(plain: PlainReply) -> Option<Reply> {
         3 => Reply::AtLimit,
         4 => Reply::Standing {
             standing: read_standing(plain.standing)?,
-            changed: flag_of(plain.changed)?,
+            changed: plain.changed == 1,
             next: time,
         },
         5 => Reply::Freed { next: plain.time },
@@ -479,49 +502,66 @@ fn read_reply(plain: PlainReply) -> Option<Reply> {
         8 => Reply::Refused(Refusal::TimeRange),
         9 => Reply::Refused(Refusal::NotRunning),
         10 => Reply::Refused(Refusal::WrongRun),
-        11 => Reply::Refused(Refusal::RunsSpent),
-        _ => return None,
+        _ => Reply::Refused(Refusal::RunsSpent),
     };
     Some(reply)
 }
 
-/// The standing that the fields of a struct name, if they are those of a standing.
-fn read_standing(plain: PlainStanding) -> Option<Standing> {
+/// The time, where the first number isn't 0.
+fn time_back(has_time: u32, time: u64) -> Option<u64>
+    ensures { result ≡ time_back has_time time }
+{
+    if has_time == 0 { None } else { Some(time) }
+}
+
+/// The standing that the fields of a struct name, where they are those of a standing. None where the
+/// attempt is past a byte.
+fn read_standing(plain: PlainStanding) -> Option<Standing>
+    ensures some { IfSome result (λ standing. standing ≡ standing_back plain) }
+    ensures none { IfNone result (2 ^ 8 ≤ plain.attempt) }
+{
     let Ok(attempt) = u8::try_from(plain.attempt) else {
         return None;
     };
-    let kind = match plain.kind {
-        0 => Kind::Soft,
-        1 => Kind::Hard,
-        _ => return None,
-    };
     Some(Standing {
-        checked: flag_of(plain.checked)?,
-        state: state_of(plain.state)?,
-        kind,
+        checked: plain.checked == 1,
+        state: state_back(plain.state),
+        kind: kind_back(plain.kind),
         attempt,
-        last_hard: state_of(plain.last_hard)?,
-        flapping: flag_of(plain.flapping)?,
+        last_hard: state_back(plain.last_hard),
+        flapping: plain.flapping == 1,
     })
 }
 
-/// The state of this number.
-fn state_of(number: u32) -> Option<State> {
+/// The state of this number, where it is that of a state.
+fn state_back(number: u32) -> State
+    ensures { result ≡ state_back number }
+{
     match number {
-        0 => Some(State::Ok),
-        1 => Some(State::Warning),
-        2 => Some(State::Critical),
-        3 => Some(State::Unknown),
-        4 => Some(State::Up),
-        5 => Some(State::Down),
-        6 => Some(State::Unreachable),
-        _ => None,
+        0 => State::Ok,
+        1 => State::Warning,
+        2 => State::Critical,
+        3 => State::Unknown,
+        4 => State::Up,
+        5 => State::Down,
+        _ => State::Unreachable,
+    }
+}
+
+/// The kind of a state of this number, where it is that of a kind.
+fn kind_back(number: u32) -> Kind
+    ensures { result ≡ kind_back number }
+{
+    match number {
+        0 => Kind::Soft,
+        _ => Kind::Hard,
     }
 }
 
 /// The entry with this struct, where an entry has it.
 pub fn entry_of(plain: PlainEntry) -> Option<Entry<Call, Reply>>
-    ensures { IfSome result (λ entry. plain_entry entry ≡ plain) }
+    ensures some { IfSome result (λ entry. plain_entry entry ≡ plain) }
+    ensures none { IfNone result (IsNoEntry plain) }
 {
     let Ok(pass) = u32::try_from(plain.caller) else {
         return None;
@@ -533,50 +573,67 @@ pub fn entry_of(plain: PlainEntry) -> Option<Entry<Call, Reply>>
 
 /// The refusal of a document with this struct, where a document can be refused so.
 pub fn refusal_of(plain: PlainRefusal) -> Option<LoadError>
-    ensures { IfSome result (λ error. plain_refusal error ≡ plain) }
+    ensures some { IfSome result (λ error. plain_refusal error ≡ plain) }
+    ensures none { IfNone result (IsNoRefusal plain) }
 {
-    let error = read_refusal(plain)?;
-    if plain_refusal(error) == plain {
-        Some(error)
-    } else {
-        None
+    match refusal_back(plain) {
+        LoadError::Memory => None,
+        error => {
+            if plain_refusal(error) == plain {
+                Some(error)
+            } else {
+                None
+            }
+        }
     }
 }
 
-/// The refusal that the fields of a struct name, if they are those of a refusal.
-fn read_refusal(plain: PlainRefusal) -> Option<LoadError> {
-    let error = match plain.kind {
+/// The refusal that the fields of a struct name, where they are those of a refusal; of others want of
+/// memory, which no struct tells.
+fn refusal_back(plain: PlainRefusal) -> LoadError
+    ensures { result ≡ refusal_back plain }
+{
+    match plain.kind {
         0 => LoadError::TooLong,
         1 => LoadError::NotJson,
-        2 => LoadError::Shape(read_place(plain)?),
+        2 => LoadError::Shape(place_back(plain)),
         3 => LoadError::TooMany,
-        4 => LoadError::BadName(read_place(plain)?),
-        5 => LoadError::Duplicate(read_place(plain)?),
-        6 => LoadError::UnknownHost(read_place(plain)?),
-        7 => LoadError::UnknownMaster(read_place(plain)?),
-        8 => LoadError::Range(read_place(plain)?),
+        4 => LoadError::BadName(place_back(plain)),
+        5 => LoadError::Duplicate(place_back(plain)),
+        6 => LoadError::UnknownHost(place_back(plain)),
+        7 => LoadError::UnknownMaster(place_back(plain)),
+        8 => LoadError::Range(place_back(plain)),
         9 => LoadError::DependencyCycle,
         10 => LoadError::ParentCycle,
-        _ => return None,
-    };
-    Some(error)
+        _ => LoadError::Memory,
+    }
 }
 
-/// The place that the fields of a struct name, if they name one.
-fn read_place(plain: PlainRefusal) -> Option<Place> {
-    let part = match plain.part {
-        1 => Part::Document,
-        2 => Part::Options,
-        3 => Part::Hosts,
-        4 => Part::Services,
-        5 => Part::ServiceDependencies,
-        6 => Part::HostDependencies,
-        _ => return None,
-    };
+/// The place that the fields of a struct name, where they name one.
+fn place_back(plain: PlainRefusal) -> Place
+    ensures { result ≡ place_back plain }
+{
     let index = if plain.has_index == 0 {
         None
     } else {
         Some(plain.index as usize)
     };
-    Some(Place { part, index })
+    Place {
+        part: part_back(plain.part),
+        index,
+    }
+}
+
+/// The part of a document of this number, where it is that of a part.
+fn part_back(number: u32) -> Part
+    ensures { result ≡ part_back number }
+{
+    match number {
+        1 => Part::Document,
+        2 => Part::Options,
+        3 => Part::Hosts,
+        4 => Part::Services,
+        5 => Part::ServiceDependencies,
+        _ => Part::HostDependencies,
+    }
 }

@@ -13,25 +13,30 @@ use Rattle.check_records.specs.declared.plain.PlainRefusal.{PlainRefusal}
 use Rattle.check_records.specs.declared.plain.PlainReply.{PlainReply}
 use Rattle.nagsched_c.specs.Names.{IsPut}
 use Rattle.check_records.specs.Plain.{plain_call, plain_entry, plain_refusal, plain_reply}
+use Rattle.check_records.specs.Plain.{IsNoCall, IsNoEntry, IsNoRefusal, IsNoReply}
 
--- nothing was written: memory was refused, or the struct is one that is never given
-abbrev pub IsUntold : List ℕ → ℕ → ℕ → List ℕ → ℕ → Type 0
-IsUntold room before status after bytes = ((status ≡ 3) ⊎ (status ≡ 6)) × (after ≡ room) × (bytes ≡ before)
+-- nothing was written, and the status tells why
+abbrev pub IsUntold : ℕ → List ℕ → ℕ → ℕ → List ℕ → ℕ → Type 0
+IsUntold why room before status after bytes = (status ≡ why) × (after ≡ room) × (bytes ≡ before)
 
--- the line of the refusal with this struct was put, or nothing was
+-- the line was put, or memory was refused for it
+abbrev pub IsTold : List ℕ → List ℕ → ℕ → ℕ → List ℕ → ℕ → Type 0
+IsTold line room before status after bytes = IsPut line room status after bytes ⊎ IsUntold 3 room before status after bytes
+
+-- the line of the refusal with this struct was told; or no document is refused so, and nothing was written
 abbrev pub HasRefusalText : PlainRefusal → List ℕ → ℕ → ℕ → List ℕ → ℕ → Type 0
 HasRefusalText told room before status after bytes =
-    ((error : LoadError) × (plain_refusal error ≡ told) × IsPut (refusal_line (refusal.Setup error)) room status after bytes)
-    ⊎ IsUntold room before status after bytes
+    ((error : LoadError) × (plain_refusal error ≡ told) × IsTold (refusal_line (refusal.Setup error)) room before status after bytes)
+    ⊎ (IsUntold 6 room before status after bytes × IsNoRefusal told)
 
--- the line of the reply with this struct, to the call with this struct, was put, or nothing was
+-- the line of the reply with this struct, to the call with this struct, was told; or no call or no reply has its struct
 abbrev pub HasReplyText : Configuration → PlainCall → PlainReply → List ℕ → ℕ → ℕ → List ℕ → ℕ → Type 0
 HasReplyText setup asked told room before status after bytes =
-    ((call : Call) × (reply : Reply) × (plain_call call ≡ asked) × (plain_reply reply ≡ told) × IsPut (reply_line setup call reply) room status after bytes)
-    ⊎ IsUntold room before status after bytes
+    ((call : Call) × (reply : Reply) × (plain_call call ≡ asked) × (plain_reply reply ≡ told) × IsTold (reply_line setup call reply) room before status after bytes)
+    ⊎ (IsUntold 6 room before status after bytes × (IsNoCall asked ⊎ IsNoReply told))
 
--- the line of the entry with this struct was put, or nothing was
+-- the line of the entry with this struct was told; or no entry has it
 abbrev pub HasEntryText : Configuration → PlainEntry → List ℕ → ℕ → ℕ → List ℕ → ℕ → Type 0
 HasEntryText setup told room before status after bytes =
-    ((entry : Entry Call Reply) × (plain_entry entry ≡ told) × IsPut (entry_line setup entry) room status after bytes)
-    ⊎ IsUntold room before status after bytes
+    ((entry : Entry Call Reply) × (plain_entry entry ≡ told) × IsTold (entry_line setup entry) room before status after bytes)
+    ⊎ (IsUntold 6 room before status after bytes × IsNoEntry told)

@@ -1,8 +1,9 @@
 //! Callers put together, a desk ended, and its book gone on with.
 
+ghost use Rattle.std.specs.Prelude.{◌≡◌, ◌↔◌, is_some, true};
 ghost use Rattle.check_handles.specs.Closing.{AreOfOneDesk};
 ghost use Rattle.check_handles.specs.Handles.{contents_of};
-ghost use Rattle.nagsched_c.specs.Closing.{HasClosed, HasGathered, HasRenewed};
+ghost use Rattle.nagsched_c.specs.Closing.{HasClosed, HasGathered, HasRenewed, IsBookIn, IsRestingIn};
 
 use crate::status::{MISSING, NO_MEMORY, OK, WRONG};
 use check_handles::closing::{close, go_on, is_book, put_together, rests};
@@ -13,13 +14,15 @@ use std::mem::replace;
 /// Puts two callers of one desk together: the first goes on, and answers for the calls of both. The
 /// second handle is empty then.
 ///
-/// Wrong where one of the two is no caller or waits for its turn, or where they are of two desks: then
-/// both are as they were.
+/// Wrong where one of the two is no caller or waits for its turn, and else exactly where they are seen to
+/// be of two desks: then both are as they were.
 #[unsafe(no_mangle)]
 pub extern "C" fn nagsched_gather(alloc: Global, caller: &mut Handle, other: &mut Handle) -> u32
     requires one_desk { AreOfOneDesk (contents_of caller.old) (contents_of other.old) }
-    ensures { HasGathered (contents_of caller.old) (contents_of other.old) result
+    ensures gathered { HasGathered (contents_of caller.old) (contents_of other.old) result
         (contents_of caller.new) (contents_of other.new) }
+    ensures wrong { (IsRestingIn (contents_of caller.old) × IsRestingIn (contents_of other.old) → ⊥)
+        → result ≡ 6 }
 {
     let Some(mut first) = caller.take(alloc) else {
         return WRONG;
@@ -40,11 +43,12 @@ pub extern "C" fn nagsched_gather(alloc: Global, caller: &mut Handle, other: &mu
 
 /// Ends the desk, where all its passes were gathered into this caller: the handle has the book then.
 ///
-/// Missing where they weren't, and wrong where the handle is no caller's or the caller waits for its
-/// turn: then it is as it was.
+/// Missing where they weren't, and wrong exactly where the handle is no caller's or the caller waits for
+/// its turn: then it is as it was.
 #[unsafe(no_mangle)]
 pub extern "C" fn nagsched_close(alloc: Global, caller: &mut Handle) -> u32
-    ensures { HasClosed (contents_of caller.old) result (contents_of caller.new) }
+    ensures closed { HasClosed (contents_of caller.old) result (contents_of caller.new) }
+    ensures wrong { (result ≡ 6) ↔ (IsRestingIn (contents_of caller.old) → ⊥) }
 {
     let Some(mut lodged) = caller.take(alloc) else {
         return WRONG;
@@ -71,8 +75,10 @@ pub extern "C" fn nagsched_renew(
     room: usize,
     history: &mut Handle,
 ) -> u32
-    ensures { HasRenewed room (contents_of book.old) (contents_of history.old) result
+    ensures renewed { HasRenewed room (contents_of book.old) (contents_of history.old) result
         (contents_of book.new) (contents_of history.new) }
+    ensures wrong { (result ≡ 6)
+        ↔ (IsBookIn (contents_of book.old) → is_some (contents_of history.old) ≡ true) }
 {
     if !history.is_empty() {
         return WRONG;

@@ -2,7 +2,7 @@
 
 ghost use Rattle.std.specs.Prelude.{◌≡◌, ◌↔◌, ◌<◌, true};
 ghost use Rattle.check_handles.specs.Handles.{contents_of};
-ghost use Rattle.nagsched_c.specs.Opening.{are_empty, ArePlaces, HasOpened};
+ghost use Rattle.nagsched_c.specs.Opening.{are_empty, ArePlaces, HasOpened, MayOpen};
 
 use crate::status::{NO_MEMORY, OK, WRONG};
 use check_handles::opening::{is_source, open_source};
@@ -21,8 +21,10 @@ pub extern "C" fn nagsched_open(
     room: usize,
     callers: &mut [Handle],
 ) -> u32
-    ensures { HasOpened 4294967295 start room (contents_of source.old) callers.old result
+    ensures opened { HasOpened 4294967295 start room (contents_of source.old) callers.old result
         (contents_of source.new) callers.new }
+    ensures wrong { (result ≡ 6)
+        ↔ (MayOpen 4294967295 start room (contents_of source.old) callers.old → ⊥) }
 {
     open_desk(alloc, source, start, room, DRAWS, callers)
 }
@@ -33,8 +35,8 @@ pub extern "C" fn nagsched_open(
 ///
 /// It is a setup: scheduling starts at the moment `start`, at most 2^60, and the history has memory for
 /// `room` entries at once. Or it is a book without entries and refusals, which goes on with its start
-/// and its room: then both are 0 here. All else is `WRONG`, and nothing was done. Where memory is
-/// refused (`NO_MEMORY`) all handles are as they were.
+/// and its room: then both are 0 here. All else is `WRONG`, and nothing else is: nothing was done then.
+/// Where memory is refused (`NO_MEMORY`) all handles are as they were.
 #[unsafe(no_mangle)]
 pub extern "C" fn nagsched_open_with(
     alloc: Global,
@@ -44,8 +46,10 @@ pub extern "C" fn nagsched_open_with(
     calls: u64,
     callers: &mut [Handle],
 ) -> u32
-    ensures { HasOpened calls start room (contents_of source.old) callers.old result
+    ensures opened { HasOpened calls start room (contents_of source.old) callers.old result
         (contents_of source.new) callers.new }
+    ensures wrong { (result ≡ 6)
+        ↔ (MayOpen calls start room (contents_of source.old) callers.old → ⊥) }
 {
     if calls == 0 || (DRAWS as u64) < calls {
         return WRONG;
@@ -63,8 +67,10 @@ fn open_desk(
     callers: &mut [Handle],
 ) -> u32
     requires { 0 < calls }
-    ensures { HasOpened calls start room (contents_of source.old) callers.old result
+    ensures opened { HasOpened calls start room (contents_of source.old) callers.old result
         (contents_of source.new) callers.new }
+    ensures wrong { (result ≡ 6)
+        ↔ (MayOpen calls start room (contents_of source.old) callers.old → ⊥) }
 {
     if !are_places(callers) {
         return WRONG;

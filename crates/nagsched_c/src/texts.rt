@@ -17,8 +17,8 @@ use std::alloc::Global;
 
 /// The text of a refusal of a document, into the room at `text`; `bytes` is its length.
 ///
-/// Wrong where no document is refused so, or where the text is longer than the room: nothing is written
-/// then, but in the last case its length. Where memory is refused nothing is written.
+/// Wrong, exactly where no document is refused so, or where the text is longer than the room: nothing is
+/// written then, but in the last case its length. Where memory is refused nothing is written.
 #[unsafe(no_mangle)]
 pub extern "C" fn nagsched_refusal_text(
     alloc: Global,
@@ -41,9 +41,9 @@ pub extern "C" fn nagsched_refusal_text(
 /// The text of the reply to a call, into the room at `text`; `bytes` is its length. The objects are
 /// those of a setup, a caller or a book; one that it doesn't have has no name in the text.
 ///
-/// Wrong where the handle is none of these, where no call or reply has such a struct, or where the text
-/// is longer than the room: nothing is written then, but in the last case its length. Where memory is
-/// refused nothing is written.
+/// Wrong, exactly where the handle is none of these, where no call or no reply has such a struct, or where
+/// the text is longer than the room: nothing is written then, but in the last case its length. Where
+/// memory is refused nothing is written.
 #[unsafe(no_mangle)]
 pub extern "C" fn nagsched_reply_text(
     alloc: Global,

@@ -9,8 +9,8 @@ use Rattle.nagsched_c.proofs.Closings.{gone_on, as_it_was}
 use Rattle.check_handles.proofs.Options.{none_of}
 use Rattle.nagsched_c.proofs.closing.nagsched_renew.Goals as goal
 
-pub returns-in-Some-past : goal.returns-in-Some-past
-returns-in-Some-past c =
+pub returns-in-Some-past-clause-renewed : goal.returns-in-Some-past-clause-renewed
+returns-in-Some-past-clause-renewed c =
     let was = c.in-Some.lodged.value in
     let from = c.replace.ensures.value ∙ c.deref_mut.ensures.value in
     let none : contents_of c.args.history.now ≡ None = none_of _ c.is_empty.result c.is_empty.ensures c.if-not-is_empty.false in
@@ -18,8 +18,8 @@ returns-in-Some-past c =
     let handed = subst (λ (o : Option (Box Lodged Global)). HasGoneOn c.args.room was c.go_on-now.result.0 (boxed o)) c.in-Some-past.is gone in
     rw (← c.in-Some.ensures.value, none, c.of-2.ensures, c.of-in-Some-past.ensures) (gone_on c.args.room was c.go_on-now.result.0 c.in-Some-past.past.value handed)
 
-pub returns-in-None : goal.returns-in-None
-returns-in-None c =
+pub returns-in-None-clause-renewed : goal.returns-in-None-clause-renewed
+returns-in-None-clause-renewed c =
     let was = c.in-Some.lodged.value in
     let from = c.replace.ensures.value ∙ c.deref_mut.ensures.value in
     let none : contents_of c.args.history.now ≡ None = none_of _ c.is_empty.result c.is_empty.ensures c.if-not-is_empty.false in
