@@ -3,6 +3,7 @@
 A command is a line of a plain code block, or words in backticks, that begins with a program or script of this repository, a compiler,
 a shell or Nagios. The syntax of the program's words, which has brackets, is none, and neither are the kit's own commands.
 """
+import json
 import pathlib
 import re
 import subprocess
@@ -18,20 +19,22 @@ SYNTAX = re.compile(r"nagsched(?: \w+)?(?: \[.*)?")
 # The commands that are run here, in a folder with these files: the file that each writes, none where it is standard output, and how
 # what is written begins.
 FILES = {"setup.json": "setup", "my.setup.json": "setup", "input": "office.txt", "INPUT": "office.txt", "OUTPUT": "office.out"}
-OFFICE = (TOP / "examples/office.out").read_text(encoding="utf-8")
-GOOD = "setup ok\nhosts 6\n"
+OFFICE, PICTURE = ((TOP / file).read_text(encoding="utf-8") for file in ("examples/office.out", "docs/office.svg"))
+SETUP = (TOP / "examples/office.txt").read_text(encoding="utf-8").split("\n", 1)[0]
+LINE_OF_SETUP = json.dumps(json.loads(SETUP), sort_keys=True, separators=(",", ":"), ensure_ascii=False) + "\n"
+GOOD = f"setup ok\nhosts {len(json.loads(SETUP)['hosts'])}\n"
 RUN = {
     "crates/nagsched/out/nagsched < examples/office.txt": ("", OFFICE),
     "crates/nagsched/out/nagsched check < setup.json": ("", GOOD),
     "nagsched check < my.setup.json": ("", GOOD),
     "nagsched check < setup.json": ("", GOOD),
-    "nagsched check --line < setup.json": ("", '{"options":'),
-    "nagsched check --line < my.setup.json > setup.line": ("setup.line", '{"options":'),
+    "nagsched check --line < setup.json": ("", LINE_OF_SETUP),
+    "nagsched check --line < my.setup.json > setup.line": ("setup.line", LINE_OF_SETUP),
     "nagsched run < input": ("", OFFICE),
     "nagsched run --workers 2": ("", "refused words\n"),
-    "nagsched --help": ("", "Usage: "),
-    "tools/timeline.py INPUT OUTPUT > picture.svg": ("picture.svg", (TOP / "docs/office.svg").read_text(encoding="utf-8")),
-    "tools/timeline.py examples/office.txt examples/office.out > docs/office.svg": ("docs/office.svg", (TOP / "docs/office.svg").read_text(encoding="utf-8")),
+    "nagsched --help": ("", "Schedules the active checks"),
+    "tools/timeline.py INPUT OUTPUT > picture.svg": ("picture.svg", PICTURE),
+    "tools/timeline.py examples/office.txt examples/office.out > docs/office.svg": ("docs/office.svg", PICTURE),
 }
 # What a script of the gate makes.
 IN_THE_GATE = {
@@ -93,9 +96,8 @@ def prepare(folder, program):
     (folder / "crates/nagsched/out").mkdir(parents=True)
     for link in (folder / "nagsched", folder / "crates/nagsched/out/nagsched"):
         link.symlink_to(program)
-    office = (TOP / "examples/office.txt").read_text(encoding="utf-8")
     for name, content in FILES.items():
-        text = office.split("\n", 1)[0] if content == "setup" else (TOP / "examples" / content).read_text(encoding="utf-8")
+        text = SETUP if content == "setup" else (TOP / "examples" / content).read_text(encoding="utf-8")
         (folder / name).write_text(text, encoding="utf-8")
 
 
