@@ -33,7 +33,7 @@ RUN = {
     "nagsched run < input": ("", OFFICE),
     "nagsched run --workers 2": ("", "refused words\n"),
     "nagsched --help": ("", "Schedules the active checks"),
-    "tools/timeline.py INPUT OUTPUT > picture.svg": ("picture.svg", PICTURE),
+    "tools/timeline.py INPUT OUTPUT > picture.svg": ("picture.svg", PICTURE[: PICTURE.index("office.txt")]),
     "tools/timeline.py examples/office.txt examples/office.out > docs/office.svg": ("docs/office.svg", PICTURE),
 }
 # What a script of the gate makes.

@@ -1,6 +1,6 @@
 //! Tests of what no clause says and no case of `conformance/` can: readers and writers of our own that
-//! fail, flushes, sessions over such devices, conversations in pieces, drills of several workers,
-//! explanations of a refusal that another document had, and lines that only embedders meet.
+//! fail, flushes, sessions over such devices, conversations in pieces, drills of several workers, and
+//! explanations of a refusal that another document had.
 
 mod devices;
 mod drill_faults;
@@ -9,7 +9,6 @@ mod explanations;
 mod faults;
 mod live;
 mod sessions;
-mod texts;
 
 use std::alloc::Global;
 use std::test::Fail;
