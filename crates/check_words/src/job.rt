@@ -123,7 +123,7 @@ Output, a word and its value a line:
   hosts, services, dependencies, parents         how many there are
   scheduled, disabled, without_interval          objects, each in one of these
   host_delay, host_first, host_last              the delay method of hosts, and
-                                                 their first and last first check
+                                                 the first and last first check
   service_delay, service_first, service_last     the same of services
   interleave_factor                              that of services
 With --line it writes the setup itself, on one line, and nothing else.
