@@ -126,10 +126,11 @@ static uint32_t mutex_report(struct nagsched_handle *caller, uint32_t object, ui
 static void report_often(struct thread *me) {
     uint64_t now = 0;
     uint32_t left = objects - 1;
+    const int by_turns = is("turns");
     for (uint64_t cycle = 0; cycle < me->takes; cycle++) {
         if (left == 0) left = objects - 1, now += MINUTES_5;
         left--;
-        if (is("turns")) me->caller = &callers[cycle % 2 * APART];
+        if (by_turns) me->caller = &callers[cycle % 2 * APART];
         CYCLE(me, now, nagsched_take, nagsched_report);
     }
 }
