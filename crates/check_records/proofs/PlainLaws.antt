@@ -1,5 +1,5 @@
 -- Nothing is lost on the way to C: each value can be read back from its struct.
-use Rattle.std.proofs.Common.{◌≡◌, ℕ, ◌<◌, ◌≤◌, ◌^◌, ◌==◌, cond, Bool, true, false, Some, None, refl, sym, ap, subst, arith, ◌∙◌}
+use Rattle.std.proofs.Common.{◌≡◌, ℕ, ◌<◌, ◌≤◌, ◌^◌, ◌==◌, Bool, true, false, Some, None, refl, sym, ap, subst, arith, ◌∙◌}
 use mathlib.Core.Logic.{◌≢◌}
 use Rattle.std.specs.Prelude.{Option}
 use Rattle.ticket_steps.specs.declared.kept.Entry.{Entry}
@@ -20,7 +20,6 @@ use Rattle.check_sched.specs.declared.call.Call.TheVariants as call
 use Rattle.check_sched.specs.declared.call.Reply.{Reply}
 use Rattle.check_sched.specs.declared.call.Reply.TheVariants as reply
 use Rattle.check_sched.specs.declared.call.Refusal.TheVariants as refused
-use Rattle.check_records.specs.declared.plain.PlainStanding.{PlainStanding}
 use Rattle.check_records.specs.declared.plain.PlainCall.{PlainCall}
 use Rattle.check_records.specs.declared.plain.PlainReply.{PlainReply}
 use Rattle.check_records.specs.declared.plain.PlainEntry.{PlainEntry}

@@ -4,13 +4,17 @@
 //! A standing, a call, a reply, an entry and the refusal of a document become structs here, and are read
 //! back from them. Nothing in them is a handle, a text or a status.
 //!
-//! The modules: `plain` has the structs, `laws` that nothing is lost on the way.
+//! The modules: `plain` has the structs and which of them stands for a value, `numbers` the numbers of
+//! what has names, `reading` reads structs back, `laws` says that nothing is lost on the way.
 
 pub mod laws;
+mod numbers;
 mod plain;
+mod reading;
 
+pub use numbers::{code_of, flag_of};
 pub use plain::{
-    PlainCall, PlainEntry, PlainRefusal, PlainReply, PlainStanding, call_of, code_of, entry_of,
-    flag_of, plain_call, plain_entry, plain_refusal, plain_reply, plain_standing, refusal_of,
-    reply_of,
+    PlainCall, PlainEntry, PlainRefusal, PlainReply, PlainStanding, plain_call, plain_entry,
+    plain_refusal, plain_reply, plain_standing,
 };
+pub use reading::{call_of, entry_of, refusal_of, reply_of};

@@ -1,7 +1,7 @@
 use Rattle.std.proofs.Common.{◌∙◌, sym, ap, subst, T}
 use Rattle.check_records.specs.Plain.{plain_reply}
 use Rattle.check_records.proofs.PlainLaws.{no_reply}
-use Rattle.check_records.proofs.plain.reply_of.Goals as goal
+use Rattle.check_records.proofs.reading.reply_of.Goals as goal
 
 pub returns-else-has_struct-clause-none : goal.returns-else-has_struct-clause-none
 returns-else-has_struct-clause-none c = no_reply c.args.plain
