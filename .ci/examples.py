@@ -11,7 +11,7 @@ import re
 from program import EXAMPLES, TOP, Held
 
 EMBEDDING = TOP / "docs" / "EMBEDDING.md"
-EMBEDDED = TOP / "crates" / "check_workers" / "src" / "tests" / "own_threads.rt"
+EMBEDDED = TOP / "crates" / "desk_tests" / "src" / "workers" / "own_threads.rt"
 MONTHS = "## For months"
 MACHINE_ROOM = TOP / "crates" / "machine_room" / "src"
 RUNS = {"office": ["run"], "drill": ["drill", "--workers", "1"]}

@@ -20,9 +20,6 @@ use std::alloc::{AllocError, Global};
 use std::mem;
 use ticket_steps::{Entry, Kept, NoMemory};
 
-#[cfg(test)]
-mod tests;
-
 /// A scheduler that keeps the history of its calls, each with its reply and under the number of the
 /// pass that made it. (Our own profile.)
 ///

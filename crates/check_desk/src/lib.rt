@@ -17,8 +17,6 @@
 mod desk;
 pub mod laws;
 mod passes;
-#[cfg(test)]
-mod tests;
 
 pub use desk::{Answer, Desk, Poll};
 pub use passes::{Hold, Pass, Turn};

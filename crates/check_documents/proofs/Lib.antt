@@ -1,4 +1,2 @@
 pub mod TreeLemmas
 pub mod CriteriaLemmas
-pub mod VerificationLemmas
-pub mod FaultlessLemmas

@@ -4,4 +4,3 @@ pub use Rattle.check_drafts.specs.LoadError
 pub mod Tree
 pub mod Criteria
 pub mod Reading
-pub mod Verification

@@ -10,9 +10,9 @@ use Rattle.check_drafts.specs.Ends.{is_known, full_names, known_dependencies}
 use Rattle.check_drafts.specs.Keys.{names_of, key_of}
 use Rattle.check_drafts.specs.Name.{full_name}
 use Rattle.check_drafts.proofs.ListLemmas.{list_any-map}
-use Rattle.check_documents.specs.Verification.{is_faultless, is_faultless_but_ends}
-use Rattle.check_documents.proofs.FaultlessLemmas.{ends_are_left, faultless_alone, without_dependencies}
-use Rattle.check_documents.proofs.VerificationLemmas.{same_ends}
+use Rattle.check_faults.specs.Verification.{is_faultless, is_faultless_but_ends}
+use Rattle.check_faults.proofs.FaultlessLemmas.{ends_are_left, faultless_alone, without_dependencies}
+use Rattle.check_faults.proofs.VerificationLemmas.{same_ends}
 use Rattle.check_numbers.specs.declared.numbering.Host.{Host}
 use Rattle.check_numbers.specs.declared.numbering.Service.{Service}
 use Rattle.check_numbers.specs.Configuration as spec

@@ -11,7 +11,7 @@ use Rattle.std.proofs.lemmas.Slice.Eq.{bytes_eq-Decides}
 use Rattle.check_numbers.specs.Configuration.{Configuration, named_host, named_service, objects_of, object_count, number_of, name_of}
 use Rattle.check_drafts.specs.Draft.{Drafts, HostDraft, DependencyDraft}
 use Rattle.check_drafts.specs.Ends.{full_names, has_known_ends, is_known}
-use Rattle.check_documents.specs.Verification.{is_faultless}
+use Rattle.check_faults.specs.Verification.{is_faultless}
 use Rattle.check_drafts.specs.Keys.{names_of}
 use Rattle.check_objects.specs.Links.{named_parents, named_dependency, named_dependencies, all_named_dependencies}
 use Rattle.check_numbers.specs.Numbering.{number_in, numbered_host, numbered_dependency, all_dependencies, dependencies_among, body_of, object_of}
@@ -25,7 +25,7 @@ use Rattle.check_numbers.proofs.NameLemmas.{HasNames, found, name_leads_back, al
 use Rattle.check_objects.proofs.OrderLemmas.{hosts_all, services_all}
 use Rattle.check_objects.proofs.NumberedLemmas.{HostEntry, host_names_are, host_named, known_in_order, full_name_in_order}
 use Rattle.check_numbers.proofs.NumberingLemmas.{map_twice}
-use Rattle.check_documents.proofs.FaultlessLemmas.{faultless}
+use Rattle.check_faults.proofs.FaultlessLemmas.{faultless}
 use Rattle.check_objects.proofs.SetupLemmas.{names_of_document, dependents_within}
 
 -- ---- names of objects

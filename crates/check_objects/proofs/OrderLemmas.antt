@@ -4,9 +4,9 @@ use Rattle.std.specs.List.Sorted.{IsPermutation, IsStrictlySortedBy}
 use Rattle.check_drafts.specs.Draft.{Drafts}
 use Rattle.check_drafts.specs.Name.{text_order, pair_order}
 use Rattle.check_numbers.specs.Numbering.{body_of, object_of, hosts_in_order, services_in_order}
-use Rattle.check_documents.specs.Verification.{is_faultless}
+use Rattle.check_faults.specs.Verification.{is_faultless}
 use Rattle.check_drafts.specs.Keys.{key_of}
-use Rattle.check_documents.proofs.FaultlessLemmas.{once}
+use Rattle.check_faults.proofs.FaultlessLemmas.{once}
 use Rattle.check_numbers.proofs.NumberLaws.{every_host, every_service, apart_hosts_ascend, apart_services_ascend}
 
 pub hosts_all : (d : Drafts) → is_faultless d ≡ Ok tt → IsPermutation (map (λ h. (h.name, body_of h)) d.hosts) (hosts_in_order d.hosts)

@@ -26,10 +26,10 @@ use Rattle.check_numbers.specs.Configuration.{pair_of, IsSameSort}
 use Rattle.link_order.specs.Cycles.{has_cycle, are_within}
 use Rattle.check_drafts.specs.Draft.{Drafts, HostDraft, ServiceDraft, DependencyDraft}
 use Rattle.check_drafts.specs.Ends.{full_names, is_known}
-use Rattle.check_documents.specs.Verification.{is_faultless}
+use Rattle.check_faults.specs.Verification.{is_faultless}
 use Rattle.check_drafts.specs.Keys.{names_of, key_of}
-use Rattle.check_documents.specs.Verification.{good_ranges, good_host_ranges, good_options, good_service_ranges}
-use Rattle.check_documents.specs.Verification.{is_in_range, is_within, is_delay_in_range, is_factor_in_range, are_thresholds_in_range, are_options_in_range}
+use Rattle.check_faults.specs.Verification.{good_ranges, good_host_ranges, good_options, good_service_ranges}
+use Rattle.check_faults.specs.Verification.{is_in_range, is_within, is_delay_in_range, is_factor_in_range, are_thresholds_in_range, are_options_in_range}
 use Rattle.check_drafts.specs.Agreement.{◌>>=◌}
 use Rattle.check_drafts.specs.Place.{host_at, service_at}
 use Rattle.check_numbers.specs.Numbering.{number_in, dependencies_among, numbered_host, numbered_service, hosts_in_order, services_in_order, names_in_order}
@@ -44,7 +44,7 @@ use Rattle.check_objects.proofs.NumberedLemmas.{listed_few, host_end, service_en
 use Rattle.check_numbers.proofs.DependencyLemmas.{dependents_below, masters_below, masters_within_lists, length-dependency_lists, list_of_object}
 use Rattle.check_numbers.proofs.NumberLaws.{hosts_counted, services_counted}
 use Rattle.check_drafts.proofs.RefusalLemmas.{all_by_position, have_known_ends, nowhere}
-use Rattle.check_documents.proofs.FaultlessLemmas.{IsFaultless, faultless, first_ok, rest_ok}
+use Rattle.check_faults.proofs.FaultlessLemmas.{IsFaultless, faultless, first_ok, rest_ok}
 
 -- ---- hosts' names have no semicolon
 

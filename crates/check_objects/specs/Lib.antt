@@ -4,7 +4,7 @@ pub use Rattle.check_drafts.specs.Keys
 pub use Rattle.check_drafts.specs.LoadError
 pub use Rattle.check_drafts.specs.Name
 pub use Rattle.check_documents.specs.Tree
-pub use Rattle.check_documents.specs.Verification
+pub use Rattle.check_faults.specs.Verification
 pub use Rattle.check_numbers.specs.Configuration
 pub use Rattle.check_numbers.specs.Numbering
 pub mod Links

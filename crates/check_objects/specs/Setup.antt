@@ -10,7 +10,7 @@ use Rattle.check_drafts.specs.Agreement.{◌>>=◌}
 use Rattle.check_drafts.specs.Draft.{Drafts}
 use Rattle.check_documents.specs.Tree.{tree_of}
 use Rattle.check_documents.specs.Reading.{drafts_of}
-use Rattle.check_documents.specs.Verification.{is_faultless}
+use Rattle.check_faults.specs.Verification.{is_faultless}
 use Rattle.check_numbers.specs.Numbering.{configuration}
 
 -- the setup, unless some object depends on itself through one dependency or more

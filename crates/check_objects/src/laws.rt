@@ -4,7 +4,7 @@ ghost use Rattle.std.specs.List.{filter};
 ghost use Rattle.std.specs.List.Sorted.{IsPermutation, IsStrictlySortedBy};
 ghost use Rattle.check_numbers.specs.Configuration.{Configuration, IsSetup, Service, number_of, name_of, pair_of, object_count, host_count};
 ghost use Rattle.check_drafts.specs.Draft.{Drafts};
-ghost use Rattle.check_documents.specs.Verification.{is_faultless};
+ghost use Rattle.check_faults.specs.Verification.{is_faultless};
 ghost use Rattle.check_drafts.specs.Keys.{key_of, same_key, names_of, first_repeat};
 ghost use Rattle.check_objects.specs.Links.{named_parents, named_dependencies, all_named_dependencies};
 ghost use Rattle.check_numbers.specs.Numbering.{all_dependencies, configuration, body_of, object_of, hosts_in_order, services_in_order, smaller_among};

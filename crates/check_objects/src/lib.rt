@@ -9,8 +9,6 @@
 
 pub mod laws;
 mod setup;
-#[cfg(test)]
-mod tests;
 
 pub use check_drafts::{
     Criteria, DelayMethod, Dependency, InterleaveFactor, LoadError, MAX_ATTEMPTS,

@@ -6,13 +6,14 @@ ghost use Rattle.link_order.specs.Orders.{IsOrder};
 ghost use Rattle.check_numbers.specs.Numbering.{configuration};
 ghost use Rattle.check_objects.specs.Kept.{configuration_of, IsKept};
 ghost use Rattle.check_objects.specs.Setup.{setup_of, setup_of_drafts, without_cycles, no_parent_cycle};
-ghost use Rattle.check_documents.specs.Verification.{is_faultless, is_faultless_but_ends};
+ghost use Rattle.check_faults.specs.Verification.{is_faultless, is_faultless_but_ends};
 ghost use Rattle.check_drafts.specs.Drafted.{HasFewAttempts};
 ghost use Rattle.check_numbers.specs.Entries.{host_entry, named, service_entry};
 ghost use Rattle.check_drafts.specs.LoadError.{Gives};
 
-use check_documents::{read_drafts, read_tree, verify_but_ends};
+use check_documents::{read_drafts, read_tree};
 use check_drafts::{Dependency, Drafts, LoadError, MAX_DOCUMENT_BYTES, Object, Options};
+use check_faults::verify_but_ends;
 use check_numbers::{
     Dependencies, Host, Parents, Service, list_dependencies, number_objects, object_number,
     order_by_masters,

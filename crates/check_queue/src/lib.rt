@@ -12,7 +12,5 @@
 mod entry;
 mod queue;
 mod sift;
-#[cfg(test)]
-mod tests;
 
 pub use queue::Queue;

@@ -21,8 +21,6 @@ pub mod laws;
 mod reachability;
 mod standing;
 mod state;
-#[cfg(test)]
-mod tests;
 mod verdicts;
 
 pub use board::{code, decode};

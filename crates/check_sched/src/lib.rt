@@ -22,8 +22,6 @@ mod report;
 mod results;
 mod roster;
 mod sched;
-#[cfg(test)]
-mod tests;
 
 pub use call::{Call, Refusal, Reply};
 pub use check_spread::{LAST_MOMENT, LAST_TIME};

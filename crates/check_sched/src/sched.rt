@@ -42,8 +42,6 @@ use std::marker::Model;
 
 mod checks;
 mod operators;
-#[cfg(test)]
-mod tests;
 
 /// How many runs are handed out at most.
 pub const MAX_RUNS: u64 = 1 << 60;

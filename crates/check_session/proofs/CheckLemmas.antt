@@ -14,9 +14,9 @@ use Rattle.check_script.specs.declared.input.TheConstants.{MAX_READ_BYTES}
 use Rattle.check_script.specs.Input.{without_last_feed}
 use Rattle.check_text.specs.Output.{WroteFront}
 use Rattle.check_text.proofs.OutputLemmas.{front_all, Appends-Keeps}
-use Rattle.check_session.specs.declared.drive.Outcome.{Outcome}
+use Rattle.check_drive.specs.declared.drive.Outcome.{Outcome}
 use Rattle.check_session.specs.Check.{IsCheckOnInput, IsTold}
-use Rattle.check_session.proofs.DriveLemmas.{input_of, input_of-is, Keeps-same}
+use Rattle.check_drive.proofs.DriveLemmas.{input_of, input_of-is, Keeps-same}
 
 -- ---- the document of an input
 

@@ -8,13 +8,13 @@ use Rattle.check_sched.specs.declared.call.Reply.{Reply}
 use Rattle.check_script.specs.declared.input.TheConstants.{MAX_READ_BYTES}
 use Rattle.check_script.specs.declared.drive_error.DriveError.{DriveError}
 use Rattle.check_script.specs.declared.drive_error.DriveError.TheVariants as errors
-use Rattle.check_session.specs.declared.drive.Outcome.{Outcome}
+use Rattle.check_drive.specs.declared.drive.Outcome.{Outcome}
 use Rattle.check_session.specs.Drill.{AfterDrillFault, IsDrill, IsDrillOnInput, IsTextOf, WroteDrill, WroteDrillFront, WroteDrillShort, drill_outcome}
 use Rattle.check_script.specs.DrillScript.{DrillScript, drill_script_of}
-use Rattle.check_session.specs.Drive.{HasRead, outcome_by}
+use Rattle.check_drive.specs.Drive.{HasRead, outcome_by}
 use Rattle.check_text.specs.Output.{WroteFront, WroteShort}
 use Rattle.check_text.specs.Text.{drill_text}
-use Rattle.check_session.proofs.DriveLemmas.{Keeps-same, drill_script_take, has_read, input_of, input_of-is}
+use Rattle.check_drive.proofs.DriveLemmas.{Keeps-same, drill_script_take, has_read, input_of, input_of-is}
 use Rattle.check_text.proofs.OutputLemmas.{Appends-Keeps, front_all}
 
 -- the text of a history of the input's script

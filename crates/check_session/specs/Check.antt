@@ -16,9 +16,9 @@ use Rattle.check_summary.specs.Text.{summary_text}
 use Rattle.check_places.specs.Feeds.{HasNoFeed}
 use Rattle.check_text.specs.Output.{WroteFront}
 use Rattle.check_text.specs.Text.{refusal_line}
-use Rattle.check_session.specs.declared.drive.Outcome.{Outcome}
-use Rattle.check_session.specs.declared.drive.Outcome.TheVariants as outcome
-use Rattle.check_session.specs.Drive.{IsInput}
+use Rattle.check_drive.specs.declared.drive.Outcome.{Outcome}
+use Rattle.check_drive.specs.declared.drive.Outcome.TheVariants as outcome
+use Rattle.check_drive.specs.Drive.{IsInput}
 
 -- ---- what is told of a document
 

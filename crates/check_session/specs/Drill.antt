@@ -11,10 +11,10 @@ use Rattle.check_sched.specs.Step.{step}
 use Rattle.check_workers.specs.Shifts.{IsShift, Shift, shift_entries}
 use Rattle.check_script.specs.declared.drive_error.DriveError.{DriveError}
 use Rattle.check_script.specs.declared.drive_error.DriveError.TheVariants as errors
-use Rattle.check_session.specs.declared.drive.Outcome.{Outcome}
+use Rattle.check_drive.specs.declared.drive.Outcome.{Outcome}
 use Rattle.check_script.specs.declared.refusal.InputRefusal.{InputRefusal}
 use Rattle.check_script.specs.DrillScript.{DrillScript, drill_script_of}
-use Rattle.check_session.specs.Drive.{HasRead, IsInput, outcome_by}
+use Rattle.check_drive.specs.Drive.{HasRead, IsInput, outcome_by}
 use Rattle.check_text.specs.Output.{WroteFront, WroteUpTo}
 use Rattle.check_session.specs.ScriptedCodes.{scripted_code}
 use Rattle.check_text.specs.Text.{drill_text, refusal_line}

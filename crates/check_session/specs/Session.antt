@@ -4,8 +4,8 @@ use Rattle.std.specs.Io.KnownBytes.{Appends}
 use Rattle.clap.specs.Words.{Text, fault_of}
 use Rattle.check_script.specs.declared.drive_error.DriveError.{DriveError}
 use Rattle.check_script.specs.declared.drive_error.DriveError.TheVariants as errors
-use Rattle.check_session.specs.declared.drive.Outcome.{Outcome}
-use Rattle.check_session.specs.declared.drive.Outcome.TheVariants as outcome
+use Rattle.check_drive.specs.declared.drive.Outcome.{Outcome}
+use Rattle.check_drive.specs.declared.drive.Outcome.TheVariants as outcome
 use Rattle.check_session.specs.declared.session.Ending.{Ending}
 use Rattle.check_session.specs.declared.session.Ending.TheVariants as ending
 use Rattle.check_words.specs.declared.words.Job.{Job}
@@ -14,8 +14,8 @@ use Rattle.check_words.specs.declared.words.WordsError.{WordsError}
 use Rattle.check_words.specs.declared.words.WordsError.TheVariants as words_error
 use Rattle.check_session.specs.Check.{IsCheckOnInput}
 use Rattle.check_session.specs.Drill.{AfterDrillFault, IsDrillOnInput}
-use Rattle.check_session.specs.Drive.{AfterFault, HasRead, IsRunOnInput}
-use Rattle.check_session.specs.Live.{IsLiveOnInput}
+use Rattle.check_drive.specs.Drive.{AfterFault, HasRead, IsRunOnInput}
+use Rattle.check_drive.specs.Live.{IsLiveOnInput}
 use Rattle.check_text.specs.Output.{WroteFront}
 use Rattle.check_words.specs.Words.{AsksHelp, IsRefused, job_asked, program}
 

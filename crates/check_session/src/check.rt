@@ -2,9 +2,9 @@
 ghost use Rattle.std.specs.Prelude.{◌≡◌, ◌≤◌, IfOk, IfErr, IfSome, OnOk};
 ghost use Rattle.check_script.specs.Input.{without_last_feed};
 ghost use Rattle.check_session.specs.Check.{IsCheckOnInput, IsLineTold, IsSummaryTold, IsRefusalTold, IsTold};
-ghost use Rattle.check_session.specs.Drive.{HasRead};
+ghost use Rattle.check_drive.specs.Drive.{HasRead};
 
-use crate::drive::Outcome;
+use check_drive::drive::Outcome;
 use check_explain::explain;
 use check_line::write_line;
 use check_objects::{LoadError, Setup};

@@ -7,14 +7,14 @@ ghost use Rattle.check_session.specs.Drill.{AfterDrillFault, IsDrill, IsDrillOnI
 ghost use Rattle.check_session.specs.Drill.{WroteDrill, WroteDrillFront, WroteDrillShort, drill_outcome};
 ghost use Rattle.check_script.specs.DrillScript.{drill_script_of};
 ghost use Rattle.check_script.specs.DrillScripted.{drill_script};
-ghost use Rattle.check_session.specs.Drive.{HasRead};
+ghost use Rattle.check_drive.specs.Drive.{HasRead};
 ghost use Rattle.check_text.specs.Output.{WroteFront, WroteShort};
 ghost use Rattle.check_text.specs.Text.{drill_text, entry_line, total_line};
 
-use crate::drive::Outcome;
 use crate::scripted::Scripted;
 use check_book::Book;
 use check_desk::Desk;
+use check_drive::drive::Outcome;
 use check_objects::Setup;
 use check_sched::{Call, LAST_MOMENT, Reply};
 use check_script::{DrillScript, DriveError, MAX_INPUT_BYTES, read_input};

@@ -9,8 +9,8 @@ ghost use Rattle.check_session.specs.Session.{exit_status, Ends, Tells};
 
 use crate::check::check;
 use crate::drill::drill;
-use crate::drive::{Outcome, drive};
-use crate::live::live;
+use check_drive::drive::{Outcome, drive};
+use check_drive::live::live;
 use check_script::DriveError;
 use check_text::{flush, write_text};
 use check_words::job::job;

@@ -18,8 +18,6 @@ mod crews;
 mod plugin;
 mod round;
 mod tally;
-#[cfg(test)]
-mod tests;
 mod worker;
 
 pub use crews::{CrewError, crew};

@@ -11,8 +11,6 @@
 pub mod laws;
 mod lists;
 mod order;
-#[cfg(test)]
-mod tests;
 
 pub use lists::{empty_lists, push_at};
 pub use order::order_by_links;

@@ -8,9 +8,6 @@
 ghost use Rattle.std.specs.Prelude.{◌≡◌, IfOk, map, string_bytes};
 ghost use Rattle.clap.specs.Walk.{texts};
 
-#[cfg(test)]
-mod tests;
-
 use check_script::DriveError;
 use check_session::session::{Ending, exit_status, refuse_words, session};
 use std::alloc::{AllocError, Global};

@@ -20,8 +20,6 @@ mod layout;
 mod lock;
 mod plays;
 mod steps;
-#[cfg(test)]
-mod tests;
 mod tokens;
 mod views;
 

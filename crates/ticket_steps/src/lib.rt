@@ -22,8 +22,6 @@ mod grants;
 mod kept;
 mod schedules;
 mod seats;
-#[cfg(test)]
-mod tests;
 
 pub use core_steps::Core;
 pub use events::{Event, Fault, Seen};

@@ -6,8 +6,8 @@ use Rattle.check_drafts.specs.Agreement.{◌>>=◌}
 use Rattle.check_drafts.specs.Draft.{Drafts}
 use Rattle.check_drafts.specs.Drafted.{drafts_view, host}
 use Rattle.check_drafts.specs.LoadError.{refusal, Gives}
-use Rattle.check_documents.specs.Verification.{is_faultless}
-use Rattle.check_documents.proofs.FaultlessLemmas.{faultless, faultless_alone, once, without_dependencies}
+use Rattle.check_faults.specs.Verification.{is_faultless}
+use Rattle.check_faults.proofs.FaultlessLemmas.{faultless, faultless_alone, once, without_dependencies}
 use Rattle.check_numbers.specs.Configuration.{Host, Service, objects_of, named_host, named_service}
 use Rattle.check_numbers.specs.Numbering.{configuration, numbered, dependencies_by_number}
 use Rattle.check_objects.specs.Setup.{setup_of_drafts, without_cycles}

@@ -2,8 +2,8 @@ use Rattle.std.proofs.Common.{ap, rules}
 use Rattle.check_drafts.specs.Agreement.{◌>>=◌}
 use Rattle.check_drafts.specs.Drafted.{drafts_view}
 use Rattle.check_drafts.specs.LoadError.{refusal}
-use Rattle.check_documents.specs.Verification.{is_faultless_but_ends}
-use Rattle.check_documents.proofs.FaultlessLemmas.{refused_but_ends}
+use Rattle.check_faults.specs.Verification.{is_faultless_but_ends}
+use Rattle.check_faults.proofs.FaultlessLemmas.{refused_but_ends}
 use Rattle.check_numbers.specs.Numbering.{configuration}
 use Rattle.check_objects.specs.Setup.{setup_of, setup_of_drafts, setup_of_tree, without_cycles}
 use Rattle.check_objects.proofs.CycleLemmas.{fails_later}

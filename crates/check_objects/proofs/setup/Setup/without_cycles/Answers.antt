@@ -13,7 +13,7 @@ use Rattle.check_drafts.specs.LoadError.{refusal}
 use Rattle.check_numbers.specs.Entries.{host_entry}
 use Rattle.check_numbers.specs.Numbering.{configuration}
 use Rattle.check_objects.specs.Setup.{without_cycles}
-use Rattle.check_documents.specs.Verification.{is_faultless}
+use Rattle.check_faults.specs.Verification.{is_faultless}
 use Rattle.check_objects.proofs.CycleLemmas.{fails_later, cyclic_parents, no_cycle_of, acyclic_setup, cyclic_dependencies}
 use Rattle.check_objects.proofs.SetupLemmas.{configuration_is_setup, has_lists, few_lists, masters_within, few_host_entries, hosts_are_linked}
 use Rattle.check_objects.proofs.setup.Setup.without_cycles.Goals as goal

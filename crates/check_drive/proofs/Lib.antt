@@ -1,0 +1,3 @@
+pub mod DriveLemmas
+pub mod LiveLemmas
+pub mod LiveLinesLemmas

@@ -1,0 +1,469 @@
+-- A whole conversation, and what its faults leave.
+use Rattle.std.proofs.Common.{◌≡◌, ◌≢◌, ℕ, ◌+◌, ◌≤◌, Bool, true, false, List, [], ◌∷◌, ◌++◌, length, Option, Some, None, Result, Ok, Err, refl, sym, ap, ◌∙◌}
+use Rattle.std.proofs.Common.{arith, inl, inr, ◌⊎◌, append_assoc, append-nil, subst}
+use Rattle.std.specs.Prelude.{IfSome, IfOk, IsOkUnless, OnOk, OnErr, IfErr}
+use Rattle.std.specs.Io.KnownBytes.{Appends, Consumes, IsAtEnd, Keeps}
+use Rattle.check_objects.specs.Configuration.{Configuration}
+use Rattle.check_objects.specs.Setup.{setup_of}
+use Rattle.check_drafts.specs.declared.error.LoadError.{LoadError}
+use Rattle.check_sched.specs.State.{State, opening}
+use Rattle.check_sched.specs.declared.call.Call.{Call}
+use Rattle.check_script.specs.declared.drive_error.DriveError.{DriveError}
+use Rattle.check_script.specs.declared.drive_error.DriveError.TheVariants as errors
+use Rattle.check_script.specs.declared.live_input.TheConstants.{KEPT_LINE_BYTES, KEPT_SETUP_BYTES}
+use Rattle.check_script.specs.declared.refusal.InputRefusal.{InputRefusal}
+use Rattle.check_script.specs.declared.refusal.InputRefusal.TheVariants as refusal
+use Rattle.check_script.specs.declared.refusal.ScriptError.{ScriptError}
+use Rattle.check_script.specs.declared.refusal.ScriptError.TheVariants as script
+use Rattle.check_script.specs.Agreement.{Gives}
+use Rattle.check_script.specs.Input.{first_line_of, lines_of}
+use Rattle.check_script.specs.LiveInput.{StopsSoon, behind_line, has_feed}
+use Rattle.check_script.specs.Script.{in_setup}
+use Rattle.check_script.proofs.LiveInputLemmas.{Consumes-none, Consumes-then, behind_none, behind_stays, first_all, first_stays, lines_apart}
+use Rattle.check_script.proofs.KeptLemmas.{setup_stays, too_long}
+use Rattle.check_text.specs.LiveText.{answer_to, answers_from, live_over, live_text, said, state_after}
+use Rattle.check_text.specs.Text.{input_refusal_text, refusal_line, refused_text}
+use Rattle.check_text.specs.Output.{WroteFront, WroteUpTo}
+use Rattle.check_text.proofs.OutputLemmas.{Appends-Keeps, Appends-none, Appends-trans, front_none}
+use Rattle.check_drive.specs.declared.drive.Outcome.{Outcome}
+use Rattle.check_drive.specs.declared.drive.Outcome.TheVariants as outcome
+use Rattle.check_drive.specs.Drive.{IsInput, outcome_by}
+use Rattle.check_drive.specs.Live.{AreWholeLines, HasReadLive, IsLiveOnInput, LeavesText, WroteLines, live_outcome}
+
+-- ---- what is read
+
+-- what is left where that is known, or nothing
+abbrev pub rest_of : Option (List ℕ) → List ℕ
+rest_of None = []
+rest_of (Some xs) = xs
+
+pub rest_input : (left : Option (List ℕ)) → IsInput left (rest_of left)
+rest_input None = tt
+rest_input (Some xs) = refl
+
+pub end_input : (left : Option (List ℕ)) → IsAtEnd left → IsInput left []
+end_input None e = tt
+end_input (Some xs) e = sym e
+
+pub rest_none : (left : Option (List ℕ)) → IsAtEnd left → rest_of left ≡ []
+rest_none None e = refl
+rest_none (Some xs) e = e
+
+-- the input is what was given, and then what still comes
+pub input_on : (had left : Option (List ℕ)) (given coming : List ℕ) → Consumes had left given → IsInput left coming → IsInput had (given ++ coming)
+input_on None left given coming h i = tt
+input_on (Some a) None given coming h i = absurd h
+input_on (Some a) (Some b) given coming h i = ap (λ l. given ++ l) i ∙ sym h
+
+pub input_all : (had left : Option (List ℕ)) (given : List ℕ) → Consumes had left given → IsAtEnd left → IsInput had given
+input_all had left given h e = subst (IsInput had) (append-nil given) (input_on had left given [] h (end_input left e))
+
+-- ---- what an error leaves
+
+whole_on : (a b : List ℕ) → AreWholeLines a → AreWholeLines b → AreWholeLines (a ++ b)
+whole_on a b w (inl none) = subst AreWholeLines (sym (ap (λ l. a ++ l) none ∙ append-nil a)) w
+whole_on a b w (inr (xs, e)) = inr (a ++ xs, ap (λ l. a ++ l) e ∙ sym (append_assoc a xs (10 ∷ [])))
+
+pub leaves_none : (e : DriveError) (held : Option (List ℕ)) (text : List ℕ) → LeavesText e held held text
+leaves_none errors.Read held text = front_none held text
+leaves_none errors.Write held text = front_none held text
+leaves_none errors.Memory held text = record { front = []; rest = text; parts = refl; appended = Appends-none held; whole = inl refl }
+
+-- behind whole lines that were written before
+pub leaves_on : (e : DriveError) (held mid holds : Option (List ℕ)) (front rest text : List ℕ) → AreWholeLines front → Appends held mid front
+    → text ≡ front ++ rest → LeavesText e mid holds rest → LeavesText e held holds text
+leaves_on errors.Read held mid holds front rest text w a p (r, f) = (
+  r,
+  record {
+    front = front ++ f.front;
+    parts = p ∙ ap (λ l. front ++ l) f.parts ∙ sym (append_assoc front f.front r);
+    appended = Appends-trans held mid holds front f.front a f.appended;
+  },
+)
+leaves_on errors.Write held mid holds front rest text w a p (r, f) = (
+  r,
+  record {
+    front = front ++ f.front;
+    parts = p ∙ ap (λ l. front ++ l) f.parts ∙ sym (append_assoc front f.front r);
+    appended = Appends-trans held mid holds front f.front a f.appended;
+  },
+)
+leaves_on errors.Memory held mid holds front rest text w a p f = record {
+  front = front ++ f.front;
+  rest = f.rest;
+  parts = p ∙ ap (λ l. front ++ l) f.parts ∙ sym (append_assoc front f.front f.rest);
+  appended = Appends-trans held mid holds front f.front a f.appended;
+  whole = whole_on front f.front w f.whole;
+}
+
+-- of a text that goes on
+pub leaves_more : (e : DriveError) (held holds : Option (List ℕ)) (text rest : List ℕ) → LeavesText e held holds text → LeavesText e held holds (text ++ rest)
+leaves_more errors.Read held holds text rest (r, f) = (
+  r ++ rest,
+  record { front = f.front; parts = ap (λ l. l ++ rest) f.parts ∙ append_assoc f.front r rest; appended = f.appended },
+)
+leaves_more errors.Write held holds text rest (r, f) = (
+  r ++ rest,
+  record { front = f.front; parts = ap (λ l. l ++ rest) f.parts ∙ append_assoc f.front r rest; appended = f.appended },
+)
+leaves_more errors.Memory held holds text rest f = record {
+  front = f.front;
+  rest = f.rest ++ rest;
+  parts = ap (λ l. l ++ rest) f.parts ∙ append_assoc f.front f.rest rest;
+  appended = f.appended;
+  whole = f.whole;
+}
+
+appended_none : (held holds : Option (List ℕ)) → Keeps held holds → Appends held holds []
+appended_none held holds k = Appends-Keeps held held holds [] (Appends-none held) k
+
+-- where the writer was left as it was before
+pub leaves_before : (e : DriveError) (held mid holds : Option (List ℕ)) (text : List ℕ) → Keeps held mid → LeavesText e mid holds text
+    → LeavesText e held holds text
+leaves_before e held mid holds text k f = leaves_on e held mid holds [] text text (inl refl) (appended_none held mid k) refl f
+
+pub leaves_kept : (e : DriveError) (held holds : Option (List ℕ)) (text : List ℕ) → Keeps held holds → LeavesText e held holds text
+leaves_kept e held holds text k = leaves_before e held holds holds text k (leaves_none e holds text)
+
+-- a front of a text, and nothing where there was no memory
+pub leaves_by : (e : DriveError) (held holds : Option (List ℕ)) (text : List ℕ) → WroteFront held holds text → (e ≡ errors.Memory → Keeps held holds)
+    → LeavesText e held holds text
+leaves_by errors.Read held holds text f none = f
+leaves_by errors.Write held holds text f none = f
+leaves_by errors.Memory held holds text f none = leaves_kept errors.Memory held holds text (none refl)
+
+pub leaves_if : {T : Type 0} (r : Result T DriveError) (held holds : Option (List ℕ)) (text : List ℕ) → OnErr r (WroteFront held holds text)
+    → IfErr r (λ e. e ≡ errors.Memory → Keeps held holds) → IfErr r (λ e. LeavesText e held holds text)
+leaves_if (Ok x) held holds text f none = tt
+leaves_if (Err e) held holds text f none = leaves_by e held holds text f none
+
+-- the same of a text that is told otherwise
+pub leaves_as : {T : Type 0} (r : Result T DriveError) (held holds : Option (List ℕ)) (text other : List ℕ) → text ≡ other
+    → OnErr r (WroteFront held holds text) → IfErr r (λ e. e ≡ errors.Memory → Keeps held holds) → IfErr r (λ e. LeavesText e held holds other)
+leaves_as r held holds text other same f none =
+    subst (λ l. IfErr r (λ e. LeavesText e held holds l)) same (leaves_if r held holds text f none)
+
+-- all of it, where the flush failed
+pub leaves_all : (held mid holds : Option (List ℕ)) (text : List ℕ) → Appends held mid text → Keeps mid holds → LeavesText errors.Write held holds text
+leaves_all held mid holds text a k =
+    ([], record { front = text; parts = sym (append-nil text); appended = Appends-Keeps held mid holds text a k })
+
+pub wrote_behind : (held mid holds : Option (List ℕ)) (text : List ℕ) → Keeps held mid → Appends mid holds text → Appends held holds text
+wrote_behind held mid holds text k a = Appends-trans held mid holds [] text (appended_none held mid k) a
+
+-- ---- answers
+
+pub answer_lines : (s : State) (r : Result (Option Call) InputRefusal) → AreWholeLines (answer_to s r)
+answer_lines s (Ok None) = inl refl
+answer_lines s (Ok (Some call)) = inr (_, refl)
+answer_lines s (Err why) = inr (refused_text (input_refusal_text why), refl)
+
+-- bytes with a line feed are a line and those behind it, whatever comes later
+lines_on : (bytes more : List ℕ) → has_feed bytes ≡ true → lines_of (bytes ++ more) ≡ first_line_of bytes ∷ lines_of (behind_line bytes ++ more)
+lines_on [] more h = cc
+lines_on (b ∷ bs) more h =
+    lines_apart b (bs ++ more) ∙ ap (λ l. l ∷ lines_of (behind_line (b ∷ bs ++ more))) (first_stays (b ∷ bs) more h)
+    ∙ ap (λ l. first_line_of (b ∷ bs) ∷ lines_of l) (behind_stays (b ∷ bs) more h)
+
+pub answers_on : (s : State) (n : ℕ) (hand given more : List ℕ) → has_feed (hand ++ given) ≡ true
+    → answers_from s n (lines_of (hand ++ (given ++ more))) ≡ answer_to s (said s n (first_line_of (hand ++ given)))
+    ++ answers_from (state_after s (said s n (first_line_of (hand ++ given)))) (n + 1) (lines_of (behind_line (hand ++ given) ++ more))
+answers_on s n hand given more h =
+    ap (λ l. answers_from s n (lines_of l)) (sym (append_assoc hand given more)) ∙ ap (answers_from s n) (lines_on (hand ++ given) more h)
+
+-- the last line has no line feed; no byte is no line, and answered like a blank one
+pub answers_last : (s : State) (n : ℕ) (bytes : List ℕ) → has_feed bytes ≡ false
+    → answers_from s n (lines_of bytes) ≡ answer_to s (said s n (first_line_of bytes))
+answers_last s n [] h = refl
+answers_last s n (b ∷ bs) h =
+    ap (answers_from s n) (lines_apart b bs ∙ ap (λ l. first_line_of (b ∷ bs) ∷ lines_of l) (behind_none (b ∷ bs) h)) ∙ append-nil _
+
+-- ---- one line after another
+
+-- Where a conversation stands that began at this state with these bytes at hand: the bytes that were given, the whole lines that
+-- were written, and that the text goes on from here as it goes on from the beginning, whatever comes later.
+pub record Talked (first : State) (opened : List ℕ) (had left held holds : Option (List ℕ)) (number : ℕ) (s : State) (hand : List ℕ) : Type 0 where
+  pub given : List ℕ
+  pub front : List ℕ
+  pub consumed : Consumes had left given
+  pub appended : Appends held holds front
+  pub whole : AreWholeLines front
+  pub goes_on : (more : List ℕ) → answers_from first 2 (lines_of (opened ++ (given ++ more))) ≡ front ++ answers_from s number (lines_of (hand ++ more))
+
+pub talk_begins : (first : State) (opened : List ℕ) (had held : Option (List ℕ)) → Talked first opened had had held held 2 first opened
+talk_begins first opened had held =
+    record { given = []; front = []; consumed = Consumes-none had; appended = Appends-none held; whole = inl refl; goes_on = λ more. refl }
+
+-- a whole line was answered
+pub talk_goes_on : (first s t : State) (opened hand rest part : List ℕ) (had mid left held wrote holds : Option (List ℕ)) (number : ℕ)
+    → Talked first opened had mid held wrote number s hand → Consumes mid left part → has_feed (hand ++ part) ≡ true → rest ≡ behind_line (hand ++ part)
+    → t ≡ state_after s (said s number (first_line_of (hand ++ part)))
+    → Appends wrote holds (answer_to s (said s number (first_line_of (hand ++ part))))
+    → Talked first opened had left held holds (number + 1) t rest
+talk_goes_on first s t opened hand rest part had mid left held wrote holds number k read feed behind after wrote_it =
+    let line = said s number (first_line_of (hand ++ part)) in
+    record {
+      given = k.given ++ part;
+      front = k.front ++ answer_to s line;
+      consumed = Consumes-then had mid left k.given part k.consumed read;
+      appended = Appends-trans held wrote holds k.front (answer_to s line) k.appended wrote_it;
+      whole = whole_on k.front (answer_to s line) k.whole (answer_lines s line);
+      goes_on = λ more.
+          ap (λ l. answers_from first 2 (lines_of (opened ++ l))) (append_assoc k.given part more) ∙ k.goes_on (part ++ more)
+          ∙ ap (λ l. k.front ++ l) (answers_on s number hand part more feed
+          ∙ ap (λ l. answer_to s line ++ l) (ap (λ u. answers_from u (number + 1) (lines_of (behind_line (hand ++ part) ++ more))) (sym after)
+          ∙ ap (λ l. answers_from t (number + 1) (lines_of (l ++ more))) (sym behind)))
+          ∙ sym (append_assoc k.front (answer_to s line) _);
+    }
+
+-- what is shown of a conversation that ended
+abbrev pub TalkEnded : State → List ℕ → Option (List ℕ) → Option (List ℕ) → Option (List ℕ) → Option (List ℕ) → Result (Unit {0}) DriveError → Type 0
+TalkEnded first opened had left held holds ended =
+    (coming : List ℕ) × IsInput had coming × OnOk ended (Consumes had left coming)
+    × OnOk ended (Appends held holds (answers_from first 2 (lines_of (opened ++ coming))))
+    × IfErr ended (λ e. LeavesText e held holds (answers_from first 2 (lines_of (opened ++ coming))))
+
+-- the text to the end, where the last line has no line feed
+ended_text : (first s : State) (opened hand part : List ℕ) (had mid left held wrote : Option (List ℕ)) (number : ℕ)
+    → (k : Talked first opened had mid held wrote number s hand) → has_feed (hand ++ part) ≡ false
+    → answers_from first 2 (lines_of (opened ++ (k.given ++ part))) ≡ k.front ++ answer_to s (said s number (first_line_of (hand ++ part)))
+ended_text first s opened hand part had mid left held wrote number k free =
+    k.goes_on part ∙ ap (λ l. k.front ++ l) (answers_last s number (hand ++ part) free)
+
+-- the input ended, and the writer was flushed or not
+pub talk_ends : (first s : State) (opened hand part : List ℕ) (had mid left held wrote wrote' holds : Option (List ℕ)) (number : ℕ)
+    (flushed : Result (Unit {0}) DriveError)
+    → Talked first opened had mid held wrote number s hand → Consumes mid left part → has_feed (hand ++ part) ≡ false → IsAtEnd left
+    → Appends wrote wrote' (answer_to s (said s number (first_line_of (hand ++ part)))) → Keeps wrote' holds → IsOkUnless flushed errors.Write
+    → TalkEnded first opened had left held holds flushed
+talk_ends first s opened hand part had mid left held wrote wrote' holds number (Ok _) k read free end wrote_it kept f =
+    let given = Consumes-then had mid left k.given part k.consumed read in
+    let text = ended_text first s opened hand part had mid left held wrote number k free in
+    let all = Appends-Keeps held wrote' holds _ (Appends-trans held wrote wrote' k.front _ k.appended wrote_it) kept in
+    (k.given ++ part, input_all had left (k.given ++ part) given end, given, rw text all, tt)
+talk_ends first s opened hand part had mid left held wrote wrote' holds number (Err e) k read free end wrote_it kept f =
+    let given = Consumes-then had mid left k.given part k.consumed read in
+    let text = ended_text first s opened hand part had mid left held wrote number k free in
+    let all = Appends-trans held wrote wrote' k.front _ k.appended wrote_it in
+    (k.given ++ part, input_all had left (k.given ++ part) given end, tt, tt, rw (f, text) (leaves_all held wrote' holds _ all kept))
+
+-- a line couldn't be taken or answered
+pub talk_fails : (first s : State) (opened hand coming : List ℕ) (had mid left held wrote holds : Option (List ℕ)) (number : ℕ)
+    (e : DriveError) (ended : Result (Unit {0}) DriveError)
+    → Talked first opened had mid held wrote number s hand → IsInput mid coming
+    → LeavesText e wrote holds (answers_from s number (lines_of (hand ++ coming))) → ended ≡ Err e → TalkEnded first opened had left held holds ended
+talk_fails first s opened hand coming had mid left held wrote holds number e ended k i f r =
+    rw r (
+      k.given ++ coming,
+      input_on had mid k.given coming k.consumed i,
+      tt,
+      tt,
+      leaves_on e held wrote holds k.front (answers_from s number (lines_of (hand ++ coming))) _ k.whole k.appended (k.goes_on coming) f,
+    )
+
+-- as many lines as can be numbered were answered
+pub talk_spent : (first s : State) (opened hand : List ℕ) (had left held holds : Option (List ℕ)) (number : ℕ) (e : DriveError)
+    → Talked first opened had left held holds number s hand → TalkEnded first opened had left held holds (Err e)
+talk_spent first s opened hand had left held holds number e k =
+    talk_fails first s opened hand (rest_of left) had left left held holds holds number e (Err e) k (rest_input left) (leaves_none e holds _) refl
+
+-- ---- one line
+
+-- what is shown of a line that couldn't be taken or answered
+abbrev pub LineFailed : State → ℕ → List ℕ → Option (List ℕ) → Option (List ℕ) → Option (List ℕ) → DriveError → Type 0
+LineFailed s number hand had held holds e =
+    (coming : List ℕ) × IsInput had coming × LeavesText e held holds (answers_from s number (lines_of (hand ++ coming)))
+
+pub untaken : (s : State) (number : ℕ) (hand given : List ℕ) (had left held holds : Option (List ℕ)) (e : DriveError)
+    → Consumes had left given → Keeps held holds → LineFailed s number hand had held holds e
+untaken s number hand given had left held holds e read kept =
+    (given ++ rest_of left, input_on had left given (rest_of left) read (rest_input left), leaves_kept e held holds _ kept)
+
+unanswered_by : (s : State) (number : ℕ) (hand given : List ℕ) (had left held mid holds : Option (List ℕ)) (e : DriveError) (whole : Bool)
+    → Consumes had left given → whole ≡ has_feed (hand ++ given) → (whole ≡ false → IsAtEnd left) → Keeps held mid
+    → LeavesText e mid holds (answer_to s (said s number (first_line_of (hand ++ given)))) → LineFailed s number hand had held holds e
+unanswered_by s number hand given had left held mid holds e true read feed end kept f = (
+  given ++ rest_of left,
+  input_on had left given (rest_of left) read (rest_input left),
+  leaves_before e held mid holds _ kept (rw (answers_on s number hand given (rest_of left) (sym feed)) (leaves_more e mid holds _ _ f)),
+)
+unanswered_by s number hand given had left held mid holds e false read feed end kept f = (
+  given,
+  input_all had left given read (end refl),
+  leaves_before e held mid holds _ kept (rw (answers_last s number (hand ++ given) (sym feed)) f),
+)
+
+pub unanswered : (s : State) (number : ℕ) (hand given : List ℕ) (had left held mid holds : Option (List ℕ)) (e : DriveError) (whole : Bool)
+    → Consumes had left given → whole ≡ has_feed (hand ++ given) → (whole ≡ false → IsAtEnd left) → Keeps held mid
+    → LeavesText e mid holds (answer_to s (said s number (first_line_of (hand ++ given)))) → LineFailed s number hand had held holds e
+unanswered = unanswered_by
+
+-- ---- the whole
+
+-- a refusal that was read is the one that is defined
+pub gives_refused : {X Y : Type 0} (view : X → Y) (r : Result X ScriptError) (e : ScriptError) (why : InputRefusal) (x : Result Y InputRefusal)
+    → Gives view r x → r ≡ Err e → e ≡ script.Refused why → x ≡ Err why
+gives_refused view (Ok c) e why x h i j = cc
+gives_refused view (Err script.Memory) e why x h i j = cc
+gives_refused view (Err (script.Refused w)) e why x h i j = let k : w ≡ why = cc in h ∙ ap Err k
+
+setup_is : (r : Result Configuration LoadError) (c : Configuration) → in_setup r ≡ Ok c → r ≡ Ok c
+setup_is (Ok d) c e = cc
+setup_is (Err e) c h = cc
+
+setup_refused : (r : Result Configuration LoadError) (why : InputRefusal) → in_setup r ≡ Err why
+    → (e : LoadError) × (r ≡ Err e) × (why ≡ refusal.Setup e)
+setup_refused (Ok c) why h = cc
+setup_refused (Err e) why h = (e, refl, cc)
+
+-- the text behind a setup
+opened_text : (start : ℕ) (c : Configuration) (given coming : List ℕ) → in_setup (setup_of (first_line_of given)) ≡ Ok c → has_feed given ≡ true
+    → live_text start (given ++ coming) ≡ answers_from (opening c start) 2 (lines_of (behind_line given ++ coming))
+unfolding live_text
+opened_text start c given coming s feed =
+    ap (λ l. live_over start (setup_of l) (lines_of (behind_line (given ++ coming)))) (first_stays given coming feed)
+    ∙ ap (λ l. live_over start (setup_of (first_line_of given)) (lines_of l)) (behind_stays given coming feed)
+    ∙ ap (λ r. live_over start r (lines_of (behind_line given ++ coming))) (setup_is (setup_of (first_line_of given)) c s)
+
+opened_setup : (c : Configuration) (given coming : List ℕ) → in_setup (setup_of (first_line_of given)) ≡ Ok c → has_feed given ≡ true
+    → setup_of (first_line_of (given ++ coming)) ≡ Ok c
+opened_setup c given coming s feed = ap setup_of (first_stays given coming feed) ∙ setup_is (setup_of (first_line_of given)) c s
+
+-- an error, whatever came before it
+pub live_failed : (start : ℕ) (e : DriveError) (had left held holds : Option (List ℕ)) (input : List ℕ) → IsInput had input
+    → LeavesText e held holds (live_text start input) → IsLiveOnInput start (Err e) had left held holds
+live_failed start e had left held holds input i f = record { input = input; is_input = i; outcome_is = tt; written = tt; read = tt; front = f }
+
+-- an error before anything was written
+pub live_unwritten : (start : ℕ) (e : DriveError) (had left held : Option (List ℕ)) (given : List ℕ) → Consumes had left given
+    → IsLiveOnInput start (Err e) had left held held
+live_unwritten start e had left held given read =
+    live_failed start e had left held held (given ++ rest_of left) (input_on had left given (rest_of left) read (rest_input left)) (leaves_none e held _)
+
+-- the lines were answered to the end
+pub live_ran : (start : ℕ) (c : Configuration) (given : List ℕ) (had mid left held holds : Option (List ℕ)) (u : Unit {0})
+    → in_setup (setup_of (first_line_of given)) ≡ Ok c → has_feed given ≡ true → Consumes had mid given
+    → TalkEnded (opening c start) (behind_line given) mid left held holds (Ok u) → IsLiveOnInput start (Ok outcome.Ran) had left held holds
+live_ran start c given had mid left held holds u s feed read t =
+    let setup = opened_setup c given t.0 s feed in
+    record {
+      input = given ++ t.0;
+      is_input = input_on had mid given t.0 read t.1;
+      outcome_is = sym (ap (λ r. outcome_by (in_setup r)) setup);
+      written = rw (opened_text start c given t.0 s feed) t.3;
+      read = rw setup (Consumes-then had mid left given t.0 read t.2);
+      front = tt;
+    }
+
+-- they weren't
+pub live_cut : (start : ℕ) (c : Configuration) (given : List ℕ) (had mid left held holds : Option (List ℕ)) (e : DriveError)
+    → in_setup (setup_of (first_line_of given)) ≡ Ok c → has_feed given ≡ true → Consumes had mid given
+    → TalkEnded (opening c start) (behind_line given) mid left held holds (Err e) → IsLiveOnInput start (Err e) had left held holds
+live_cut start c given had mid left held holds e s feed read t =
+    live_failed start e had left held holds (given ++ t.0) (input_on had mid given t.0 read t.1) (rw (opened_text start c given t.0 s feed) t.4)
+
+-- there are no lines behind the setup
+not_long : (c : Configuration) (given : List ℕ) → in_setup (setup_of (first_line_of given)) ≡ Ok c → has_feed given ≡ false
+    → KEPT_SETUP_BYTES ≤ length given → ⊥
+not_long c given s free long =
+    let all = ap length (first_all given free) in
+    let r = sym (too_long (first_line_of given) (omega (arith, long, all))) ∙ setup_is (setup_of (first_line_of given)) c s in
+    cc
+
+short_text : (start : ℕ) (c : Configuration) (given : List ℕ) → in_setup (setup_of (first_line_of given)) ≡ Ok c → has_feed given ≡ false
+    → live_text start given ≡ []
+unfolding live_text
+short_text start c given s free =
+    ap (λ l. live_over start (setup_of (first_line_of given)) (lines_of l)) (behind_none given free)
+    ∙ ap (λ r. live_over start r []) (setup_is (setup_of (first_line_of given)) c s)
+
+short_by : (start : ℕ) (c : Configuration) (given : List ℕ) (had left held : Option (List ℕ)) → in_setup (setup_of (first_line_of given)) ≡ Ok c
+    → has_feed given ≡ false → Consumes had left given → IsAtEnd left ⊎ (KEPT_SETUP_BYTES ≤ length given)
+    → IsLiveOnInput start (Ok outcome.Ran) had left held held
+short_by start c given had left held s free read (inr long) = absurd (not_long c given s free long)
+short_by start c given had left held s free read (inl end) =
+    let setup = setup_is (setup_of (first_line_of given)) c s in
+    record {
+      input = given;
+      is_input = input_all had left given read end;
+      outcome_is = sym (ap (λ r. outcome_by (in_setup r)) setup);
+      written = rw (short_text start c given s free) (Appends-none held);
+      read = rw setup read;
+      front = tt;
+    }
+
+pub live_short : (start : ℕ) (c : Configuration) (given : List ℕ) (had left held : Option (List ℕ)) (whole : Bool)
+    → in_setup (setup_of (first_line_of given)) ≡ Ok c → whole ≡ has_feed given → Consumes had left given
+    → (whole ≡ false → IsAtEnd left ⊎ (KEPT_SETUP_BYTES ≤ length given)) → whole ≡ false → IsLiveOnInput start (Ok outcome.Ran) had left held held
+live_short start c given had left held whole s feed read end short =
+    short_by start c given had left held s (sym feed ∙ short) read (end short)
+
+-- ---- a refused setup
+
+ended_by : (left : Option (List ℕ)) (given : List ℕ) → IsAtEnd left ⊎ (KEPT_SETUP_BYTES ≤ length given)
+    → (rest_of left ≡ []) ⊎ (KEPT_SETUP_BYTES ≤ length given)
+ended_by left given (inl end) = inl (rest_none left end)
+ended_by left given (inr long) = inr long
+
+refused_stays : (given : List ℕ) (left : Option (List ℕ)) (whole : Bool) → whole ≡ has_feed given
+    → (whole ≡ false → IsAtEnd left ⊎ (KEPT_SETUP_BYTES ≤ length given))
+    → setup_of (first_line_of (given ++ rest_of left)) ≡ setup_of (first_line_of given)
+refused_stays given left true feed end = setup_stays given (rest_of left) (inl (sym feed))
+refused_stays given left false feed end = setup_stays given (rest_of left) (inr (sym feed, ended_by left given (end refl)))
+
+refused_is : (start : ℕ) (input : List ℕ) (e : LoadError) → setup_of (first_line_of input) ≡ Err e → live_text start input ≡ refusal_line (refusal.Setup e)
+unfolding live_text
+refused_is start input e s = ap (λ r. live_over start r (lines_of (behind_line input))) s
+
+pub live_refused : (start : ℕ) (given : List ℕ) (had left held holds : Option (List ℕ)) (why : InputRefusal) (whole : Bool)
+    → in_setup (setup_of (first_line_of given)) ≡ Err why → Consumes had left given → StopsSoon KEPT_SETUP_BYTES given → whole ≡ has_feed given
+    → (whole ≡ false → IsAtEnd left ⊎ (KEPT_SETUP_BYTES ≤ length given)) → Appends held holds (refusal_line why)
+    → IsLiveOnInput start (Ok outcome.Refused) had left held holds
+live_refused start given had left held holds why whole s read soon feed end wrote =
+    let refused = setup_refused (setup_of (first_line_of given)) why s in
+    let setup = refused_stays given left whole feed end ∙ refused.1 in
+    record {
+      input = given ++ rest_of left;
+      is_input = input_on had left given (rest_of left) read (rest_input left);
+      outcome_is = sym (ap (λ r. outcome_by (in_setup r)) setup);
+      written = rw (refused_is start (given ++ rest_of left) refused.0 setup) (rw (refused.2) at wrote);
+      read = rw setup (given, read, soon);
+      front = tt;
+    }
+
+-- its line couldn't be written
+pub live_unrefused : (start : ℕ) (given : List ℕ) (had left held holds : Option (List ℕ)) (why : InputRefusal) (whole : Bool) (e : DriveError)
+    → in_setup (setup_of (first_line_of given)) ≡ Err why → Consumes had left given → whole ≡ has_feed given
+    → (whole ≡ false → IsAtEnd left ⊎ (KEPT_SETUP_BYTES ≤ length given)) → LeavesText e held holds (refusal_line why)
+    → IsLiveOnInput start (Err e) had left held holds
+live_unrefused start given had left held holds why whole e s read feed end f =
+    let refused = setup_refused (setup_of (first_line_of given)) why s in
+    let setup = refused_stays given left whole feed end ∙ refused.1 in
+    live_failed start e had left held holds (given ++ rest_of left) (input_on had left given (rest_of left) read (rest_input left))
+    (rw (refused_is start (given ++ rest_of left) refused.0 setup) (rw (refused.2) at f))
+
+-- ---- where it is known what the reader had
+
+pub known_written : (start : ℕ) (ended : Result Outcome DriveError) (had left held holds : Option (List ℕ)) → IsLiveOnInput start ended had left held holds
+    → OnOk ended (IfSome had (λ input. Appends held holds (live_text start input)))
+known_written start (Err e) had left held holds i = tt
+known_written start (Ok o) None left held holds i = tt
+known_written start (Ok o) (Some bytes) left held holds i = rw (← i.is_input) i.written
+
+pub known_outcome : (start : ℕ) (ended : Result Outcome DriveError) (had left held holds : Option (List ℕ)) → IsLiveOnInput start ended had left held holds
+    → IfOk ended (λ outcome. IfSome had (λ input. outcome ≡ live_outcome input))
+known_outcome start (Err e) had left held holds i = tt
+known_outcome start (Ok o) None left held holds i = tt
+known_outcome start (Ok o) (Some bytes) left held holds i = i.outcome_is ∙ ap live_outcome i.is_input
+
+pub known_read : (start : ℕ) (ended : Result Outcome DriveError) (had left held holds : Option (List ℕ)) → IsLiveOnInput start ended had left held holds
+    → OnOk ended (IfSome had (HasReadLive had left))
+known_read start (Err e) had left held holds i = tt
+known_read start (Ok o) None left held holds i = tt
+known_read start (Ok o) (Some bytes) left held holds i = subst (HasReadLive (Some bytes) left) i.is_input i.read
+
+pub known_fault : (start : ℕ) (ended : Result Outcome DriveError) (had left held holds : Option (List ℕ)) → IsLiveOnInput start ended had left held holds
+    → IfErr ended (λ e. IfSome had (λ input. LeavesText e held holds (live_text start input)))
+known_fault start (Ok o) had left held holds i = tt
+known_fault start (Err e) None left held holds i = tt
+known_fault start (Err e) (Some bytes) left held holds i = subst (λ l. LeavesText e held holds (live_text start l)) i.is_input i.front

@@ -1,0 +1,31 @@
+use Rattle.std.proofs.Common.{◌∙◌, sym, ap, Err}
+use Rattle.std.proofs.lemmas.Result.{err_from_is_err_and}
+use Rattle.check_script.specs.declared.drive_error.DriveError.TheVariants as errors
+use Rattle.check_drive.proofs.LiveLemmas.{talk_begins, talk_ends, talk_fails, talk_goes_on, talk_spent}
+use Rattle.check_drive.proofs.live.Talk.answer_lines.Goals as goal
+
+pub loop-number-init : goal.loop-number-init
+loop-number-init g c = (talk_begins _ _ _ _, c.requires.0, c.requires.1)
+
+pub loop-number-preserved : goal.loop-number-preserved
+loop-number-preserved g c =
+    let k = c.loop-number.invariant in
+    let a = c.in_ok-answer_next.ensures in
+    let t = a.took in
+    (talk_goes_on _ _ _ _ _ _ t.0 _ _ _ _ _ _ _ k.0 t.1 (sym t.2.0 ∙ c.if-not-branch.false) t.2.2 t.2.3 t.2.4, a.line, a.room)
+
+pub returns-in_err-answer_next : goal.returns-in_err-answer_next
+returns-in_err-answer_next g c =
+    let k = c.loop-number.invariant in
+    let f = c.in_err-answer_next.ensures.fault in
+    let p = err_from_is_err_and c.from_residual.result c.from_residual.ensures.1 in
+    talk_fails _ _ _ _ f.0 _ _ _ _ _ _ _ _ _ k.0 f.1 f.2 (p.1 ∙ ap Err p.2)
+
+pub returns-then-not-branch : goal.returns-then-not-branch
+returns-then-not-branch g c =
+    let k = c.loop-number.invariant in
+    let t = c.in_ok-answer_next.ensures.took in
+    talk_ends _ _ _ _ t.0 _ _ _ _ _ _ _ _ _ k.0 t.1 (sym t.2.0 ∙ c.if-not-branch.true) (t.2.1 c.if-not-branch.true) t.2.4 c.flush.ensures.kept c.flush.ensures.kind
+
+pub returns : goal.returns
+returns g c = talk_spent _ _ _ _ _ _ _ _ _ errors.Read c.loop-number.invariant.0

@@ -1,0 +1,46 @@
+-- What a run from a reader to a writer leaves, fault or none.
+use Rattle.std.specs.Prelude.{ℕ, ◌≡◌, ◌⊎◌, List, Option, Some, None, Result, Ok, Err, IfOk, IfSome, OnErr, OnOk, take, ⊤}
+use Rattle.std.specs.Io.KnownBytes.{Appends, Keeps, Consumes}
+use Rattle.check_script.specs.declared.drive_error.DriveError.{DriveError}
+use Rattle.check_script.specs.declared.drive_error.DriveError.TheVariants as errors
+use Rattle.check_drive.specs.declared.drive.Outcome.{Outcome}
+use Rattle.check_drive.specs.declared.drive.Outcome.TheVariants as outcome
+use Rattle.check_script.specs.declared.input.TheConstants.{MAX_READ_BYTES}
+use Rattle.check_script.specs.declared.refusal.InputRefusal.{InputRefusal}
+use Rattle.check_text.specs.Output.{WroteFront}
+use Rattle.check_script.specs.Script.{script_of}
+use Rattle.check_text.specs.Text.{text}
+
+-- what was read is run
+abbrev pub outcome_by : {A : Type 0} → Result A InputRefusal → Outcome
+outcome_by (Ok x) = outcome.Ran
+outcome_by (Err r) = outcome.Refused
+
+-- whether a run on the input makes its calls or refuses it
+unfoldable pub outcome_of : List ℕ → Outcome
+outcome_of input = outcome_by (script_of input)
+
+-- The whole input was read, or one byte more than an input may have.
+abbrev pub HasRead : Option (List ℕ) → Option (List ℕ) → List ℕ → Type 0
+HasRead had left input = Consumes had left (take MAX_READ_BYTES input)
+
+-- What an error leaves, by what the reader had and has left and what the writer held and holds.
+-- After a fault of the reader nothing was written. After any other error a front of the text was,
+-- and nothing at all where the input was read neither to its end nor to the limit.
+abbrev pub AfterFault : DriveError → ℕ → Option (List ℕ) → Option (List ℕ) → Option (List ℕ) → Option (List ℕ) → Type 0
+AfterFault errors.Read start had left held holds = Keeps held holds
+AfterFault e start None left held holds = ⊤
+AfterFault e start (Some input) left held holds = WroteFront held holds (text start input) × (Keeps held holds ⊎ HasRead (Some input) left input)
+
+-- An input of a reader: where it is known what the reader had, it is that.
+abbrev pub IsInput : Option (List ℕ) → List ℕ → Type 0
+IsInput had input = IfSome had (λ bytes. input ≡ bytes)
+
+-- Whatever is known of reader and writer, a run that ended so is that of one input: it ran or refused that input and wrote
+-- its text, or after an error a front of it.
+pub record IsRunOnInput (start : ℕ) (ended : Result Outcome DriveError) (had held holds : Option (List ℕ)) : Type 0 where
+  pub input : List ℕ
+  pub is_input : IsInput had input
+  pub outcome_is : IfOk ended (λ outcome. outcome ≡ outcome_of input)
+  pub written : OnOk ended (Appends held holds (text start input))
+  pub front : OnErr ended (WroteFront held holds (text start input))

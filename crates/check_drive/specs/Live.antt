@@ -1,0 +1,55 @@
+-- What a conversation from a reader to a writer leaves, fault or none.
+use Rattle.std.specs.Prelude.{ℕ, ◌≡◌, ◌⊎◌, List, [], ◌∷◌, ◌++◌, Option, Result, Ok, Err, IfOk, IfErr, OnOk}
+use Rattle.std.specs.Io.KnownBytes.{Appends, Consumes}
+use Rattle.check_objects.specs.Configuration.{Configuration}
+use Rattle.check_objects.specs.Setup.{setup_of}
+use Rattle.check_drafts.specs.declared.error.LoadError.{LoadError}
+use Rattle.check_script.specs.declared.drive_error.DriveError.{DriveError}
+use Rattle.check_script.specs.declared.drive_error.DriveError.TheVariants as errors
+use Rattle.check_script.specs.declared.live_input.TheConstants.{KEPT_SETUP_BYTES}
+use Rattle.check_script.specs.Input.{first_line_of}
+use Rattle.check_script.specs.LiveInput.{StopsSoon}
+use Rattle.check_script.specs.Script.{in_setup}
+use Rattle.check_text.specs.LiveText.{live_text}
+use Rattle.check_text.specs.Output.{WroteFront, WroteUpTo}
+use Rattle.check_drive.specs.declared.drive.Outcome.{Outcome}
+use Rattle.check_drive.specs.Drive.{IsInput, outcome_by}
+
+-- these bytes end a line, or there are none
+abbrev pub AreWholeLines : List ℕ → Type 0
+AreWholeLines bytes = (bytes ≡ []) ⊎ ((xs : List ℕ) × (bytes ≡ xs ++ 10 ∷ []))
+
+-- the writer took whole lines from the front of the text, and no more
+pub record WroteLines (old new : Option (List ℕ)) (text : List ℕ) : Type 0 where
+  pub front : List ℕ
+  pub rest : List ℕ
+  pub parts : text ≡ front ++ rest
+  pub appended : Appends old new front
+  pub whole : AreWholeLines front
+
+-- What an error leaves of a text: a front of it was written, and whole lines of it where there was no memory.
+abbrev pub LeavesText : DriveError → Option (List ℕ) → Option (List ℕ) → List ℕ → Type 0
+LeavesText errors.Memory held holds text = WroteLines held holds text
+LeavesText e held holds text = WroteFront held holds text
+
+-- whether a conversation on the input answers its lines or refuses its setup
+abbrev pub live_outcome : List ℕ → Outcome
+live_outcome input = outcome_by (in_setup (setup_of (first_line_of input)))
+
+-- What was read: the input to its end, or of one whose setup is refused no more than tells it.
+abbrev pub ReadBy : Result Configuration LoadError → Option (List ℕ) → Option (List ℕ) → List ℕ → Type 0
+ReadBy (Ok c) had left input = Consumes had left input
+ReadBy (Err e) had left input = (given : List ℕ) × Consumes had left given × StopsSoon KEPT_SETUP_BYTES given
+
+abbrev pub HasReadLive : Option (List ℕ) → Option (List ℕ) → List ℕ → Type 0
+HasReadLive had left input = ReadBy (setup_of (first_line_of input)) had left input
+
+-- Whatever is known of reader and writer, a conversation that ended so is that of one input: it answered that input's lines or
+-- refused its setup and wrote its text, or after an error a front of it.
+pub record IsLiveOnInput (start : ℕ) (ended : Result Outcome DriveError) (had left held holds : Option (List ℕ)) : Type 0 where
+  pub input : List ℕ
+  pub is_input : IsInput had input
+  pub outcome_is : IfOk ended (λ outcome. outcome ≡ live_outcome input)
+  pub written : OnOk ended (Appends held holds (live_text start input))
+  pub read : OnOk ended (HasReadLive had left input)
+  pub front : IfErr ended (λ e. LeavesText e held holds (live_text start input))

@@ -1,0 +1,155 @@
+//! A run: reads an input, makes its calls on one scheduler, and writes the lines of the replies.
+ghost use Rattle.std.specs.Prelude.{◌≡◌, ◌≤◌, IfOk, IfErr, IfSome, IsOkUnless, OnOk, OnErr, ◌≢◌, string_capacity};
+ghost use Rattle.std.specs.Io.KnownBytes.{Appends, Keeps};
+ghost use Rattle.check_sched.specs.State.{opening};
+ghost use Rattle.check_sched.specs.Step.{step};
+ghost use Rattle.check_text.specs.Output.{WroteFront, WroteShort};
+ghost use Rattle.check_text.specs.Text.{text, text_from, line_from};
+ghost use Rattle.check_drive.specs.Drive.{outcome_of, HasRead, AfterFault, IsRunOnInput};
+
+use check_objects::Setup;
+use check_sched::{Call, LAST_MOMENT, Sched};
+use check_script::{DriveError, Script, read_input};
+use check_text::{REPLY_BYTES, flush, push_reply, write_refusal, write_text};
+use std::alloc::Global;
+use std::io::{Read, Write};
+
+/// How a run ended that met no fault and wasn't out of memory.
+#[derive(Clone, Copy, Debug, PartialEq, Eq)]
+pub enum Outcome {
+    /// Each call of the script was made, and the line of each reply written.
+    Ran,
+    /// The input was refused before any call was made, and the line of its first refusal written.
+    Refused,
+}
+
+/// Reads a setup and a script, checks every line, then makes the calls on one scheduler that starts
+/// at the moment `start`, in milliseconds, and writes the line of each reply. An input that is
+/// refused writes the line of its first refusal and nothing else. The writer is flushed once, at
+/// the end.
+///
+/// The input is read whole, but no more than 67,108,865 bytes of it. Any error of the reader or the
+/// writer, an interruption among them, and a write that takes no byte, ends the run: `Read` comes
+/// where the reader fails, and nothing was written then; `Write` where the writer or its flush fails,
+/// and `Memory` where there is no memory, and a front of the text was written then, which is empty
+/// where the input wasn't read, and after `Memory` never is the whole of a text that has a line.
+pub fn drive<R: Read, W: Write>(
+    alloc: Global,
+    start: u64,
+    reader: &mut R,
+    writer: &mut W,
+) -> Result<Outcome, DriveError>
+    requires { start ≤ LAST_MOMENT }
+    ensures written { OnOk result (IfSome (R.remaining reader.old) (λ input.
+        Appends (W.contents writer.old) (W.contents writer.new) (text start input))) }
+    ensures outcome { IfOk result (λ outcome.
+        IfSome (R.remaining reader.old) (λ input. outcome ≡ outcome_of input)) }
+    ensures read { OnOk result (IfSome (R.remaining reader.old)
+        (HasRead (R.remaining reader.old) (R.remaining reader.new))) }
+    ensures fault { IfErr result (λ e.
+        AfterFault e start (R.remaining reader.old) (R.remaining reader.new)
+        (W.contents writer.old) (W.contents writer.new)) }
+    ensures memory { IfErr result (λ e. e ≡ DriveError.Memory
+        → IfSome (R.remaining reader.old) (λ input.
+        WroteShort (W.contents writer.old) (W.contents writer.new) (text start input))) }
+    ensures input { IsRunOnInput start result (R.remaining reader.old)
+        (W.contents writer.old) (W.contents writer.new) }
+{
+    let input = read_input(alloc, reader)?;
+    let outcome = answer(alloc, start, &input, writer)?;
+    flush(writer)?;
+    Ok(outcome)
+}
+
+/// Writes the text of an input that was read.
+#[tactic(auto, unfolding(check_text::specs::Text::text, crate::specs::Drive::outcome_of))]
+fn answer<W: Write>(
+    alloc: Global,
+    start: u64,
+    input: &[u8],
+    writer: &mut W,
+) -> Result<Outcome, DriveError>
+    requires { start ≤ LAST_MOMENT }
+    ensures written { OnOk result
+        (Appends (W.contents writer.old) (W.contents writer.new) (text start input.now)) }
+    ensures outcome { IfOk result (λ outcome. outcome ≡ outcome_of input.now) }
+    ensures fault { OnErr result
+        (WroteFront (W.contents writer.old) (W.contents writer.new) (text start input.now)) }
+    ensures kind { IfErr result (λ e. e ≢ DriveError.Read) }
+    ensures memory { IfErr result (λ e. e ≡ DriveError.Memory
+        → WroteShort (W.contents writer.old) (W.contents writer.new) (text start input.now)) }
+{
+    match Script::read(alloc, input) {
+        Ok(script) => run(alloc, start, script, writer),
+        Err(error) => {
+            write_refusal(alloc, error.refusal()?, writer)?;
+            Ok(Outcome::Refused)
+        }
+    }
+}
+
+/// Makes each call of a script, and writes the line of its reply. One buffer serves all lines.
+fn run<W: Write>(
+    alloc: Global,
+    start: u64,
+    script: Script<Call>,
+    writer: &mut W,
+) -> Result<Outcome, DriveError>
+    requires { start ≤ LAST_MOMENT }
+    ensures written { OnOk result (Appends (W.contents writer.old) (W.contents writer.new)
+        (text_from (opening script.setup start) script.commands.items)) }
+    ensures outcome { IfOk result (λ outcome. outcome ≡ Outcome.Ran) }
+    ensures fault { OnErr result (WroteFront (W.contents writer.old) (W.contents writer.new)
+        (text_from (opening script.setup start) script.commands.items)) }
+    ensures kind { IfErr result (λ e. e ≢ DriveError.Read) }
+    ensures memory { IfErr result (λ e. e ≡ DriveError.Memory
+        → WroteShort (W.contents writer.old) (W.contents writer.new)
+        (text_from (opening script.setup start) script.commands.items)) }
+{
+    let Script { setup, commands } = script;
+    let mut sched = open(alloc, setup, start)?;
+    let mut line = String::new(alloc);
+    for call in &commands {
+        make_call(&mut sched, *call, &mut line, writer)?;
+    }
+    Ok(Outcome::Ran)
+}
+
+/// A new scheduler that starts at this moment. An Err is `Memory`.
+fn open(alloc: Global, setup: Setup, start: u64) -> Result<Sched, DriveError>
+    requires { start ≤ LAST_MOMENT }
+    ensures new { IfOk result (λ sched. sched ≡ opening setup start) }
+    ensures kind { IsOkUnless result DriveError.Memory }
+{
+    match Sched::new(alloc, setup, start) {
+        Ok(sched) => Ok(sched),
+        Err(_) => Err(DriveError::Memory),
+    }
+}
+
+/// Makes one call, and writes the line of its reply by way of the buffer `line`. With room for
+/// `REPLY_BYTES` in that buffer no memory is wanting.
+pub fn make_call<W: Write>(
+    sched: &mut Sched,
+    call: Call,
+    line: &mut String,
+    writer: &mut W,
+) -> Result<(), DriveError>
+    ensures state { sched.new ≡ (step sched.old call).0 }
+    ensures setup { sched.new.setup ≡ sched.old.setup }
+    ensures written { OnOk result
+        (Appends (W.contents writer.old) (W.contents writer.new) (line_from sched.old call)) }
+    ensures fault { OnErr result
+        (WroteFront (W.contents writer.old) (W.contents writer.new) (line_from sched.old call)) }
+    ensures kind { IfErr result (λ e. e ≢ DriveError.Read) }
+    ensures memory { IfErr result (λ e. e ≡ DriveError.Memory
+        → Keeps (W.contents writer.old) (W.contents writer.new)) }
+    ensures room { string_capacity line.old ≤ string_capacity line.new }
+    ensures ample { REPLY_BYTES ≤ string_capacity line.old
+        → IfErr result (λ e. e ≢ DriveError.Memory) }
+{
+    let reply = sched.apply(call);
+    line.clear();
+    push_reply(line, sched.setup(), call, reply)?;
+    write_text(writer, line.as_bytes())
+}

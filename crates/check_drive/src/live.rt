@@ -1,0 +1,241 @@
+//! A conversation: reads a setup, and then answers each line when it has come, before it asks for more.
+ghost use Rattle.std.specs.Prelude.{◌≡◌, ◌≢◌, ◌≤◌, ◌++◌, ◌⊎◌, ℕ, List, [], IfOk, IfErr, IfSome, OnOk, true, false, length, string_capacity};
+ghost use Rattle.std.specs.Io.KnownBytes.{Appends, Consumes, IsAtEnd, Keeps};
+ghost use Rattle.check_objects.specs.Setup.{setup_of};
+ghost use Rattle.check_script.specs.Agreement.{Gives};
+ghost use Rattle.check_script.specs.Input.{first_line_of, lines_of};
+ghost use Rattle.check_script.specs.LiveInput.{StopsSoon, behind_line, front_of, has_feed};
+ghost use Rattle.check_script.specs.Script.{in_setup};
+ghost use Rattle.check_sched.specs.State.{opening};
+ghost use Rattle.check_text.specs.LiveText.{answer_to, answers_from, live_text, said, state_after};
+ghost use Rattle.check_drive.specs.Drive.{IsInput};
+ghost use Rattle.check_drive.specs.Live.{HasReadLive, IsLiveOnInput, LeavesText, live_outcome};
+
+use crate::drive::{Outcome, make_call};
+use crate::live_lines::take_next_line;
+use check_objects::Setup;
+use check_sched::{Call, LAST_MOMENT, Sched};
+use check_script::{
+    DriveError, InputBuffer, KEPT_LINE_BYTES, KEPT_SETUP_BYTES, KeptLine, ScriptError, read_kept,
+    read_setup, take_first_line,
+};
+use check_text::{REPLY_BYTES, flush, write_refusal};
+use std::alloc::Global;
+use std::io::{Read, Write};
+
+/// Reads a setup, opens a scheduler at the moment `start`, in milliseconds, and then answers each
+/// line when it is complete: its line feed has come, or the input has ended behind it. A call is
+/// made and the line of its reply written; a line that is no command is answered with the line of its
+/// refusal, and the scheduler stays as it was; a blank line is passed over. A refused setup writes
+/// the line of its refusal, and ends the conversation.
+///
+/// What was written is flushed before the reader is asked for more, and at the end. A reader is asked
+/// for more only where no whole line is at hand. Of line 1 no more is kept than 16,777,217 bytes, and
+/// of a later line 4,097; there is no limit on the input.
+///
+/// Any error of the reader or the writer, an interruption among them, and a write that takes no byte,
+/// ends the conversation: `Read` comes where the reader fails, or after 2^64 lines or reads, `Write`
+/// where the writer or its flush fails, and `Memory` where there is no memory. A front of the text was
+/// written then, after `Memory` whole lines of it.
+pub fn live<R: Read, W: Write>(
+    alloc: Global,
+    start: u64,
+    reader: &mut R,
+    writer: &mut W,
+) -> Result<Outcome, DriveError>
+    requires { start ≤ LAST_MOMENT }
+    ensures written { OnOk result (IfSome (R.remaining reader.old) (λ input.
+        Appends (W.contents writer.old) (W.contents writer.new) (live_text start input))) }
+    ensures outcome { IfOk result (λ outcome.
+        IfSome (R.remaining reader.old) (λ input. outcome ≡ live_outcome input)) }
+    ensures read { OnOk result (IfSome (R.remaining reader.old)
+        (HasReadLive (R.remaining reader.old) (R.remaining reader.new))) }
+    ensures fault { IfErr result (λ e. IfSome (R.remaining reader.old)
+        (λ input. LeavesText e (W.contents writer.old) (W.contents writer.new) (live_text start input))) }
+    ensures input { IsLiveOnInput start result (R.remaining reader.old) (R.remaining reader.new)
+        (W.contents writer.old) (W.contents writer.new) }
+{
+    converse(alloc, start, reader, writer)
+}
+
+/// The same, whatever is known of the reader.
+fn converse<R: Read, W: Write>(
+    alloc: Global,
+    start: u64,
+    reader: &mut R,
+    writer: &mut W,
+) -> Result<Outcome, DriveError>
+    requires { start ≤ LAST_MOMENT }
+    ensures { IsLiveOnInput start result (R.remaining reader.old) (R.remaining reader.new)
+        (W.contents writer.old) (W.contents writer.new) }
+{
+    let mut at_hand = InputBuffer::new(alloc);
+    let (setup, whole) = read_first(alloc, &mut at_hand, reader)?;
+    match setup {
+        Ok(setup) => {
+            let mut talk = Talk::new(alloc, setup, start, at_hand)?;
+            if whole {
+                talk.answer_lines(alloc, reader, writer)?;
+            }
+            Ok(Outcome::Ran)
+        }
+        Err(ScriptError::Refused(refusal)) => {
+            write_refusal(alloc, refusal, writer)?;
+            flush(writer)?;
+            Ok(Outcome::Refused)
+        }
+        Err(ScriptError::Memory) => Err(DriveError::Memory),
+    }
+}
+
+/// The setup of line 1, or its refusal, and whether lines may follow.
+fn read_first<R: Read>(
+    alloc: Global,
+    at_hand: &mut InputBuffer,
+    reader: &mut R,
+) -> Result<(Result<Setup, ScriptError>, bool), DriveError>
+    requires { at_hand.old ≡ [] }
+    ensures { (given : List ℕ)
+        × Consumes (R.remaining reader.old) (R.remaining reader.new) given
+        × StopsSoon KEPT_SETUP_BYTES given
+        × IfOk result (λ first.
+        Gives (λ setup. setup) first.0 (in_setup (setup_of (first_line_of given)))
+        × (first.1 ≡ has_feed given) × (at_hand.new ≡ behind_line given)
+        × (first.1 ≡ false
+        → IsAtEnd (R.remaining reader.new) ⊎ (KEPT_SETUP_BYTES ≤ length given))) }
+{
+    let mut document = KeptLine::new(alloc, KEPT_SETUP_BYTES);
+    let whole = take_first_line(at_hand, &mut document, reader)?;
+    Ok((read_setup(alloc, document.bytes()), whole))
+}
+
+/// A scheduler that is spoken to, what is at hand of the input, and the buffers of a line and of a
+/// reply's.
+#[derive(Drop)]
+struct Talk {
+    sched: Sched,
+    at_hand: InputBuffer,
+    line: KeptLine,
+    reply: String,
+}
+
+impl Talk {
+    /// A scheduler that is spoken to from its start on.
+    fn new(
+        alloc: Global,
+        setup: Setup,
+        start: u64,
+        at_hand: InputBuffer,
+    ) -> Result<Talk, DriveError>
+        requires { start ≤ LAST_MOMENT }
+        ensures sched { IfOk result (λ talk. talk.sched ≡ opening setup start) }
+        ensures at_hand { IfOk result (λ talk. talk.at_hand ≡ at_hand) }
+        ensures line { IfOk result (λ talk. talk.line ≡ front_of KEPT_LINE_BYTES []) }
+        ensures room { IfOk result (λ talk. REPLY_BYTES ≤ string_capacity talk.reply) }
+        ensures errors { IfErr result (λ e. e ≡ DriveError.Memory) }
+    {
+        let Ok(sched) = Sched::new(alloc, setup, start) else {
+            return Err(DriveError::Memory);
+        };
+        let reply = String::with_capacity(alloc, REPLY_BYTES)?;
+        Ok(Talk {
+            sched,
+            at_hand,
+            line: KeptLine::new(alloc, KEPT_LINE_BYTES),
+            reply,
+        })
+    }
+
+    /// Answers each line from line 2 on, to the end of the input, and flushes the writer then.
+    fn answer_lines<R: Read, W: Write>(
+        &mut self,
+        alloc: Global,
+        reader: &mut R,
+        writer: &mut W,
+    ) -> Result<(), DriveError>
+        requires { (self.old.line.most ≡ KEPT_LINE_BYTES)
+            × (REPLY_BYTES ≤ string_capacity self.old.reply) }
+        ensures { (coming : List ℕ) × IsInput (R.remaining reader.old) coming
+            × OnOk result (Consumes (R.remaining reader.old) (R.remaining reader.new) coming)
+            × OnOk result (Appends (W.contents writer.old) (W.contents writer.new)
+            (answers_from self.old.sched 2 (lines_of (self.old.at_hand ++ coming))))
+            × IfErr result (λ e. LeavesText e (W.contents writer.old) (W.contents writer.new)
+            (answers_from self.old.sched 2 (lines_of (self.old.at_hand ++ coming)))) }
+    {
+        for number in 2..usize::MAX {
+            if !self.answer_next(alloc, number, reader, writer)? {
+                return flush(writer);
+            }
+        }
+        Err(DriveError::Read)
+    }
+
+    /// Takes the next line, which has this number, and writes its answer; tells whether lines may
+    /// follow. Where a whole line is at hand the reader stays as it was. Where there is no memory the
+    /// scheduler stays as it was, and nothing is written.
+    fn answer_next<R: Read, W: Write>(
+        &mut self,
+        alloc: Global,
+        number: usize,
+        reader: &mut R,
+        writer: &mut W,
+    ) -> Result<bool, DriveError>
+        requires { (self.old.line.most ≡ KEPT_LINE_BYTES)
+            × (REPLY_BYTES ≤ string_capacity self.old.reply) }
+        ensures took { (given : List ℕ)
+            × Consumes (R.remaining reader.old) (R.remaining reader.new) given
+            × IfOk result (λ more. (more ≡ has_feed (self.old.at_hand ++ given))
+            × (more ≡ false → IsAtEnd (R.remaining reader.new))
+            × (self.new.at_hand ≡ behind_line (self.old.at_hand ++ given))
+            × (self.new.sched ≡ state_after self.old.sched
+            (said self.old.sched number (first_line_of (self.old.at_hand ++ given))))
+            × Appends (W.contents writer.old) (W.contents writer.new) (answer_to self.old.sched
+            (said self.old.sched number (first_line_of (self.old.at_hand ++ given))))) }
+        ensures unasked { has_feed self.old.at_hand ≡ true → reader.new ≡ reader.old }
+        ensures line { OnOk result (self.new.line.most ≡ KEPT_LINE_BYTES) }
+        ensures room { REPLY_BYTES ≤ string_capacity self.new.reply }
+        ensures fault { IfErr result (λ e. (coming : List ℕ)
+            × IsInput (R.remaining reader.old) coming
+            × LeavesText e (W.contents writer.old) (W.contents writer.new)
+            (answers_from self.old.sched number (lines_of (self.old.at_hand ++ coming)))) }
+        ensures memory { IfErr result (λ e. e ≡ DriveError.Memory
+            → (self.new.sched ≡ self.old.sched)
+            × Keeps (W.contents writer.old) (W.contents writer.new)) }
+    {
+        let whole = take_next_line(&mut self.at_hand, &mut self.line, reader, writer)?;
+        self.answer(alloc, number, writer)?;
+        Ok(whole)
+    }
+
+    /// Writes the answer to the line that was taken. The memory for a reply's line is there before
+    /// its call is made.
+    fn answer<W: Write>(
+        &mut self,
+        alloc: Global,
+        number: usize,
+        writer: &mut W,
+    ) -> Result<(), DriveError>
+        requires { REPLY_BYTES ≤ string_capacity self.old.reply }
+        ensures answered { (text : List ℕ) → self.old.line ≡ front_of KEPT_LINE_BYTES text
+            → OnOk result ((self.new.sched ≡ state_after self.old.sched (said self.old.sched number text))
+            × Appends (W.contents writer.old) (W.contents writer.new)
+            (answer_to self.old.sched (said self.old.sched number text))) }
+        ensures fault { (text : List ℕ) → self.old.line ≡ front_of KEPT_LINE_BYTES text
+            → IfErr result (λ e. LeavesText e (W.contents writer.old) (W.contents writer.new)
+            (answer_to self.old.sched (said self.old.sched number text))) }
+        ensures kind { IfErr result (λ e. e ≢ DriveError.Read) }
+        ensures at_hand { self.new.at_hand ≡ self.old.at_hand }
+        ensures line { self.new.line ≡ self.old.line }
+        ensures room { REPLY_BYTES ≤ string_capacity self.new.reply }
+        ensures memory { IfErr result (λ e. e ≡ DriveError.Memory
+            → (self.new.sched ≡ self.old.sched)
+            × Keeps (W.contents writer.old) (W.contents writer.new)) }
+    {
+        match read_kept::<Call>(alloc, self.sched.setup(), &self.line, number) {
+            Ok(None) => Ok(()),
+            Ok(Some(call)) => make_call(&mut self.sched, call, &mut self.reply, writer),
+            Err(ScriptError::Refused(refusal)) => write_refusal(alloc, refusal, writer),
+            Err(ScriptError::Memory) => Err(DriveError::Memory),
+        }
+    }
+}

@@ -1,0 +1,123 @@
+//! Passes of one call each: a worker takes a check and has no call left for its result, another
+//! caller abandons that check, and a third reports it too late.
+
+ghost use Rattle.check_desk.specs.Desks.{AreNewPassesWith, IsPassOf};
+ghost use Rattle.std.specs.List.{All};
+ghost use Rattle.std.specs.Prelude.{◌≡◌, ◌<◌, ◌≤◌, IfOk, length};
+
+use super::{AlwaysOk, ONE_SERVICE, closed, empty_book, report};
+use check_desk::{Answer, Desk, Pass};
+use check_rules::Code;
+use check_sched::{Call, Refusal, Reply};
+use check_workers::{Tally, crew, work};
+use std::alloc::Global;
+use std::process::Abort;
+use std::sync::Wait;
+use std::test::Fail;
+use ticket_steps::Kept;
+
+/// A desk on one service, and its passes of one call each.
+fn opened(alloc: Global, passes: u32) -> Result<(Desk, Vec<Pass>), Fail>
+    requires { (0 < passes) × (passes ≤ 1024) }
+    ensures passes { IfOk result (λ made. length made.1.items ≡ passes) }
+    ensures new { IfOk result (λ made. AreNewPassesWith 1 made.0 0 made.1.items) }
+    ensures own { IfOk result (λ made. All (IsPassOf made.0) made.1.items) }
+{
+    match Desk::open_with(alloc, empty_book(alloc, ONE_SERVICE)?, passes, 1) {
+        Ok(made) => Ok(made),
+        Err(book) => Ok(
+            Desk::open_with(alloc, book, passes, 1)
+                .ok()
+                .ok_or("no memory twice")?,
+        ),
+    }
+}
+
+/// That desk and its passes, by number.
+fn three_passes(alloc: Global) -> Result<(Desk, Pass, Pass, Pass), Fail>
+    ensures { IfOk result (λ made. IsPassOf made.0 made.1 × IsPassOf made.0 made.2
+        × IsPassOf made.0 made.3) }
+{
+    let (desk, mut passes) = opened(alloc, 3)?;
+    let third = passes.pop();
+    let second = passes.pop();
+    let first = passes.pop();
+    let (Some(first), Some(second), Some(third)) = (first, second, third) else {
+        return Err(Fail::from("not three passes"));
+    };
+    Ok((desk, first, second, third))
+}
+
+/// Works with a pass of one call, which goes into the take.
+fn take_alone(rt: &(impl Wait + Abort), desk: &Desk, pass: Pass) -> Pass
+    requires { IsPassOf desk.now pass }
+    ensures { IsPassOf desk.now result }
+{
+    let (pass, tally, open) = work(rt, desk, pass, &AlwaysOk, &[0]);
+    let one_take = Tally {
+        takes: 1,
+        taken: 1,
+        stops: 1,
+        ..Tally::default()
+    };
+    assert_eq!(rt; tally, one_take);
+    assert_eq!(rt; open, Some((1, 1)));
+    pass
+}
+
+/// Asks by a pass that has made its one call, and takes no ticket by it.
+fn ask_spent(rt: &(impl Wait + Abort), desk: &Desk, pass: Pass) -> Pass
+    requires { IsPassOf desk.now pass }
+    ensures { IsPassOf desk.now result }
+{
+    let (pass, answer) = desk.ask(rt, pass, Call::Take { now: 0 });
+    assert_eq!(rt; answer, Answer::Spent);
+    assert_eq!(rt; (pass.left(), pass.calls()), (0, 1));
+    match desk.begin(pass) {
+        Ok(_turn) => panic!(rt; "a ticket for a spent pass"),
+        Err(pass) => pass,
+    }
+}
+
+/// Makes one call, which has this reply.
+fn ask_once(rt: &(impl Wait + Abort), desk: &Desk, pass: Pass, call: Call, reply: Reply) -> Pass
+    requires { IsPassOf desk.now pass }
+    ensures { IsPassOf desk.now result }
+{
+    let (pass, answer) = desk.ask(rt, pass, call);
+    assert_eq!(rt; answer, Answer::Reply(reply));
+    pass
+}
+
+#[test]
+fn a_spent_worker_leaves_its_check_open(rt: HostRuntime) -> Result<(), Fail> {
+    let (desk, first, second, third) = three_passes(rt.alloc())?;
+    let first = take_alone(&rt, &desk, first);
+    let first = ask_spent(&rt, &desk, first);
+    let abandon = Call::Abandon {
+        object: 1,
+        run: 1,
+        now: 10,
+    };
+    let second = ask_once(&rt, &desk, second, abandon, Reply::Freed { next: 10 });
+    let too_late = Reply::Refused(Refusal::NotRunning);
+    let third = ask_once(&rt, &desk, third, report(1, Code::Ok), too_late);
+    let pass = desk.gather(desk.gather(first, second), third);
+    assert_eq!(rt; (pass.gathered(), pass.calls()), (3, 3));
+    let book = closed(&rt, desk, pass);
+    assert_eq!(rt; (book.entries().len(), book.refused()), (3, 0));
+    Ok(())
+}
+
+/// A crew whose pass has fewer calls left than two for each moment works with those that it has.
+#[test]
+fn a_crew_of_a_pass_with_one_call(rt: HostRuntime) -> Result<(), Fail> {
+    let alloc = rt.alloc();
+    let (desk, passes) = opened(alloc, 1)?;
+    let Ok((book, tally)) = crew(&rt, alloc, desk, passes, &AlwaysOk, &[0]) else {
+        return Err(Fail::from("no book"));
+    };
+    assert_eq!(rt; (tally.taken, tally.reports, tally.stops), (1, 0, 1));
+    assert_eq!(rt; (book.entries().len(), book.refused()), (1, 0));
+    Ok(())
+}

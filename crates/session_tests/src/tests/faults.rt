@@ -1,0 +1,107 @@
+//! Readers and writers that fail.
+
+use super::devices::{FailingReader, KINDS, ShortWriter};
+use super::with_host;
+use check_drive::drive::{Outcome, drive};
+use check_script::DriveError;
+use std::io::ErrorKind;
+use std::test::Fail;
+
+const LINES: &str = "[\"take\",0]\n[\"take\",0]\n";
+
+const TEXT: &[u8] = b"taken 1 h\nidle none\n";
+
+#[test]
+fn readers_fail(rt: HostRuntime) -> Result<(), Fail> {
+    let alloc = rt.alloc();
+    let input = with_host(alloc, LINES)?;
+    for count in 0..=input.len() {
+        for error in KINDS {
+            let mut reader = FailingReader {
+                bytes: &input.as_bytes()[..count],
+                most: 7,
+                error,
+            };
+            let mut writer = ShortWriter::new(alloc, 7);
+            let result = drive(alloc, 0, &mut reader, &mut writer);
+            assert_eq!(rt; result, Err(DriveError::Read));
+            assert!(rt; writer.taken.is_empty());
+        }
+    }
+    Ok(())
+}
+
+#[test]
+fn writers_fail(rt: HostRuntime) -> Result<(), Fail> {
+    let alloc = rt.alloc();
+    let input = with_host(alloc, LINES)?;
+    for room in 0..TEXT.len() {
+        for most in [1, 3, 100] {
+            let mut reader = input.as_bytes();
+            let mut writer = ShortWriter::new(alloc, most);
+            writer.room = room;
+            let result = drive(alloc, 0, &mut reader, &mut writer);
+            assert_eq!(rt; result, Err(DriveError::Write));
+            assert!(rt; writer.taken.as_slice() == &TEXT[..room]);
+        }
+    }
+    for error in KINDS {
+        let mut reader = input.as_bytes();
+        let mut writer = ShortWriter::new(alloc, 3);
+        writer.room = 5;
+        writer.error = error;
+        let result = drive(alloc, 0, &mut reader, &mut writer);
+        assert_eq!(rt; result, Err(DriveError::Write));
+    }
+    Ok(())
+}
+
+#[test]
+fn writer_takes_no_byte(rt: HostRuntime) -> Result<(), Fail> {
+    let alloc = rt.alloc();
+    for lines in [LINES, "["] {
+        let input = with_host(alloc, lines)?;
+        let mut reader = input.as_bytes();
+        let mut writer = ShortWriter::new(alloc, 0);
+        let result = drive(alloc, 0, &mut reader, &mut writer);
+        assert_eq!(rt; result, Err(DriveError::Write));
+        assert!(rt; writer.taken.is_empty());
+    }
+    Ok(())
+}
+
+/// A writer that takes one byte a call gets the whole text, and one flush at the end.
+#[test]
+fn flushes_once(rt: HostRuntime) -> Result<(), Fail> {
+    let alloc = rt.alloc();
+    let refused = b"refused S2 NotJson 2\n".as_slice();
+    for (lines, wanted, ended) in [
+        ("", b"".as_slice(), Outcome::Ran),
+        (LINES, TEXT, Outcome::Ran),
+        ("[", refused, Outcome::Refused),
+    ] {
+        let input = with_host(alloc, lines)?;
+        let mut reader = input.as_bytes();
+        let mut writer = ShortWriter::new(alloc, 1);
+        let result = drive(alloc, 0, &mut reader, &mut writer);
+        assert_eq!(rt; result, Ok(ended));
+        assert!(rt; writer.taken.as_slice() == wanted);
+        assert_eq!(rt; writer.flushes, 1);
+        assert_eq!(rt; writer.flushed, wanted.len());
+    }
+    Ok(())
+}
+
+#[test]
+fn flush_fails(rt: HostRuntime) -> Result<(), Fail> {
+    let alloc = rt.alloc();
+    let input = with_host(alloc, LINES)?;
+    let mut reader = input.as_bytes();
+    let mut writer = ShortWriter::new(alloc, 100);
+    writer.flush_error = Some(ErrorKind::Interrupted);
+    let result = drive(alloc, 0, &mut reader, &mut writer);
+    assert_eq!(rt; result, Err(DriveError::Write));
+    assert!(rt; writer.taken.as_slice() == TEXT);
+    assert_eq!(rt; writer.flushes, 1);
+    Ok(())
+}

@@ -1,5 +1,0 @@
-use Rattle.ticket_lock.specs.Tokens.{IsSeatOf}
-use Rattle.ticket_lock.proofs.tests.add_ones.Given as goal
-
-abbrev pub invariant-loop : goal.invariant-loop
-invariant-loop l = IsSeatOf l.lock l.seat
