@@ -163,10 +163,12 @@ def counting(held, what, made):
 
 
 def mistakes(held, library):
-    """Each mistake, in C and in Python, texts that no case comes to, and each request for memory refused."""
+    """Each mistake, in C and in Python, texts that no case comes to, desks of several callers, books, and each request for memory refused."""
     common = [f"-I{TESTS}/c", library.archive]
     counting(held, "mistakes in C", ran(library.compiled(TESTS / "c" / "wrong.c", *common, *COUNTED)))
     counting(held, "texts in C", ran(library.compiled(TESTS / "c" / "texts.c", *common)))
+    counting(held, "desks in C", ran(library.compiled(TESTS / "c" / "desks.c", *common)))
+    counting(held, "books in C", ran(library.compiled(TESTS / "c" / "books.c", *common)))
     counting(held, "refused requests", ran(library.compiled(TESTS / "c" / "refused.c", *common, *COUNTED, "-Wl,--wrap=free")))
     counting(held, "mistakes in Python", library.in_python(TESTS / "python" / "wrong.py"))
 

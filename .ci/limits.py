@@ -63,6 +63,13 @@ def many_objects(held):
     held.compare("4,000 services on 90 hosts", (lines(*wanted), 0), held.run([], lines(setup(**members), *takes)))
 
 
+def long_names(held):
+    """As many hosts as there can be, under long names: a document of more than a million bytes that say something."""
+    names = [f"{'h' * 240}{n}" for n in range(4_096)]
+    document = lines(setup(hosts=[host(name) for name in names]), '["take",0]')
+    held.compare("4,096 hosts under long names", (lines(f"taken 1 {names[0]}"), 0), held.run([], document))
+
+
 def many_parents(held):
     """A host with 16,384 parents, 4,000 different ones, is UNREACHABLE once the last of them is down."""
     names = [f"parent{n:04}" for n in range(4_000)]
@@ -183,6 +190,6 @@ def long_inputs(held):
 
 
 held = Held("limits")
-for part in (many_objects, many_parents, too_many, long_chain, long_cycles, last_of_many, places, long_inputs):
+for part in (many_objects, long_names, many_parents, too_many, long_chain, long_cycles, last_of_many, places, long_inputs):
     part(held)
 held.end()

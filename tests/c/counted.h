@@ -34,6 +34,11 @@ static const char SETUP[] = "{\"options\":{\"service_inter_check_delay_method\":
                             "\"hosts\":[{\"name\":\"h\",\"check_interval\":1,\"max_check_attempts\":3}],"
                             "\"services\":[{\"host\":\"h\",\"description\":\"s\",\"check_interval\":1,\"max_check_attempts\":3}]}";
 
+/* A host that is never due, and its service, which is checked every five minutes: objects 0 and 1. */
+static const char ONE_SERVICE[] = "{\"options\":{\"service_inter_check_delay_method\":\"n\",\"host_inter_check_delay_method\":\"n\"},"
+                                  "\"hosts\":[{\"name\":\"h\",\"check_interval\":0,\"max_check_attempts\":3}],"
+                                  "\"services\":[{\"host\":\"h\",\"description\":\"s\",\"max_check_attempts\":3}]}";
+
 static inline uint32_t read_setup(struct nagsched_handle *setup) {
     struct nagsched_refusal refusal;
     return nagsched_read((const uint8_t *)SETUP, strlen(SETUP), setup, &refusal);

@@ -1,5 +1,5 @@
 -- A whole conversation, and what its faults leave.
-use Rattle.std.proofs.Common.{◌≡◌, ◌≢◌, ℕ, ◌+◌, ◌≤◌, Bool, true, false, List, [], ◌∷◌, ◌++◌, length, Option, Some, None, Result, Ok, Err, refl, sym, ap, ◌∙◌}
+use Rattle.std.proofs.Common.{◌≡◌, ℕ, ◌+◌, ◌≤◌, Bool, true, false, List, [], ◌∷◌, ◌++◌, length, Option, Some, None, Result, Ok, Err, refl, sym, ap, ◌∙◌}
 use Rattle.std.proofs.Common.{arith, inl, inr, ◌⊎◌, append_assoc, append-nil, subst}
 use Rattle.std.specs.Prelude.{IfSome, IfOk, IsOkUnless, OnOk, OnErr, IfErr}
 use Rattle.std.specs.Io.KnownBytes.{Appends, Consumes, IsAtEnd, Keeps}
@@ -10,7 +10,7 @@ use Rattle.check_sched.specs.State.{State, opening}
 use Rattle.check_sched.specs.declared.call.Call.{Call}
 use Rattle.check_script.specs.declared.drive_error.DriveError.{DriveError}
 use Rattle.check_script.specs.declared.drive_error.DriveError.TheVariants as errors
-use Rattle.check_script.specs.declared.live_input.TheConstants.{KEPT_LINE_BYTES, KEPT_SETUP_BYTES}
+use Rattle.check_script.specs.declared.live_input.TheConstants.{KEPT_SETUP_BYTES}
 use Rattle.check_script.specs.declared.refusal.InputRefusal.{InputRefusal}
 use Rattle.check_script.specs.declared.refusal.InputRefusal.TheVariants as refusal
 use Rattle.check_script.specs.declared.refusal.ScriptError.{ScriptError}
@@ -23,12 +23,12 @@ use Rattle.check_script.proofs.LiveInputLemmas.{Consumes-none, Consumes-then, be
 use Rattle.check_script.proofs.KeptLemmas.{setup_stays, too_long}
 use Rattle.check_text.specs.LiveText.{answer_to, answers_from, live_over, live_text, said, state_after}
 use Rattle.check_text.specs.Text.{input_refusal_text, refusal_line, refused_text}
-use Rattle.check_text.specs.Output.{WroteFront, WroteUpTo}
+use Rattle.check_text.specs.Output.{WroteFront}
 use Rattle.check_text.proofs.OutputLemmas.{Appends-Keeps, Appends-none, Appends-trans, front_none}
 use Rattle.check_drive.specs.declared.drive.Outcome.{Outcome}
 use Rattle.check_drive.specs.declared.drive.Outcome.TheVariants as outcome
 use Rattle.check_drive.specs.Drive.{IsInput, outcome_by}
-use Rattle.check_drive.specs.Live.{AreWholeLines, HasReadLive, IsLiveOnInput, LeavesText, WroteLines, live_outcome}
+use Rattle.check_drive.specs.Live.{AreWholeLines, HasReadLive, IsLiveOnInput, LeavesText, live_outcome}
 
 -- ---- what is read
 

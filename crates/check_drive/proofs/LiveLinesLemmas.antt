@@ -1,5 +1,5 @@
 -- Lines of a conversation that are taken in parts.
-use Rattle.std.proofs.Common.{◌≡◌, ℕ, Bool, true, false, List, [], ◌++◌, Option, None, Some, refl, sym, ◌∙◌, ap, subst, append_assoc, append-nil}
+use Rattle.std.proofs.Common.{◌≡◌, ℕ, Bool, false, List, [], ◌++◌, Option, None, Some, refl, sym, ◌∙◌, ap, subst, append_assoc}
 use Rattle.std.specs.Io.KnownBytes.{Consumes, Keeps}
 use Rattle.check_script.specs.Input.{first_line_of}
 use Rattle.check_script.specs.LiveInput.{LineFront, TookLine, behind_line, front_of, has_feed}

@@ -11,7 +11,7 @@ use Rattle.check_script.specs.Input.{first_line_of}
 use Rattle.check_script.specs.LiveInput.{StopsSoon}
 use Rattle.check_script.specs.Script.{in_setup}
 use Rattle.check_text.specs.LiveText.{live_text}
-use Rattle.check_text.specs.Output.{WroteFront, WroteUpTo}
+use Rattle.check_text.specs.Output.{WroteFront}
 use Rattle.check_drive.specs.declared.drive.Outcome.{Outcome}
 use Rattle.check_drive.specs.Drive.{IsInput, outcome_by}
 

@@ -9,4 +9,6 @@ mod books;
 #[cfg(test)]
 mod desks;
 #[cfg(test)]
+mod openings;
+#[cfg(test)]
 mod workers;

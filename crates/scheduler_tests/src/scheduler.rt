@@ -3,8 +3,6 @@
 
 ghost use Rattle.std.specs.Prelude.{◌≤◌};
 
-mod scan;
-
 use check_objects::Setup;
 use check_rules::{Code, pending};
 use check_sched::laws::{

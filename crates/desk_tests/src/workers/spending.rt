@@ -1,11 +1,11 @@
 //! Passes of one call each: a worker takes a check and has no call left for its result, another
 //! caller abandons that check, and a third reports it too late.
 
-ghost use Rattle.check_desk.specs.Desks.{AreNewPassesWith, IsPassOf};
-ghost use Rattle.std.specs.List.{All};
-ghost use Rattle.std.specs.Prelude.{◌≡◌, ◌<◌, ◌≤◌, IfOk, length};
+ghost use Rattle.check_desk.specs.Desks.{IsPassOf};
+ghost use Rattle.std.specs.Prelude.{IfOk};
 
-use super::{AlwaysOk, ONE_SERVICE, closed, empty_book, report};
+use super::AlwaysOk;
+use crate::openings::{ONE_SERVICE, closed, opened};
 use check_desk::{Answer, Desk, Pass};
 use check_rules::Code;
 use check_sched::{Call, Refusal, Reply};
@@ -16,29 +16,12 @@ use std::sync::Wait;
 use std::test::Fail;
 use ticket_steps::Kept;
 
-/// A desk on one service, and its passes of one call each.
-fn opened(alloc: Global, passes: u32) -> Result<(Desk, Vec<Pass>), Fail>
-    requires { (0 < passes) × (passes ≤ 1024) }
-    ensures passes { IfOk result (λ made. length made.1.items ≡ passes) }
-    ensures new { IfOk result (λ made. AreNewPassesWith 1 made.0 0 made.1.items) }
-    ensures own { IfOk result (λ made. All (IsPassOf made.0) made.1.items) }
-{
-    match Desk::open_with(alloc, empty_book(alloc, ONE_SERVICE)?, passes, 1) {
-        Ok(made) => Ok(made),
-        Err(book) => Ok(
-            Desk::open_with(alloc, book, passes, 1)
-                .ok()
-                .ok_or("no memory twice")?,
-        ),
-    }
-}
-
-/// That desk and its passes, by number.
+/// A desk on one service, and its three passes of one call each, by number.
 fn three_passes(alloc: Global) -> Result<(Desk, Pass, Pass, Pass), Fail>
     ensures { IfOk result (λ made. IsPassOf made.0 made.1 × IsPassOf made.0 made.2
         × IsPassOf made.0 made.3) }
 {
-    let (desk, mut passes) = opened(alloc, 3)?;
+    let (desk, mut passes) = opened(alloc, ONE_SERVICE, 3, 1)?;
     let third = passes.pop();
     let second = passes.pop();
     let first = passes.pop();
@@ -101,7 +84,12 @@ fn a_spent_worker_leaves_its_check_open(rt: HostRuntime) -> Result<(), Fail> {
     };
     let second = ask_once(&rt, &desk, second, abandon, Reply::Freed { next: 10 });
     let too_late = Reply::Refused(Refusal::NotRunning);
-    let third = ask_once(&rt, &desk, third, report(1, Code::Ok), too_late);
+    let report = Call::Report {
+        object: 1,
+        run: 1,
+        code: Code::Ok,
+    };
+    let third = ask_once(&rt, &desk, third, report, too_late);
     let pass = desk.gather(desk.gather(first, second), third);
     assert_eq!(rt; (pass.gathered(), pass.calls()), (3, 3));
     let book = closed(&rt, desk, pass);
@@ -113,7 +101,7 @@ fn a_spent_worker_leaves_its_check_open(rt: HostRuntime) -> Result<(), Fail> {
 #[test]
 fn a_crew_of_a_pass_with_one_call(rt: HostRuntime) -> Result<(), Fail> {
     let alloc = rt.alloc();
-    let (desk, passes) = opened(alloc, 1)?;
+    let (desk, passes) = opened(alloc, ONE_SERVICE, 1, 1)?;
     let Ok((book, tally)) = crew(&rt, alloc, desk, passes, &AlwaysOk, &[0]) else {
         return Err(Fail::from("no book"));
     };

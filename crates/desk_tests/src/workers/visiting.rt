@@ -5,7 +5,7 @@ ghost use Rattle.check_desk.specs.Belonging.{IsPassOf-prop, IsWaitingAt-prop};
 ghost use Rattle.check_desk.specs.Desks.{IsPassOf, IsWaitingAt};
 ghost use Rattle.std.specs.Prelude.{⊤};
 
-use super::two_passes;
+use crate::openings::{TWO_SERVICES, two_passes};
 use check_desk::{Desk, Pass, Poll, Turn};
 use check_rules::Code;
 use check_sched::Call;
@@ -117,7 +117,7 @@ fn wait_for(rt: &impl Wait, queued: Queued) {
 
 #[test]
 fn a_check_may_call_its_own_desk(rt: HostRuntime) -> Result<(), Fail> {
-    let (desk, first, second) = two_passes(rt.alloc())?;
+    let (desk, first, second) = two_passes(rt.alloc(), TWO_SERVICES)?;
     let ready = Ready {
         desk: &desk,
         pass: second,

@@ -1,4 +1,4 @@
-use Rattle.std.proofs.Common.{◌≡◌, ◌∙◌, sym, ap, Ok, Err, true}
+use Rattle.std.proofs.Common.{◌≡◌, ◌∙◌, sym, Ok, Err, true}
 use Rattle.std.proofs.lemmas.Result.{err_from_is_err_and}
 use Rattle.check_objects.specs.Setup.{setup_of}
 use Rattle.check_script.specs.Input.{first_line_of}

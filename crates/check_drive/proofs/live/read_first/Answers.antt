@@ -1,4 +1,4 @@
-use Rattle.std.proofs.Common.{◌≡◌, ◌<◌, ◌∙◌, ap, sym, arith, []}
+use Rattle.std.proofs.Common.{◌≡◌, ◌∙◌, ap}
 use Rattle.check_objects.specs.Setup.{setup_of}
 use Rattle.check_script.specs.Input.{first_line_of}
 use Rattle.check_script.specs.LiveInput.{LineFront, front_of}
