@@ -1,7 +1,9 @@
 #!/usr/bin/env python3
 """Builds the C library, and holds it to its header, to the built program, and to what embeds it.
 
-    .ci/c_library.py [PROGRAM]     crates/nagsched/out/nagsched where no program is named; wants cc, c++ and the binutils
+    .ci/c_library.py [PROGRAM [--proved]]     crates/nagsched/out/nagsched where no program is named; wants cc, c++ and the binutils
+
+With --proved the library is built over what `rt ci` has just proved in this tree, by `tools/build_c.sh --proved`.
 
 The examples, in C with four workers and an operator and in Python with two workers, tell their histories: each caller's entries
 are its calls, runs are 1, 2, 3 and on, and the answers are what the program answers to the same calls in that order. Mistakes change
@@ -26,6 +28,7 @@ BINDING = TOP / "bindings" / "python"
 STRICT = ["-std=c11", "-Wall", "-Wextra", "-Werror", "-O2"]
 MINUTE, MINUTES = 60_000, (3, 2_000)
 WORKERS = {"embed.c": 4, "embed.py": 2}
+PROVED = sys.argv[2:]
 COUNTED = ["-Wl,--wrap=malloc,--wrap=realloc"]
 EMBEDDING = TOP / "docs" / "EMBEDDING.md"
 
@@ -40,7 +43,7 @@ class Library:
 
     def __init__(self, held, folder):
         self.held, self.folder, self.prefix = held, folder, folder / "prefix"
-        built = subprocess.run([TOP / "tools" / "build_c.sh", self.prefix], stdout=subprocess.PIPE, stderr=subprocess.STDOUT)
+        built = subprocess.run([TOP / "tools" / "build_c.sh", *PROVED, self.prefix], stdout=subprocess.PIPE, stderr=subprocess.STDOUT)
         held.compare("tools/build_c.sh", (0, b""), (built.returncode, built.stdout))
         if built.returncode != 0:
             held.end()

@@ -4,7 +4,7 @@
     .ci/examples.py [PROGRAM]     crates/nagsched/out/nagsched where no program is named
 
 What office.out and drill.out say was worked out by hand from the rules. The whole program that the page on embedding shows is a
-test of check_workers, byte for byte, and the code of its section on months stands in the sources of machine_room.
+test of desk_tests, byte for byte, and the code of its section on months stands in the sources of machine_room.
 """
 import re
 

@@ -101,6 +101,12 @@ def too_many(held):
     refused(held, "16,385 dependencies", "L3 TooMany", explanation, host_dependencies=[depends("a", "b", criteria="d")] * (PARENTS + 1))
 
 
+def most_dependencies(held):
+    """As many dependencies as there can be, all of one host on another."""
+    members = {"hosts": [host("a"), host("b")], "host_dependencies": [depends("a", "b", criteria="d")] * PARENTS}
+    held.compare("16,384 dependencies", (lines("taken 1 a"), 0), held.run([], lines(setup(**members), '["take",0]')))
+
+
 def long_chain(held):
     """A problem at one end of a chain of 4,000 dependencies that inherit puts off the check at the other end."""
     chain = ["a-master", *(f"c{n:04}" for n in range(3_999)), "b-dependent"]
@@ -190,6 +196,6 @@ def long_inputs(held):
 
 
 held = Held("limits")
-for part in (many_objects, long_names, many_parents, too_many, long_chain, long_cycles, last_of_many, places, long_inputs):
+for part in (many_objects, long_names, many_parents, too_many, most_dependencies, long_chain, long_cycles, last_of_many, places, long_inputs):
     part(held)
 held.end()

@@ -1,19 +1,44 @@
 #!/usr/bin/env bash
 # Proves and builds the C library, and lays it down under a folder.
-#   tools/build_c.sh [PREFIX]     out/c where no folder is named
+#   tools/build_c.sh [--proved] [PREFIX]     out/c where no folder is named
+# With --proved it stands on the libraries that `rt ci` has just proved and left in this tree: `rt lib` proves them once more.
 # PREFIX gets include/nagsched.h, lib/libnagsched.a, lib/libnagsched.so and lib/pkgconfig/nagsched.pc. Of both libraries
 # only the names that the header declares are to be seen, and they need the C library alone.
 # Wants rt, cc and the binutils: ld, ar, objcopy.
 set -eu -o pipefail
 top=$(cd "$(dirname "$0")/.." && pwd)
 header=$top/include/nagsched.h
-heap=$(dirname "$(rt doc)")/c/liblibc_c.a
+kit=$(dirname "$(rt doc)")
+heap=$kit/c/liblibc_c.a
+proved=
+if [ "${1:-}" = --proved ]; then
+    proved=yes
+    shift
+fi
 mkdir -p "${1:-$top/out/c}"
 prefix=$(cd "${1:-$top/out/c}" && pwd)
 work=$(mktemp -d)
 trap 'rm -rf "$work"' EXIT
 
-(cd "$top/crates/nagsched_c" && rt lib > "$work/build.log" 2>&1) || { cat "$work/build.log"; exit 1; }
+# Proves nagsched_c over the libraries that lie there, and builds it.
+over_proved() {
+    local name folder words=(--extern "std=$kit/rlibs/std.rlib")
+    for name in $(sed -n 's/^nagsched_c staticlib: //p' "$top/crates.txt"); do
+        folder=$top/crates/$name/out/rlib
+        [ -d "$top/crates/$name" ] || folder=$kit/rlibs
+        words+=(--extern "$name=$folder/$name.rlib")
+    done
+    for folder in "$kit/rlibs" "$top"/crates/*/out/rlib; do
+        words+=(-L "dependency=$folder")
+    done
+    mkdir -p out
+    "$kit/bin/rattle" build --crate-name nagsched_c src/lib.rt "${words[@]}" --antt-project "$kit/rattle/logic/antt-project.json" \
+        --logic-built "$kit/logic_built" --links nagsched_c= --crate-type staticlib --toolchain "$kit/toolchain" --backend llvm \
+        --jobs "$(nproc)" -o out/libnagsched_c.a
+}
+
+if [ "$proved" ]; then build=over_proved; else build="rt lib"; fi
+(cd "$top/crates/nagsched_c" && $build > "$work/build.log" 2>&1) || { cat "$work/build.log"; exit 1; }
 
 version=$(sed -n 's/^#define NAGSCHED_VERSION \([0-9]*\)u$/\1/p' "$header")
 sed -n 's/^uint32_t \(nagsched_[a-z_]*\)(.*/\1/p' "$header" > "$work/names"
