@@ -45,6 +45,7 @@ IN_THE_GATE = {
     "cc program.c $(pkg-config --cflags --libs PREFIX/lib/pkgconfig/nagsched.pc) -lpthread": ".ci/c_library.py",
     "tools/build_c.sh": ".ci/c_library.py",
     "tools/build_c.sh [PREFIX]": ".ci/c_library.py",
+    "tools/build_c.sh --proved [PREFIX]": ".ci/c_library.py",
     "tools/build_c.sh && NAGSCHED_LIBRARY=out/c/lib/libnagsched.so PYTHONPATH=bindings/python examples/embed.py [MINUTES]": ".ci/c_library.py",
     "tools/from_nagios.py": ".ci/tools.py",
     "tools/from_nagios.py --parts": ".ci/tools.py",
