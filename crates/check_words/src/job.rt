@@ -4,7 +4,8 @@ ghost use Rattle.std.specs.Prelude.{◌≡◌, ◌≤◌, ◌^◌, Some, [], fal
 ghost use Rattle.clap.specs.declared.builder.command.Command.TheViews.{out-Command};
 ghost use Rattle.clap.specs.Words.{app_of, fault_of, kind_of, rows_of, rule_of, found_of, subcommand_rows_of};
 ghost use Rattle.clap.specs.Walk.{texts};
-ghost use Rattle.check_words.specs.Words.{program, run_subcommand, live_subcommand, check_subcommand, drill_subcommand, start_option, number_option, line_flag, line_of};
+ghost use Rattle.check_words.specs.Words.{program, run_subcommand, live_subcommand, check_subcommand, drill_subcommand};
+ghost use Rattle.check_words.specs.Words.{number_option, start_option, workers_option, room_option, line_flag, line_of};
 ghost use Rattle.check_words.specs.Words.{job_asked, job_of, run_of, live_of, check_of, drill_of, start_of, workers_of, room_of};
 ghost use Rattle.check_words.specs.Words.{number_of, number_between, Explains, IsWithinLimits, Reads, Tells};
 
@@ -188,17 +189,13 @@ pub fn job(alloc: Global, words: &[&str]) -> Result<Job, WordsError>
 fn build_program<'a>(alloc: Global) -> Result<Command<'a>, AllocError>
     ensures { IfOk result (λ c. app_of c ≡ program) }
 {
-    let run = build_run(alloc)?;
-    let live = build_live(alloc)?;
-    let check = build_check(alloc)?;
-    let drill = build_drill(alloc)?;
     Command::new(alloc, "nagsched")
         .about(ABOUT)
         .after_help(NOTES)
-        .subcommand(run)?
-        .subcommand(live)?
-        .subcommand(check)?
-        .subcommand(drill)
+        .subcommand(build_run(alloc)?)?
+        .subcommand(build_live(alloc)?)?
+        .subcommand(build_check(alloc)?)?
+        .subcommand(build_drill(alloc)?)
 }
 
 /// The subcommand `run`.
@@ -240,14 +237,12 @@ fn build_drill<'a>(alloc: Global) -> Result<Command<'a>, AllocError>
     ensures { IfOk result (λ c.
         (app_of c ≡ drill_subcommand) × ((out-Command c).has_globals ≡ false)) }
 {
-    let workers = number_option(alloc, "workers", "2").help(ABOUT_WORKERS);
-    let room = number_option(alloc, "room", "1000").help(ABOUT_ROOM);
     Command::new(alloc, "drill")
         .about(ABOUT_DRILL)
         .after_help(DRILL_NOTES)
         .arg(start_option(alloc))?
-        .arg(workers)?
-        .arg(room)
+        .arg(workers_option(alloc))?
+        .arg(room_option(alloc))
 }
 
 /// The option `--start N`.
@@ -256,6 +251,22 @@ fn start_option<'a>(alloc: Global) -> Arg<'a>
     ensures local { result.global ≡ false }
 {
     number_option(alloc, "start", "0").help(ABOUT_START)
+}
+
+/// The option `--workers N`.
+fn workers_option<'a>(alloc: Global) -> Arg<'a>
+    ensures rule { rule_of result ≡ workers_option }
+    ensures local { result.global ≡ false }
+{
+    number_option(alloc, "workers", "2").help(ABOUT_WORKERS)
+}
+
+/// The option `--room N`.
+fn room_option<'a>(alloc: Global) -> Arg<'a>
+    ensures rule { rule_of result ≡ room_option }
+    ensures local { result.global ≡ false }
+{
+    number_option(alloc, "room", "1000").help(ABOUT_ROOM)
 }
 
 /// The flag `--line`.

@@ -9,11 +9,11 @@ pub returns : goal.returns
 returns c =
     let top : app_of c.after_help.result ≡ new_app (codes "nagsched") =
     ap app_of_fields c.after_help.ensures ∙ ap app_of_fields c.about.ensures ∙ c.new.ensures.app in
-    let with_run = c.in_ok-subcommand.ensures.shape c.in_ok-run.ensures.1
-    ∙ ap₂ with_subcommand top (ap (λ (a : App). a.top) c.in_ok-run.ensures.0) in
-    let with_live = c.in_ok-subcommand-2.ensures.shape c.in_ok-live.ensures.1
-    ∙ ap₂ with_subcommand with_run (ap (λ (a : App). a.top) c.in_ok-live.ensures.0) in
-    let with_check = c.in_ok-subcommand-3.ensures.shape c.in_ok-check.ensures.1
-    ∙ ap₂ with_subcommand with_live (ap (λ (a : App). a.top) c.in_ok-check.ensures.0) in
-    IfOk-weaker c.subcommand-4.result _ _ (λ r h. h.shape c.in_ok-drill.ensures.1
-    ∙ ap₂ with_subcommand with_check (ap (λ (a : App). a.top) c.in_ok-drill.ensures.0)) c.subcommand-4.ensures
+    let with_run = c.in_ok-subcommand.ensures.shape c.in_ok-build_run.ensures.1
+    ∙ ap₂ with_subcommand top (ap (λ (a : App). a.top) c.in_ok-build_run.ensures.0) in
+    let with_live = c.in_ok-subcommand-2.ensures.shape c.in_ok-build_live.ensures.1
+    ∙ ap₂ with_subcommand with_run (ap (λ (a : App). a.top) c.in_ok-build_live.ensures.0) in
+    let with_check = c.in_ok-subcommand-3.ensures.shape c.in_ok-build_check.ensures.1
+    ∙ ap₂ with_subcommand with_live (ap (λ (a : App). a.top) c.in_ok-build_check.ensures.0) in
+    IfOk-weaker c.subcommand-4.result _ _ (λ r h. h.shape c.in_ok-build_drill.ensures.1
+    ∙ ap₂ with_subcommand with_check (ap (λ (a : App). a.top) c.in_ok-build_drill.ensures.0)) c.subcommand-4.ensures
