@@ -14,7 +14,7 @@ returns c =
     let start_local = c.in_ok-arg.ensures.globals ∙ ap₂ (◌||◌) local c.start_option.ensures.local in
     let with_workers = c.in_ok-arg-2.ensures.shape c.workers_option.ensures.local ∙ ap₂ with_rule with_start c.workers_option.ensures.rule in
     let workers_local = c.in_ok-arg-2.ensures.globals ∙ ap₂ (◌||◌) start_local c.workers_option.ensures.local in
-    IfOk-weaker c.arg-3.result _ _ (λ r h.
-    ( h.shape c.room_option.ensures.local ∙ ap₂ with_rule with_workers c.room_option.ensures.rule
-    , h.globals ∙ ap₂ (◌||◌) workers_local c.room_option.ensures.local
+    IfOk-weaker c.arg-3.result _ _ (λ r h. (
+      h.shape c.room_option.ensures.local ∙ ap₂ with_rule with_workers c.room_option.ensures.rule,
+      h.globals ∙ ap₂ (◌||◌) workers_local c.room_option.ensures.local,
     )) c.arg-3.ensures
