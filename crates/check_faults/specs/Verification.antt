@@ -149,6 +149,14 @@ abbrev pub ranges_behind_ends : List (List ℕ) → Drafts → Result (Unit {0})
 ranges_behind_ends names drafts =
     behind (known_dependencies (full_names drafts.services) names drafts) (good_ranges drafts.options drafts.hosts drafts.services)
 
+-- the first refusal of those that are looked for once each host's name stands once
+abbrev pub faultless_behind_names : List (List ℕ) → Drafts → Result (Unit {0}) LoadError
+faultless_behind_names names drafts =
+    no_repeated_services drafts.services >>= λ _.
+    (known_parents names drafts.hosts >>= λ _.
+    (known_hosts names drafts.services >>= λ _.
+    ranges_behind_ends names drafts))
+
 -- The first refusal after the shape, if there is one that isn't of an unknown end alone: where nothing else is at fault, the
 -- ends of dependencies are asked when they are numbered.
 unfoldable pub is_faultless_but_ends : Drafts → Result (Unit {0}) LoadError

@@ -4,7 +4,7 @@ ghost use Rattle.std.specs.Prelude.{◌≡◌, ◌≤◌, ◌+◌, ◌&&◌, ℕ
 ghost use Rattle.std.specs.List.{list_all};
 ghost use Rattle.check_drafts.specs.LoadError.{Gives};
 ghost use Rattle.check_drafts.specs.Ends.{full_names, has_known_ends, known_dependencies, known_ends, is_known};
-ghost use Rattle.check_faults.specs.Verification.{few_objects, has_few_parents, good_names, good_host_names, good_descriptions, host_names, no_repeated_services, known_parents, known_hosts, few_dependencies, few_items, good_ranges, good_options, good_host_ranges, good_service_ranges, ranges_behind_ends, is_faultless_but_ends, is_in_range, is_within, is_delay_in_range, is_factor_in_range, are_thresholds_in_range, are_options_in_range};
+ghost use Rattle.check_faults.specs.Verification.{few_objects, has_few_parents, good_names, good_host_names, good_descriptions, host_names, no_repeated_services, known_parents, known_hosts, few_dependencies, few_items, good_ranges, good_options, good_host_ranges, good_service_ranges, ranges_behind_ends, faultless_behind_names, is_faultless_but_ends, is_in_range, is_within, is_delay_in_range, is_factor_in_range, are_thresholds_in_range, are_options_in_range};
 ghost use Rattle.check_drafts.specs.Name.{is_name_byte, is_name};
 ghost use Rattle.check_drafts.specs.Drafted.{host, service, dependency, drafts_view, texts, HasFewAttempts};
 ghost use Rattle.check_drafts.specs.Text.{text};
@@ -35,10 +35,24 @@ pub fn verify_but_ends(alloc: Global, drafts: &Drafts<'_>) -> Result<(), LoadErr
     verify_counts(drafts)?;
     verify_names(&drafts.hosts, &drafts.services)?;
     let names = distinct_names(alloc, &drafts.hosts)?;
+    verify_behind_names(alloc, drafts, &names)
+}
+
+/// What is verified once each host's name stands once, by these names.
+fn verify_behind_names(
+    alloc: Global,
+    drafts: &Drafts<'_>,
+    names: &IndexSet<&str>,
+) -> Result<(), LoadError>
+    ensures exact { Gives (λ u. u) result
+        (faultless_behind_names (texts names.now.keys) (drafts_view drafts.now)) }
+    ensures hosts { OnOk result (All (λ h. HasFewAttempts h.check) drafts.now.hosts.items) }
+    ensures services { OnOk result (All (λ s. HasFewAttempts s.check) drafts.now.services.items) }
+{
     verify_distinct_services(alloc, &drafts.services)?;
-    verify_parents(&drafts.hosts, &names)?;
-    verify_hosts(&drafts.services, &names)?;
-    verify_ranges_behind_ends(alloc, drafts, &names)
+    verify_parents(&drafts.hosts, names)?;
+    verify_hosts(&drafts.services, names)?;
+    verify_ranges_behind_ends(alloc, drafts, names)
 }
 
 fn verify_counts(drafts: &Drafts<'_>) -> Result<(), LoadError>
