@@ -217,7 +217,7 @@ talk_goes_on first s t opened hand rest part had mid left held wrote holds numbe
     }
 
 -- what is shown of a conversation that ended
-abbrev pub TalkEnded : State → List ℕ → Option (List ℕ) → Option (List ℕ) → Option (List ℕ) → Option (List ℕ) → Result (Unit {0}) DriveError → Type 0
+abbrev pub TalkEnded : {T : Type 0} → State → List ℕ → Option (List ℕ) → Option (List ℕ) → Option (List ℕ) → Option (List ℕ) → Result T DriveError → Type 0
 TalkEnded first opened had left held holds ended =
     (coming : List ℕ) × IsInput had coming × OnOk ended (Consumes had left coming)
     × OnOk ended (Appends held holds (answers_from first 2 (lines_of (opened ++ coming))))
@@ -263,7 +263,7 @@ talk_fails first s opened hand coming had mid left held wrote holds number e end
 
 -- as many lines as can be numbered were answered
 pub talk_spent : (first s : State) (opened hand : List ℕ) (had left held holds : Option (List ℕ)) (number : ℕ) (e : DriveError)
-    → Talked first opened had left held holds number s hand → TalkEnded first opened had left held holds (Err e)
+    → Talked first opened had left held holds number s hand → TalkEnded {T = Unit {0}} first opened had left held holds (Err e)
 talk_spent first s opened hand had left held holds number e k =
     talk_fails first s opened hand (rest_of left) had left left held holds holds number e (Err e) k (rest_input left) (leaves_none e holds _) refl
 
@@ -341,10 +341,10 @@ live_unwritten start e had left held given read =
     live_failed start e had left held held (given ++ rest_of left) (input_on had left given (rest_of left) read (rest_input left)) (leaves_none e held _)
 
 -- the lines were answered to the end
-pub live_ran : (start : ℕ) (c : Configuration) (given : List ℕ) (had mid left held holds : Option (List ℕ)) (u : Unit {0})
+live_ran : (start : ℕ) (c : Configuration) (given : List ℕ) (had mid left held holds : Option (List ℕ)) (o : Outcome)
     → in_setup (setup_of (first_line_of given)) ≡ Ok c → has_feed given ≡ true → Consumes had mid given
-    → TalkEnded (opening c start) (behind_line given) mid left held holds (Ok u) → IsLiveOnInput start (Ok outcome.Ran) had left held holds
-live_ran start c given had mid left held holds u s feed read t =
+    → TalkEnded (opening c start) (behind_line given) mid left held holds (Ok o) → IsLiveOnInput start (Ok outcome.Ran) had left held holds
+live_ran start c given had mid left held holds o s feed read t =
     let setup = opened_setup c given t.0 s feed in
     record {
       input = given ++ t.0;
@@ -356,9 +356,9 @@ live_ran start c given had mid left held holds u s feed read t =
     }
 
 -- they weren't
-pub live_cut : (start : ℕ) (c : Configuration) (given : List ℕ) (had mid left held holds : Option (List ℕ)) (e : DriveError)
+live_cut : (start : ℕ) (c : Configuration) (given : List ℕ) (had mid left held holds : Option (List ℕ)) (e : DriveError)
     → in_setup (setup_of (first_line_of given)) ≡ Ok c → has_feed given ≡ true → Consumes had mid given
-    → TalkEnded (opening c start) (behind_line given) mid left held holds (Err e) → IsLiveOnInput start (Err e) had left held holds
+    → TalkEnded {T = Outcome} (opening c start) (behind_line given) mid left held holds (Err e) → IsLiveOnInput start (Err e) had left held holds
 live_cut start c given had mid left held holds e s feed read t =
     live_failed start e had left held holds (given ++ t.0) (input_on had mid given t.0 read t.1) (rw (opened_text start c given t.0 s feed) t.4)
 
@@ -392,11 +392,19 @@ short_by start c given had left held s free read (inl end) =
       front = tt;
     }
 
-pub live_short : (start : ℕ) (c : Configuration) (given : List ℕ) (had left held : Option (List ℕ)) (whole : Bool)
-    → in_setup (setup_of (first_line_of given)) ≡ Ok c → whole ≡ has_feed given → Consumes had left given
-    → (whole ≡ false → IsAtEnd left ⊎ (KEPT_SETUP_BYTES ≤ length given)) → whole ≡ false → IsLiveOnInput start (Ok outcome.Ran) had left held held
-live_short start c given had left held whole s feed read end short =
-    short_by start c given had left held s (sym feed ∙ short) read (end short)
+-- what is shown of the lines behind a setup is what is shown of the whole
+pub live_answered : (start : ℕ) (c : Configuration) (given : List ℕ) (had mid left held holds : Option (List ℕ)) (whole : Bool)
+    (r : Result Outcome DriveError)
+    → in_setup (setup_of (first_line_of given)) ≡ Ok c → whole ≡ has_feed given → Consumes had mid given
+    → (whole ≡ false → IsAtEnd mid ⊎ (KEPT_SETUP_BYTES ≤ length given)) → IfOk r (λ o. o ≡ outcome.Ran)
+    → (whole ≡ false → (r ≡ Ok outcome.Ran) × (left ≡ mid) × (holds ≡ held))
+    → (whole ≡ true → TalkEnded (opening c start) (behind_line given) mid left held holds r) → IsLiveOnInput start r had left held holds
+live_answered start c given had mid left held holds false r s feed read end ran none lines =
+    let n = none refl in rw (n.0, n.1, n.2) (short_by start c given had mid held s (sym feed) read (end refl))
+live_answered start c given had mid left held holds true (Ok o) s feed read end ran none lines =
+    rw ran (live_ran start c given had mid left held holds o s (sym feed) read (lines refl))
+live_answered start c given had mid left held holds true (Err e) s feed read end ran none lines =
+    live_cut start c given had mid left held holds e s (sym feed) read (lines refl)
 
 -- ---- a refused setup
 
@@ -415,7 +423,7 @@ refused_is : (start : ℕ) (input : List ℕ) (e : LoadError) → setup_of (firs
 unfolding live_text
 refused_is start input e s = ap (λ r. live_over start r (lines_of (behind_line input))) s
 
-pub live_refused : (start : ℕ) (given : List ℕ) (had left held holds : Option (List ℕ)) (why : InputRefusal) (whole : Bool)
+live_refused : (start : ℕ) (given : List ℕ) (had left held holds : Option (List ℕ)) (why : InputRefusal) (whole : Bool)
     → in_setup (setup_of (first_line_of given)) ≡ Err why → Consumes had left given → StopsSoon KEPT_SETUP_BYTES given → whole ≡ has_feed given
     → (whole ≡ false → IsAtEnd left ⊎ (KEPT_SETUP_BYTES ≤ length given)) → Appends held holds (refusal_line why)
     → IsLiveOnInput start (Ok outcome.Refused) had left held holds
@@ -432,7 +440,7 @@ live_refused start given had left held holds why whole s read soon feed end wrot
     }
 
 -- its line couldn't be written
-pub live_unrefused : (start : ℕ) (given : List ℕ) (had left held holds : Option (List ℕ)) (why : InputRefusal) (whole : Bool) (e : DriveError)
+live_unrefused : (start : ℕ) (given : List ℕ) (had left held holds : Option (List ℕ)) (why : InputRefusal) (whole : Bool) (e : DriveError)
     → in_setup (setup_of (first_line_of given)) ≡ Err why → Consumes had left given → whole ≡ has_feed given
     → (whole ≡ false → IsAtEnd left ⊎ (KEPT_SETUP_BYTES ≤ length given)) → LeavesText e held holds (refusal_line why)
     → IsLiveOnInput start (Err e) had left held holds
@@ -441,6 +449,16 @@ live_unrefused start given had left held holds why whole e s read feed end f =
     let setup = refused_stays given left whole feed end ∙ refused.1 in
     live_failed start e had left held holds (given ++ rest_of left) (input_on had left given (rest_of left) read (rest_input left))
     (rw (refused_is start (given ++ rest_of left) refused.0 setup) (rw (refused.2) at f))
+
+-- what is shown of a refusal's line is what is shown of the whole
+pub live_refusal : (start : ℕ) (given : List ℕ) (had left held holds : Option (List ℕ)) (why : InputRefusal) (whole : Bool) (r : Result Outcome DriveError)
+    → in_setup (setup_of (first_line_of given)) ≡ Err why → Consumes had left given → StopsSoon KEPT_SETUP_BYTES given → whole ≡ has_feed given
+    → (whole ≡ false → IsAtEnd left ⊎ (KEPT_SETUP_BYTES ≤ length given)) → IfOk r (λ o. o ≡ outcome.Refused)
+    → OnOk r (Appends held holds (refusal_line why)) → IfErr r (λ e. LeavesText e held holds (refusal_line why)) → IsLiveOnInput start r had left held holds
+live_refusal start given had left held holds why whole (Ok o) s read soon feed end refused wrote f =
+    rw refused (live_refused start given had left held holds why whole s read soon feed end wrote)
+live_refusal start given had left held holds why whole (Err e) s read soon feed end refused wrote f =
+    live_unrefused start given had left held holds why whole e s read feed end f
 
 -- ---- where it is known what the reader had
 

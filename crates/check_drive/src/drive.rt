@@ -88,7 +88,7 @@ fn answer<W: Write>(
     }
 }
 
-/// Makes each call of a script, and writes the line of its reply. One buffer serves all lines.
+/// Makes each call of a script on one scheduler, and writes the line of its reply.
 fn run<W: Write>(
     alloc: Global,
     start: u64,
@@ -108,15 +108,34 @@ fn run<W: Write>(
 {
     let Script { setup, commands } = script;
     let mut sched = open(alloc, setup, start)?;
+    make_calls(alloc, &mut sched, &commands, writer)
+}
+
+/// Makes these calls, and writes the line of each reply. One buffer serves all lines.
+fn make_calls<W: Write>(
+    alloc: Global,
+    sched: &mut Sched,
+    calls: &[Call],
+    writer: &mut W,
+) -> Result<Outcome, DriveError>
+    ensures written { OnOk result (Appends (W.contents writer.old) (W.contents writer.new)
+        (text_from sched.old calls.now)) }
+    ensures outcome { IfOk result (λ outcome. outcome ≡ Outcome.Ran) }
+    ensures fault { OnErr result (WroteFront (W.contents writer.old) (W.contents writer.new)
+        (text_from sched.old calls.now)) }
+    ensures kind { IfErr result (λ e. e ≢ DriveError.Read) }
+    ensures memory { IfErr result (λ e. e ≡ DriveError.Memory
+        → WroteShort (W.contents writer.old) (W.contents writer.new) (text_from sched.old calls.now)) }
+{
     let mut line = String::new(alloc);
-    for call in &commands {
-        make_call(&mut sched, *call, &mut line, writer)?;
+    for call in calls {
+        make_call(sched, *call, &mut line, writer)?;
     }
     Ok(Outcome::Ran)
 }
 
 /// A new scheduler that starts at this moment. An Err is `Memory`.
-fn open(alloc: Global, setup: Setup, start: u64) -> Result<Sched, DriveError>
+pub(crate) fn open(alloc: Global, setup: Setup, start: u64) -> Result<Sched, DriveError>
     requires { start ≤ LAST_MOMENT }
     ensures new { IfOk result (λ sched. sched ≡ opening setup start) }
     ensures kind { IsOkUnless result DriveError.Memory }

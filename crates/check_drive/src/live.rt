@@ -1,5 +1,5 @@
 //! A conversation: reads a setup, and then answers each line when it has come, before it asks for more.
-ghost use Rattle.std.specs.Prelude.{◌≡◌, ◌≢◌, ◌≤◌, ◌++◌, ◌⊎◌, ℕ, List, [], IfOk, IfErr, IfSome, OnOk, true, false, length, string_capacity};
+ghost use Rattle.std.specs.Prelude.{◌≡◌, ◌≢◌, ◌≤◌, ◌++◌, ◌⊎◌, ℕ, List, [], Ok, IfOk, IfErr, IfSome, OnOk, true, false, length, string_capacity};
 ghost use Rattle.std.specs.Io.KnownBytes.{Appends, Consumes, IsAtEnd, Keeps};
 ghost use Rattle.check_objects.specs.Setup.{setup_of};
 ghost use Rattle.check_script.specs.Agreement.{Gives};
@@ -8,16 +8,17 @@ ghost use Rattle.check_script.specs.LiveInput.{StopsSoon, behind_line, front_of,
 ghost use Rattle.check_script.specs.Script.{in_setup};
 ghost use Rattle.check_sched.specs.State.{opening};
 ghost use Rattle.check_text.specs.LiveText.{answer_to, answers_from, live_text, said, state_after};
+ghost use Rattle.check_text.specs.Text.{refusal_line};
 ghost use Rattle.check_drive.specs.Drive.{IsInput};
 ghost use Rattle.check_drive.specs.Live.{HasReadLive, IsLiveOnInput, LeavesText, live_outcome};
 
-use crate::drive::{Outcome, make_call};
+use crate::drive::{Outcome, make_call, open};
 use crate::live_lines::take_next_line;
 use check_objects::Setup;
 use check_sched::{Call, LAST_MOMENT, Sched};
 use check_script::{
-    DriveError, InputBuffer, KEPT_LINE_BYTES, KEPT_SETUP_BYTES, KeptLine, ScriptError, read_kept,
-    read_setup, take_first_line,
+    DriveError, InputBuffer, InputRefusal, KEPT_LINE_BYTES, KEPT_SETUP_BYTES, KeptLine,
+    ScriptError, read_kept, read_setup, take_first_line,
 };
 use check_text::{REPLY_BYTES, flush, write_refusal};
 use std::alloc::Global;
@@ -74,18 +75,28 @@ fn converse<R: Read, W: Write>(
     match setup {
         Ok(setup) => {
             let mut talk = Talk::new(alloc, setup, start, at_hand)?;
-            if whole {
-                talk.answer_lines(alloc, reader, writer)?;
-            }
-            Ok(Outcome::Ran)
+            talk.answer_all(alloc, whole, reader, writer)
         }
-        Err(ScriptError::Refused(refusal)) => {
-            write_refusal(alloc, refusal, writer)?;
-            flush(writer)?;
-            Ok(Outcome::Refused)
-        }
+        Err(ScriptError::Refused(refusal)) => refuse(alloc, refusal, writer),
         Err(ScriptError::Memory) => Err(DriveError::Memory),
     }
+}
+
+/// Writes the line of a setup's refusal, and flushes the writer.
+fn refuse<W: Write>(
+    alloc: Global,
+    refusal: InputRefusal,
+    writer: &mut W,
+) -> Result<Outcome, DriveError>
+    ensures outcome { IfOk result (λ outcome. outcome ≡ Outcome.Refused) }
+    ensures written { OnOk result
+        (Appends (W.contents writer.old) (W.contents writer.new) (refusal_line refusal)) }
+    ensures fault { IfErr result (λ e. LeavesText e (W.contents writer.old) (W.contents writer.new)
+        (refusal_line refusal)) }
+{
+    write_refusal(alloc, refusal, writer)?;
+    flush(writer)?;
+    Ok(Outcome::Refused)
 }
 
 /// The setup of line 1, or its refusal, and whether lines may follow.
@@ -134,16 +145,41 @@ impl Talk {
         ensures room { IfOk result (λ talk. REPLY_BYTES ≤ string_capacity talk.reply) }
         ensures errors { IfErr result (λ e. e ≡ DriveError.Memory) }
     {
-        let Ok(sched) = Sched::new(alloc, setup, start) else {
-            return Err(DriveError::Memory);
-        };
         let reply = String::with_capacity(alloc, REPLY_BYTES)?;
         Ok(Talk {
-            sched,
+            sched: open(alloc, setup, start)?,
             at_hand,
             line: KeptLine::new(alloc, KEPT_LINE_BYTES),
             reply,
         })
+    }
+
+    /// Answers the lines behind the setup where any may follow. Else nothing is read or written.
+    fn answer_all<R: Read, W: Write>(
+        &mut self,
+        alloc: Global,
+        may_follow: bool,
+        reader: &mut R,
+        writer: &mut W,
+    ) -> Result<Outcome, DriveError>
+        requires { (self.old.line.most ≡ KEPT_LINE_BYTES)
+            × (REPLY_BYTES ≤ string_capacity self.old.reply) }
+        ensures outcome { IfOk result (λ outcome. outcome ≡ Outcome.Ran) }
+        ensures none { may_follow ≡ false → (result ≡ Ok Outcome.Ran)
+            × (R.remaining reader.new ≡ R.remaining reader.old)
+            × (W.contents writer.new ≡ W.contents writer.old) }
+        ensures lines { may_follow ≡ true → (coming : List ℕ)
+            × IsInput (R.remaining reader.old) coming
+            × OnOk result (Consumes (R.remaining reader.old) (R.remaining reader.new) coming)
+            × OnOk result (Appends (W.contents writer.old) (W.contents writer.new)
+            (answers_from self.old.sched 2 (lines_of (self.old.at_hand ++ coming))))
+            × IfErr result (λ e. LeavesText e (W.contents writer.old) (W.contents writer.new)
+            (answers_from self.old.sched 2 (lines_of (self.old.at_hand ++ coming)))) }
+    {
+        if may_follow {
+            self.answer_lines(alloc, reader, writer)?;
+        }
+        Ok(Outcome::Ran)
     }
 
     /// Answers each line from line 2 on, to the end of the input, and flushes the writer then.
