@@ -1,3 +1,4 @@
 pub mod PassLemmas
 pub mod ScheduleLemmas
 pub mod BoardLemmas
+mod RecordLemmas

@@ -15,3 +15,6 @@ invariant_of-desk c = record {
   objects_are = ap (λ (book : Book). object_count (opening_of book).sched.setup) c.in-Ok-open_with.ensures.start.0 ∙
       (sym (words_in c.args.book) ∙ sym c.words-objects.ensures);
 }
+
+pub returns-in-Err-clause-err : goal.returns-in-Err-clause-err
+returns-in-Err-clause-err c = c.in-Err.ensures.refused
