@@ -30,3 +30,21 @@ invariant_of-self-2 c =
           book_replayed (log_opening log) log.sched c.apply-reply.new.self log.room c.args.pass c.args.call c.apply-reply.result log.entries.items
           c.push_reserved.new.self.items made.state made.reply more was_replayed;
     }
+
+pub returns-clause-replied : goal.returns-clause-replied
+returns-clause-replied c =
+    let boxed = c.deref_mut-log.ensures.value in
+    let same = c.grow.ensures.same ∙ ap (λ (l : Log). l.entries.items) boxed in (
+      c.push_reserved.ensures.items ∙ ap (λ es. es ++ entry c.args.pass c.args.call c.apply-reply.result ∷ []) same,
+      ap (λ (l : Log). l.refused) boxed,
+    )
+
+-- where there is a reply nothing was refused: said by name, so that a body that refuses here is told at once
+pub returns-clause-refused : goal.returns-clause-refused
+returns-clause-refused c = tt
+
+pub returns-clause-full : goal.returns-clause-full
+returns-clause-full c = tt
+
+pub returns-clause-used_up : goal.returns-clause-used_up
+returns-clause-used_up c = tt
