@@ -67,6 +67,7 @@ BY_HAND = {
     "bench/nagios.sh DIRECTORY": NAGIOS,
     "docs/schema.py": MINUTES,
     ".ci/times.py": MINUTES,
+    ".ci/slowest.py": MINUTES,
 }
 
 
