@@ -1,4 +1,4 @@
-use Rattle.std.proofs.Common.{rules, arith, ◌≡◌, ◌+◌, ◌%◌, ◌^◌, ◌∷◌, ◌++◌, [], sym, ap, subst}
+use Rattle.std.proofs.Common.{rules, arith, ◌≡◌, refl, ◌+◌, ◌%◌, ◌^◌, ◌∷◌, ◌++◌, [], sym, ap, subst}
 use Rattle.ticket_steps.specs.Counting.{counts}
 use Rattle.ticket_steps.specs.History.{entry, IsLegal}
 use Rattle.ticket_steps.proofs.Histories.{replay-last, legal-last}
@@ -14,3 +14,20 @@ invariant_of-self-2 c =
       legal = subst (IsLegal counts 0) (sym items) (legal-last counts 0 b.entries.items e b.legal (ap (λ s. (s + c.args.call) % 2 ^ 64) b.summed));
       summed = rw items (rw replay-last (ap (λ s. (s + c.args.call) % 2 ^ 64) b.summed));
     }
+
+pub returns-clause-replied : goal.returns-clause-replied
+returns-clause-replied c =
+    let b = c.args.self.now in
+    let e = entry c.args.pass c.args.call ((b.sum + c.args.call) % 2 ^ 64) in
+    let items : c.push.new.self.items ≡ b.entries.items ++ e ∷ [] = search rules in
+    (items, refl)
+
+-- where there is a reply nothing was refused: said by name, so that a body that refuses here is told at once
+pub returns-clause-refused : goal.returns-clause-refused
+returns-clause-refused c = tt
+
+pub returns-clause-full : goal.returns-clause-full
+returns-clause-full c = tt
+
+pub returns-clause-used_up : goal.returns-clause-used_up
+returns-clause-used_up c = tt
