@@ -1,5 +1,5 @@
 -- Reads one after another, and the first line of an input.
-use Rattle.std.proofs.Common.{◌≡◌, ℕ, suc, ◌+◌, ◌-◌, min, ◌==◌, Bool, true, false, not, cond, length, List, [], ◌∷◌, take, drop, Option, None, Some}
+use Rattle.std.proofs.Common.{◌≡◌, ℕ, suc, ◌+◌, ◌-◌, min, ◌==◌, Bool, true, false, not, cond, length, List, [], ◌∷◌, ◌++◌, take, drop, Option, None, Some}
 use Rattle.std.proofs.Common.{refl, sym, ◌∙◌, ap, arith, ◌≤◌, get_or}
 use Rattle.std.specs.List.{position_or_len, position}
 use Rattle.std.proofs.lemmas.Bool.Decides.{nat_tests}
@@ -66,6 +66,14 @@ read_end (Some xs) (Some ys) (Some zs) input piece n limit h k e f l =
     let last : ys ≡ [] = k ∙ rw (e, f) refl in
     let all : xs ≡ input = grind (arith, common_steps, h, last) in
     rw all (sym (take_all limit input l))
+
+-- a read of nothing has left all that was there
+pub read_nothing : (old mid new : Option (List ℕ)) (input piece : List ℕ) (n : ℕ) → Consumes old mid input → Consumes mid new (take n piece)
+    → n ≡ 0 → Consumes old new input
+read_nothing None mid new input piece n h k e = tt
+read_nothing (Some xs) None new input piece n h k e = absurd h
+read_nothing (Some xs) (Some ys) None input piece n h k e = absurd k
+read_nothing (Some xs) (Some ys) (Some zs) input piece n h k e = h ∙ ap (λ l. input ++ l) (k ∙ ap (λ m. take m piece ++ zs) e)
 
 fails : (b : Bool) → (b ≡ true → ⊥) → b ≡ false
 fails true h = absurd (h refl)

@@ -1,6 +1,6 @@
 -- The lines of a script.
 use Rattle.std.proofs.Common.{ℕ, suc, ◌≡◌, ◌==◌, ◌+◌, ◌≤◌, Bool, true, false, not, if◌then◌else◌, cond, List, [], ◌∷◌, length, map, Option, Some, None}
-use Rattle.std.proofs.Common.{Result, Ok, Err, ◌<◌, refl, ap, arith, Bor, inl, inr, ◌⊎◌}
+use Rattle.std.proofs.Common.{Result, Ok, Err, ◌<◌, ◌++◌, refl, sym, ◌∙◌, ap, append_assoc, arith, Bor, inl, inr, ◌⊎◌}
 use Rattle.std.specs.Prelude.{nat_lt, IfOk}
 use Rattle.std.proofs.lemmas.Bool.{cases_lt}
 use Rattle.std.proofs.lemmas.Bool.Decides.{nat_tests}
@@ -51,6 +51,33 @@ commands_numbered meaning n (line ∷ ls) =
 pub commands_by_line : {K : Type 0} (meaning : List ℕ → Items → Result K LineFault) (ls : List (List ℕ))
     → commands_of meaning ls ≡ commands_from meaning 2 ls
 commands_by_line meaning ls = commands_numbered meaning 2 ls
+
+-- a blank line is passed over, and counted
+pub blank_passed : {K : Type 0} (meaning : List ℕ → Items → Result K LineFault) (n : ℕ) (all : Result (List K) InputRefusal) (front : List K)
+    (lines : List (List ℕ)) (line : List ℕ) (rest : List (List ℕ))
+    → all ≡ with_front front (commands_from meaning n lines) → lines ≡ line ∷ rest → is_blank line ≡ true
+    → all ≡ with_front front (commands_from meaning (n + 1) rest)
+blank_passed meaning n all front lines line rest h l b =
+    h ∙ ap (λ ls. with_front front (commands_from meaning n ls)) l
+    ∙ ap (λ v. with_front front (cond v (commands_from meaning (n + 1) rest)
+    (command_of meaning n line >>= λ first. (commands_from meaning (n + 1) rest >>= λ more. Ok (first ∷ more))))) b
+
+front_and_first : {K : Type 0} (front : List K) (first : K) (more : Result (List K) InputRefusal)
+    → with_front front (more >>= λ rest. Ok (first ∷ rest)) ≡ with_front (front ++ first ∷ []) more
+front_and_first front first (Ok rest) = ap Ok (sym (append_assoc front (first ∷ []) rest))
+front_and_first front first (Err e) = refl
+
+-- a line's command stands behind those before it
+pub command_read : {K : Type 0} (meaning : List ℕ → Items → Result K LineFault) (n : ℕ) (all : Result (List K) InputRefusal) (front : List K)
+    (lines : List (List ℕ)) (line : List ℕ) (rest : List (List ℕ)) (first : K)
+    → all ≡ with_front front (commands_from meaning n lines) → lines ≡ line ∷ rest → is_blank line ≡ false → command_of meaning n line ≡ Ok first
+    → all ≡ with_front (front ++ first ∷ []) (commands_from meaning (n + 1) rest)
+command_read meaning n all front lines line rest first h l b f =
+    let more = commands_from meaning (n + 1) rest in
+    h ∙ ap (λ ls. with_front front (commands_from meaning n ls)) l
+    ∙ ap (λ v. with_front front (cond v more (command_of meaning n line >>= λ c. (more >>= λ cs. Ok (c ∷ cs))))) b
+    ∙ ap (λ r. with_front front (r >>= λ c. (more >>= λ cs. Ok (c ∷ cs)))) f
+    ∙ front_and_first front first more
 
 -- ---- how many lines there are
 

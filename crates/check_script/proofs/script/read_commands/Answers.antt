@@ -1,7 +1,9 @@
-use Rattle.std.proofs.Common.{sym, ◌∙◌, arith}
+use Rattle.std.proofs.Common.{sym, ◌∙◌, arith, ap, length, map, [], ◌∷◌}
+use Rattle.std.proofs.lemmas.List.{map-append}
 use Rattle.check_script.specs.Input.{lines_of}
-use Rattle.check_script.proofs.ScriptLemmas.{commands_by_line, commands_from, with_front-nothing}
+use Rattle.check_script.proofs.ScriptLemmas.{blank_passed, command_read, commands_by_line, commands_from, with_front-nothing}
 use Rattle.check_script.proofs.script.read_commands.Goals as goal
+use Rattle.check_script.proofs.script.read_commands.Goals.{then-not-is_blank+in_ok-read_command+in_ok-push, else-not-is_blank}
 
 pub loop-line-init : goal.loop-line-init
 loop-line-init g c =
@@ -13,3 +15,29 @@ loop-line-init g c =
       rw same
           (omega (arith, few)),
     )
+
+-- what is still to come is numbered behind the line
+pub loop-line-preserved : goal.loop-line-preserved
+loop-line-preserved g c =
+    let before = c.loop-line.invariant in
+    let lines = c.in-Some.ensures.steps in
+    let meaning = g.C.Command.meaning c.args.setup.now in
+    let number = c.loop-line.number in
+    let seen = map g.C.Command.seen c.loop-line.commands.items in
+    let come = lines_of c.loop-line.line-iterator.rest.now in
+    let rest = lines_of c.next.new.self.rest.now in
+    let line = c.in-Some.line.now in
+    let fewer = ap length lines in
+    let few = before.1 in
+    elim c.if-not-is_blank.branch [
+      | then-not-is_blank+in_ok-read_command+in_ok-push w ↦ (
+        rw (w.commands-is, w.in_ok-push.ensures.items, map-append g.C.Command.seen c.loop-line.commands.items (w.in_ok-read_command.field-0 ∷ []))
+            (command_read meaning number _ seen come line rest (g.C.Command.seen w.in_ok-read_command.field-0) before.0 lines
+            (sym (w.if-not-is_blank.ensures)) w.in_ok-read_command.ensures),
+        omega (arith, few, fewer),
+      )
+      | else-not-is_blank w ↦ (
+        rw (w.commands-is) (blank_passed meaning number _ seen come line rest before.0 lines (sym (w.if-not-is_blank.ensures))),
+        omega (arith, few, fewer),
+      )
+    ]
