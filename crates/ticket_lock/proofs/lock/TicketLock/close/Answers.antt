@@ -1,5 +1,6 @@
 use Rattle.std.proofs.Common.{◌≡◌, Option, Some, arith, sym, ap, ◌∙◌, subst}
 use Rattle.std.specs.Option.{unwrap_or}
+use Rattle.std.proofs.lemmas.Bool.{false≢true}
 use mathlib.Core.Option.{some-injective}
 use Rattle.ticket_lock.proofs.Obligations.{IsLastBook, closes}
 use Rattle.ticket_lock.proofs.lock.TicketLock.close.Given.{Over}
@@ -40,3 +41,7 @@ returns-clause-history g c = (is_last g (goal.at.returns-clause-history g c).Aft
 
 pub returns-clause-calls : goal.returns-clause-calls
 returns-clause-calls g c = let last = is_last g (goal.at.returns-clause-calls g c).After-take-slot c.in-Some.book c.in-Some.is in last.calls
+
+pub returns-clause-missing : goal.returns-clause-missing
+returns-clause-missing g c =
+    (λ refused. absurd (false≢true refused), λ missing. absurd (omega (arith, missing, c.args.seat.told.count, c.if-seat-self.false)))

@@ -1,9 +1,18 @@
-use Rattle.std.proofs.Common.{rules, sym, ap, ◌∙◌, subst, None}
+use Rattle.std.proofs.Common.{rules, arith, ◌≡◌, ℕ, ◌+◌, ◌<◌, Bool, true, false, List, [], length, refl, sym, ap, ◌∙◌, subst, None}
+use Rattle.std.proofs.lemmas.Bool.{false≢true}
+use Rattle.ticket_steps.specs.declared.kept.Entry.{Entry}
+use Rattle.ticket_steps.specs.declared.kept.Kept.{Ghosts}
+use Rattle.ticket_steps.specs.History.{IsLegal}
+use Rattle.ticket_steps.specs.Sums.{times}
+use Rattle.ticket_lock.specs.declared.views.Start.{Start}
+use Rattle.ticket_lock.specs.Legal.{IsLegalFrom}
 use Rattle.ticket_lock.specs.Steps.{Returns, IsPosted}
-use Rattle.ticket_lock.specs.Tokens.{start_of}
+use Rattle.ticket_lock.specs.Tokens.{start_of, caller_in}
+use Rattle.ticket_lock.specs.Views.{left_view}
 use Rattle.ticket_lock.proofs.Obligations.{leaves}
 use Rattle.ticket_lock.proofs.BoardLemmas.{AreLaws}
 use Rattle.ticket_lock.proofs.lock.TicketLock.leave.Given.{Over}
+use Rattle.ticket_lock.proofs.lock.TicketLock.leave.Goals.{After-store}
 use Rattle.ticket_lock.proofs.lock.TicketLock.leave.Goals as goal
 
 laws_of : (g : Over) → AreLaws g.K.Kept
@@ -22,3 +31,59 @@ store-requires g c =
           (λ no. subst (λ w. Returns k (start_of c.args.self.now) w.seat.own w.seen w.refused None c.args.book) (sym v) (c.requires.recorded no))
           (λ yes. subst (λ w. IsPosted k (start_of c.args.self.now) w.seen w.refused c.args.book) (sym v) (c.requires.posted yes)),
     )
+
+pub put_book-requires-clause-empty : goal.put_book-requires-clause-empty
+put_book-requires-clause-empty g c = c.args.hold.out
+
+-- the book that comes back is the one of the lock's opening
+opening_is : {K C R : Type 0} (k : Ghosts K C R) (start : Start K) (own : ℕ) (seen : List (Entry C R)) (refused : ℕ) (posted : Bool) (book : K)
+    → (posted ≡ false → Returns k start own seen refused None book) → (posted ≡ true → IsPosted k start seen refused book)
+    → k.opening book ≡ k.opening start.book
+opening_is k start own seen refused false book recorded posted = (recorded refl).opening
+opening_is k start own seen refused true book recorded posted = (posted refl).opening
+
+-- the seat after the leave, by the hold before it
+left_is : (g : Over) (c : After-store g) → c.store.new.seat.me ≡ (left_view g.K.Kept c.args.hold.table_seat.me.0 c.args.book, [])
+left_is g c =
+    let e = c.put_book.ensures in
+    let t = c.store.ensures.2 c.args.book (ap (λ m. m.1) e.put) in
+    t.0 ∙ ap (λ m. (left_view g.K.Kept m.0 c.args.book, [])) e.put
+
+pub invariant_of-result : goal.invariant_of-result
+invariant_of-result g c =
+    let s = c.args.hold in
+    let k = g.K.Kept in
+    let at = (goal.at.invariant_of-result g c).After-store in
+    let e = c.put_book.ensures in
+    let t = c.store.ensures.2 c.args.book (ap (λ m. m.1) e.put) in
+    let now = ap (λ m. m.0) (left_is g at) in
+    record {
+      bare = ap (λ m. m.1) (left_is g at);
+      legal = subst (λ w. IsLegalFrom k w.start w.seen) (sym now) (subst (λ a. IsLegalFrom k a (k.history c.args.book)) (sym c.requires.lock.1)
+          (subst (λ o. IsLegal k.step o (k.history c.args.book)) (opening_is k _ _ _ _ s.posted c.args.book c.requires.recorded c.requires.posted)
+          (g.met.K.Kept.legal c.args.book)));
+      idle = ap (λ w. w.seat.phase) now;
+      told = record {
+        own = ap (λ w. w.seat.own) now ∙ s.told.own;
+        count = ap (λ w. length w.seat.numbers) now ∙ s.told.count;
+        left = ap (λ w. w.seat.left) now ∙ s.told.left;
+        calls = ap (λ w. w.seat.calls) now ∙ ap (λ n. n + 1) s.told.calls;
+        some_number = s.told.some_number;
+        few_numbers = s.told.few_numbers;
+        few_calls = omega (arith, t.1, ap (λ m. m.0.seat.calls) e.put, s.told.calls);
+        among = subst (λ w. 0 < times w.seat.own w.seat.numbers) (sym now) s.told.among;
+      };
+      fresh_is = ap (λ w. w.seat.fresh) now ∙ s.stale;
+      range = λ h. absurd (false≢true h);
+      row = λ h. absurd (false≢true h);
+    }
+
+pub returns-clause-lock : goal.returns-clause-lock
+returns-clause-lock g c =
+    let at = (goal.at.returns-clause-lock g c).After-store in (
+      c.store.ensures.0 ∙ (c.put_book.ensures.same.0 ∙ c.requires.lock.0),
+      ap (λ m. m.0.start) (left_is g at) ∙ c.requires.lock.1,
+    )
+
+pub returns-clause-ended : goal.returns-clause-ended
+returns-clause-ended g c = ap (λ m. caller_in m.0) (left_is g (goal.at.returns-clause-ended g c).After-store)

@@ -40,3 +40,22 @@ returns-then-granted-ticket-clause-book g c =
     let t = (c.load-granted.ensures.2 s.ticket s.waits).0 c.if-granted-ticket.true in
     let same : book ≡ t.0 = ap (in_hand t.0) (sym c.take_book-book.ensures.book ∙ ap (λ m. m.1) t.1) in
     subst (IsHanded k (start_of c.args.self.now) s.table_seat.me.0.seat.numbers s.table_seat.me.0.seen s.ticket) (sym same) (t.2 _ c.requires.1)
+
+pub take_book-book-requires-clause-full : goal.take_book-book-requires-clause-full
+take_book-book-requires-clause-full g c =
+    let s = c.args.turn in
+    let t = (c.load-granted.ensures.2 s.ticket s.waits).0 c.if-granted-ticket.true in
+    (t.0, ap (λ m. m.1) t.1)
+
+-- a turn that isn't served stays as it was
+pub invariant_of-result : goal.invariant_of-result
+invariant_of-result g c =
+    let s = c.args.turn in
+    let t = (c.load-granted.ensures.2 s.ticket s.waits).1 c.if-granted-ticket.false in
+    record {
+      waits = ap (λ m. m.0.seat.phase) t.0 ∙ s.waits;
+      bare = ap (λ m. m.1) t.0 ∙ s.bare;
+      legal = subst (λ m. IsLegalFrom g.K.Kept m.0.start m.0.seen) (sym t.0) s.legal;
+      told = subst (λ m. AreCountsOf s.counts m.0.seat) (sym t.0) s.told;
+      stale = ap (λ m. m.0.seat.fresh) t.0 ∙ s.stale;
+    }
