@@ -1,55 +1,36 @@
--- Laws of the rings that hold the last results of each object.
-use Rattle.std.proofs.Common.{◌≡◌, ℕ, zero, suc, ◌==◌, Bool, true, List, [], ◌∷◌, ◌++◌, map, replicate, Some, refl, ap, subst}
-use Rattle.std.specs.Prelude.{slice_get}
-use Rattle.std.specs.List.{list_all}
-use Rattle.std.proofs.lemmas.Bool.{and_from, and_parts, eqb-true}
-use Rattle.circular_buffer.specs.Buffer.{Buffer, buffer, keep_last}
-use Rattle.check_rules.specs.declared.flapping.TheConstants.{KEPT_RESULTS}
+-- Laws of the ring that holds the last results of an object.
+use Rattle.std.proofs.Common.{◌≡◌, ℕ, ◌+◌, ◌-◌, ◌<◌, ◌≤◌, List, [], ◌∷◌, ◌++◌, length, drop, replicate, ap, arith, ◌∙◌, length-append, length-drop}
+use Rattle.std.proofs.lemmas.List.{drop-append-le, drop-drop, replicate_more}
+use Rattle.circular_buffer.specs.Buffer.{keep_last}
 use Rattle.check_rules.specs.declared.state.State.{State}
 use Rattle.check_rules.specs.Flapping.{kept_after}
-use Rattle.check_sched.specs.State.{results_at}
-use Rattle.check_sched.specs.Step.{update_at}
-
--- whether a ring has room for as many results as are kept
-abbrev has_room : Buffer State → Bool
-has_room ring = ring.capacity == KEPT_RESULTS
-
--- ---- new rings
-
--- new rings hold nothing
-pub none_held : (count : ℕ) → map (λ (ring : Buffer State). ring.items) (replicate count (buffer [] KEPT_RESULTS)) ≡ replicate count []
-none_held zero = refl
-none_held (suc count) = ap (λ held. [] ∷ held) (none_held count)
-
-pub none_rooms : (count : ℕ) → list_all has_room (replicate count (buffer [] KEPT_RESULTS)) ≡ true
-none_rooms zero = refl
-none_rooms (suc count) = and_from (has_room (buffer [] KEPT_RESULTS)) _ refl (none_rooms count)
 
 -- ---- one result more
 
--- a ring after one result more
-abbrev pub pushed : State → Buffer State → Buffer State
-pushed found ring = buffer (keep_last ring.capacity (ring.items ++ found ∷ [])) ring.capacity
+-- no more are kept than can be
+pub few_after : (results : List State) (found : State) → length (kept_after results found) ≤ 21
+few_after results found =
+    let all = results ++ found ∷ [] in
+    omega (arith, length-drop (length all - 21) all)
 
--- a ring that has room keeps what is to be kept
-pushed_kept : (found : State) (ring : Buffer State) → has_room ring ≡ true → (pushed found ring).items ≡ kept_after ring.items found
-pushed_kept found ring e = ap (λ room. keep_last room (ring.items ++ found ∷ [])) (eqb-true ring.capacity KEPT_RESULTS e)
+-- the last of those that are kept are the last of all
+last_of_kept : (n : ℕ) (results : List State) → n ≤ 21 → keep_last n (keep_last 21 results) ≡ keep_last n results
+last_of_kept n results few =
+    let past = length results - 21 in
+    let long = length-drop past results in
+    let places : past + (length (drop past results) - n) ≡ length results - n = omega (arith, long, few) in
+    drop-drop (length (drop past results) - n) past results ∙ ap (λ place. drop place results) places
 
--- what all rings hold after one result more of an object
-pub held_after : (n : ℕ) (found : State) (rings : List (Buffer State)) → list_all has_room rings ≡ true
-    → map (λ (ring : Buffer State). ring.items) (update_at n (pushed found) rings)
-    ≡ update_at n (λ results. kept_after results found) (map (λ (ring : Buffer State). ring.items) rings)
-held_after n found [] e = refl
-held_after zero found (ring ∷ rings) e =
-    ap (λ kept. kept ∷ map (λ (r : Buffer State). r.items) rings) (pushed_kept found ring (and_parts (has_room ring) (list_all has_room rings) e).0)
-held_after (suc n) found (ring ∷ rings) e = ap (λ held. ring.items ∷ held) (held_after n found rings (and_parts (has_room ring) (list_all has_room rings) e).1)
+-- the last and one more
+last_and_one : (n : ℕ) (results : List State) (found : State) → keep_last (n + 1) (results ++ found ∷ []) ≡ keep_last n results ++ found ∷ []
+last_and_one n results found =
+    let long = length-append results (found ∷ []) in
+    let places : length (results ++ found ∷ []) - (n + 1) ≡ length results - n = omega (arith, long) in
+    ap (λ place. drop place (results ++ found ∷ [])) places ∙ drop-append-le (length results - n) results (found ∷ []) (omega arith)
 
--- what the object's ring holds then
-pub ring_after : (n : ℕ) (found : State) (rings : List (Buffer State)) (ring : Buffer State) → list_all has_room rings ≡ true
-    → slice_get rings n ≡ Some ring → (pushed found ring).items ≡ kept_after (results_at (map (λ (r : Buffer State). r.items) rings) n) found
-ring_after n found [] ring e f = cc
-ring_after zero found (first ∷ rings) ring e f =
-    let same : first ≡ ring = cc in
-    subst (λ r. (pushed found r).items ≡ kept_after first.items found) same
-    (pushed_kept found first (and_parts (has_room first) (list_all has_room rings) e).0)
-ring_after (suc n) found (first ∷ rings) ring e f = ring_after n found rings ring (and_parts (has_room first) (list_all has_room rings) e).1 f
+-- where the newest results are a state, they are with one more of it
+pub newest_after : (n : ℕ) (results : List State) (found : State) → n < 21 → keep_last n results ≡ replicate n found
+    → keep_last (n + 1) (kept_after results found) ≡ replicate (n + 1) found
+newest_after n results found few e =
+    last_of_kept (n + 1) (results ++ found ∷ []) (omega (arith, few)) ∙ last_and_one n results found
+    ∙ ap (λ newest. newest ++ found ∷ []) e ∙ replicate_more n found

@@ -1,14 +1,18 @@
--- The results of all objects, as contracts see them.
-use Rattle.std.specs.Prelude.{◌≡◌, ◌==◌, true, List, map}
-use Rattle.std.specs.List.{list_all}
+-- The results that are kept of an object, as contracts see them.
+use Rattle.std.specs.Prelude.{◌≡◌, ◌≤◌, List, length, replicate}
+use Rattle.circular_buffer.specs.Buffer.{keep_last}
 use Rattle.check_rules.specs.declared.state.State.{State}
-use Rattle.check_sched.specs.declared.results.Results.TheInside.{Inside}
+use Rattle.check_sched.specs.declared.results.Ring.TheInside.{Inside}
 
--- the results that the rings hold, the oldest first
-abbrev pub results_of : Inside → List (List State)
-results_of r = map (λ ring. ring.items) r.rings.items
+-- the results that a ring holds, the oldest first
+abbrev pub results_of : Inside → List State
+results_of r = r.results.items
 
--- what is true of the fields of all results
+-- what is true of the fields of every ring
 pub record IsKept (r : Inside) : Type 0 where
-  -- each ring has room for as many results as are kept
-  pub rooms : list_all (λ ring. ring.capacity == 21) r.rings.items ≡ true
+  -- there is room for as many results as are kept
+  pub room : r.results.capacity ≡ 21
+  pub few : length r.results.items ≤ 21
+  -- as many of the newest as are counted are the same state
+  pub newest : keep_last r.same r.results.items ≡ replicate r.same r.newest
+  pub counted : r.same ≤ 21

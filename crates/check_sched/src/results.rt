@@ -1,7 +1,9 @@
 //! The last results of each object, by which it is told whether it flaps.
 
-ghost use Rattle.std.specs.Prelude.{◌≡◌, ◌<◌, [], IfOk, length, replicate};
-ghost use Rattle.check_rules.specs.Flapping.{is_flapping, kept_after};
+ghost use Rattle.std.specs.Prelude.{◌≡◌, ◌<◌, ◌≤◌, List, [], IfOk, length, replicate};
+ghost use Rattle.circular_buffer.specs.Buffer.{keep_last};
+ghost use Rattle.check_rules.specs.declared.state.State.{State};
+ghost use Rattle.check_rules.specs.Flapping.{is_flapping, kept_after, percent_of};
 ghost use Rattle.check_sched.specs.State.{results_at};
 ghost use Rattle.check_sched.specs.Step.{update_at};
 
@@ -14,21 +16,14 @@ use std::marker::Model;
 /// results for each object by number, the oldest first.
 #[derive(Drop)]
 pub(crate) struct Results {
-    /// A ring for each object, with room for as many results as are kept.
-    rings: Vec<HeapCircularBuffer<State>>,
+    /// A ring for each object.
+    rings: Vec<Ring>,
 }
 
 impl Model for Results {
-    ghost use Rattle.std.specs.Prelude.{List};
-    ghost use Rattle.check_rules.specs.declared.state.State.{State};
-
     ghost Value = { List (List State) };
 
-    ghost use Rattle.check_sched.specs.Results.{results_of, IsKept};
-
-    ghost view = { results_of };
-
-    ghost invariant = { IsKept };
+    ghost view = { λ results. results.rings.items };
 }
 
 impl Results {
@@ -40,7 +35,7 @@ impl Results {
     {
         let mut rings = Vec::with_capacity(alloc, count)?;
         for _number in 0..count {
-            rings.push(HeapCircularBuffer::with_capacity(alloc, KEPT_RESULTS)?)?;
+            rings.push(Ring::empty(alloc)?)?;
         }
         Ok(Results { rings })
     }
@@ -53,8 +48,80 @@ impl Results {
         ensures kept { self.new ≡ update_at number (λ results. kept_after results found) self.old }
         ensures flaps { result ≡ is_flapping (kept_after (results_at self.old number) found) was thresholds.0 thresholds.1 }
     {
-        let ring = &mut self.rings[number as usize];
-        ring.push_back(found);
-        flaps(ring, was, thresholds.0, thresholds.1)
+        self.rings[number as usize].add(found, was, thresholds)
     }
+}
+
+/// The last results of one object, and how many of the newest are the same. Contracts see them as a
+/// list, the oldest first.
+#[derive(Drop)]
+struct Ring {
+    /// The results, with room for as many as are kept.
+    results: HeapCircularBuffer<State>,
+    /// The newest result, where there is one.
+    newest: State,
+    /// How many of the newest results in a row are the same.
+    same: u8,
+}
+
+impl Model for Ring {
+    ghost use Rattle.std.specs.Prelude.{List};
+    ghost use Rattle.check_rules.specs.declared.state.State.{State};
+
+    ghost Value = { List State };
+
+    ghost use Rattle.check_sched.specs.Results.{results_of, IsKept};
+
+    ghost view = { results_of };
+
+    ghost invariant = { IsKept };
+}
+
+impl Ring {
+    /// No results, with room for all that will be kept.
+    fn empty(alloc: Global) -> Result<Ring, AllocError>
+        ensures { IfOk result (λ ring. ring ≡ []) }
+    {
+        let results = HeapCircularBuffer::with_capacity(alloc, KEPT_RESULTS)?;
+        Ok(Ring {
+            results,
+            newest: State::Ok,
+            same: 0,
+        })
+    }
+
+    /// Keeps one more result, and tells whether the object flaps with it, as [`Results::add`] does.
+    ///
+    /// Where all 21 are this state, one more of it leaves them as they are, and the percent is 0.
+    fn add(&mut self, found: State, was: bool, thresholds: (u8, u8)) -> bool
+        ensures kept { self.new ≡ kept_after self.old found }
+        ensures flaps { result ≡ is_flapping (kept_after self.old found) was thresholds.0 thresholds.1 }
+    {
+        let same = self.count_newest(found);
+        if same as usize == KEPT_RESULTS {
+            return flaps_at_zero(was, thresholds);
+        }
+        self.results.push_back(found);
+        self.newest = found;
+        self.same = same + 1;
+        flaps(&self.results, was, thresholds.0, thresholds.1)
+    }
+
+    /// How many of the newest results in a row are this state.
+    fn count_newest(&self, state: State) -> u8
+        ensures newest { keep_last result self.now ≡ replicate result state }
+        ensures within { result ≤ KEPT_RESULTS }
+    {
+        if self.newest == state { self.same } else { 0 }
+    }
+}
+
+/// Whether an object flaps at a percent of 0: `was` says whether it did before, and `thresholds` are
+/// the low and the high one in percents.
+fn flaps_at_zero(was: bool, thresholds: (u8, u8)) -> bool
+    ensures { (results : List State) → percent_of results ≡ 0 → result ≡ is_flapping results was thresholds.0 thresholds.1 }
+{
+    let (low, high) = thresholds;
+    let threshold = if was { low } else { high };
+    threshold == 0
 }
