@@ -1,5 +1,5 @@
 -- What a try of a caller with a pass is.
-use Rattle.std.proofs.Common.{◌≡◌, ℕ}
+use Rattle.std.proofs.Common.{◌≡◌, ℕ, subst}
 use mathlib.Core.Logic.{◌≢◌}
 use Rattle.ticket_lock.specs.Callers.{drawn}
 use Rattle.check_sched.specs.declared.call.Call.{Call}
@@ -7,9 +7,10 @@ use Rattle.check_desk.specs.declared.passes.Pass.{Pass}
 use Rattle.check_desk.specs.declared.passes.Turn.{Turn}
 use Rattle.check_desk.specs.Passes.{pass_of, waiting_of}
 use Rattle.check_handles.specs.declared.stage.Stage.{Stage}
+use Rattle.check_handles.specs.declared.stage.Stage.TheVariants as stage
 use Rattle.check_handles.specs.declared.stage.Step.{Step}
 use Rattle.check_handles.specs.declared.stage.Step.TheVariants as tried
-use Rattle.check_handles.specs.Tries.{HasBegun, HasLooked}
+use Rattle.check_handles.specs.Tries.{HasAdvanced, HasBegun, HasLooked, HasTurn, MayGoOn}
 
 -- one that has drawn a ticket looks, and isn't told that its calls are spent
 pub begun : (room : ℕ) (call : Call) (pass : Pass) (turn : Turn) (made : Step) (after : Stage) → (pass_of pass).left ≢ 0
@@ -19,3 +20,17 @@ begun room call pass turn tried.NoMemory after left is looked = (left, (turn, is
 begun room call pass turn tried.Spent after left is looked = absurd looked
 begun room call pass turn tried.NotYet after left is looked = (left, (turn, is, looked))
 begun room call pass turn tried.OtherWaits after left is looked = (left, (turn, is, looked))
+
+-- one that can go on, and looks by its turn, has gone on
+pub advanced : (room : ℕ) (call : Call) (before : Stage) (turn : Turn) (made : Step) (after : Stage) → MayGoOn call before → HasTurn before turn
+    → HasLooked room call turn made after → HasAdvanced room call before made after
+advanced room call (stage.Resting pass) turn made after may has looked = begun room call pass turn made after may has looked
+advanced room call (stage.Waiting again asked) turn (tried.Replied reply) after may has looked =
+    (may, subst (λ t. HasLooked room call t (tried.Replied reply) after) has looked)
+advanced room call (stage.Waiting again asked) turn tried.NoMemory after may has looked =
+    (may, subst (λ t. HasLooked room call t tried.NoMemory after) has looked)
+advanced room call (stage.Waiting again asked) turn tried.Spent after may has looked = absurd looked
+advanced room call (stage.Waiting again asked) turn tried.NotYet after may has looked =
+    (may, subst (λ t. HasLooked room call t tried.NotYet after) has looked)
+advanced room call (stage.Waiting again asked) turn tried.OtherWaits after may has looked = absurd looked
+advanced room call stage.Gone turn made after may has looked = absurd may

@@ -57,3 +57,15 @@ HasAdvanced room call (stage.Resting pass) made after = HasBegun room call pass 
 HasAdvanced room call (stage.Waiting turn asked) tried.OtherWaits after = (asked ≢ call) × (after ≡ stage.Waiting turn asked)
 HasAdvanced room call (stage.Waiting turn asked) made after = (asked ≡ call) × HasLooked room call (manually_drop_value turn) made after
 HasAdvanced room call stage.Gone made after = (made ≡ tried.OtherWaits) × (after ≡ stage.Gone)
+
+-- a caller can go on by the call: it has a pass with calls left, or waits for the turn of this call
+abbrev pub MayGoOn : Call → Stage → Type 0
+MayGoOn call (stage.Resting pass) = (pass_of pass).left ≢ 0
+MayGoOn call (stage.Waiting turn asked) = asked ≡ call
+MayGoOn call stage.Gone = ⊥
+
+-- the turn by which a caller goes on: of one with a pass a ticket by one of its calls, of one that waits the ticket that it has
+abbrev pub HasTurn : Stage → Turn → Type 0
+HasTurn (stage.Resting pass) turn = waiting_of turn ≡ drawn (pass_of pass)
+HasTurn (stage.Waiting again asked) turn = turn ≡ manually_drop_value again
+HasTurn stage.Gone turn = ⊥

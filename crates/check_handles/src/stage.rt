@@ -1,9 +1,9 @@
 //! What a caller has in hand between two calls of C: its pass, or the turn of a call that waits.
 
-ghost use Rattle.std.specs.Prelude.{◌≡◌};
+ghost use Rattle.std.specs.Prelude.{◌≡◌, ℕ, IfSome, None};
 ghost use Rattle.check_desk.specs.Desks.{IsWaitingAt, opened_with};
 ghost use Rattle.check_handles.specs.Stages.{IsStageOf};
-ghost use Rattle.check_handles.specs.Tries.{HasAdvanced, HasLooked, step_of};
+ghost use Rattle.check_handles.specs.Tries.{HasAdvanced, HasLooked, HasTurn, MayGoOn, step_of};
 
 use check_desk::{Answer, Desk, Pass, Poll, Turn};
 use check_sched::{Call, Reply};
@@ -38,28 +38,48 @@ pub enum Step {
 
 /// Takes a ticket, where the caller has none, looks whether its turn has come, and makes the call
 /// then. A ticket that was taken for another call is left as it is.
+#[tactic(auto, using(crate::proofs::Steps::advanced))]
 pub(crate) fn advance(desk: &Desk, stage: &mut Stage, call: Call) -> Step
     requires { IsStageOf desk.now stage.old }
     ensures own { IsStageOf desk.now stage.new }
     ensures advanced { HasAdvanced (opened_with desk.now).room call stage.old result stage.new }
 {
+    if let Some(step) = hindrance(stage, call) {
+        return step;
+    }
+    let turn = take_turn(desk, stage, call);
+    look(desk, stage, turn, call)
+}
+
+/// What keeps the caller from going on by the call: it has no call left, or it waits for the turn of
+/// another.
+fn hindrance(stage: &Stage, call: Call) -> Option<Step>
+    ensures hindered { IfSome result (λ step.
+        (room : ℕ) → HasAdvanced room call stage.now step stage.now) }
+    ensures free { result ≡ None → MayGoOn call stage.now }
+{
+    match stage {
+        Stage::Resting(pass) => (pass.left() == 0).then_some(Step::Spent),
+        Stage::Waiting(_turn, asked) => (*asked != call).then_some(Step::OtherWaits),
+        Stage::Gone => Some(Step::OtherWaits),
+    }
+}
+
+/// Takes the turn out of the stage by which the caller goes on: the one that waits, or a new one, by
+/// one of the calls of its pass.
+fn take_turn(desk: &Desk, stage: &mut Stage, call: Call) -> Turn
+    requires own { IsStageOf desk.now stage.old }
+    requires free { MayGoOn call stage.old }
+    ensures waits { IsWaitingAt desk.now result }
+    ensures turn { HasTurn stage.old result }
+{
     match replace(stage, Stage::Gone) {
-        Stage::Gone => Step::OtherWaits,
         Stage::Resting(pass) => match desk.begin(pass) {
-            Ok(turn) => look(desk, stage, turn, call),
-            Err(pass) => {
-                *stage = Stage::Resting(pass);
-                Step::Spent
-            }
+            Ok(turn) => turn,
+            Err(_pass) => unreachable!(),
         },
-        Stage::Waiting(turn, asked) => {
-            if asked == call {
-                look(desk, stage, ManuallyDrop::into_inner(turn), call)
-            } else {
-                *stage = Stage::Waiting(turn, asked);
-                Step::OtherWaits
-            }
-        }
+        Stage::Waiting(turn, _asked) => ManuallyDrop::into_inner(turn),
+        Stage::Gone => unreachable!(),
     }
 }
 

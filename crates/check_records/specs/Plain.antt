@@ -95,6 +95,10 @@ has_time None = 0
 abbrev pub reply_struct : ℕ → ℕ → ℕ → Option ℕ → PlainReply
 reply_struct kind object run time = record { kind = kind; object = object; run = run; time = time_or_0 time; has_time = has_time time; changed = 0; standing = no_standing }
 
+-- a reply with this time, if there is one
+abbrev pub with_time : Option ℕ → PlainReply → PlainReply
+with_time time told = record { kind = told.kind; object = told.object; run = told.run; time = time_or_0 time; has_time = has_time time; changed = told.changed; standing = told.standing }
+
 abbrev pub plain_reply : Reply → PlainReply
 plain_reply (reply.Taken object run) = reply_struct 0 object run None
 plain_reply (reply.PutOff object until) = reply_struct 1 object 0 until

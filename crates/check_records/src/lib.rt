@@ -15,6 +15,6 @@ mod reading;
 pub use numbers::{code_of, flag_of};
 pub use plain::{
     PlainCall, PlainEntry, PlainRefusal, PlainReply, PlainStanding, plain_call, plain_entry,
-    plain_refusal, plain_reply, plain_standing,
+    plain_refusal, plain_reply, plain_standing, tell_reply,
 };
 pub use reading::{call_of, entry_of, refusal_of, reply_of};

@@ -5,7 +5,7 @@
 
 ghost use Rattle.std.specs.Prelude.{◌≡◌};
 ghost use Rattle.check_records.specs.Plain.{has_time, time_or_0};
-ghost use Rattle.check_records.specs.Plain.{plain_call, plain_entry, plain_refusal, plain_reply, plain_standing, refusal_at, refusal_nowhere, reply_struct};
+ghost use Rattle.check_records.specs.Plain.{plain_call, plain_entry, plain_refusal, plain_reply, plain_standing, refusal_at, refusal_nowhere, with_time};
 
 use crate::numbers::{code_number, flag, kind_number, part_number, refusal_number, state_number};
 use check_drafts::{LoadError, Place};
@@ -115,6 +115,17 @@ const NO_STANDING: PlainStanding = PlainStanding {
     flapping: 0,
 };
 
+/// The reply of a take that tells no object.
+const NO_REPLY: PlainReply = PlainReply {
+    kind: 0,
+    object: 0,
+    run: 0,
+    time: 0,
+    has_time: 0,
+    changed: 0,
+    standing: NO_STANDING,
+};
+
 /// What is known of an object, for C.
 pub fn plain_standing(standing: Standing) -> PlainStanding
     ensures { result ≡ plain_standing standing }
@@ -197,18 +208,50 @@ fn has_time(time: Option<u64>) -> u32
     }
 }
 
-/// A reply of this kind, with an object, a run and a time.
-fn reply_struct(kind: u32, object: u32, run: u64, time: Option<u64>) -> PlainReply
-    ensures { result ≡ reply_struct kind object run time }
+/// Writes a time: none is told as 0, and that there is none.
+fn tell_time(time: Option<u64>, told: &mut PlainReply)
+    ensures { told.new ≡ with_time time told.old }
 {
-    PlainReply {
-        kind,
-        object,
-        run,
-        time: time_or_0(time),
-        has_time: has_time(time),
-        changed: 0,
-        standing: NO_STANDING,
+    told.time = time_or_0(time);
+    told.has_time = has_time(time);
+}
+
+/// Writes what a call is answered, for C: first that nothing is told, and then what the reply tells.
+pub fn tell_reply(reply: Reply, told: &mut PlainReply)
+    ensures { told.new ≡ plain_reply reply }
+{
+    *told = NO_REPLY;
+    match reply {
+        Reply::Taken { object, run } => {
+            told.object = object;
+            told.run = run;
+        }
+        Reply::PutOff { object, until } => {
+            told.kind = 1;
+            told.object = object;
+            tell_time(until, told);
+        }
+        Reply::Idle { next } => {
+            told.kind = 2;
+            tell_time(next, told);
+        }
+        Reply::AtLimit => told.kind = 3,
+        Reply::Standing {
+            standing,
+            changed,
+            next,
+        } => {
+            told.kind = 4;
+            told.changed = flag(changed);
+            told.standing = plain_standing(standing);
+            tell_time(next, told);
+        }
+        Reply::Freed { next } => {
+            told.kind = 5;
+            tell_time(Some(next), told);
+        }
+        Reply::Done => told.kind = 6,
+        Reply::Refused(refusal) => told.kind = refusal_number(refusal),
     }
 }
 
@@ -216,28 +259,9 @@ fn reply_struct(kind: u32, object: u32, run: u64, time: Option<u64>) -> PlainRep
 pub fn plain_reply(reply: Reply) -> PlainReply
     ensures { result ≡ plain_reply reply }
 {
-    match reply {
-        Reply::Taken { object, run } => reply_struct(0, object, run, None),
-        Reply::PutOff { object, until } => reply_struct(1, object, 0, until),
-        Reply::Idle { next } => reply_struct(2, 0, 0, next),
-        Reply::AtLimit => reply_struct(3, 0, 0, None),
-        Reply::Standing {
-            standing,
-            changed,
-            next,
-        } => PlainReply {
-            kind: 4,
-            object: 0,
-            run: 0,
-            time: time_or_0(next),
-            has_time: has_time(next),
-            changed: flag(changed),
-            standing: plain_standing(standing),
-        },
-        Reply::Freed { next } => reply_struct(5, 0, 0, Some(next)),
-        Reply::Done => reply_struct(6, 0, 0, None),
-        Reply::Refused(refusal) => reply_struct(refusal_number(refusal), 0, 0, None),
-    }
+    let mut told = NO_REPLY;
+    tell_reply(reply, &mut told);
+    told
 }
 
 /// An entry of a history, for C.

@@ -84,6 +84,8 @@ impl Roster {
     }
 
     /// Does this to the object with this number, in its place.
+    // In each caller the compiler knows what is done, and keeps that part alone.
+    #[inline(always)]
     pub(crate) fn change(&mut self, number: u32, change: Change)
         requires { number < length self.old.objects }
         ensures { self.new ≡ record {
@@ -130,6 +132,8 @@ impl Roster {
 }
 
 /// Gives an object its place in its queue: at the time for which it waits, or none.
+// In each caller the compiler knows whether there is a time.
+#[inline(always)]
 fn place(queue: &mut Queue, number: u32, time: Option<u64>)
     requires { number < length queue.old }
     ensures { queue.new ≡ slice_set queue.old number time }

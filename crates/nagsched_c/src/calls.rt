@@ -11,7 +11,7 @@ ghost use Rattle.nagsched_c.specs.Tries.{reply_after, status_of, HasTried, HasTr
 
 use crate::status::{NO_MEMORY, OK, SPENT, WAIT, WRONG};
 use check_handles::{Handle, Lodged, Step};
-use check_records::{PlainReply, code_of, flag_of, plain_reply};
+use check_records::{PlainReply, code_of, flag_of, tell_reply};
 use check_sched::Call;
 use std::alloc::Global;
 
@@ -156,7 +156,7 @@ fn tell(step: Step, reply: &mut PlainReply) -> u32
 {
     match step {
         Step::Replied(made) => {
-            *reply = plain_reply(made);
+            tell_reply(made, reply);
             OK
         }
         Step::NotYet => WAIT,
