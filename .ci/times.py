@@ -1,7 +1,7 @@
 #!/usr/bin/env python3
 """Tells where the gate's time goes: the processor minutes of each crate's proofs, of its tests and of each must-fail edit.
 
-    .ci/times.py [COMMAND..]     rt ci --anew where no command is named
+    .ci/times.py [COMMAND..]     bash .ci/run where no command is named
 
 By hand, and no part of the gate. It runs the command, looks at its processes twice a second, and sums what each check used,
 with all that it started. What is told as no crate's check is programs and tests that run, links, and what ended between two looks.
@@ -125,7 +125,7 @@ def tell(minutes, whole):
 
 
 def main():
-    command = sys.argv[1:] or ["rt", "ci", "--anew"]
+    command = sys.argv[1:] or ["bash", ".ci/run"]
     began = time.monotonic()
     with subprocess.Popen(command) as running:
         times = Times(running.pid)
