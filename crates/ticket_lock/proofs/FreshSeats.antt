@@ -1,5 +1,7 @@
 -- What the token of a seat that has never drawn says of it.
-use Rattle.std.proofs.Common.{◌≡◌, ◌+◌, ◌<◌, ◌≤◌, [], Bool, true, length, sym, ap, ◌∙◌, subst, Option, refl, arith}
+use Rattle.std.proofs.Common.{◌≡◌, ℕ, ◌+◌, ◌<◌, ◌≤◌, [], true, length, sym, ap, ◌∙◌, subst, Option, refl, arith}
+use Rattle.std.specs.Prelude.{nat_lt}
+use Rattle.std.proofs.lemmas.Bool.{lt-ltb}
 use Rattle.atomic_table.specs.Table.{Me}
 use Rattle.ticket_steps.specs.declared.kept.Kept.{Ghosts}
 use Rattle.ticket_steps.specs.declared.seats.Phase.TheVariants.{Idle}
@@ -27,26 +29,26 @@ row_counts f s own row left calls some_number few few_calls = record {
 
 module _ {K C R : Type 0} (k : Ghosts K C R) where
   -- all that a seat's token says
-  pub record IsFresh (f : SeatCounts) (fresh : Bool) (me : Me (Option K) (View K C R)) : Type 0 where
+  pub record IsFresh (f : SeatCounts) (parts : ℕ) (me : Me (Option K) (View K C R)) : Type 0 where
     pub bare : me.1 ≡ []
     pub legal : IsLegalFrom k me.0.start me.0.seen
     pub idle : me.0.seat.phase ≡ Idle
     pub told : AreCountsOf f me.0.seat
-    pub fresh_is : me.0.seat.fresh ≡ fresh
-    pub range : fresh ≡ true → f.number + f.count ≤ 1024
-    pub row : fresh ≡ true → me.0.seat.numbers ≡ counted f.number f.count
+    pub fresh_is : me.0.seat.fresh ≡ nat_lt 0 parts
+    pub range : 0 < parts → f.number + f.count ≤ 1024
+    pub row : 0 < parts → me.0.seat.numbers ≡ counted f.number f.count
 
-  pub fresh_token : (f : SeatCounts) (fresh : Bool) (me : Me (Option K) (View K C R)) (w : View K C R) → me ≡ (w, [])
-      → w.seat.phase ≡ Idle → w.seat.fresh ≡ fresh → IsLegalFrom k w.start w.seen → w.seat.own ≡ f.number
+  pub fresh_token : (f : SeatCounts) (parts : ℕ) (me : Me (Option K) (View K C R)) (w : View K C R) → me ≡ (w, [])
+      → w.seat.phase ≡ Idle → w.seat.fresh ≡ true → 0 < parts → IsLegalFrom k w.start w.seen → w.seat.own ≡ f.number
       → w.seat.numbers ≡ counted f.number f.count → w.seat.left ≡ f.left → w.seat.calls ≡ f.calls → 0 < f.count → f.number + f.count ≤ 1024
-      → f.calls ≤ 4398046510080 → IsFresh f fresh me
-  fresh_token f fresh me w e idle fresh_is legal own row left calls some_number few few_calls =
-      subst (IsFresh f fresh) (sym e) record {
+      → f.calls ≤ 4398046510080 → IsFresh f parts me
+  fresh_token f parts me w e idle fresh_is some legal own row left calls some_number few few_calls =
+      subst (IsFresh f parts) (sym e) record {
         bare = refl;
         legal = legal;
         idle = idle;
         told = row_counts f w.seat own row left calls some_number (omega (arith, few)) few_calls;
-        fresh_is = fresh_is;
+        fresh_is = fresh_is ∙ sym (lt-ltb 0 parts some);
         range = λ _. few;
         row = λ _. row;
       }

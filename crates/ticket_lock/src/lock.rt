@@ -121,7 +121,7 @@ impl<K: Kept> TicketLock<K> {
                         left: numbers as u64 * draws as u64,
                         calls: 0,
                     },
-                    fresh: true,
+                    parts: numbers as u64,
                 };
                 let lock = TicketLock {
                     table,
@@ -164,7 +164,7 @@ impl<K: Kept> TicketLock<K> {
         let Seat {
             mut table_seat,
             counts,
-            fresh,
+            parts: _,
         } = seat;
         let other = self.table.shared.split_seat::<Splits<N>>(&mut table_seat);
         let kept = counts.count - count;
@@ -176,7 +176,7 @@ impl<K: Kept> TicketLock<K> {
                 left: count as u64 * self.draws as u64,
                 calls: 0,
             },
-            fresh,
+            parts: count as u64,
         };
         let seat = Seat {
             table_seat,
@@ -186,7 +186,7 @@ impl<K: Kept> TicketLock<K> {
                 left: kept as u64 * self.draws as u64,
                 calls: counts.calls,
             },
-            fresh,
+            parts: kept as u64,
         };
         (seat, given)
     }
@@ -206,7 +206,7 @@ impl<K: Kept> TicketLock<K> {
         let Seat {
             mut table_seat,
             counts,
-            fresh: _,
+            parts: _,
         } = seat;
         let ticket = self
             .table
@@ -348,7 +348,7 @@ impl<K: Kept> TicketLock<K> {
         Seat {
             table_seat,
             counts,
-            fresh: false,
+            parts: 0,
         }
     }
 
@@ -366,12 +366,12 @@ impl<K: Kept> TicketLock<K> {
         let Seat {
             mut table_seat,
             counts,
-            fresh: _,
+            parts: _,
         } = seat;
         let Seat {
             table_seat: other,
             counts: more,
-            fresh: _,
+            parts: _,
         } = other;
         self.table
             .shared
@@ -388,7 +388,7 @@ impl<K: Kept> TicketLock<K> {
         Seat {
             table_seat,
             counts,
-            fresh: false,
+            parts: 0,
         }
     }
 
@@ -407,7 +407,7 @@ impl<K: Kept> TicketLock<K> {
         let Seat {
             mut table_seat,
             counts,
-            fresh,
+            parts,
         } = seat;
         let word = self
             .table
@@ -416,7 +416,7 @@ impl<K: Kept> TicketLock<K> {
         let seat = Seat {
             table_seat,
             counts,
-            fresh,
+            parts,
         };
         (seat, word)
     }
@@ -448,7 +448,7 @@ impl<K: Kept> TicketLock<K> {
         let Seat {
             table_seat,
             counts: _,
-            fresh: _,
+            parts: _,
         } = seat;
         let mut closed = table.close_with(table_seat);
         let slot = closed.take(0);

@@ -2,7 +2,7 @@
 //!
 //! A token has no bytes that threads share. It carries what its caller knows, in proofs alone: the
 //! history that it has seen, which is always a beginning of the one history of the book.
-ghost use Rattle.std.specs.Prelude.{◌≡◌, ◌+◌, ◌^◌, ◌<◌, ◌≤◌, true, false, cond, [], ◌∷◌, length, None};
+ghost use Rattle.std.specs.Prelude.{◌≡◌, ◌+◌, ◌^◌, ◌<◌, ◌≤◌, nat_lt, false, cond, [], ◌∷◌, length, None};
 ghost use Rattle.std.specs.Coded.{Coded-set};
 ghost use Rattle.ticket_steps.specs.declared.seats.Phase.TheVariants.{Idle, Waiting, Holding, Posted};
 ghost use Rattle.ticket_steps.specs.Sums.{counted, times};
@@ -26,14 +26,17 @@ pub(crate) type TableSeat<K> = atomic_table::Seat<
 pub struct Seat<K: Kept> {
     pub(crate) table_seat: TableSeat<K>,
     pub(crate) counts: SeatCounts,
-    pub(crate) fresh: bool,
+    /// How many numbers it may be split into: as many as it answers for, until it draws or another is
+    /// gathered into it, and then 0. As wide as what stands before it: bytes that no field has would be
+    /// copied wherever a seat goes.
+    pub(crate) parts: u64,
     ghost bare: { table_seat.me.1 ≡ [] },
     ghost legal: { IsLegalFrom K.Kept table_seat.me.0.start table_seat.me.0.seen } by { IsLegalFrom-prop K.Kept (Coded-set K.Reply.code) _ _ },
     ghost idle: { table_seat.me.0.seat.phase ≡ Idle },
     ghost told: { AreCountsOf counts table_seat.me.0.seat },
-    ghost fresh_is: { table_seat.me.0.seat.fresh ≡ fresh },
-    ghost range: { fresh ≡ true → counts.number + counts.count ≤ 1024 },
-    ghost row: { fresh ≡ true → table_seat.me.0.seat.numbers ≡ counted counts.number counts.count },
+    ghost fresh_is: { table_seat.me.0.seat.fresh ≡ nat_lt 0 parts },
+    ghost range: { 0 < parts → counts.number + counts.count ≤ 1024 },
+    ghost row: { 0 < parts → table_seat.me.0.seat.numbers ≡ counted counts.number counts.count },
 }
 
 /// A caller that has drawn a ticket and waits for its turn.
@@ -94,7 +97,7 @@ impl<K: Kept> Seat<K> {
     pub fn fresh(&self) -> bool
         ensures { result ≡ (seat_of self.now).fresh }
     {
-        self.fresh
+        0 < self.parts
     }
 
     /// The draws that it has left.

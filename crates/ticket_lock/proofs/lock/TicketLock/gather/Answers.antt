@@ -53,6 +53,6 @@ invariant_of-result g c =
             (omega (arith, s.told.among, times-append s.table_seat.me.0.seat.own s.table_seat.me.0.seat.numbers o.table_seat.me.0.seat.numbers)));
       };
       fresh_is = ap (λ m. m.0.seat.fresh) e ∙ ap (λ m. m.0.seat.fresh) j;
-      range = λ h. absurd (cc);
-      row = λ h. absurd (cc);
+      range = λ some. absurd (omega (arith, some));
+      row = λ some. absurd (omega (arith, some));
     }

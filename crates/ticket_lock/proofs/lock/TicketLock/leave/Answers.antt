@@ -1,5 +1,4 @@
 use Rattle.std.proofs.Common.{rules, arith, ◌≡◌, ℕ, ◌+◌, ◌<◌, Bool, true, false, List, [], length, refl, sym, ap, ◌∙◌, subst, None}
-use Rattle.std.proofs.lemmas.Bool.{false≢true}
 use Rattle.ticket_steps.specs.declared.kept.Entry.{Entry}
 use Rattle.ticket_steps.specs.declared.kept.Kept.{Ghosts}
 use Rattle.ticket_steps.specs.History.{IsLegal}
@@ -74,8 +73,8 @@ invariant_of-result g c =
         among = subst (λ w. 0 < times w.seat.own w.seat.numbers) (sym now) s.told.among;
       };
       fresh_is = ap (λ w. w.seat.fresh) now ∙ s.stale;
-      range = λ h. absurd (false≢true h);
-      row = λ h. absurd (false≢true h);
+      range = λ some. absurd (omega (arith, some));
+      row = λ some. absurd (omega (arith, some));
     }
 
 pub returns-clause-lock : goal.returns-clause-lock

@@ -1,4 +1,4 @@
-use Rattle.std.proofs.Common.{rules, refl, true, ◌≡◌, ℕ, ◌*◌, ◌∷◌, [], Some, arith, sym, ap, ◌∙◌, subst}
+use Rattle.std.proofs.Common.{rules, refl, ◌≡◌, ℕ, ◌*◌, ◌∷◌, [], Some, arith, sym, ap, ◌∙◌, subst}
 use Rattle.atomic_table.specs.Table.{opening}
 use Rattle.ticket_steps.specs.History.{replay}
 use Rattle.ticket_steps.proofs.Totals.{length-counted}
@@ -31,6 +31,6 @@ pub invariant_of-seat : goal.invariant_of-seat
 invariant_of-seat g c =
     let counts : SeatCounts = record { number = 0; count = c.args.numbers; left = c.args.numbers * c.args.draws; calls = 0 } in
     let left = ap (λ (n : ℕ). n * c.args.draws) (length-counted 0 c.args.numbers) in
-    let t = fresh_token g.K.Kept counts true _ _ c.in-Ok-new.ensures.ok.4 refl refl tt refl refl left refl c.requires.numbers.0
+    let t = fresh_token g.K.Kept counts c.args.numbers _ _ c.in-Ok-new.ensures.ok.4 refl refl c.requires.numbers.0 tt refl refl left refl c.requires.numbers.0
     (omega (arith, c.requires.numbers.1)) (omega arith) in
     record { bare = t.bare; legal = t.legal; idle = t.idle; told = t.told; fresh_is = t.fresh_is; range = t.range; row = t.row }

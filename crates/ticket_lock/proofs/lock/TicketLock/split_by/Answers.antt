@@ -6,6 +6,7 @@ use Rattle.ticket_lock.specs.Tokens.{caller_in}
 use Rattle.ticket_lock.specs.Views.{draws_in, keeping_view}
 use Rattle.ticket_lock.proofs.Callers.{kept_len, given_len, keeping_is, given_is}
 use Rattle.ticket_lock.proofs.Obligations.{splits}
+use Rattle.std.proofs.lemmas.Bool.{ltb-true}
 use Rattle.ticket_lock.proofs.FreshSeats.{fresh_token}
 use Rattle.ticket_lock.proofs.lock.TicketLock.split_by.Given.{Over}
 use Rattle.ticket_lock.proofs.lock.TicketLock.split_by.Goals.{After-split_seat-other}
@@ -36,7 +37,7 @@ first_of_row ns own size given n row len is =
 -- the seat has a row of numbers, within those of its lock
 in_row : (g : Over) (c : After-split_seat-other g) → let s = c.args.seat in
     (s.table_seat.me.0.seat.numbers ≡ counted s.counts.number s.counts.count) × (s.counts.number + s.counts.count ≤ 1024)
-in_row g c = let s = c.args.seat in let fresh = sym s.fresh_is ∙ c.requires.3 in (s.row fresh, s.range fresh)
+in_row g c = let s = c.args.seat in let some = ltb-true 0 s.parts (sym s.fresh_is ∙ c.requires.3) in (s.row some, s.range some)
 
 pub invariant_of-given : goal.invariant_of-given
 invariant_of-given g c =
@@ -48,7 +49,7 @@ invariant_of-given g c =
     let len = given_len v g.N.Count.count c.args.count c.args.self.now.draws (sym c.requires.0) (ap draws_in c.requires.4.1) (omega (arith, c.requires.2)) in
     let row = last_of_row v.seat.numbers s.counts.number s.counts.count c.args.count g.N.Count.count before.0 s.told.count (sym c.requires.0)
     (omega (arith, c.requires.2, s.told.count)) in
-    let t = fresh_token g.K.Kept counts s.fresh _ _ c.split_seat-other.ensures.4 refl (sym c.requires.3 ∙ s.fresh_is) s.legal
+    let t = fresh_token g.K.Kept counts c.args.count _ _ c.split_seat-other.ensures.4 refl refl c.requires.1 s.legal
     (omega (arith, s.told.own, s.told.count, c.requires.0)) row (λ i. len i * ap draws_in c.requires.4.1 i) refl c.requires.1
     (omega (arith, before.1, c.requires.2, s.told.count)) (omega arith) in
     record { bare = t.bare; legal = t.legal; idle = t.idle; told = t.told; fresh_is = t.fresh_is; range = t.range; row = t.row }
@@ -70,7 +71,7 @@ invariant_of-seat g c =
     let row = first_of_row s.table_seat.me.0.seat.numbers s.counts.number s.counts.count c.args.count g.N.Count.count before.0 s.told.count
     (sym c.requires.0) in
     let e = c.split_seat-other.ensures.2 ∙ ap (λ q. (keeping_view g.N.Count.count s.table_seat.me.0, q)) s.bare in
-    let t = fresh_token g.K.Kept counts s.fresh _ _ e refl (sym c.requires.3 ∙ s.fresh_is) s.legal s.told.own row
+    let t = fresh_token g.K.Kept counts kept _ _ e refl refl (omega (arith, c.requires.2, s.told.count)) s.legal s.told.own row
     (λ i. kept_count g at i * ap draws_in c.requires.4.1 i) s.told.calls (omega (arith, c.requires.2, s.told.count)) (omega (arith, before.1))
     s.told.few_calls in
     record { bare = t.bare; legal = t.legal; idle = t.idle; told = t.told; fresh_is = t.fresh_is; range = t.range; row = t.row }
