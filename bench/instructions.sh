@@ -7,8 +7,9 @@
 #   queue    the first of n entries is taken out and put back 5 minutes later
 #   calls    a check of one of n objects is taken and reported, by the scheduler alone
 #   run      the same by the whole program: two lines read, two written
+#   ask      each of these two calls, by the only pass of a desk: what the lock, the turn and the history add to `calls`
+#   caller   each of them, by a caller of the C library: what the handle, the guard and C's own loop add to `ask`
 # and, without the instructions of `calls` at as many objects:
-#   caller   a call by a caller of the C library: its handle, its lock, its turn and its history
 #   depend   a check of a service that depends on the first service: what looking for masters that hold it back costs
 #   inherit  the same, where the dependency inherits, and the first service depends on the second
 #   lines    a check whose two replies are written as lines of text
@@ -49,9 +50,14 @@ beyond_calls() {
     echo $(($(by_workload "$1" "$2") - $(by_workload cycle "$2")))
 }
 
-# What a caller of the C library adds to each of the two calls of a cycle at n objects.
+# What a pass of a desk adds to each of the two calls of a cycle at n objects.
+by_pass() {
+    echo $((($(by_workload ask "$1") - $(by_workload cycle "$1")) / 2))
+}
+
+# What a caller of the C library adds to each of the two calls of such a pass.
 by_caller() {
-    echo $((($(by_cycles "$work/c_asks" one 1 "$1") - $(by_workload cycle "$1")) / 2))
+    echo $((($(by_cycles "$work/c_asks" one 1 "$1") - $(by_workload ask "$1")) / 2))
 }
 
 # A setup of so many hosts, and so many takes with their reports.
@@ -89,6 +95,7 @@ for numbers in 64 512 4096; do
     printf '%8s %8d %14d\n' run "$numbers" "$(by_run "$numbers")"
 done
 for numbers in 64 4096; do
+    printf '%8s %8d %14d\n' ask "$numbers" "$(by_pass "$numbers")"
     printf '%8s %8d %14d\n' caller "$numbers" "$(by_caller "$numbers")"
 done
 for workload in depend inherit lines; do

@@ -1,8 +1,9 @@
 -- What a try of a caller with a pass is.
-use Rattle.std.proofs.Common.{◌≡◌, ℕ, subst}
+use Rattle.std.proofs.Common.{◌≡◌, subst}
 use mathlib.Core.Logic.{◌≢◌}
 use Rattle.ticket_lock.specs.Callers.{drawn}
 use Rattle.check_sched.specs.declared.call.Call.{Call}
+use Rattle.check_desk.specs.declared.desk.Desk.{Desk}
 use Rattle.check_desk.specs.declared.passes.Pass.{Pass}
 use Rattle.check_desk.specs.declared.passes.Turn.{Turn}
 use Rattle.check_desk.specs.Passes.{pass_of, waiting_of}
@@ -13,24 +14,24 @@ use Rattle.check_handles.specs.declared.stage.Step.TheVariants as tried
 use Rattle.check_handles.specs.Tries.{HasAdvanced, HasBegun, HasLooked, HasTurn, MayGoOn}
 
 -- one that has drawn a ticket looks, and isn't told that its calls are spent
-pub begun : (room : ℕ) (call : Call) (pass : Pass) (turn : Turn) (made : Step) (after : Stage) → (pass_of pass).left ≢ 0
-    → waiting_of turn ≡ drawn (pass_of pass) → HasLooked room call turn made after → HasBegun room call pass made after
-begun room call pass turn (tried.Replied reply) after left is looked = (left, (turn, is, looked))
-begun room call pass turn tried.NoMemory after left is looked = (left, (turn, is, looked))
-begun room call pass turn tried.Spent after left is looked = absurd looked
-begun room call pass turn tried.NotYet after left is looked = (left, (turn, is, looked))
-begun room call pass turn tried.OtherWaits after left is looked = (left, (turn, is, looked))
+pub begun : (desk : Desk) (call : Call) (pass : Pass) (turn : Turn) (made : Step) (after : Stage) → (pass_of pass).left ≢ 0
+    → waiting_of turn ≡ drawn (pass_of pass) → HasLooked desk call turn made after → HasBegun desk call pass made after
+begun desk call pass turn (tried.Replied reply) after left is looked = (left, (turn, is, looked))
+begun desk call pass turn tried.NoMemory after left is looked = (left, (turn, is, looked))
+begun desk call pass turn tried.Spent after left is looked = absurd looked
+begun desk call pass turn tried.NotYet after left is looked = (left, (turn, is, looked))
+begun desk call pass turn tried.OtherWaits after left is looked = (left, (turn, is, looked))
 
 -- one that can go on, and looks by its turn, has gone on
-pub advanced : (room : ℕ) (call : Call) (before : Stage) (turn : Turn) (made : Step) (after : Stage) → MayGoOn call before → HasTurn before turn
-    → HasLooked room call turn made after → HasAdvanced room call before made after
-advanced room call (stage.Resting pass) turn made after may has looked = begun room call pass turn made after may has looked
-advanced room call (stage.Waiting again asked) turn (tried.Replied reply) after may has looked =
-    (may, subst (λ t. HasLooked room call t (tried.Replied reply) after) has looked)
-advanced room call (stage.Waiting again asked) turn tried.NoMemory after may has looked =
-    (may, subst (λ t. HasLooked room call t tried.NoMemory after) has looked)
-advanced room call (stage.Waiting again asked) turn tried.Spent after may has looked = absurd looked
-advanced room call (stage.Waiting again asked) turn tried.NotYet after may has looked =
-    (may, subst (λ t. HasLooked room call t tried.NotYet after) has looked)
-advanced room call (stage.Waiting again asked) turn tried.OtherWaits after may has looked = absurd looked
-advanced room call stage.Gone turn made after may has looked = absurd may
+pub advanced : (desk : Desk) (call : Call) (before : Stage) (turn : Turn) (made : Step) (after : Stage) → MayGoOn call before → HasTurn before turn
+    → HasLooked desk call turn made after → HasAdvanced desk call before made after
+advanced desk call (stage.Resting pass) turn made after may has looked = begun desk call pass turn made after may has looked
+advanced desk call (stage.Waiting again asked) turn (tried.Replied reply) after may has looked =
+    (may, subst (λ t. HasLooked desk call t (tried.Replied reply) after) has looked)
+advanced desk call (stage.Waiting again asked) turn tried.NoMemory after may has looked =
+    (may, subst (λ t. HasLooked desk call t tried.NoMemory after) has looked)
+advanced desk call (stage.Waiting again asked) turn tried.Spent after may has looked = absurd looked
+advanced desk call (stage.Waiting again asked) turn tried.NotYet after may has looked =
+    (may, subst (λ t. HasLooked desk call t tried.NotYet after) has looked)
+advanced desk call (stage.Waiting again asked) turn tried.OtherWaits after may has looked = absurd looked
+advanced desk call stage.Gone turn made after may has looked = absurd may

@@ -1,6 +1,6 @@
 -- What a try of one of the six calls does: it makes the call at the end of a history that the caller sees, or leaves the caller
 -- waiting, or does nothing.
-use Rattle.std.specs.Prelude.{◌≡◌, ◌≢◌, ◌≤◌, ℕ, length, List}
+use Rattle.std.specs.Prelude.{◌≡◌, ◌≢◌, ◌<◌, ◌≤◌, ℕ, length, List}
 use Rattle.core.specs.Mem.{manually_drop_value}
 use Rattle.ticket_steps.specs.declared.kept.Entry.{Entry}
 use Rattle.ticket_lock.specs.Callers.{Caller as Seen, drawn, ended}
@@ -9,9 +9,10 @@ use Rattle.check_sched.specs.declared.call.Call.{Call}
 use Rattle.check_sched.specs.declared.call.Reply.{Reply}
 use Rattle.check_desk.specs.declared.desk.Answer.{Answer}
 use Rattle.check_desk.specs.declared.desk.Answer.TheVariants as answer
+use Rattle.check_desk.specs.declared.desk.Desk.{Desk}
 use Rattle.check_desk.specs.declared.passes.Pass.{Pass}
 use Rattle.check_desk.specs.declared.passes.Turn.{Turn}
-use Rattle.check_desk.specs.Desks.{recorded}
+use Rattle.check_desk.specs.Desks.{opened_with, passes_of, recorded}
 use Rattle.check_desk.specs.Passes.{drawn_ticket, pass_of, waiting_of}
 use Rattle.check_handles.specs.declared.stage.Stage.{Stage}
 use Rattle.check_handles.specs.declared.stage.Stage.TheVariants as stage
@@ -37,26 +38,32 @@ pub record HasFailed (room : ℕ) (waiting after : Seen Call Reply) : Type 0 whe
   pub after_is : after ≡ ended after.seen waiting
   pub full : room ≤ length after.seen
 
--- what a caller that waits has after a look: where the turn hasn't come the same ticket, for this call
-abbrev pub HasLooked : ℕ → Call → Turn → Step → Stage → Type 0
-HasLooked room call turn (tried.Replied reply) (stage.Resting pass) = HasMade call reply (waiting_of turn) (pass_of pass)
-HasLooked room call turn tried.NoMemory (stage.Resting pass) = HasFailed room (waiting_of turn) (pass_of pass)
-HasLooked room call turn tried.NotYet (stage.Waiting again asked) =
-    (waiting_of (manually_drop_value again) ≡ waiting_of turn) × (drawn_ticket (manually_drop_value again) ≡ drawn_ticket turn) × (asked ≡ call)
-HasLooked room call turn made after = ⊥
+-- The turn hasn't come: the caller has the same ticket, for this call. That is never so of one that answers for all of the desk's passes.
+pub record HasWaited (desk : Desk) (call : Call) (turn again : Turn) (asked : Call) : Type 0 where
+  pub same : waiting_of again ≡ waiting_of turn
+  pub ticket : drawn_ticket again ≡ drawn_ticket turn
+  pub asked_is : asked ≡ call
+  pub others : length (waiting_of turn).numbers < passes_of desk
+
+-- what a caller that waits has after a look
+abbrev pub HasLooked : Desk → Call → Turn → Step → Stage → Type 0
+HasLooked desk call turn (tried.Replied reply) (stage.Resting pass) = HasMade call reply (waiting_of turn) (pass_of pass)
+HasLooked desk call turn tried.NoMemory (stage.Resting pass) = HasFailed (opened_with desk).room (waiting_of turn) (pass_of pass)
+HasLooked desk call turn tried.NotYet (stage.Waiting again asked) = HasWaited desk call turn (manually_drop_value again) asked
+HasLooked desk call turn made after = ⊥
 
 -- what a caller with a pass has after a try: it takes a ticket by one of its calls, and looks; without a call left it does nothing
-abbrev pub HasBegun : ℕ → Call → Pass → Step → Stage → Type 0
-HasBegun room call pass tried.Spent after = ((pass_of pass).left ≡ 0) × (after ≡ stage.Resting pass)
-HasBegun room call pass made after =
-    ((pass_of pass).left ≢ 0) × ((turn : Turn) × (waiting_of turn ≡ drawn (pass_of pass)) × HasLooked room call turn made after)
+abbrev pub HasBegun : Desk → Call → Pass → Step → Stage → Type 0
+HasBegun desk call pass tried.Spent after = ((pass_of pass).left ≡ 0) × (after ≡ stage.Resting pass)
+HasBegun desk call pass made after =
+    ((pass_of pass).left ≢ 0) × ((turn : Turn) × (waiting_of turn ≡ drawn (pass_of pass)) × HasLooked desk call turn made after)
 
 -- what a caller has after a try: one that waits looks again, by the same call, or does nothing, by another
-abbrev pub HasAdvanced : ℕ → Call → Stage → Step → Stage → Type 0
-HasAdvanced room call (stage.Resting pass) made after = HasBegun room call pass made after
-HasAdvanced room call (stage.Waiting turn asked) tried.OtherWaits after = (asked ≢ call) × (after ≡ stage.Waiting turn asked)
-HasAdvanced room call (stage.Waiting turn asked) made after = (asked ≡ call) × HasLooked room call (manually_drop_value turn) made after
-HasAdvanced room call stage.Gone made after = (made ≡ tried.OtherWaits) × (after ≡ stage.Gone)
+abbrev pub HasAdvanced : Desk → Call → Stage → Step → Stage → Type 0
+HasAdvanced desk call (stage.Resting pass) made after = HasBegun desk call pass made after
+HasAdvanced desk call (stage.Waiting turn asked) tried.OtherWaits after = (asked ≢ call) × (after ≡ stage.Waiting turn asked)
+HasAdvanced desk call (stage.Waiting turn asked) made after = (asked ≡ call) × HasLooked desk call (manually_drop_value turn) made after
+HasAdvanced desk call stage.Gone made after = (made ≡ tried.OtherWaits) × (after ≡ stage.Gone)
 
 -- a caller can go on by the call: it has a pass with calls left, or waits for the turn of this call
 abbrev pub MayGoOn : Call → Stage → Type 0

@@ -41,11 +41,11 @@ impl Caller {
     ghost use Rattle.check_handles.specs.Joining.{HasJoined};
     ghost use Rattle.check_handles.specs.Tries.{HasAdvanced};
 
-    /// Tries to make the call.
+    /// Tries to make the call. A caller that answers for all passes of its desk never has to wait.
     pub fn step(&mut self, call: Call) -> Step
         ensures desk { AreOneDesk self.old self.new }
-        ensures advanced { HasAdvanced (opened_with (desk_of self.old)).room call self.old.stage
-            result self.new.stage }
+        ensures advanced { HasAdvanced (desk_of self.old) call self.old.stage result
+            self.new.stage }
     {
         advance(&self.shared.desk, &mut self.stage, call)
     }

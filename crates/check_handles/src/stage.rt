@@ -1,7 +1,7 @@
 //! What a caller has in hand between two calls of C: its pass, or the turn of a call that waits.
 
-ghost use Rattle.std.specs.Prelude.{◌≡◌, ℕ, IfSome, None};
-ghost use Rattle.check_desk.specs.Desks.{IsWaitingAt, opened_with};
+ghost use Rattle.std.specs.Prelude.{◌≡◌, IfSome, None};
+ghost use Rattle.check_desk.specs.Desks.{IsWaitingAt};
 ghost use Rattle.check_handles.specs.Stages.{IsStageOf};
 ghost use Rattle.check_handles.specs.Tries.{HasAdvanced, HasLooked, HasTurn, MayGoOn, step_of};
 
@@ -42,7 +42,7 @@ pub enum Step {
 pub(crate) fn advance(desk: &Desk, stage: &mut Stage, call: Call) -> Step
     requires { IsStageOf desk.now stage.old }
     ensures own { IsStageOf desk.now stage.new }
-    ensures advanced { HasAdvanced (opened_with desk.now).room call stage.old result stage.new }
+    ensures advanced { HasAdvanced desk.now call stage.old result stage.new }
 {
     if let Some(step) = hindrance(stage, call) {
         return step;
@@ -55,7 +55,7 @@ pub(crate) fn advance(desk: &Desk, stage: &mut Stage, call: Call) -> Step
 /// another.
 fn hindrance(stage: &Stage, call: Call) -> Option<Step>
     ensures hindered { IfSome result (λ step.
-        (room : ℕ) → HasAdvanced room call stage.now step stage.now) }
+        (desk : Desk) → HasAdvanced desk call stage.now step stage.now) }
     ensures free { result ≡ None → MayGoOn call stage.now }
 {
     match stage {
@@ -66,7 +66,7 @@ fn hindrance(stage: &Stage, call: Call) -> Option<Step>
 }
 
 /// Takes the turn out of the stage by which the caller goes on: the one that waits, or a new one, by
-/// one of the calls of its pass.
+/// one of the calls of its pass. The call is there for the proof alone: that one may go on by it.
 fn take_turn(desk: &Desk, stage: &mut Stage, call: Call) -> Turn
     requires own { IsStageOf desk.now stage.old }
     requires free { MayGoOn call stage.old }
@@ -83,11 +83,12 @@ fn take_turn(desk: &Desk, stage: &mut Stage, call: Call) -> Turn
     }
 }
 
-/// Looks whether the turn has come, and makes the call then. The stage is what the caller has afterwards.
+/// Looks whether the turn has come, as it always has where the caller answers for all, and makes the
+/// call then. The stage is what the caller has afterwards.
 fn look(desk: &Desk, stage: &mut Stage, turn: Turn, call: Call) -> Step
     requires { IsWaitingAt desk.now turn }
     ensures own { IsStageOf desk.now stage.new }
-    ensures looked { HasLooked (opened_with desk.now).room call turn result stage.new }
+    ensures looked { HasLooked desk.now call turn result stage.new }
 {
     match desk.poll(turn) {
         Poll::Mine(hold) => {

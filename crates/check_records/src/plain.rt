@@ -115,7 +115,7 @@ const NO_STANDING: PlainStanding = PlainStanding {
     flapping: 0,
 };
 
-/// The reply of a take that tells no object.
+/// A reply of which nothing is told yet.
 const NO_REPLY: PlainReply = PlainReply {
     kind: 0,
     object: 0,

@@ -5,7 +5,7 @@ use std::marker::Model;
 
 /// A check that was handed out and hasn't come back: its number, and the moment at which it was
 /// handed out, in milliseconds.
-#[derive(Clone, Copy, Debug)]
+#[derive(Clone, Copy)]
 pub(crate) struct Run {
     pub(crate) number: u64,
     pub(crate) start: u64,
@@ -42,7 +42,7 @@ impl Run {
 /// The scheduling of one object: the time of its next check in milliseconds, the run of the check
 /// that is out, whether its active checks are enabled, and whether its next check is forced.
 /// Contracts see it as a record `Scheduling` of the same.
-#[derive(Clone, Copy, Debug)]
+#[derive(Clone, Copy)]
 pub(crate) struct ObjectState {
     next: Option<u64>,
     run: Option<Run>,
@@ -61,7 +61,7 @@ impl Model for ObjectState {
 }
 
 /// What is done to one object: all but `Begin` leave the number of runs as it was, or end one.
-#[derive(Clone, Copy, Debug)]
+#[derive(Clone, Copy)]
 pub(crate) enum Change {
     /// Begin this run: the object loses its next time and its forced mark.
     Begin(Run),

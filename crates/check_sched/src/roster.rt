@@ -20,10 +20,11 @@ use std::marker::Model;
 /// there are, and the state of each object by number.
 #[derive(Drop)]
 pub(crate) struct Roster {
+    waiting_hosts: Queue,
+    // What a call for a service reads and writes stands from here on, side by side; a queue's length is
+    // its last field.
     hosts: usize,
     objects: Vec<ObjectState>,
-    waiting_hosts: Queue,
-    // What a call for a service writes stands last, side by side: a queue's length is its last field.
     waiting_services: Queue,
     running_services: usize,
 }

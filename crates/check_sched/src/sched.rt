@@ -52,11 +52,11 @@ pub const MAX_RUNS: u64 = 1 << 60;
 pub struct Sched {
     setup: Setup,
     start: u64,
-    standings: Vec<Standing>,
-    results: Results,
     /// Scratch of the search through dependencies: a mark for each object.
     marks: Vec<bool>,
-    // What each call writes stands last, side by side.
+    // What each call reads and writes stands last, side by side.
+    standings: Vec<Standing>,
+    results: Results,
     roster: Roster,
     runs: u64,
 }

@@ -17,10 +17,13 @@
 //! | `depend` | as `cycle`, where every service but the first depends on the first |
 //! | `inherit` | as `depend`, where these dependencies inherit, and the first service depends on the second |
 //! | `lines` | as `cycle`, and the replies are written as lines of text |
+//! | `ask` | as `cycle`, by the only pass of a desk |
 //!
-//! `queue_work` has the workloads of the queue, `sched_work` those of the scheduler, `random` the
-//! numbers. What a shared scheduler costs is measured over the C library, by `bench/c_asks.c`.
+//! `queue_work` has the workloads of the queue, `sched_work` those of the scheduler, `desk_work` that of
+//! a desk, `random` the numbers. What a shared scheduler costs is measured over the C library, by
+//! `bench/c_asks.c`.
 
+mod desk_work;
 mod made;
 mod queue_work;
 mod random;
@@ -32,6 +35,7 @@ use sched_work::{Masters, cycle, lines, scheduler};
 use std::alloc::Global;
 use std::env;
 use std::process::ExitCode;
+use std::sync::Wait;
 use std::time::{Clock, Instant};
 
 /// The most numbers of a workload.
@@ -44,6 +48,8 @@ enum Workload {
     Scheduler(Masters),
     /// The scheduler's, with the lines of its replies.
     Lines,
+    /// The scheduler's, by a pass of a desk.
+    Ask,
 }
 
 /// What the words ask for.
@@ -73,11 +79,12 @@ fn main(rt: HostRuntime) -> ExitCode {
 
 /// Makes what is asked for; tells what it took and saw, and how many cycles were made. None where there
 /// is no memory, or it can't be made of so many numbers.
-fn work_on(rt: &impl Clock, alloc: Global, job: &Job) -> Option<(Made, u64)> {
+fn work_on(rt: &(impl Clock + Wait), alloc: Global, job: &Job) -> Option<(Made, u64)> {
     match job.workload {
         Workload::Queue(workload) => queue_cycles(rt, alloc, workload, job),
         Workload::Scheduler(masters) => scheduler_cycles(rt, alloc, masters, job),
         Workload::Lines => line_cycles(rt, alloc, job),
+        Workload::Ask => ask_cycles(rt, alloc, job),
     }
 }
 
@@ -125,6 +132,7 @@ fn workload_of(word: &str) -> Option<Workload> {
         "depend" => Some(Workload::Scheduler(Masters::First)),
         "inherit" => Some(Workload::Scheduler(Masters::FirstAndItsMasters)),
         "lines" => Some(Workload::Lines),
+        "ask" => Some(Workload::Ask),
         _ => None,
     }
 }
@@ -164,6 +172,14 @@ fn line_cycles(rt: &impl Clock, alloc: Global, job: &Job) -> Option<(Made, u64)>
     let mut text = String::new(alloc);
     let start = Instant::now(rt);
     let sum = lines(&mut scheduler, &mut text, job.numbers, job.cycles).ok()?;
+    let nanos = nanos_since(rt, start);
+    Some((Made { nanos, sum }, job.cycles))
+}
+
+fn ask_cycles(rt: &(impl Clock + Wait), alloc: Global, job: &Job) -> Option<(Made, u64)> {
+    let (desk, pass) = desk_work::open(alloc, job.numbers, job.cycles)?;
+    let start = Instant::now(rt);
+    let sum = desk_work::ask(rt, &desk, pass, job.numbers, job.cycles);
     let nanos = nanos_since(rt, start);
     Some((Made { nanos, sum }, job.cycles))
 }

@@ -29,7 +29,7 @@ pub(crate) fn scheduler(alloc: Global, objects: u32, masters: Masters) -> Option
 }
 
 /// The setup of so many objects. None where there is no memory, or there can't be so many.
-fn setup(alloc: Global, objects: u32, masters: Masters) -> Option<Setup> {
+pub(crate) fn setup(alloc: Global, objects: u32, masters: Masters) -> Option<Setup> {
     let document = document(alloc, objects, masters).ok()?;
     Setup::read(alloc, document.as_bytes()).ok()
 }
@@ -99,7 +99,7 @@ fn push_dependency(
 
 /// The moments of a scheduler's takes: each of its services is taken once, then an interval passes.
 #[derive(Drop)]
-struct Moments {
+pub(crate) struct Moments {
     services: u64,
     left: u64,
     now: u64,
@@ -107,7 +107,7 @@ struct Moments {
 
 impl Moments {
     /// The moments of a scheduler over so many objects.
-    fn of(objects: u32) -> Moments {
+    pub(crate) fn of(objects: u32) -> Moments {
         let services = u64::from(objects.max(2) - 1);
         Moments {
             services,
@@ -117,7 +117,7 @@ impl Moments {
     }
 
     /// The moment of the next take.
-    fn next(&mut self) -> u64 {
+    pub(crate) fn next(&mut self) -> u64 {
         if self.left == 0 {
             self.now = self.now.wrapping_add(INTERVAL);
             self.left = self.services;

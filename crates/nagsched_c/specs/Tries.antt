@@ -1,7 +1,6 @@
 -- What C is told of a try of one of the six calls.
 use Rattle.std.specs.Prelude.{◌≡◌, ℕ, Option, Some, None}
 use Rattle.check_sched.specs.declared.call.Call.{Call}
-use Rattle.check_desk.specs.Desks.{opened_with}
 use Rattle.check_handles.specs.declared.caller.Caller.{Caller}
 use Rattle.check_handles.specs.declared.lodged.Lodged.{Lodged}
 use Rattle.check_handles.specs.declared.lodged.Lodged.TheVariants as lodged
@@ -29,7 +28,7 @@ reply_after made before = before
 abbrev pub HasTriedBy : Call → Caller → PlainReply → ℕ → Caller → PlainReply → Type 0
 HasTriedBy call before reply status after told =
     AreOneDesk before after × ((made : Step) × (status ≡ status_of made) × (told ≡ reply_after made reply)
-    × HasAdvanced (opened_with (desk_of before)).room call before.stage made after.stage)
+    × HasAdvanced (desk_of before) call before.stage made after.stage)
 
 -- nothing was done: the handle has what it had, and the struct of the reply is as it was
 abbrev pub IsWrong : Option Lodged → PlainReply → ℕ → Option Lodged → PlainReply → Type 0

@@ -12,6 +12,9 @@ ghost use Rattle.std.specs.Prelude.{
   Ok,
   OnOk,
   None,
+  length,
+  slice_set,
+  true,
 };
 ghost use Rattle.check_objects.specs.Configuration.{object_count};
 ghost use Rattle.check_sched.specs.State.{has_room, is_time};
@@ -86,12 +89,17 @@ impl Sched {
 
     /// Whether the object whose turn has come isn't to be checked: its check isn't forced, and some
     /// dependency of it fails. Only the scratch changes.
+    #[tactic(auto, using(crate::proofs::TakeLaws::unblocked))]
     fn is_held_back(&mut self, object: u32) -> bool
         requires { object < object_count self.old.setup }
         ensures state { self.new ≡ self.old }
         ensures value { result ≡ is_held_back self.old object }
     {
         if self.roster.at(object).is_forced() {
+            return false;
+        }
+        // Of an object that depends on nothing no standing is read.
+        if self.setup.dependencies(object).is_empty() {
             return false;
         }
         blocked(&self.setup, &self.standings, &mut self.marks, object)
@@ -151,8 +159,7 @@ impl Sched {
         ensures times { TellsTimesUpTo LAST_TIME (reply_of result) }
     {
         let (state, running) = self.awaited(object, run)?;
-        let index = object as usize;
-        let before = self.standings[index];
+        let before = self.standings[object as usize];
         let found = state_found(&self.setup, &self.standings, object, code);
         let thresholds = flap_thresholds(&self.setup, object);
         let flapping = self.results.add(object, found, before.flapping, thresholds);
@@ -160,7 +167,7 @@ impl Sched {
         let changed = is_changed(before, standing);
         let next = next_after(&self.setup, object, standing, running.start(), state.next());
         self.roster.change(object, Change::End(next));
-        self.standings[index] = standing;
+        put_standing(&mut self.standings, object, standing);
         Ok(Reply::Standing {
             standing,
             changed,
@@ -195,6 +202,31 @@ impl Sched {
         self.change(object, Change::End(Some(next)));
         Ok(Reply::Freed { next })
     }
+}
+
+/// Puts the standing of an object in its place. One that stands there already isn't written again, so
+/// that callers on other cores keep what they have read of it.
+fn put_standing(standings: &mut Vec<Standing>, number: u32, standing: Standing)
+    requires { number < length standings.old.items }
+    ensures { standings.new.items ≡ slice_set standings.old.items number standing }
+{
+    let place = &mut standings[number as usize];
+    if !is_same(*place, standing) {
+        *place = standing;
+    }
+}
+
+/// Whether two standings are the same.
+fn is_same(one: Standing, other: Standing) -> bool
+    ensures { result ≡ true → one ≡ other }
+{
+    if one.state != other.state || one.last_hard != other.last_hard {
+        return false;
+    }
+    if one.kind != other.kind || one.attempt != other.attempt {
+        return false;
+    }
+    one.checked == other.checked && one.flapping == other.flapping
 }
 
 /// Refuses a moment that is too late.

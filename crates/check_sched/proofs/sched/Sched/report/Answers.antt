@@ -1,4 +1,4 @@
-use Rattle.std.proofs.Common.{◌≡◌, ◌<◌, ◌∙◌, ap, sym, arith, set, length, ℕ, List, Ok, refl}
+use Rattle.std.proofs.Common.{◌≡◌, ◌<◌, ◌∙◌, ap, sym, arith, length, ℕ, List, Ok, refl}
 use Rattle.check_objects.specs.Configuration.{object_count}
 use Rattle.check_rules.specs.declared.standing.Standing.{Standing}
 use Rattle.check_rules.specs.declared.state.State as rules
@@ -51,27 +51,27 @@ next_after-next-requires-clause-moment c =
     (known_is c.args.object s c.in_ok-state.state found)
     (under_is c.args.run c.in_ok-state.state.run c.in_ok-state.running c.in_ok-state.ensures.found.1))
 
-pub index_mut-requires : goal.index_mut-requires
-index_mut-requires c =
+pub put_standing-requires : goal.put_standing-requires
+put_standing-requires c =
     let found = ap (known c.args.object) c.self.view_is ∙ c.in_ok-state.ensures.found.0 in
     let there = standing_there c.self.inside c.args.object c.in_ok-state.state c.self.invariant.state found in
     omega (arith, there)
 
 -- the object that was found, and its standing
-found : (c : goal.After-self-1) → known c.args.object (state_of c.self.inside) ≡ Ok c.in_ok-state.state
+found : (c : goal.After-put_standing) → known c.args.object (state_of c.self.inside) ≡ Ok c.in_ok-state.state
 found c = ap (known c.args.object) c.self.view_is ∙ c.in_ok-state.ensures.found.0
 
-there : (c : goal.After-self-1) → c.args.object < length c.self.inside.standings.items
+there : (c : goal.After-put_standing) → c.args.object < length c.self.inside.standings.items
 there c = standing_there c.self.inside c.args.object c.in_ok-state.state c.self.invariant.state (found c)
 
 -- the state that the code means
-meant : (c : goal.After-self-1) → c.state_found-found.result ≡ found_in (state_of c.self.inside) c.args.object c.args.code
+meant : (c : goal.After-put_standing) → c.state_found-found.result ≡ found_in (state_of c.self.inside) c.args.object c.args.code
 meant c =
     c.state_found-found.ensures.value
     ∙ ap (λ standings. state_found c.self.inside.setup standings c.args.object c.args.code) c.deref.ensures.value
 
 -- whether the object flaps
-flapping : (c : goal.After-self-1) → c.add-flapping.result
+flapping : (c : goal.After-put_standing) → c.add-flapping.result
     ≡ flaps_with c.self.inside.setup c.self.inside.standings.items c.self.inside.results c.args.object c.state_found-found.result
 flapping c =
     let before = standing_read c.self.inside.standings.items c.args.object c.index-before.result.now (there c) c.index-before.ensures in
@@ -80,13 +80,13 @@ flapping c =
     (c.flap_thresholds-thresholds.ensures i).0 (c.flap_thresholds-thresholds.ensures i).1)
 
 -- the standing that the verdict makes
-made : (c : goal.After-self-1) → c.judged-standing.result ≡ judged_in (state_of c.self.inside) c.args.object c.state_found-found.result
+made : (c : goal.After-put_standing) → c.judged-standing.result ≡ judged_in (state_of c.self.inside) c.args.object c.state_found-found.result
 made c =
     c.judged-standing.ensures
     ∙ (λ i. judged c.self.inside.setup (c.deref-2.ensures.value i) c.args.object c.state_found-found.result (flapping c i))
 
 -- what the step answers, by what the code makes
-answer : (c : goal.After-self-1) → step (state_of c.self.inside) (call.Report c.args.object c.args.run c.args.code)
+answer : (c : goal.After-put_standing) → step (state_of c.self.inside) (call.Report c.args.object c.args.run c.args.code)
     ≡ (
       reported c.args.object c.state_found-found.result c.judged-standing.result c.next_after-next.result
           (state_of c.self.inside),
@@ -99,13 +99,14 @@ answer c =
     (c.next_after-next.ensures.value ∙ (λ i. next_after c.self.inside.setup c.args.object c.judged-standing.result (c.start.ensures i) (c.next.ensures i)))
 
 -- the standings that the write leaves
-standings_left : (c : goal.After-self-1)
-    → set c.self.inside.standings.items c.args.object c.judged-standing.result ≡ update_at c.args.object
+standings_left : (c : goal.After-put_standing)
+    → c.put_standing.new.standings.items ≡ update_at c.args.object
     (λ (before : Standing). c.judged-standing.result) c.self.inside.standings.items
 standings_left c =
-    set_is_update _ (λ (before : Standing). c.judged-standing.result) _ c.judged-standing.result _ (there c) refl
+    c.put_standing.ensures
+    ∙ set_is_update _ (λ (before : Standing). c.judged-standing.result) _ c.judged-standing.result _ (there c) refl
 
-state_left : (c : goal.After-self-1) (objects : List Scheduling) (standings : List Standing) (results : List (List rules.State))
+state_left : (c : goal.After-put_standing) (objects : List Scheduling) (standings : List Standing) (results : List (List rules.State))
     → objects ≡ update_at c.args.object (ended c.next_after-next.result) c.self.inside.roster.objects
     → standings ≡ update_at c.args.object (λ (before : Standing). c.judged-standing.result) c.self.inside.standings.items
     → results ≡ update_at c.args.object (λ kept. kept_after kept c.state_found-found.result) c.self.inside.results
