@@ -169,11 +169,15 @@ fn scheduler_cycles(
 
 fn line_cycles(rt: &impl Clock, alloc: Global, job: &Job) -> Option<(Made, u64)> {
     let mut scheduler = scheduler(alloc, job.numbers, Masters::None)?;
-    let mut text = String::new(alloc);
     let start = Instant::now(rt);
-    let sum = lines(&mut scheduler, &mut text, job.numbers, job.cycles).ok()?;
+    let sum = lines(alloc, &mut scheduler, job.numbers, job.cycles).ok();
     let nanos = nanos_since(rt, start);
-    Some((Made { nanos, sum }, job.cycles))
+    when_ended(nanos, sum, job.cycles)
+}
+
+/// What a workload took and saw, where it came to its end.
+fn when_ended(nanos: u128, sum: Option<u64>, cycles: u64) -> Option<(Made, u64)> {
+    Some((Made { nanos, sum: sum? }, cycles))
 }
 
 fn ask_cycles(rt: &(impl Clock + Wait), alloc: Global, job: &Job) -> Option<(Made, u64)> {

@@ -143,13 +143,14 @@ pub(crate) fn cycle(scheduler: &mut Sched, objects: u32, cycles: u64) -> u64 {
     sum
 }
 
-/// The same, and writes the lines of both replies into `text`, each in place of the one before.
+/// The same, and writes the lines of both replies into a text, each in place of the one before.
 pub(crate) fn lines(
+    alloc: Global,
     scheduler: &mut Sched,
-    text: &mut String,
     objects: u32,
     cycles: u64,
 ) -> Result<u64, AllocError> {
+    let mut text = String::new(alloc);
     let mut moments = Moments::of(objects);
     let mut sum = 1;
     for _cycle in 0..cycles {
@@ -157,12 +158,12 @@ pub(crate) fn lines(
             now: moments.next(),
         };
         let taken = scheduler.apply(take);
-        put_line(text, scheduler.setup(), take, taken)?;
+        put_line(&mut text, scheduler.setup(), take, taken)?;
         if let Reply::Taken { object, run } = taken {
             let code = Code::Ok;
             let report = Call::Report { object, run, code };
             let reported = scheduler.apply(report);
-            put_line(text, scheduler.setup(), report, reported)?;
+            put_line(&mut text, scheduler.setup(), report, reported)?;
             sum = mixed(sum, u64::from(object));
         }
     }
