@@ -42,10 +42,11 @@ pub struct Book {
 /// What a book keeps: the scheduler, and the calls that led to its state.
 #[derive(Drop)]
 struct Log {
-    sched: Sched,
-    entries: Vec<Entry<Call, Reply>>,
+    // The entries stand beside what the scheduler's calls write, which it has first.
     refused: u64,
     room: usize,
+    entries: Vec<Entry<Call, Reply>>,
+    sched: Sched,
     /// The scheduler as it was when the book was opened. It takes no byte.
     opened: Opening<Sched>,
 }

@@ -28,8 +28,6 @@ pub enum InterleaveFactor {
 /// The options of a setup (manual: Main Configuration File Options).
 #[derive(Clone, Copy, Debug, PartialEq, Eq)]
 pub struct Options {
-    /// How many seconds a unit of the intervals lasts, 1 to 86,400. 60 unless the document says so.
-    pub interval_length: u64,
     /// How the first checks of services are spread. Smart unless the document says so.
     pub service_inter_check_delay_method: DelayMethod,
     /// Within how many minutes the smart method has the first checks of all services due, 1 to
@@ -42,8 +40,12 @@ pub struct Options {
     /// Within how many minutes the smart method has the first checks of all hosts due, 1 to
     /// 525,600. 30 unless the document says so.
     pub max_host_check_spread: u64,
-    /// How many service checks may run at a time, up to 1,000,000. 0, the default, is no limit.
-    pub max_concurrent_checks: u64,
+    // What calls read stands from here on, and what a call for a service reads stands last.
+    /// Below how many percent of changes a flapping host stops flapping, 0 to 100 and at most the
+    /// high threshold. 20 unless the document says so.
+    pub low_host_flap_threshold: u64,
+    /// From how many percent of changes on a host flaps, 0 to 100. 30 unless the document says so.
+    pub high_host_flap_threshold: u64,
     /// Whether dependencies look at the current state of the master in place of its last hard one
     /// (manual: Host and Service Dependencies). False unless the document says so.
     pub soft_state_dependencies: bool,
@@ -56,9 +58,8 @@ pub struct Options {
     pub low_service_flap_threshold: u64,
     /// From how many percent of changes on a service flaps, 0 to 100. 30 unless the document says so.
     pub high_service_flap_threshold: u64,
-    /// Below how many percent of changes a flapping host stops flapping, 0 to 100 and at most the
-    /// high threshold. 20 unless the document says so.
-    pub low_host_flap_threshold: u64,
-    /// From how many percent of changes on a host flaps, 0 to 100. 30 unless the document says so.
-    pub high_host_flap_threshold: u64,
+    /// How many seconds a unit of the intervals lasts, 1 to 86,400. 60 unless the document says so.
+    pub interval_length: u64,
+    /// How many service checks may run at a time, up to 1,000,000. 0, the default, is no limit.
+    pub max_concurrent_checks: u64,
 }

@@ -31,11 +31,13 @@ use std::marker::Model;
 /// read. Contracts see it as a `Configuration`.
 #[derive(Drop)]
 pub struct Setup {
-    options: Options,
     hosts: IndexMap<String, Host>,
-    services: IndexMap<String, Service>,
-    dependencies: Vec<Dependencies>,
     order: Vec<u32>,
+    // What a call for a service reads stands side by side: the last of the options, the dependencies, and
+    // how the services begin.
+    options: Options,
+    dependencies: Vec<Dependencies>,
+    services: IndexMap<String, Service>,
 }
 
 impl Model for Setup {

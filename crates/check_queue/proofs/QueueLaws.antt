@@ -1,13 +1,12 @@
 -- What the queue's calls need of the heap.
-use Rattle.std.proofs.Common.{◌≡◌, ◌≢◌, ℕ, zero, suc, ◌+◌, ◌-◌, ◌/◌, ◌<◌, ◌≤◌, ◌^◌, true, false, cond, List, length, get_or, replicate}
+use Rattle.std.proofs.Common.{◌≡◌, ◌≢◌, ℕ, zero, suc, ◌+◌, ◌-◌, ◌/◌, ◌<◌, ◌≤◌, ◌^◌, true, false, cond, List, length, replicate}
 use Rattle.std.proofs.Common.{Option, Some, None, refl, sym, ap}
-use Rattle.std.proofs.Common.{◌∙◌, arith, inl, inr, Vec, Global}
+use Rattle.std.proofs.Common.{◌∙◌, arith, inl, inr}
 use Rattle.std.specs.Prelude.{count_by, is_some}
-use Rattle.std.specs.Vec.{with_items}
 use Rattle.std.proofs.Math.ListN.{set}
 use Rattle.std.proofs.lemmas.Bool.{cases_eq}
-use Rattle.std.proofs.lemmas.List.{length-set, set-get_or, get_or-set_same, get_or-set_other, get_or_read, get_or-replicate}
-use Rattle.std.proofs.lemmas.List.{length-replicate, ext_get_or, with_items_is}
+use Rattle.std.proofs.lemmas.List.{length-set, set-get_or, get_or-set_same, get_or-set_other, get_or-replicate}
+use Rattle.std.proofs.lemmas.List.{length-replicate, ext_get_or}
 use Rattle.std.proofs.lemmas.List.Sums.{sum_by-set, count_by-le-length}
 use Rattle.check_queue.specs.declared.entry.Entry.{Entry}
 use Rattle.check_queue.specs.Heap.{IsNotBefore, entry_at, time_at, place_at, place_in, time_in, times_in, times_around}
@@ -50,9 +49,6 @@ none_where_empty es ps n k e = none_by _ (λ t f. let w = (found es ps n k t f).
 -- the entry at a place below n is that number's
 at_place : (es : List Entry) (ps : List ℕ) (n i : ℕ) → AreLinked es ps n → i < n → StandsAt es ps n (entry_at es i).number i
 at_place es ps n i a l = record { bound = let size = a.one_place_each in let number = a.number i l in omega arith; is = a.place i l; within = l; number = refl }
-
-pub root_read : (es : List Entry) (n : ℕ) (c : Entry) → 0 < n → n ≤ length es → c ≡ get_or es 0 c → c ≡ entry_at es 0
-root_read es n c l room e = get_or_read es 0 c (omega arith) e (record { time = 0; number = 0 })
 
 -- the root is that number's, with its time
 pub root_time : (es : List Entry) (ps : List ℕ) (n : ℕ) (c : Entry) → IsOrdered es ps n → 0 < n → c ≡ entry_at es 0
@@ -192,29 +188,19 @@ pub record Written (es es' : List Entry) (ps ps' : List ℕ) (n n' k : ℕ) (o :
   pub size : count (times_in es' ps' n') ≡ n'
   pub times : times_in es' ps' n' ≡ set (times_in es ps n) k o
 
--- the same of the vectors that hold the entries and places
-in_vectors : (v : Vec Entry Global) (w : Vec ℕ Global) (es' : List Entry) (ps' : List ℕ) (n n' k : ℕ) (o : Option ℕ)
-    → length w.items ≡ length v.items → length es' ≡ length v.items → Written v.items es' w.items ps' n n' k o
-    → Written v.items (with_items v es').items w.items (with_items w ps').items n n' k o
-in_vectors v w es' ps' n n' k o same long a =
-    let each = a.ordered.linked.one_place_each in
-    let held = v.ok.0 in
-    let held' = w.ok.0 in
-    rw (with_items_is v es' (omega arith), with_items_is w ps' (omega arith)) a
-
 -- a number without a time got one
-pub joined : (v : Vec Entry Global) (w : Vec ℕ Global) (es' : List Entry) (ps' : List ℕ) (n k t : ℕ) → IsOrdered v.items w.items n
-    → count (times_in v.items w.items n) ≡ n → k < length (times_in v.items w.items n) → None ≡ place_in v.items w.items n k
-    → IsSettled v.items es' w.items ps' (n + 1) n (record { time = t; number = k })
-    → Written v.items (with_items v es').items w.items (with_items w ps').items n (n + 1) k (Some t)
-joined v w es' ps' n k t o size bound none s =
-    let long = times_length v.items w.items n in
+pub joined : (es es' : List Entry) (ps ps' : List ℕ) (n k t : ℕ) → IsOrdered es ps n
+    → count (times_in es ps n) ≡ n → k < length (times_in es ps n) → None ≡ place_in es ps n k
+    → IsSettled es es' ps ps' (n + 1) n (record { time = t; number = k })
+    → Written es es' ps ps' n (n + 1) k (Some t)
+joined es es' ps ps' n k t o size bound none s =
+    let long = times_length es ps n in
     let same = o.linked.one_place_each in
-    let free = sym (no_time_of_none v.items w.items n k none) in
-    let room = has_room (times_in v.items w.items n) k bound free in
-    let times = s.times ∙ times_joined v.items w.items n k t same (omega arith) (omega arith) in
-    let more = count_more (times_in v.items w.items n) k t bound free in
-    in_vectors v w es' ps' n (n + 1) k (Some t) same s.size (record { ordered = s.ordered; size = ap count times ∙ more ∙ (omega arith); times = times })
+    let free = sym (no_time_of_none es ps n k none) in
+    let room = has_room (times_in es ps n) k bound free in
+    let times = s.times ∙ times_joined es ps n k t same (omega arith) (omega arith) in
+    let more = count_more (times_in es ps n) k t bound free in
+    record { ordered = s.ordered; size = ap count times ∙ more ∙ (omega arith); times = times }
 
 -- ---- a number that moves
 
@@ -256,17 +242,17 @@ times_after_move es ps n k p t o s =
     ])
 
 -- a number with a time got another
-pub moved : (v : Vec Entry Global) (w : Vec ℕ Global) (es' : List Entry) (ps' : List ℕ) (n k p t : ℕ) → IsOrdered v.items w.items n
-    → count (times_in v.items w.items n) ≡ n → Some p ≡ place_in v.items w.items n k
-    → IsSettled v.items es' w.items ps' n p (record { time = t; number = k })
-    → Written v.items (with_items v es').items w.items (with_items w ps').items n n k (Some t)
-moved v w es' ps' n k p t o size found s =
-    let stands = place_found v.items w.items n k p found in
-    let long = times_length v.items w.items n in
+pub moved : (es es' : List Entry) (ps ps' : List ℕ) (n k p t : ℕ) → IsOrdered es ps n
+    → count (times_in es ps n) ≡ n → Some p ≡ place_in es ps n k
+    → IsSettled es es' ps ps' n p (record { time = t; number = k })
+    → Written es es' ps ps' n n k (Some t)
+moved es es' ps ps' n k p t o size found s =
+    let stands = place_found es ps n k p found in
+    let long = times_length es ps n in
     let bound = stands.bound in
-    let times = s.times ∙ times_after_move v.items w.items n k p t o stands in
-    let same = count_same (times_in v.items w.items n) k t _ (omega arith) (sym (time_at_place v.items w.items n k p found)) in
-    in_vectors v w es' ps' n n k (Some t) o.linked.one_place_each s.size (record { ordered = s.ordered; size = ap count times ∙ same ∙ size; times = times })
+    let times = s.times ∙ times_after_move es ps n k p t o stands in
+    let same = count_same (times_in es ps n) k t _ (omega arith) (sym (time_at_place es ps n k p found)) in
+    record { ordered = s.ordered; size = ap count times ∙ same ∙ size; times = times }
 
 -- ---- whether a number has a time
 
@@ -361,14 +347,14 @@ count_left es ps n m k p size e found =
     omega arith
 
 -- a number with a time lost it, and the last entry came into its place
-pub left : (v : Vec Entry Global) (w : Vec ℕ Global) (es' : List Entry) (ps' : List ℕ) (n m k p : ℕ) → IsOrdered v.items w.items n
-    → count (times_in v.items w.items n) ≡ n → n ≡ m + 1 → Some p ≡ place_in v.items w.items n k → p < m
-    → IsSettled v.items es' w.items ps' m p (entry_at v.items m)
-    → Written v.items (with_items v es').items w.items (with_items w ps').items n m k None
-left v w es' ps' n m k p o size e found lt s =
-    let times = s.times ∙ times_left v.items w.items n m k p o e (place_found v.items w.items n k p found) lt in
-    let less = count_left v.items w.items n m k p size e found in
-    in_vectors v w es' ps' n m k None o.linked.one_place_each s.size (record { ordered = s.ordered; size = ap count times ∙ less; times = times })
+pub left : (es es' : List Entry) (ps ps' : List ℕ) (n m k p : ℕ) → IsOrdered es ps n
+    → count (times_in es ps n) ≡ n → n ≡ m + 1 → Some p ≡ place_in es ps n k → p < m
+    → IsSettled es es' ps ps' m p (entry_at es m)
+    → Written es es' ps ps' n m k None
+left es es' ps ps' n m k p o size e found lt s =
+    let times = s.times ∙ times_left es ps n m k p o e (place_found es ps n k p found) lt in
+    let less = count_left es ps n m k p size e found in
+    record { ordered = s.ordered; size = ap count times ∙ less; times = times }
 
 -- the same where it was the last
 pub left_last : (es : List Entry) (ps : List ℕ) (n m k p : ℕ) → IsOrdered es ps n → count (times_in es ps n) ≡ n → n ≡ m + 1 → Some p ≡ place_in es ps n k

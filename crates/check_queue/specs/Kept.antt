@@ -5,10 +5,10 @@ use Rattle.check_queue.specs.declared.queue.Queue.TheInside.{Inside}
 
 -- the time of each number, by number
 abbrev pub times_of : Inside → List (Option ℕ)
-times_of q = times_in q.entries.items q.places.items q.len
+times_of q = times_in q.rows.entries q.rows.places q.len
 
 -- what is true of the fields of every queue
 pub record IsKept (q : Inside) : Type 0 where
-  pub ordered : IsOrdered q.entries.items q.places.items q.len
+  pub ordered : IsOrdered q.rows.entries q.rows.places q.len
   -- so that there is room for a number without a time
   pub size : count_by (λ time. is_some time) (times_of q) ≡ q.len

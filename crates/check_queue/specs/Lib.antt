@@ -1,4 +1,5 @@
 pub mod Order
 pub mod Times
 pub mod Heap
+pub mod Rows
 pub mod Kept

@@ -5,12 +5,13 @@
 //! or removed from where it stands. Only [`Queue::new`] takes memory; a call that writes takes the
 //! logarithm of how many numbers have a time, and the others a fixed time.
 //!
-//! The modules: `entry` has an entry and the order of entries, `sift` moves an entry up and down the
-//! heap, `queue` is the queue.
+//! The modules: `entry` has an entry and the order of entries, `rows` is the memory of the heap, `sift`
+//! moves an entry up and down the heap, `queue` is the queue.
 #![tactic(auto)]
 
 mod entry;
 mod queue;
+mod rows;
 mod sift;
 
 pub use queue::Queue;

@@ -1,11 +1,11 @@
 //! The queue.
 
 ghost use Rattle.std.specs.Prelude.{◌≡◌, ◌<◌, ◌≤◌, ℕ, IfOk, IfSome, MatchOption, Some, None, is_some, replicate, length, slice_set, slice_index_or};
-ghost use Rattle.check_queue.specs.Heap.{place_in};
 ghost use Rattle.check_queue.specs.Order.{least};
 ghost use Rattle.check_queue.specs.Times.{pairs_of};
 
 use crate::entry::Entry;
+use crate::rows::Rows;
 use crate::sift::{sift, sift_up};
 use std::alloc::{AllocError, Global};
 use std::marker::Model;
@@ -14,12 +14,10 @@ use std::marker::Model;
 /// list of these times, by number. (Our own profile.)
 #[derive(Drop)]
 pub struct Queue {
-    /// A heap, in its first `len` entries.
-    entries: Vec<Entry>,
-    /// The place of each number in the heap, if it has a time. Else it is one past the heap's end, or
-    /// another number's.
-    places: Vec<u32>,
+    /// How many numbers have a time.
     len: usize,
+    /// A heap, in the first `len` rows, and the place of each number in it.
+    rows: Rows,
 }
 
 impl Model for Queue {
@@ -41,22 +39,16 @@ impl Queue {
     pub fn new(alloc: Global, n: u32) -> Result<Queue, AllocError>
         ensures { IfOk result (λ queue. queue ≡ replicate n None) }
     {
-        let n = n as usize;
-        let entries = vec![in alloc; Entry { time: 0, number: 0 }; n]?;
-        let places = vec![in alloc; 0; n]?;
-        Ok(Queue {
-            entries,
-            places,
-            len: 0,
-        })
+        let rows = Rows::new(alloc, n as usize)?;
+        Ok(Queue { len: 0, rows })
     }
 
     /// The time of a number; None where it has none, or isn't below the bound.
     pub fn time_of(&self, number: u32) -> Option<u64>
         ensures { result ≡ slice_index_or self.now number None }
     {
-        let place = place_of(&self.entries, &self.places, self.len, number)?;
-        Some(self.entries[place].time)
+        let place = self.rows.place_of(self.len, number)?;
+        Some(self.rows.entry(place).time)
     }
 
     /// The least time with its number, and of equal times the one with the least number. None where
@@ -71,7 +63,7 @@ impl Queue {
         if self.len == 0 {
             return None;
         }
-        let top = self.entries[0];
+        let top = self.rows.entry(0);
         Some((top.time, top.number))
     }
 
@@ -81,13 +73,13 @@ impl Queue {
         ensures { self.new ≡ slice_set self.old number (Some time) }
     {
         let entry = Entry { time, number };
-        match place_of(&self.entries, &self.places, self.len, number) {
+        match self.rows.place_of(self.len, number) {
             None => {
                 let hole = self.len;
                 self.len += 1;
-                sift_up(&mut self.entries, &mut self.places, self.len, hole, entry);
+                sift_up(&mut self.rows, self.len, hole, entry);
             }
-            Some(hole) => sift(&mut self.entries, &mut self.places, self.len, hole, entry),
+            Some(hole) => sift(&mut self.rows, self.len, hole, entry),
         }
     }
 
@@ -97,30 +89,16 @@ impl Queue {
         ensures had { result ≡ is_some (slice_index_or self.old number None) }
         ensures after { self.new ≡ slice_set self.old number None }
     {
-        let Some(hole) = place_of(&self.entries, &self.places, self.len, number) else {
+        let Some(hole) = self.rows.place_of(self.len, number) else {
             return false;
         };
         self.len -= 1;
         if hole < self.len {
-            let last = self.entries[self.len];
-            sift(&mut self.entries, &mut self.places, self.len, hole, last);
+            let last = self.rows.entry(self.len);
+            sift(&mut self.rows, self.len, hole, last);
         }
         // Past the heap's end, so that the next to look for it reads no entry of another.
-        self.places[number as usize] = self.len as u32;
+        self.rows.put_place(number, self.len);
         true
-    }
-}
-
-/// The place of a number in the heap, if it has a time. Where another's entry came to stand at the place
-/// that a number was left with, that counts for nothing: the entry has to be the number's own.
-fn place_of(entries: &[Entry], places: &[u32], len: usize, number: u32) -> Option<usize>
-    requires { len ≤ length entries.now }
-    ensures { result ≡ place_in entries.now places.now len number }
-{
-    let place = *places.get(number as usize)? as usize;
-    if place < len && entries[place].number == number {
-        Some(place)
-    } else {
-        None
     }
 }

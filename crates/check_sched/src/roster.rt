@@ -20,13 +20,12 @@ use std::marker::Model;
 /// there are, and the state of each object by number.
 #[derive(Drop)]
 pub(crate) struct Roster {
-    waiting_hosts: Queue,
-    // What a call for a service reads and writes stands from here on, side by side; a queue's length is
-    // its last field.
-    hosts: usize,
-    objects: Vec<ObjectState>,
-    waiting_services: Queue,
+    // What a call for a service reads and writes stands first, side by side.
     running_services: usize,
+    waiting_services: Queue,
+    objects: Vec<ObjectState>,
+    hosts: usize,
+    waiting_hosts: Queue,
 }
 
 impl Model for Roster {

@@ -3,5 +3,6 @@ use Rattle.check_queue.proofs.SiftLaws.{first_of_two}
 use Rattle.check_queue.proofs.sift.first_child.Goals as goal
 
 pub returns : goal.returns
-returns c = first_of_two c.args.entries.now c.args.len c.args.hole (2 * c.args.hole + 1) _ c.is_before.result refl (omega arith) c.is_before.ensures
+returns c = first_of_two c.args.rows.now.entries c.args.len c.args.hole (2 * c.args.hole + 1) _ c.is_before.result refl (omega arith)
+    (rw (← c.entry.ensures, ← c.entry-2.ensures) c.is_before.ensures)
     (ap (λ r. 2 * c.args.hole + 1 + r) c.from.ensures)

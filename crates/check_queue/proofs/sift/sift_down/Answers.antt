@@ -11,34 +11,46 @@ loop-hole-preserved c =
     let l = c.loop-hole in
     let first = c.first_child-child.ensures in
     record {
-      around = rw p.entries (around_down _ _ _ _ first l.invariant.linked.room l.invariant.around);
-      linked = rw (p.entries, p.places) (sinks _ _ _ _ _ _ first l.invariant.linked);
+      around = rw (p.entries, c.entry-below.ensures) (around_down _ _ _ _ first l.invariant.linked.room l.invariant.around);
+      linked = rw (p.entries, p.places, c.entry-below.ensures) (sinks _ _ _ _ _ _ first l.invariant.linked);
       size = ap length p.entries ∙ length-set _ _ _ ∙ l.invariant.size;
-      times = rw (p.entries, p.places) (times_sunk _ _ _ _ _ _ first l.invariant.linked) ∙ l.invariant.times;
+      times = rw (p.entries, p.places, c.entry-below.ensures) (times_sunk _ _ _ _ _ _ first l.invariant.linked) ∙ l.invariant.times;
     }
 
 pub sift_up-requires : goal.sift_up-requires
 sift_up-requires c =
     let l = c.loop-hole in
     elim c.if-hole-len.branch [
-      | then-hole-len w ↦ rw (w.entries-is, w.places-is, w.hole-is, w.write-then-hole-len.ensures.entries, w.write-then-hole-len.ensures.places)
+      | then-hole-len w ↦ rw (
+        w.rows-is,
+        w.hole-is,
+        w.write-then-hole-len.ensures.entries,
+        w.write-then-hole-len.ensures.places,
+        w.entry-below-then-hole-len.ensures,
+      )
           (to_leaf _ _ _ l.hole (2 * l.hole + 1) _ refl (omega arith) l.invariant.around l.invariant.linked)
-      | else-hole-len w ↦ rw (w.entries-is, w.places-is, w.hole-is) (at_leaf _ _ _ _ _ (omega arith) l.invariant.around l.invariant.linked)
+      | else-hole-len w ↦ rw (w.rows-is, w.hole-is) (at_leaf _ _ _ _ _ (omega arith) l.invariant.around l.invariant.linked)
     ]
 
 pub returns : goal.returns
 returns c =
     let l = c.loop-hole in
     let joined = c.if-hole-len in
-    let size : length joined.entries ≡ length l.entries = elim joined.branch [
-      | then-hole-len w ↦ rw (w.entries-is, w.write-then-hole-len.ensures.entries) (length-set _ _ _)
-      | else-hole-len w ↦ rw w.entries-is refl
+    let size : length joined.rows.entries ≡ length l.rows.entries = elim joined.branch [
+      | then-hole-len w ↦ rw (w.rows-is, w.write-then-hole-len.ensures.entries) (length-set _ _ _)
+      | else-hole-len w ↦ rw w.rows-is refl
     ] in
-    let times : times_around joined.entries joined.places c.args.len joined.hole c.args.held ≡ times_around l.entries l.places c.args.len l.hole c.args.held =
+    let times : times_around joined.rows.entries joined.rows.places c.args.len joined.hole c.args.held ≡ times_around l.rows.entries l.rows.places c.args.len l.hole c.args.held =
     elim joined.branch [
-      | then-hole-len w ↦ rw (w.entries-is, w.places-is, w.hole-is, w.write-then-hole-len.ensures.entries, w.write-then-hole-len.ensures.places)
+      | then-hole-len w ↦ rw (
+        w.rows-is,
+        w.hole-is,
+        w.write-then-hole-len.ensures.entries,
+        w.write-then-hole-len.ensures.places,
+        w.entry-below-then-hole-len.ensures,
+      )
           (times_moved _ _ _ l.hole (2 * l.hole + 1) c.args.held (omega arith) (omega arith) l.invariant.linked)
-      | else-hole-len w ↦ rw (w.entries-is, w.places-is, w.hole-is) refl
+      | else-hole-len w ↦ rw (w.rows-is, w.hole-is) refl
     ] in
     record {
       ordered = c.sift_up.ensures.ordered;

@@ -4,10 +4,10 @@ use Rattle.check_queue.proofs.sift.sift_down.Given as goal
 
 abbrev pub invariant-loop-hole : goal.invariant-loop-hole
 invariant-loop-hole l = record {
-  around : IsHeapAround l.entries l.len l.hole;
-  linked : AreLinkedAround l.entries l.places l.len l.hole l.held;
-  size : length l.entries ≡ length l.initial.entries;
-  times : times_around l.entries l.places l.len l.hole l.held ≡ times_around l.initial.entries l.initial.places l.len l.initial.hole l.held;
+  around : IsHeapAround l.rows.entries l.len l.hole;
+  linked : AreLinkedAround l.rows.entries l.rows.places l.len l.hole l.held;
+  size : length l.rows.entries ≡ length l.initial.rows.entries;
+  times : times_around l.rows.entries l.rows.places l.len l.hole l.held ≡ times_around l.initial.rows.entries l.initial.rows.places l.len l.initial.hole l.held;
 }
 
 abbrev pub decreases-loop-hole : goal.decreases-loop-hole

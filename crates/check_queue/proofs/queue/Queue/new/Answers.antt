@@ -4,13 +4,11 @@ use Rattle.check_queue.proofs.queue.Queue.new.Goals as goal
 
 pub invariant_of-result : goal.invariant_of-result
 invariant_of-result c =
-    let entries = c.in_ok-entries.ensures in
-    let places = c.in_ok-places.ensures in
-    let e = empty _ _ c.args.n (omega arith) (omega arith) (omega arith) in
+    let rows = c.in_ok-rows.ensures in
+    let e = empty _ _ c.args.n rows.entries rows.places (omega arith) in
     record { ordered = e.ordered; size = e.size }
 
 pub returns : goal.returns
 returns c =
-    let entries = c.in_ok-entries.ensures in
-    let places = c.in_ok-places.ensures in
-    (empty c.in_ok-entries.entries.items c.in_ok-places.places.items c.args.n (omega arith) (omega arith) (omega arith)).times
+    let rows = c.in_ok-rows.ensures in
+    (empty c.in_ok-rows.rows.entries c.in_ok-rows.rows.places c.args.n rows.entries rows.places (omega arith)).times

@@ -1,5 +1,4 @@
-use Rattle.std.proofs.Common.{◌≡◌, Some, None, ap, get_or, ◌∙◌, arith}
-use Rattle.std.proofs.lemmas.List.{get_or_read}
+use Rattle.std.proofs.Common.{◌≡◌, Some, None, ap, get_or, ◌∙◌}
 use Rattle.check_queue.specs.Heap.{place_in}
 use Rattle.check_queue.proofs.PlaceLaws.{time_at_place, no_time_of_none, place_found}
 use Rattle.check_queue.proofs.queue.Queue.time_of.Goals as goal
@@ -7,17 +6,14 @@ use Rattle.check_queue.proofs.queue.Queue.time_of.Goals as goal
 pub returns-in_err-place : goal.returns-in_err-place
 returns-in_err-place c =
     let q = c.self.inside in
-    let none : None ≡ place_in q.entries.items q.places.items q.len c.args.number =
-    rw (← c.deref.ensures.value, ← c.deref-2.ensures.value) c.in_err-place.ensures in
-    c.from_residual.ensures ∙ no_time_of_none q.entries.items q.places.items q.len c.args.number none ∙ ap (λ ts. get_or ts c.args.number None) c.self.view_is
+    let none : None ≡ place_in q.rows.entries q.rows.places q.len c.args.number = c.in_err-place.ensures in
+    c.from_residual.ensures ∙ no_time_of_none q.rows.entries q.rows.places q.len c.args.number none ∙ ap (λ ts. get_or ts c.args.number None) c.self.view_is
 
 pub returns : goal.returns
 returns c =
     let q = c.self.inside in
     let place = c.in_ok-place.place in
-    let found : Some place ≡ place_in q.entries.items q.places.items q.len c.args.number =
-    rw (← c.deref.ensures.value, ← c.deref-2.ensures.value) c.in_ok-place.ensures in
-    let within = (place_found q.entries.items q.places.items q.len c.args.number place found).within in
+    let found : Some place ≡ place_in q.rows.entries q.rows.places q.len c.args.number = c.in_ok-place.ensures in
+    let within = (place_found q.rows.entries q.rows.places q.len c.args.number place found).within in
     let room = c.self.invariant.ordered.linked.room in
-    let read = get_or_read q.entries.items place c.index.result.now (omega arith) c.index.ensures (record { time = 0; number = 0 }) in
-    rw (← c.self.view_is, read) (time_at_place q.entries.items q.places.items q.len c.args.number place found)
+    rw (← c.self.view_is, c.entry.ensures) (time_at_place q.rows.entries q.rows.places q.len c.args.number place found)
