@@ -32,7 +32,7 @@ pub struct Standing {
 
 /// The three phases of the manual's "State Types": no problem, a problem that is being retried, a
 /// problem that is confirmed.
-#[derive(Clone, Copy, Debug, PartialEq, Eq)]
+#[derive(Clone, Copy)]
 pub(crate) enum Phase {
     Fine,
     SoftProblem,

@@ -10,7 +10,7 @@ use check_objects::{
 };
 
 /// How the first checks of one sort of object are spread over time.
-#[derive(Clone, Copy, Debug)]
+#[derive(Clone, Copy)]
 pub(crate) struct Spread {
     /// The moment at which scheduling starts, in milliseconds.
     pub(crate) start: u64,
@@ -26,7 +26,7 @@ pub(crate) struct Spread {
 
 /// The objects of one sort that are scheduled: how many they are, and the sum of their check
 /// intervals in milliseconds.
-#[derive(Clone, Copy, Debug)]
+#[derive(Clone, Copy)]
 pub(crate) struct Scheduled {
     pub(crate) count: u64,
     pub(crate) total_interval: u64,

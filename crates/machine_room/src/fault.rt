@@ -3,7 +3,7 @@
 use std::alloc::AllocError;
 
 /// Why the program ends early.
-#[derive(Clone, Copy, Debug, PartialEq, Eq)]
+#[derive(Clone, Copy)]
 pub(crate) enum Fault {
     /// Its words are wrong.
     Words,

@@ -23,24 +23,14 @@ pub(crate) fn open_core(alloc: Global) -> Result<Outcome, Wrong> {
     }
 }
 
-/// The same with three draws for each number.
-pub(crate) fn open_core_with_draws(alloc: Global) -> Result<Outcome, Wrong> {
-    // for the proof: a book's board has few words
-    board_shows_standings();
-    match Core::open_with(alloc, book_of(alloc, ONE_SERVICE, 4)?, 2, 3) {
-        Ok(core) => where_new(alloc, core.book(), ONE_SERVICE, Outcome::Answered),
-        Err(back) => open_core_again(alloc, back),
-    }
-}
-
-/// Makes a core over the book that came back.
+/// Makes a core over the book that came back, with three draws for each number.
 fn open_core_again(alloc: Global, back: Book) -> Result<Outcome, Wrong>
     requires { (entries_of back ≡ []) × (refused_of back ≡ 0) }
 {
     // for the proof: a book's board has few words
     board_shows_standings();
     let outcome = where_new(alloc, &back, ONE_SERVICE, Outcome::Refused)?;
-    let core = second(Core::open(alloc, back, 2))?;
+    let core = second(Core::open_with(alloc, back, 2, 3))?;
     where_new(alloc, core.book(), ONE_SERVICE, outcome)
 }
 
@@ -54,24 +44,14 @@ pub(crate) fn open_lock(alloc: Global) -> Result<Outcome, Wrong> {
     }
 }
 
-/// The same with three draws for each number.
-pub(crate) fn open_lock_with_draws(alloc: Global) -> Result<Outcome, Wrong> {
-    // for the proof: a book's board has few words
-    board_shows_standings();
-    match TicketLock::open_with(alloc, book_of(alloc, ONE_SERVICE, 4)?, 2, 3) {
-        Ok((lock, seat)) => close_lock(alloc, lock, seat, Outcome::Answered),
-        Err(back) => open_lock_again(alloc, back),
-    }
-}
-
-/// Makes a lock over the book that came back.
+/// Makes a lock over the book that came back, with three draws for each number.
 fn open_lock_again(alloc: Global, back: Book) -> Result<Outcome, Wrong>
     requires { (entries_of back ≡ []) × (refused_of back ≡ 0) }
 {
     // for the proof: a book's board has few words
     board_shows_standings();
     let outcome = where_new(alloc, &back, ONE_SERVICE, Outcome::Refused)?;
-    let (lock, seat) = second(TicketLock::open(alloc, back, 2))?;
+    let (lock, seat) = second(TicketLock::open_with(alloc, back, 2, 3))?;
     close_lock(alloc, lock, seat, outcome)
 }
 

@@ -68,11 +68,7 @@ fn make_schedulers(rt: &impl Print, alloc: Global) -> Result<(), Wrong> {
 /// Makes a core and a lock.
 fn make_locks(rt: &impl Print, alloc: Global) -> Result<(), Wrong> {
     tell(rt, "Core::open", locks::open_core(alloc))?;
-    let core = locks::open_core_with_draws(alloc);
-    tell(rt, "Core::open_with", core)?;
-    tell(rt, "TicketLock::open", locks::open_lock(alloc))?;
-    let lock = locks::open_lock_with_draws(alloc);
-    tell(rt, "TicketLock::open_with", lock)
+    tell(rt, "TicketLock::open", locks::open_lock(alloc))
 }
 
 /// Has a worker and crews do their work.

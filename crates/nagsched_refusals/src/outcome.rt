@@ -5,7 +5,7 @@ ghost use Rattle.std.specs.Prelude.{◌≡◌, IfOk, Ok};
 use std::fmt;
 
 /// What a call came to that went as it should.
-#[derive(Clone, Copy, Debug, PartialEq, Eq)]
+#[derive(Clone, Copy, PartialEq, Eq)]
 pub(crate) enum Outcome {
     /// It gave the answer of ample memory.
     Answered,
@@ -14,7 +14,7 @@ pub(crate) enum Outcome {
 }
 
 /// A call went another way: a wrong answer, something lost, or out of memory twice.
-#[derive(Clone, Copy, Debug, PartialEq, Eq)]
+#[derive(Clone, Copy)]
 pub(crate) struct Wrong;
 
 impl fmt::Display for Outcome {

@@ -216,7 +216,8 @@ fn put_standing(standings: &mut Vec<Standing>, number: u32, standing: Standing)
     }
 }
 
-/// Whether two standings are the same.
+/// Whether two standings are the same. Field by field, since the proof search knows what `==` says of a
+/// field and not what a derived one says of two fields of the same enum.
 fn is_same(one: Standing, other: Standing) -> bool
     ensures { result ≡ true → one ≡ other }
 {
