@@ -1,14 +1,17 @@
 -- What the queue's calls need of the heap.
 use Rattle.std.proofs.Common.{◌≡◌, ◌≢◌, ℕ, zero, suc, ◌+◌, ◌-◌, ◌/◌, ◌<◌, ◌≤◌, ◌^◌, true, false, cond, List, length, replicate}
 use Rattle.std.proofs.Common.{Option, Some, None, refl, sym, ap}
-use Rattle.std.proofs.Common.{◌∙◌, arith, inl, inr}
+use Rattle.std.proofs.Common.{◌∙◌, arith, inl, inr, Vec, Global}
 use Rattle.std.specs.Prelude.{count_by, is_some}
+use Rattle.std.specs.Vec.{with_items}
 use Rattle.std.proofs.Math.ListN.{set}
 use Rattle.std.proofs.lemmas.Bool.{cases_eq}
 use Rattle.std.proofs.lemmas.List.{length-set, set-get_or, get_or-set_same, get_or-set_other, get_or-replicate}
-use Rattle.std.proofs.lemmas.List.{length-replicate, ext_get_or}
+use Rattle.std.proofs.lemmas.List.{length-replicate, length-map, ext_get_or, with_items_is}
 use Rattle.std.proofs.lemmas.List.Sums.{sum_by-set, count_by-le-length}
 use Rattle.check_queue.specs.declared.entry.Entry.{Entry}
+use Rattle.check_queue.specs.declared.rows.Row.{Row}
+use Rattle.check_queue.specs.Rows.{entry_of, entries_of, places_of}
 use Rattle.check_queue.specs.Heap.{IsNotBefore, entry_at, time_at, place_at, place_in, time_in, times_in, times_around}
 use Rattle.check_queue.specs.Heap.{IsHeap, AreLinked, AreLinkedAround, IsRising, IsOrdered, IsSettled}
 use Rattle.check_queue.specs.Order.{least}
@@ -187,6 +190,16 @@ pub record Written (es es' : List Entry) (ps ps' : List ℕ) (n n' k : ℕ) (o :
   pub ordered : IsOrdered es' ps' n'
   pub size : count (times_in es' ps' n') ≡ n'
   pub times : times_in es' ps' n' ≡ set (times_in es ps n) k o
+
+-- the same of the vector that holds the rows
+pub in_vector : (v : Vec Row Global) (rows : List Row) (es : List Entry) (ps : List ℕ) (n n' k : ℕ) (o : Option ℕ)
+    → length (entries_of rows) ≡ length (entries_of v.items) → Written es (entries_of rows) ps (places_of rows) n n' k o
+    → Written es (entries_of (with_items v rows).items) ps (places_of (with_items v rows).items) n n' k o
+in_vector v rows es ps n n' k o long a =
+    let size = length-map rows entry_of in
+    let size' = length-map v.items entry_of in
+    let held = v.ok.0 in
+    rw (with_items_is v rows (omega arith)) a
 
 -- a number without a time got one
 pub joined : (es es' : List Entry) (ps ps' : List ℕ) (n k t : ℕ) → IsOrdered es ps n

@@ -5,7 +5,7 @@ ghost use Rattle.check_queue.specs.Order.{least};
 ghost use Rattle.check_queue.specs.Times.{pairs_of};
 
 use crate::entry::Entry;
-use crate::rows::Rows;
+use crate::rows::{Row, entry, place_of, put_place};
 use crate::sift::{sift, sift_up};
 use std::alloc::{AllocError, Global};
 use std::marker::Model;
@@ -17,7 +17,7 @@ pub struct Queue {
     /// How many numbers have a time.
     len: usize,
     /// A heap, in the first `len` rows, and the place of each number in it.
-    rows: Rows,
+    rows: Vec<Row>,
 }
 
 impl Model for Queue {
@@ -39,7 +39,7 @@ impl Queue {
     pub fn new(alloc: Global, n: u32) -> Result<Queue, AllocError>
         ensures { IfOk result (λ queue. queue ≡ replicate n None) }
     {
-        let rows = Rows::new(alloc, n as usize)?;
+        let rows = vec![in alloc; Row::BLANK; n as usize]?;
         Ok(Queue { len: 0, rows })
     }
 
@@ -47,8 +47,8 @@ impl Queue {
     pub fn time_of(&self, number: u32) -> Option<u64>
         ensures { result ≡ slice_index_or self.now number None }
     {
-        let place = self.rows.place_of(self.len, number)?;
-        Some(self.rows.entry(place).time)
+        let place = place_of(&self.rows, self.len, number)?;
+        Some(entry(&self.rows, place).time)
     }
 
     /// The least time with its number, and of equal times the one with the least number. None where
@@ -63,7 +63,7 @@ impl Queue {
         if self.len == 0 {
             return None;
         }
-        let top = self.rows.entry(0);
+        let top = entry(&self.rows, 0);
         Some((top.time, top.number))
     }
 
@@ -73,7 +73,7 @@ impl Queue {
         ensures { self.new ≡ slice_set self.old number (Some time) }
     {
         let entry = Entry { time, number };
-        match self.rows.place_of(self.len, number) {
+        match place_of(&self.rows, self.len, number) {
             None => {
                 let hole = self.len;
                 self.len += 1;
@@ -89,16 +89,16 @@ impl Queue {
         ensures had { result ≡ is_some (slice_index_or self.old number None) }
         ensures after { self.new ≡ slice_set self.old number None }
     {
-        let Some(hole) = self.rows.place_of(self.len, number) else {
+        let Some(hole) = place_of(&self.rows, self.len, number) else {
             return false;
         };
         self.len -= 1;
         if hole < self.len {
-            let last = self.rows.entry(self.len);
+            let last = entry(&self.rows, self.len);
             sift(&mut self.rows, self.len, hole, last);
         }
         // Past the heap's end, so that the next to look for it reads no entry of another.
-        self.rows.put_place(number, self.len);
+        put_place(&mut self.rows, number, self.len);
         true
     }
 }

@@ -5,6 +5,7 @@
 //! hole is where it fits, and is then written once.
 
 ghost use Rattle.std.specs.Prelude.{◌≡◌, ◌+◌, ◌*◌, ◌<◌, ◌≤◌, ◌^◌, length};
+ghost use Rattle.check_queue.specs.Rows.{entries_of, places_of};
 ghost use Rattle.check_queue.specs.Heap.{
   AreLinkedAround,
   IsHeap,
@@ -15,15 +16,15 @@ ghost use Rattle.check_queue.specs.Heap.{
 };
 
 use crate::entry::{Entry, is_before};
-use crate::rows::Rows;
+use crate::rows::{Row, entry, write};
 
 /// Puts `held` in place of the entry at `hole`, and moves it up or down to where it fits.
-pub(crate) fn sift(rows: &mut Rows, len: usize, hole: usize, held: Entry)
-    requires heap { IsHeap rows.old.entries len }
-    requires linked { AreLinkedAround rows.old.entries rows.old.places len hole held }
-    ensures { IsSettled rows.old.entries rows.new.entries rows.old.places rows.new.places len hole held }
+pub(crate) fn sift(rows: &mut [Row], len: usize, hole: usize, held: Entry)
+    requires heap { IsHeap (entries_of rows.old) len }
+    requires linked { AreLinkedAround (entries_of rows.old) (places_of rows.old) len hole held }
+    ensures { IsSettled (entries_of rows.old) (entries_of rows.new) (places_of rows.old) (places_of rows.new) len hole held }
 {
-    if is_before(held, rows.entry(hole)) {
+    if is_before(held, entry(rows, hole)) {
         sift_up(rows, len, hole, held);
     } else {
         sift_down(rows, len, hole, held);
@@ -31,52 +32,52 @@ pub(crate) fn sift(rows: &mut Rows, len: usize, hole: usize, held: Entry)
 }
 
 /// Moves the hole up to where `held` fits, and puts it there.
-pub(crate) fn sift_up(rows: &mut Rows, len: usize, mut hole: usize, held: Entry)
-    requires { IsRising rows.old.entries rows.old.places len hole held }
-    ensures { IsSettled rows.old.entries rows.new.entries rows.old.places rows.new.places len hole held }
+pub(crate) fn sift_up(rows: &mut [Row], len: usize, mut hole: usize, held: Entry)
+    requires { IsRising (entries_of rows.old) (places_of rows.old) len hole held }
+    ensures { IsSettled (entries_of rows.old) (entries_of rows.new) (places_of rows.old) (places_of rows.new) len hole held }
 {
     while 0 < hole {
         let parent = (hole - 1) / 2;
-        let above = rows.entry(parent);
+        let above = entry(rows, parent);
         if !is_before(held, above) {
-            rows.write(hole, held);
+            write(rows, hole, held);
             return;
         }
-        rows.write(hole, above);
+        write(rows, hole, above);
         hole = parent;
     }
-    rows.write(hole, held);
+    write(rows, hole, held);
 }
 
 /// Moves the hole down until nothing is below it, and from there up to where `held` fits. An entry
 /// that is put in low mostly belongs low, so that to go down without asking for `held` costs less.
-fn sift_down(rows: &mut Rows, len: usize, mut hole: usize, held: Entry)
-    requires around { IsHeapAround rows.old.entries len hole }
-    requires linked { AreLinkedAround rows.old.entries rows.old.places len hole held }
-    ensures { IsSettled rows.old.entries rows.new.entries rows.old.places rows.new.places len hole held }
+fn sift_down(rows: &mut [Row], len: usize, mut hole: usize, held: Entry)
+    requires around { IsHeapAround (entries_of rows.old) len hole }
+    requires linked { AreLinkedAround (entries_of rows.old) (places_of rows.old) len hole held }
+    ensures { IsSettled (entries_of rows.old) (entries_of rows.new) (places_of rows.old) (places_of rows.new) len hole held }
 {
     while hole < (len - 1) / 2 {
         let child = first_child(rows, len, hole);
-        let below = rows.entry(child);
-        rows.write(hole, below);
+        let below = entry(rows, child);
+        write(rows, hole, below);
         hole = child;
     }
     if hole < len / 2 {
         let child = 2 * hole + 1;
-        let below = rows.entry(child);
-        rows.write(hole, below);
+        let below = entry(rows, child);
+        write(rows, hole, below);
         hole = child;
     }
     sift_up(rows, len, hole, held);
 }
 
 /// Of the two entries below `hole` the place of the one that comes first.
-fn first_child(rows: &Rows, len: usize, hole: usize) -> usize
-    requires room { len ≤ length rows.now.entries }
-    requires few { length rows.now.entries < 2 ^ 32 }
+fn first_child(rows: &[Row], len: usize, hole: usize) -> usize
+    requires room { len ≤ length (entries_of rows.now) }
+    requires few { length (entries_of rows.now) < 2 ^ 32 }
     requires children { 2 * hole + 2 < len }
-    ensures { IsFirstChild rows.now.entries len hole result }
+    ensures { IsFirstChild (entries_of rows.now) len hole result }
 {
     let left = 2 * hole + 1;
-    left + usize::from(is_before(rows.entry(left + 1), rows.entry(left)))
+    left + usize::from(is_before(entry(rows, left + 1), entry(rows, left)))
 }

@@ -83,7 +83,7 @@ fn work_on(rt: &(impl Clock + Wait), alloc: Global, job: &Job) -> Option<(Made, 
     match job.workload {
         Workload::Queue(workload) => queue_cycles(rt, alloc, workload, job),
         Workload::Scheduler(masters) => scheduler_cycles(rt, alloc, masters, job),
-        Workload::Lines => line_cycles(rt, alloc, job),
+        Workload::Lines => scheduler_cycles(rt, alloc, Masters::None, job),
         Workload::Ask => ask_cycles(rt, alloc, job),
     }
 }
@@ -162,15 +162,10 @@ fn scheduler_cycles(
 ) -> Option<(Made, u64)> {
     let mut scheduler = scheduler(alloc, job.numbers, masters)?;
     let start = Instant::now(rt);
-    let sum = cycle(&mut scheduler, job.numbers, job.cycles);
-    let nanos = nanos_since(rt, start);
-    Some((Made { nanos, sum }, job.cycles))
-}
-
-fn line_cycles(rt: &impl Clock, alloc: Global, job: &Job) -> Option<(Made, u64)> {
-    let mut scheduler = scheduler(alloc, job.numbers, Masters::None)?;
-    let start = Instant::now(rt);
-    let sum = lines(alloc, &mut scheduler, job.numbers, job.cycles).ok();
+    let sum = match job.workload {
+        Workload::Lines => lines(alloc, &mut scheduler, job.numbers, job.cycles).ok(),
+        _ => Some(cycle(&mut scheduler, job.numbers, job.cycles)),
+    };
     let nanos = nanos_since(rt, start);
     when_ended(nanos, sum, job.cycles)
 }

@@ -1,5 +1,6 @@
 use Rattle.std.proofs.Common.{◌≡◌, ap, refl, length, ◌+◌, ◌*◌, ◌∙◌, arith}
 use Rattle.std.proofs.lemmas.List.{length-set}
+use Rattle.check_queue.specs.Rows.{entries_of, places_of}
 use Rattle.check_queue.specs.Heap.{times_around}
 use Rattle.check_queue.proofs.SiftLaws.{sinks, times_moved, times_sunk, around_down, at_leaf, to_leaf}
 use Rattle.check_queue.proofs.sift.sift_down.Goals as goal
@@ -36,11 +37,11 @@ pub returns : goal.returns
 returns c =
     let l = c.loop-hole in
     let joined = c.if-hole-len in
-    let size : length joined.rows.entries ≡ length l.rows.entries = elim joined.branch [
+    let size : length (entries_of joined.rows) ≡ length (entries_of l.rows) = elim joined.branch [
       | then-hole-len w ↦ rw (w.rows-is, w.write-then-hole-len.ensures.entries) (length-set _ _ _)
       | else-hole-len w ↦ rw w.rows-is refl
     ] in
-    let times : times_around joined.rows.entries joined.rows.places c.args.len joined.hole c.args.held ≡ times_around l.rows.entries l.rows.places c.args.len l.hole c.args.held =
+    let times : times_around (entries_of joined.rows) (places_of joined.rows) c.args.len joined.hole c.args.held ≡ times_around (entries_of l.rows) (places_of l.rows) c.args.len l.hole c.args.held =
     elim joined.branch [
       | then-hole-len w ↦ rw (
         w.rows-is,

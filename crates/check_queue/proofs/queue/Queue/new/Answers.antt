@@ -1,14 +1,22 @@
 use Rattle.std.proofs.Common.{arith}
+use Rattle.std.proofs.lemmas.List.{length-map}
+use Rattle.check_queue.specs.Rows.{entry_of, place_of, entries_of, places_of}
 use Rattle.check_queue.proofs.QueueLaws.{empty}
 use Rattle.check_queue.proofs.queue.Queue.new.Goals as goal
 
 pub invariant_of-result : goal.invariant_of-result
 invariant_of-result c =
-    let rows = c.in_ok-rows.ensures in
-    let e = empty _ _ c.args.n rows.entries rows.places (omega arith) in
+    let rows = c.in_ok-rows.rows.items in
+    let long = c.in_ok-rows.ensures in
+    let size = length-map rows entry_of in
+    let size' = length-map rows place_of in
+    let e = empty (entries_of rows) (places_of rows) c.args.n (omega arith) (omega arith) (omega arith) in
     record { ordered = e.ordered; size = e.size }
 
 pub returns : goal.returns
 returns c =
-    let rows = c.in_ok-rows.ensures in
-    (empty c.in_ok-rows.rows.entries c.in_ok-rows.rows.places c.args.n rows.entries rows.places (omega arith)).times
+    let rows = c.in_ok-rows.rows.items in
+    let long = c.in_ok-rows.ensures in
+    let size = length-map rows entry_of in
+    let size' = length-map rows place_of in
+    (empty (entries_of rows) (places_of rows) c.args.n (omega arith) (omega arith) (omega arith)).times

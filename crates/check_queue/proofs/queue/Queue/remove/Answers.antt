@@ -1,91 +1,112 @@
-use Rattle.std.proofs.Common.{◌≡◌, ◌-◌, Some, None, is_some, get_or, ap, ◌∙◌, arith}
+use Rattle.std.proofs.Common.{◌≡◌, ◌-◌, length, Some, None, is_some, get_or, ap, ◌∙◌, arith}
 use Rattle.std.proofs.Math.ListN.{set}
 use Rattle.check_queue.specs.Heap.{entry_at, place_in, IsSettled}
+use Rattle.check_queue.specs.Rows.{entries_of, places_of}
 use Rattle.check_queue.proofs.PlaceLaws.{place_found, times_length}
-use Rattle.check_queue.proofs.QueueLaws.{Written, had, had_none, leaves, left, left_last, placed_past_end, stays}
+use Rattle.check_queue.proofs.QueueLaws.{Written, in_vector, had, had_none, leaves, left, left_last, placed_past_end, stays}
 use Rattle.check_queue.proofs.queue.Queue.remove.Goals as goal
 use Rattle.check_queue.proofs.queue.Queue.remove.Goals.{then-hole-self, else-hole-self}
 
 pub returns-in_default-clause-had : goal.returns-in_default-clause-had
 returns-in_default-clause-had c =
     let q = c.self.inside in
+    let es = entries_of q.rows.items in
+    let ps = places_of q.rows.items in
     let k = c.args.number in
-    let none : None ≡ place_in q.rows.entries q.rows.places q.len k = c.in_default.ensures in
-    had_none q.rows.entries q.rows.places q.len k none ∙ ap (λ ts. is_some (get_or ts k None)) c.self.view_is
+    let none : None ≡ place_in es ps q.len k = rw (← c.deref.ensures.value) c.in_default.ensures in
+    had_none es ps q.len k none ∙ ap (λ ts. is_some (get_or ts k None)) c.self.view_is
 
 pub returns-in_default-clause-after : goal.returns-in_default-clause-after
 returns-in_default-clause-after c =
     let q = c.self.inside in
+    let es = entries_of q.rows.items in
+    let ps = places_of q.rows.items in
     let k = c.args.number in
-    let none : None ≡ place_in q.rows.entries q.rows.places q.len k = c.in_default.ensures in
-    rw (← c.self.view_is) (stays q.rows.entries q.rows.places q.len k none)
+    let none : None ≡ place_in es ps q.len k = rw (← c.deref.ensures.value) c.in_default.ensures in
+    rw (← c.self.view_is) (stays es ps q.len k none)
 
 pub sift-requires-clause-linked : goal.sift-requires-clause-linked
 sift-requires-clause-linked c =
     let q = c.self.inside in
+    let es = entries_of q.rows.items in
+    let ps = places_of q.rows.items in
     let k = c.args.number in
-    let found : Some c.in-Some.hole ≡ place_in q.rows.entries q.rows.places q.len k = c.in-Some.ensures in
-    let stands = place_found q.rows.entries q.rows.places q.len k _ found in
+    let found : Some c.in-Some.hole ≡ place_in es ps q.len k = rw (← c.deref.ensures.value) c.in-Some.ensures in
+    let stands = place_found es ps q.len k _ found in
     let within = stands.within in
     let o = c.self.invariant.ordered in
     let room = o.linked.room in
-    let last = c.entry-last.ensures in
-    rw last
-    (leaves q.rows.entries q.rows.places q.len (q.len - 1) k _ o (omega arith) stands (omega arith))
+    let last : c.entry-last.result ≡ entry_at es (q.len - 1) = rw (← c.deref-then-hole-self.ensures.value) c.entry-last.ensures in
+    rw (c.deref_mut.ensures.value, last)
+    (leaves es ps q.len (q.len - 1) k _ o (omega arith) stands (omega arith))
 
 pub invariant_of-self : goal.invariant_of-self
 invariant_of-self c =
     let q = c.self.inside in
+    let es = entries_of q.rows.items in
+    let ps = places_of q.rows.items in
     let k = c.args.number in
     let after = c.if-hole-self.self-inside in
-    let found : Some c.in-Some.hole ≡ place_in q.rows.entries q.rows.places q.len k = c.in-Some.ensures in
-    let stands = place_found q.rows.entries q.rows.places q.len k _ found in
+    let found : Some c.in-Some.hole ≡ place_in es ps q.len k = rw (← c.deref.ensures.value) c.in-Some.ensures in
+    let stands = place_found es ps q.len k _ found in
     let within = stands.within in
     let bound = stands.bound in
-    let size = times_length q.rows.entries q.rows.places q.len in
+    let size = times_length es ps q.len in
     let o = c.self.invariant.ordered in
     let room = o.linked.room in
-    let less : Written q.rows.entries after.rows.entries q.rows.places after.rows.places q.len after.len k None = elim c.if-hole-self.branch [
+    let less : Written es (entries_of after.rows.items) ps (places_of after.rows.items) q.len after.len k None = elim c.if-hole-self.branch [
       | then-hole-self w ↦
-          let last = w.entry-last.ensures in
-          let settled : IsSettled q.rows.entries w.sift.new.rows.entries q.rows.places w.sift.new.rows.places (q.len - 1) c.in-Some.hole
-          (entry_at q.rows.entries (q.len - 1)) = rw (← last) w.sift.ensures in
-          rw w.self-inside-is (left q.rows.entries _ q.rows.places _ q.len (q.len - 1) k _ o c.self.invariant.size (omega arith) found (omega arith) settled)
+          let last : w.entry-last.result ≡ entry_at es (q.len - 1) = rw (← w.deref-then-hole-self.ensures.value) w.entry-last.ensures in
+          let settled : IsSettled es (entries_of w.sift.new.rows) ps (places_of w.sift.new.rows) (q.len - 1) c.in-Some.hole
+          (entry_at es (q.len - 1)) = rw (← last, ← w.deref_mut.ensures.value) w.sift.ensures in
+          rw w.self-inside-is (in_vector q.rows _ _ _ _ _ _ _ settled.size
+          (left es _ ps _ q.len (q.len - 1) k _ o c.self.invariant.size (omega arith) found (omega arith) settled))
       | else-hole-self w ↦ rw w.self-inside-is
-          (left_last q.rows.entries q.rows.places q.len (q.len - 1) k _ o c.self.invariant.size (omega arith) found (omega arith))
+          (left_last es ps q.len (q.len - 1) k _ o c.self.invariant.size (omega arith) found (omega arith))
     ] in
-    let past = placed_past_end _ _ _ _ q.len after.len k (omega arith) less in
     let put = c.put_place.ensures in
-    record { ordered = rw (put.entries, put.places) past.ordered; size = rw (put.entries, put.places) past.size }
+    let seen = c.deref_mut-2.ensures.value in
+    let past : Written es (entries_of c.put_place.new.rows) ps (places_of c.put_place.new.rows) q.len after.len k None =
+    rw (put.entries, put.places, seen) (placed_past_end _ _ _ _ q.len after.len k (omega arith) less) in
+    let w = in_vector after.rows _ _ _ _ _ _ _ (ap length put.entries ∙ ap (λ l. length (entries_of l)) seen) past in
+    record { ordered = w.ordered; size = w.size }
 
 pub returns-clause-had : goal.returns-clause-had
 returns-clause-had c =
     let q = c.self.inside in
+    let es = entries_of q.rows.items in
+    let ps = places_of q.rows.items in
     let k = c.args.number in
-    let found : Some c.in-Some.hole ≡ place_in q.rows.entries q.rows.places q.len k = c.in-Some.ensures in
-    had q.rows.entries q.rows.places q.len k _ found ∙ ap (λ ts. is_some (get_or ts k None)) c.self.view_is
+    let found : Some c.in-Some.hole ≡ place_in es ps q.len k = rw (← c.deref.ensures.value) c.in-Some.ensures in
+    had es ps q.len k _ found ∙ ap (λ ts. is_some (get_or ts k None)) c.self.view_is
 
 pub returns-clause-after : goal.returns-clause-after
 returns-clause-after c =
     let q = c.self.inside in
+    let es = entries_of q.rows.items in
+    let ps = places_of q.rows.items in
     let k = c.args.number in
     let after = c.if-hole-self.self-inside in
-    let found : Some c.in-Some.hole ≡ place_in q.rows.entries q.rows.places q.len k = c.in-Some.ensures in
-    let stands = place_found q.rows.entries q.rows.places q.len k _ found in
+    let found : Some c.in-Some.hole ≡ place_in es ps q.len k = rw (← c.deref.ensures.value) c.in-Some.ensures in
+    let stands = place_found es ps q.len k _ found in
     let within = stands.within in
     let bound = stands.bound in
-    let size = times_length q.rows.entries q.rows.places q.len in
+    let size = times_length es ps q.len in
     let o = c.self.invariant.ordered in
     let room = o.linked.room in
-    let less : Written q.rows.entries after.rows.entries q.rows.places after.rows.places q.len after.len k None = elim c.if-hole-self.branch [
+    let less : Written es (entries_of after.rows.items) ps (places_of after.rows.items) q.len after.len k None = elim c.if-hole-self.branch [
       | then-hole-self w ↦
-          let last = w.entry-last.ensures in
-          let settled : IsSettled q.rows.entries w.sift.new.rows.entries q.rows.places w.sift.new.rows.places (q.len - 1) c.in-Some.hole
-          (entry_at q.rows.entries (q.len - 1)) = rw (← last) w.sift.ensures in
-          rw w.self-inside-is (left q.rows.entries _ q.rows.places _ q.len (q.len - 1) k _ o c.self.invariant.size (omega arith) found (omega arith) settled)
+          let last : w.entry-last.result ≡ entry_at es (q.len - 1) = rw (← w.deref-then-hole-self.ensures.value) w.entry-last.ensures in
+          let settled : IsSettled es (entries_of w.sift.new.rows) ps (places_of w.sift.new.rows) (q.len - 1) c.in-Some.hole
+          (entry_at es (q.len - 1)) = rw (← last, ← w.deref_mut.ensures.value) w.sift.ensures in
+          rw w.self-inside-is (in_vector q.rows _ _ _ _ _ _ _ settled.size
+          (left es _ ps _ q.len (q.len - 1) k _ o c.self.invariant.size (omega arith) found (omega arith) settled))
       | else-hole-self w ↦ rw w.self-inside-is
-          (left_last q.rows.entries q.rows.places q.len (q.len - 1) k _ o c.self.invariant.size (omega arith) found (omega arith))
+          (left_last es ps q.len (q.len - 1) k _ o c.self.invariant.size (omega arith) found (omega arith))
     ] in
-    let past = placed_past_end _ _ _ _ q.len after.len k (omega arith) less in
     let put = c.put_place.ensures in
-    rw (put.entries, put.places) (past.times ∙ ap (λ ts. set ts k None) c.self.view_is)
+    let seen = c.deref_mut-2.ensures.value in
+    let past : Written es (entries_of c.put_place.new.rows) ps (places_of c.put_place.new.rows) q.len after.len k None =
+    rw (put.entries, put.places, seen) (placed_past_end _ _ _ _ q.len after.len k (omega arith) less) in
+    let w = in_vector after.rows _ _ _ _ _ _ _ (ap length put.entries ∙ ap (λ l. length (entries_of l)) seen) past in
+    w.times ∙ ap (λ ts. set ts k None) c.self.view_is
