@@ -7,7 +7,7 @@ hand; no part of the gate.
 Valgrind's lackey traces the loads and stores of the workload `turns` of bench/c_asks.c: two callers by turns take a check and report it.
 The trace is cut where the program counts its calls, and the distinct lines of 64 bytes between two cuts are counted, in the second half of
 the run. The stack isn't counted, and neither is what is one caller's own: lines that its calls come to often, and the other's never.
-Wants cc, nm and valgrind.
+Constants of the program, which nobody writes, are told apart: each core keeps them. Wants cc, nm and valgrind.
 """
 import collections
 import os
@@ -30,12 +30,13 @@ ACCESS = re.compile(r"^(?: ([LSM])|I ) +([0-9a-f]+),(\d+)$")
 
 
 def built(folder):
-    """The program, and where its threads lie."""
+    """The program, where its threads lie, and where what it may write begins: its constants lie below."""
     program = folder / "c_asks"
     library = [f"-I{PREFIX}/include", TOP / "bench/c_asks.c", PREFIX / "lib/libnagsched.a", "-lpthread"]
     subprocess.run(["cc", "-std=c11", "-O2", "-no-pie", *library, "-o", program], check=True)
     names = subprocess.run(["nm", program], check=True, stdout=subprocess.PIPE, text=True).stdout
-    return program, int(re.search(r"^([0-9a-f]+) b threads\.", names, re.M)[1], 16)
+    at = lambda symbol: int(re.search(rf"^([0-9a-f]+) \w {symbol}", names, re.M)[1], 16)
+    return program, at(r"threads\."), at("__data_start")
 
 
 def windows(trace, threads):
@@ -66,16 +67,17 @@ def owned(calls):
 def main():
     objects, takes = (sys.argv[1:] + ["16", "1500"][len(sys.argv) - 1:])[:2]
     with tempfile.TemporaryDirectory() as name:
-        program, threads = built(pathlib.Path(name))
+        program, threads, writable = built(pathlib.Path(name))
         words = ["valgrind", "--tool=lackey", "--trace-mem=yes", program, "turns", "1", objects, takes, "untimed"]
         traced = subprocess.Popen(words, stdout=subprocess.DEVNULL, stderr=subprocess.PIPE, text=True)
         calls = list(windows(traced.stderr, threads))
     half = calls[len(calls) // 8 * 4:]
     own = owned([touched for _, touched in half])
-    half = [(len(written - own), len(touched - own)) for written, touched in half]
-    print(f"{'':10} {'written':>8} {'touched':>8}")
+    constants = range(writable // LINE)
+    half = [(len(written - own), len(shared := touched - own), sum(line in constants for line in shared)) for written, touched in half]
+    print(f"{'':10} {'written':>10} {'touched':>10} {'constants':>10}")
     for what, some in {"a take": half[0::2], "a report": half[1::2], "a call": half}.items():
-        print(f"{what:10} {sum(it[0] for it in some) / len(some):8.1f} {sum(it[1] for it in some) / len(some):8.1f}")
+        print(f"{what:10}", *(f"{sum(it[at] for it in some) / len(some):10.1f}" for at in range(3)))
 
 
 main()

@@ -43,10 +43,10 @@ pub struct Book {
 #[derive(Drop)]
 struct Log {
     // The entries stand beside what the scheduler's calls write, which it has first.
-    refused: u64,
-    room: usize,
     entries: Vec<Entry<Call, Reply>>,
     sched: Sched,
+    refused: u64,
+    room: usize,
     /// The scheduler as it was when the book was opened. It takes no byte.
     opened: Opening<Sched>,
 }
@@ -209,7 +209,7 @@ impl Kept for Book {
         ensures used_up { OnErr result (capacity_of self.old ≤ length (entries_of self.old)) }
     {
         let log = &mut *self.log;
-        if grow(&mut log.entries, log.room).is_err() {
+        if grow(&mut log.entries).is_err() {
             log.refused += 1;
             return Err(NoMemory);
         }
@@ -245,16 +245,14 @@ impl Kept for Book {
     }
 }
 
-/// Makes room for one more entry. Below the room that was there from the start it takes no memory.
-fn grow(entries: &mut Vec<Entry<Call, Reply>>, room: usize) -> Result<(), AllocError>
-    requires { room ≤ vec_capacity entries.old }
+/// Makes room for one more entry. It takes no memory where there is some.
+fn grow(entries: &mut Vec<Entry<Call, Reply>>) -> Result<(), AllocError>
     ensures same { entries.new.items ≡ entries.old.items }
     ensures capacity { vec_capacity entries.old ≤ vec_capacity entries.new }
     ensures ok { OnOk result (vec_len entries.new < vec_capacity entries.new) }
-    ensures room { OnErr result (room ≤ length entries.old.items) }
     ensures used_up { OnErr result (vec_capacity entries.old ≤ length entries.old.items) }
 {
-    if entries.len() < room {
+    if entries.len() < entries.capacity() {
         return Ok(());
     }
     entries.reserve(1)

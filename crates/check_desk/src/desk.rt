@@ -33,9 +33,11 @@ const PAUSES: u32 = 3;
 /// Each call asks that its pass, turn or hold is of this desk.
 #[derive(Drop)]
 pub struct Desk {
-    pub(crate) lock: TicketLock<Book>,
     pub(crate) passes: u32,
     pub(crate) objects: u32,
+    // Behind these eight bytes, so that behind the eight of a shared count the two pointers that the lock
+    // begins with lie in one line of the cache.
+    pub(crate) lock: TicketLock<Book>,
     ghost passes_are: { (start_of lock).numbers ≡ passes },
     ghost objects_are: { object_count (opening_of (start_of lock).book).sched.setup ≡ objects },
 }

@@ -13,13 +13,16 @@ ghost use Rattle.std.specs.Prelude.{
   length,
   slice_index,
 };
+ghost use Rattle.std.specs.List.{All};
 ghost use Rattle.check_objects.specs.Configuration.{IsSetup, object_count};
+ghost use Rattle.check_spread.specs.Spread.{initial_times};
 ghost use Rattle.check_sched.specs.State.{
   IsStandingOf,
   IsState,
   is_time,
   next_of,
   objects_at,
+  opening_objects,
   opening,
   opening_standings,
   run_number_of,
@@ -87,10 +90,7 @@ impl Sched {
         ensures valid_setup { OnOk result (IsSetup setup) }
         ensures err { IfErr result (λ handed_back. handed_back ≡ setup) }
     {
-        let Ok(times) = initial_times(alloc, &setup, start) else {
-            return Err(setup);
-        };
-        let Ok(objects) = opening_objects(alloc, &setup, &times) else {
+        let Ok(objects) = opening_objects(alloc, &setup, start) else {
             return Err(setup);
         };
         let Ok(roster) = Roster::new(alloc, setup.hosts(), objects) else {
@@ -270,9 +270,21 @@ fn reply_of(answer: Result<Reply, Refusal>) -> Reply
     }
 }
 
-/// The state of each object of the setup when scheduling starts, by number; `times` has the times of
-/// the first checks.
-fn opening_objects(
+/// The state of each object of the setup when scheduling starts, by number.
+fn opening_objects(alloc: Global, setup: &Setup, start: u64) -> Result<Vec<ObjectState>, AllocError>
+    requires { start ≤ LAST_MOMENT }
+    ensures items { IfOk result (λ objects. objects.items ≡ opening_objects setup.now start) }
+    ensures valid_setup { OnOk result (IsSetup setup.now) }
+    ensures one_each { OnOk result (length (initial_times setup.now start) ≡ object_count setup.now) }
+    ensures within { OnOk result (All (λ first. IfSome first (λ time. time < LAST_TIME))
+        (initial_times setup.now start)) }
+{
+    let times = initial_times(alloc, setup, start)?;
+    objects_at(alloc, setup, &times)
+}
+
+/// The state of each object whose first checks have these times.
+fn objects_at(
     alloc: Global,
     setup: &Setup,
     times: &[Option<u64>],

@@ -1,15 +1,8 @@
-use Rattle.std.proofs.Common.{refl, ◌∙◌, arith}
-use Rattle.std.proofs.lemmas.List.{take_all}
-use Rattle.check_sched.proofs.OpeningLaws.{length-objects_at, object_seen, one_more}
+use Rattle.std.proofs.Common.{◌≡◌, subst, ◌∙◌}
+use Rattle.std.specs.Prelude.{IfOk}
+use Rattle.check_sched.specs.State.{objects_at}
 use Rattle.check_sched.proofs.sched.opening_objects.Goals as goal
 
-pub loop-number-preserved : goal.loop-number-preserved
-loop-number-preserved c =
-    one_more c.loop-number.number _ c.loop-number.objects.items _ c.opening.result c.in_ok-push.ensures.items c.loop-number.invariant
-    (object_seen c.args.setup.now c.args.times.now c.loop-number.number c.object.result.now _ c.opening.result c.requires c.loop-number-test.true
-    c.object.ensures refl c.opening.ensures)
-
 pub returns-clause-items : goal.returns-clause-items
-returns-clause-items c =
-    c.loop-number.invariant
-    ∙ take_all c.loop-number.number _ (let l = length-objects_at c.args.setup.now c.args.times.now c.requires in omega (arith, l))
+returns-clause-items c = subst (λ times. IfOk c.objects_at.result (λ objects. objects.items ≡ objects_at c.args.setup.now times))
+    (c.deref.ensures.value ∙ c.in_ok-times.ensures.times) c.objects_at.ensures.items

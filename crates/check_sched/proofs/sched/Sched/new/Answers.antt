@@ -1,35 +1,33 @@
-use Rattle.std.proofs.Common.{[], length, replicate, ap, arith, ◌∙◌}
+use Rattle.std.proofs.Common.{[], replicate, refl, ap, arith, ◌∙◌}
+use Rattle.check_spread.specs.Spread.{initial_times}
 use Rattle.check_sched.specs.Roster.{RosterState}
 use Rattle.check_sched.proofs.OpeningLaws.{opened_few, opened_hosts, opened_idle, opened_is_state}
 use Rattle.check_sched.proofs.sched.Sched.new.Goals as goal
 
 pub new-requires-clause-few : goal.new-requires-clause-few
 new-requires-clause-few c =
-    let made = c.in-Ok-opening_objects.ensures in
-    opened_few c.args.setup c.deref.result.now c.in-Ok-opening_objects.objects.items made.valid_setup
-    (ap length c.deref.ensures.value ∙ c.in-Ok.ensures.one_each)
-    made.items
+    let made = c.in-Ok.ensures in
+    opened_few c.args.setup (initial_times c.args.setup c.args.start) c.in-Ok.objects.items made.valid_setup made.one_each made.items
 
 pub new-requires-clause-hosts : goal.new-requires-clause-hosts
 new-requires-clause-hosts c =
-    let made = c.in-Ok-opening_objects.ensures in
-    let least = opened_hosts c.args.setup c.deref.result.now c.in-Ok-opening_objects.objects.items
-    (ap length c.deref.ensures.value ∙ c.in-Ok.ensures.one_each) made.items in
+    let made = c.in-Ok.ensures in
+    let least = opened_hosts c.args.setup (initial_times c.args.setup c.args.start) c.in-Ok.objects.items made.one_each made.items in
     omega (arith, least, c.hosts.ensures.count)
 
 pub new-requires-clause-idle : goal.new-requires-clause-idle
 new-requires-clause-idle c =
-    rw c.hosts.ensures.count (opened_idle c.args.setup c.deref.result.now c.in-Ok-opening_objects.objects.items c.in-Ok-opening_objects.ensures.items)
+    rw c.hosts.ensures.count (opened_idle c.args.setup (initial_times c.args.setup c.args.start) c.in-Ok.objects.items c.in-Ok.ensures.items)
 
 pub invariant_of-result : goal.invariant_of-result
 invariant_of-result c =
-    let made = c.in-Ok-opening_objects.ensures in
+    let made = c.in-Ok.ensures in
+    let times = initial_times c.args.setup c.args.start in
     record {
       state =
-          rw c.in-Ok-new.ensures (opened_is_state c.args.setup c.args.start c.in-Ok.times.items c.deref.result.now c.in-Ok-opening_objects.objects.items
+          rw c.in-Ok-new.ensures (opened_is_state c.args.setup c.args.start times times c.in-Ok.objects.items
           c.in-Ok-opening_standings.standings.items c.in-Ok-none.results
-          made.valid_setup c.in-Ok.ensures.times c.in-Ok.ensures.one_each c.in-Ok.ensures.within
-          c.deref.ensures.value made.items c.in-Ok-opening_standings.ensures
+          made.valid_setup refl made.one_each made.within refl made.items c.in-Ok-opening_standings.ensures
           (c.in-Ok-none.ensures ∙ ap (λ count. replicate count []) c.len.ensures.count));
       marks = let l = c.in-Ok-vec.ensures.len in let m = c.len-2.ensures.count in omega (arith, l, m);
       hosts = ap (λ (r : RosterState). r.hosts) c.in-Ok-new.ensures ∙ c.hosts.ensures.count;
