@@ -42,9 +42,9 @@ pub struct Book {
 /// What a book keeps: the scheduler, and the calls that led to its state.
 #[derive(Drop)]
 struct Log {
-    // The entries stand beside what the scheduler's calls write, which it has first.
-    entries: Vec<Entry<Call, Reply>>,
     sched: Sched,
+    // The entries stand beside what the scheduler's calls write, which it has last.
+    entries: Vec<Entry<Call, Reply>>,
     refused: u64,
     room: usize,
     /// The scheduler as it was when the book was opened. It takes no byte.

@@ -14,10 +14,10 @@ use std::marker::Model;
 /// list of these times, by number. (Our own profile.)
 #[derive(Drop)]
 pub struct Queue {
-    /// How many numbers have a time.
-    len: usize,
     /// A heap, in the first `len` rows, and the place of each number in it.
     rows: Vec<Row>,
+    /// How many numbers have a time.
+    len: usize,
 }
 
 impl Model for Queue {
@@ -40,7 +40,7 @@ impl Queue {
         ensures { IfOk result (λ queue. queue ≡ replicate n None) }
     {
         let rows = vec![in alloc; Row::BLANK; n as usize]?;
-        Ok(Queue { len: 0, rows })
+        Ok(Queue { rows, len: 0 })
     }
 
     /// The time of a number; None where it has none, or isn't below the bound.

@@ -20,12 +20,13 @@ use std::marker::Model;
 /// there are, and the state of each object by number.
 #[derive(Drop)]
 pub(crate) struct Roster {
-    // What a call for a service reads and writes stands first, side by side.
-    running_services: usize,
-    waiting_services: Queue,
-    objects: Vec<ObjectState>,
-    hosts: usize,
     waiting_hosts: Queue,
+    // What a call for a service reads and writes stands from here on, side by side; a queue's length is
+    // its last field.
+    hosts: usize,
+    objects: Vec<ObjectState>,
+    waiting_services: Queue,
+    running_services: usize,
 }
 
 impl Model for Roster {

@@ -53,15 +53,15 @@ pub const MAX_RUNS: u64 = 1 << 60;
 /// the standing and the last results of each object by number, and how many runs were handed out.
 #[derive(Drop)]
 pub struct Sched {
-    // What each call reads and writes stands first, side by side.
-    runs: u64,
-    roster: Roster,
-    standings: Vec<Standing>,
-    results: Results,
-    setup: Setup,
     start: u64,
     /// Scratch of the search through dependencies: a mark for each object.
     marks: Vec<bool>,
+    setup: Setup,
+    // What each call reads and writes stands from here on, side by side.
+    results: Results,
+    standings: Vec<Standing>,
+    roster: Roster,
+    runs: u64,
 }
 
 impl Model for Sched {
