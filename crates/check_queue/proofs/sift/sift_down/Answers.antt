@@ -37,11 +37,9 @@ pub returns : goal.returns
 returns c =
     let l = c.loop-hole in
     let joined = c.if-hole-len in
-    let size : length (entries_of joined.rows) ≡ length (entries_of l.rows) = elim joined.branch [
-      | then-hole-len w ↦ rw (w.rows-is, w.write-then-hole-len.ensures.entries) (length-set _ _ _)
-      | else-hole-len w ↦ rw w.rows-is refl
-    ] in
-    let times : times_around (entries_of joined.rows) (places_of joined.rows) c.args.len joined.hole c.args.held ≡ times_around (entries_of l.rows) (places_of l.rows) c.args.len l.hole c.args.held =
+    let same : (length (entries_of joined.rows) ≡ length (entries_of l.rows))
+        × (times_around (entries_of joined.rows) (places_of joined.rows) c.args.len joined.hole c.args.held
+        ≡ times_around (entries_of l.rows) (places_of l.rows) c.args.len l.hole c.args.held) =
     elim joined.branch [
       | then-hole-len w ↦ rw (
         w.rows-is,
@@ -50,11 +48,11 @@ returns c =
         w.write-then-hole-len.ensures.places,
         w.entry-below-then-hole-len.ensures,
       )
-          (times_moved _ _ _ l.hole (2 * l.hole + 1) c.args.held (omega arith) (omega arith) l.invariant.linked)
-      | else-hole-len w ↦ rw (w.rows-is, w.hole-is) refl
+          (length-set _ _ _, times_moved _ _ _ l.hole (2 * l.hole + 1) c.args.held (omega arith) (omega arith) l.invariant.linked)
+      | else-hole-len w ↦ rw (w.rows-is, w.hole-is) (refl, refl)
     ] in
     record {
       ordered = c.sift_up.ensures.ordered;
-      size = c.sift_up.ensures.size ∙ size ∙ l.invariant.size;
-      times = c.sift_up.ensures.times ∙ times ∙ l.invariant.times;
+      size = c.sift_up.ensures.size ∙ same.0 ∙ l.invariant.size;
+      times = c.sift_up.ensures.times ∙ same.1 ∙ l.invariant.times;
     }
