@@ -17,8 +17,9 @@ use link_order::{empty_lists, order_by_links, push_at};
 use smallvec::SmallVec;
 use std::alloc::{AllocError, Global};
 
-/// The dependencies of an object, in the document's order. Most objects have few.
-pub type Dependencies = SmallVec<Dependency, 2>;
+/// The dependencies of an object, in the document's order. Most objects have one at most, which takes no
+/// block of its own: a list is then 32 bytes, of which two lie in a line of the cache.
+pub type Dependencies = SmallVec<Dependency, 1>;
 
 // ---- numbers
 

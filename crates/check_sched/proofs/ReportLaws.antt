@@ -10,8 +10,10 @@ use Rattle.check_drafts.specs.declared.object.Object.{Object}
 use Rattle.check_objects.specs.Configuration.{Configuration, Named, objects_of, object_count, host_of, IsSetup, is_object_in_range}
 use Rattle.check_rules.specs.declared.state.Code.{Code}
 use Rattle.check_rules.specs.declared.state.State as rules
+use Rattle.check_rules.specs.declared.state.State.TheVariants as state
 use Rattle.check_rules.specs.declared.standing.Standing.{Standing}
-use Rattle.check_rules.specs.State.{is_host_state}
+use Rattle.check_rules.specs.State.{is_host_state, is_problem}
+use Rattle.check_rules.specs.Verdict.{verdict_on}
 use Rattle.check_rules.specs.Standing.{is_soft_problem}
 use Rattle.check_rules.proofs.VerdictLaws.{verdict_is_lawful}
 use Rattle.check_rules.specs.Standing.{pending_standing}
@@ -64,6 +66,13 @@ judged_is_standing setup standings n found flapping h sort b = record {
   sort = sort;
   until_checked = λ never. cc;
 }
+
+-- a verdict goes by whether the host is up where a problem was found alone
+pub verdict_by_host : (before : Standing) (found : rules.State) (max : ℕ) (one other flapping : Bool) → (is_problem found ≡ true → one ≡ other)
+    → verdict_on before found max one flapping ≡ verdict_on before found max other flapping
+verdict_by_host before state.Ok max one other flapping same = refl
+verdict_by_host before state.Up max one other flapping same = refl
+verdict_by_host before found max one other flapping same = ap (λ up. verdict_on before found max up flapping) (same refl)
 
 -- ---- the next time
 

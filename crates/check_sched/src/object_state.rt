@@ -1,4 +1,4 @@
-//! What the scheduler keeps of one object between calls.
+//! The scheduling of one object, and what is done to it.
 
 use crate::call::Refusal;
 use std::marker::Model;
@@ -44,10 +44,10 @@ impl Run {
 /// Contracts see it as a record `Scheduling` of the same.
 #[derive(Clone, Copy)]
 pub(crate) struct ObjectState {
-    next: Option<u64>,
-    run: Option<Run>,
-    enabled: bool,
-    forced: bool,
+    pub(crate) next: Option<u64>,
+    pub(crate) run: Option<Run>,
+    pub(crate) enabled: bool,
+    pub(crate) forced: bool,
 }
 
 impl Model for ObjectState {
@@ -76,35 +76,14 @@ pub(crate) enum Change {
 }
 
 impl ObjectState {
-    ghost use Rattle.std.specs.Prelude.{◌≡◌, is_some, option_map};
-    ghost use Rattle.check_sched.specs.Change.{changed};
-    ghost use Rattle.check_sched.specs.Scheduling.{candidate_time, freed_time, opening_object, run_under};
-
-    /// The state of an object when scheduling starts: its first check is at `first`, it doesn't
-    /// run, it is enabled as the setup says, and nothing is forced.
-    pub(crate) fn opening(first: Option<u64>, enabled: bool) -> ObjectState
-        ensures { result ≡ opening_object first enabled }
-    {
-        ObjectState {
-            next: first,
-            run: None,
-            enabled,
-            forced: false,
-        }
-    }
+    ghost use Rattle.std.specs.Prelude.{◌≡◌, option_map};
+    ghost use Rattle.check_sched.specs.Scheduling.{freed_time, run_under};
 
     /// The time of the next check, if one is set.
     pub(crate) fn next(&self) -> Option<u64>
         ensures { result ≡ self.now.next }
     {
         self.next
-    }
-
-    /// Whether the object is being checked.
-    pub(crate) fn is_running(&self) -> bool
-        ensures { result ≡ is_some self.now.run }
-    {
-        self.run.is_some()
     }
 
     /// The number of the run under which the object is being checked.
@@ -122,41 +101,6 @@ impl ObjectState {
         ensures { result ≡ self.now.forced }
     {
         self.forced
-    }
-
-    /// The time for which the object waits: its next time, where it doesn't run and is enabled or
-    /// forced.
-    pub(crate) fn candidate_time(&self) -> Option<u64>
-        ensures { result ≡ candidate_time self.now }
-    {
-        if self.run.is_none() && (self.enabled || self.forced) {
-            self.next
-        } else {
-            None
-        }
-    }
-
-    /// Does this to the object.
-    pub(crate) fn change(&mut self, change: Change)
-        ensures { self.new ≡ changed change self.old }
-    {
-        match change {
-            Change::Begin(run) => {
-                self.next = None;
-                self.run = Some(run);
-                self.forced = false;
-            }
-            Change::End(next) => {
-                self.next = next;
-                self.run = None;
-            }
-            Change::PutOff(until) => self.next = until,
-            Change::Reschedule { time, forced } => {
-                self.next = Some(time);
-                self.forced = forced;
-            }
-            Change::Enable(on) => self.enabled = on,
-        }
     }
 
     /// The run of this number, or why there is none.

@@ -1,9 +1,9 @@
 //! What the result of a check makes of an object, its standing and its next time, and to when an
 //! object is put off.
 
-ghost use Rattle.std.specs.Prelude.{◌≡◌, ◌<◌, ◌≤◌, ◌*◌, IfSome, length, Some};
+ghost use Rattle.std.specs.Prelude.{◌≡◌, ◌<◌, ◌≤◌, ◌*◌, IfSome, length, Some, true};
 ghost use Rattle.check_objects.specs.Configuration.{IsSetup, host_of, object_count};
-ghost use Rattle.check_rules.specs.State.{is_another_state, is_host_state};
+ghost use Rattle.check_rules.specs.State.{is_another_state, is_host_state, is_problem};
 ghost use Rattle.check_sched.specs.State.{IsStandingOf, flap_thresholds_of, is_host, max_attempts_of, standing_at};
 ghost use Rattle.check_sched.specs.Report.{interval_after, is_host_up, judged, next_after};
 ghost use Rattle.check_sched.specs.Report.{milliseconds, put_off_until, state_found, time_after};
@@ -66,17 +66,21 @@ pub(crate) fn judged(
 {
     let before = standing_at(standings, number);
     let max = max_attempts(setup, number);
-    let host_up = is_host_up(setup, standings, number);
+    let host_up = is_host_up(setup, standings, number, found);
     verdict(before, found, max, host_up, flapping)
 }
 
-/// Whether the host of the object with this number isn't down; true of an object without one.
-fn is_host_up(setup: &Setup, standings: &[Standing], number: u32) -> bool
+/// Whether the host of the object with this number isn't down; true of an object without one. A verdict
+/// goes by it where a problem was found: elsewhere this says true, and no host's standing is read.
+fn is_host_up(setup: &Setup, standings: &[Standing], number: u32, found: State) -> bool
     requires there { number < object_count setup.now }
     requires one_each { length standings.now ≡ object_count setup.now }
     requires valid_setup { IsSetup setup.now }
-    ensures { result ≡ is_host_up (host_of setup.now number) standings.now }
+    ensures { is_problem found ≡ true → result ≡ is_host_up (host_of setup.now number) standings.now }
 {
+    if !found.is_problem() {
+        return true;
+    }
     match setup.host_of(number) {
         None => true,
         Some(host) => !standing_at(standings, host).is_down(),

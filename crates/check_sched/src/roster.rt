@@ -9,6 +9,7 @@ ghost use Rattle.check_sched.specs.Step.{update_at};
 
 use crate::candidate::{Candidate, earlier};
 use crate::object_state::{Change, ObjectState};
+use crate::packed_state::PackedState;
 use check_objects::MAX_OBJECTS;
 use check_queue::Queue;
 use std::alloc::{AllocError, Global};
@@ -24,7 +25,7 @@ pub(crate) struct Roster {
     // What a call for a service reads and writes stands from here on, side by side; a queue's length is
     // its last field.
     hosts: usize,
-    objects: Vec<ObjectState>,
+    objects: Vec<PackedState>,
     waiting_services: Queue,
     running_services: usize,
 }
@@ -48,7 +49,7 @@ impl Roster {
     pub(crate) fn new(
         alloc: Global,
         hosts: usize,
-        objects: Vec<ObjectState>,
+        objects: Vec<PackedState>,
     ) -> Result<Roster, AllocError>
         requires few { length objects.items ≤ MAX_OBJECTS }
         requires hosts { hosts ≤ length objects.items }
@@ -71,7 +72,7 @@ impl Roster {
         ensures { result ≡ slice_get self.now.objects number }
     {
         match self.objects.get(number as usize) {
-            Some(object) => Some(*object),
+            Some(object) => Some(object.state()),
             None => None,
         }
     }
@@ -81,7 +82,7 @@ impl Roster {
         requires { number < length self.now.objects }
         ensures { slice_get self.now.objects number ≡ Some result }
     {
-        self.objects[number as usize]
+        self.objects[number as usize].state()
     }
 
     /// Does this to the object with this number, in its place.
@@ -150,7 +151,7 @@ fn place(queue: &mut Queue, number: u32, time: Option<u64>)
 /// A queue of the objects that wait, of those with the numbers from `from` on and below `to`.
 fn waiting(
     alloc: Global,
-    objects: &[ObjectState],
+    objects: &[PackedState],
     from: usize,
     to: usize,
 ) -> Result<Queue, AllocError>

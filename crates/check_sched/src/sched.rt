@@ -35,6 +35,7 @@ ghost use Rattle.check_sched.specs.Reply.{OnRefused, NamesObjectOf, TellsTimesUp
 
 use crate::call::{Call, Refusal, Reply};
 use crate::object_state::{Change, ObjectState};
+use crate::packed_state::PackedState;
 use crate::results::Results;
 use crate::roster::Roster;
 use check_objects::Setup;
@@ -56,10 +57,11 @@ pub struct Sched {
     start: u64,
     /// Scratch of the search through dependencies: a mark for each object.
     marks: Vec<bool>,
-    setup: Setup,
-    // What each call reads and writes stands from here on, side by side.
+    // What a report alone reads stands beside the count of hosts, with which a setup begins; what each
+    // call reads and writes stands behind what a setup says of services, with which it ends.
     results: Results,
     standings: Vec<Standing>,
+    setup: Setup,
     roster: Roster,
     runs: u64,
 }
@@ -271,7 +273,7 @@ fn reply_of(answer: Result<Reply, Refusal>) -> Reply
 }
 
 /// The state of each object of the setup when scheduling starts, by number.
-fn opening_objects(alloc: Global, setup: &Setup, start: u64) -> Result<Vec<ObjectState>, AllocError>
+fn opening_objects(alloc: Global, setup: &Setup, start: u64) -> Result<Vec<PackedState>, AllocError>
     requires { start ≤ LAST_MOMENT }
     ensures items { IfOk result (λ objects. objects.items ≡ opening_objects setup.now start) }
     ensures valid_setup { OnOk result (IsSetup setup.now) }
@@ -288,7 +290,7 @@ fn objects_at(
     alloc: Global,
     setup: &Setup,
     times: &[Option<u64>],
-) -> Result<Vec<ObjectState>, AllocError>
+) -> Result<Vec<PackedState>, AllocError>
     requires { length times.now ≡ object_count setup.now }
     ensures items { IfOk result (λ objects. objects.items ≡ objects_at setup.now times.now) }
     ensures valid_setup { OnOk result (IsSetup setup.now) }
@@ -296,7 +298,7 @@ fn objects_at(
     let mut objects = Vec::with_capacity(alloc, setup.len())?;
     for (number, first) in times.iter().enumerate() {
         let enabled = setup.object(number as u32).enabled;
-        objects.push(ObjectState::opening(*first, enabled))?;
+        objects.push(PackedState::opening(*first, enabled))?;
     }
     Ok(objects)
 }

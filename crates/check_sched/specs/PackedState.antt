@@ -1,0 +1,13 @@
+-- What is kept of one object, as contracts see it.
+use Rattle.std.specs.Prelude.{Some, None, if◌then◌else◌}
+use Rattle.check_sched.specs.declared.packed_state.PackedState.TheInside.{Inside}
+use Rattle.check_sched.specs.Scheduling.{Scheduling}
+
+-- a next time and a run are what the fields hold, where they are there
+abbrev pub scheduling_of : Inside → Scheduling
+scheduling_of o = record {
+  next = if o.has_time then Some o.time else None;
+  run = if o.has_run then Some o.run else None;
+  enabled = o.enabled;
+  forced = o.forced;
+}
