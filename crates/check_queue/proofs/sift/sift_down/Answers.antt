@@ -38,8 +38,8 @@ returns c =
     let l = c.loop-hole in
     let joined = c.if-hole-len in
     let same : (length (entries_of joined.rows) ≡ length (entries_of l.rows))
-        × (times_around (entries_of joined.rows) (places_of joined.rows) c.args.len joined.hole c.args.held
-        ≡ times_around (entries_of l.rows) (places_of l.rows) c.args.len l.hole c.args.held) =
+    × (times_around (entries_of joined.rows) (places_of joined.rows) c.args.len joined.hole c.args.held
+    ≡ times_around (entries_of l.rows) (places_of l.rows) c.args.len l.hole c.args.held) =
     elim joined.branch [
       | then-hole-len w ↦ rw (
         w.rows-is,
