@@ -1,7 +1,7 @@
 pub mod Scheduling
 pub mod Candidate
 pub mod Roster
-pub mod PackedState
+pub mod ObjectState
 pub mod State
 pub mod Change
 pub mod Reply

@@ -8,17 +8,16 @@
 //! where the manual leaves a choice, the profile of this project makes it, and the item says so.
 //!
 //! The modules, from what a caller says to how it is answered: `call` has the calls and their
-//! replies, `object_state` the scheduling of one object, `packed_state` how it is kept, `candidate` an
-//! object that waits for its check, `roster` the objects with the queues of those that wait, `results`
-//! the last results of each object, `report` what the result of a check makes of an object, `sched` the
-//! scheduler (in it `checks` has what workers call and `operators` what operators call), `laws` what
-//! follows for all calls that are made one after another.
+//! replies, `object_state` what is kept of one object, `candidate` an object that waits for its
+//! check, `roster` the objects with the queues of those that wait, `results` the last results of
+//! each object, `report` what the result of a check makes of an object, `sched` the scheduler (in it
+//! `checks` has what workers call and `operators` what operators call), `laws` what follows for all
+//! calls that are made one after another.
 
 mod call;
 mod candidate;
 pub mod laws;
 mod object_state;
-mod packed_state;
 mod report;
 mod results;
 mod roster;

@@ -1,4 +1,4 @@
-//! The scheduling of one object, and what is done to it.
+//! What the scheduler keeps of one object between calls.
 
 use crate::call::Refusal;
 use std::marker::Model;
@@ -42,12 +42,17 @@ impl Run {
 /// The scheduling of one object: the time of its next check in milliseconds, the run of the check
 /// that is out, whether its active checks are enabled, and whether its next check is forced.
 /// Contracts see it as a record `Scheduling` of the same.
-#[derive(Clone, Copy)]
+///
+/// It takes half a line of the cache, 32 bytes, where two options would take 48: a byte says whether
+/// there is a next time, and one whether there is a run. What a field holds that isn't there says nothing.
+#[derive(Drop)]
 pub(crate) struct ObjectState {
-    pub(crate) next: Option<u64>,
-    pub(crate) run: Option<Run>,
-    pub(crate) enabled: bool,
-    pub(crate) forced: bool,
+    time: u64,
+    run: Run,
+    has_time: bool,
+    has_run: bool,
+    enabled: bool,
+    forced: bool,
 }
 
 impl Model for ObjectState {
@@ -55,9 +60,9 @@ impl Model for ObjectState {
 
     ghost Value = { Scheduling };
 
-    ghost view = { λ o. record { next = o.next; run = o.run; enabled = o.enabled; forced = o.forced } };
+    ghost use Rattle.check_sched.specs.ObjectState.{scheduling_of};
 
-    ghost inverse = { λ o. record { next = o.next; run = o.run; enabled = o.enabled; forced = o.forced } };
+    ghost view = { scheduling_of };
 }
 
 /// What is done to one object: all but `Begin` leave the number of runs as it was, or end one.
@@ -76,21 +81,54 @@ pub(crate) enum Change {
 }
 
 impl ObjectState {
-    ghost use Rattle.std.specs.Prelude.{◌≡◌, option_map};
-    ghost use Rattle.check_sched.specs.Scheduling.{freed_time, run_under};
+    ghost use Rattle.std.specs.Prelude.{◌≡◌, is_some, option_map};
+    ghost use Rattle.check_sched.specs.Change.{changed};
+    ghost use Rattle.check_sched.specs.Scheduling.{candidate_time, freed_time, opening_object, put_off_to, run_under};
+
+    /// The state of an object when scheduling starts: its first check is at `first`, it doesn't
+    /// run, it is enabled as the setup says, and nothing is forced.
+    pub(crate) fn opening(first: Option<u64>, enabled: bool) -> ObjectState
+        ensures { result ≡ opening_object first enabled }
+    {
+        ObjectState {
+            time: first.unwrap_or(0),
+            run: Run {
+                number: 0,
+                start: 0,
+            },
+            has_time: first.is_some(),
+            has_run: false,
+            enabled,
+            forced: false,
+        }
+    }
 
     /// The time of the next check, if one is set.
     pub(crate) fn next(&self) -> Option<u64>
         ensures { result ≡ self.now.next }
     {
-        self.next
+        if self.has_time { Some(self.time) } else { None }
+    }
+
+    /// The run of the check that is out, if one is.
+    fn run(&self) -> Option<Run>
+        ensures { result ≡ self.now.run }
+    {
+        if self.has_run { Some(self.run) } else { None }
+    }
+
+    /// Whether the object is being checked.
+    pub(crate) fn is_running(&self) -> bool
+        ensures { result ≡ is_some self.now.run }
+    {
+        self.has_run
     }
 
     /// The number of the run under which the object is being checked.
     pub(crate) fn run_number(&self) -> Option<u64>
         ensures { result ≡ option_map (λ run. run.number) self.now.run }
     {
-        match self.run {
+        match self.run() {
             Some(run) => Some(run.number()),
             None => None,
         }
@@ -103,11 +141,55 @@ impl ObjectState {
         self.forced
     }
 
+    /// The time for which the object waits: its next time, where it doesn't run and is enabled or
+    /// forced.
+    pub(crate) fn candidate_time(&self) -> Option<u64>
+        ensures { result ≡ candidate_time self.now }
+    {
+        if self.has_time && !self.has_run && (self.enabled || self.forced) {
+            Some(self.time)
+        } else {
+            None
+        }
+    }
+
+    /// Does this to the object.
+    pub(crate) fn change(&mut self, change: Change)
+        ensures { self.new ≡ changed change self.old }
+    {
+        match change {
+            Change::Begin(run) => {
+                self.has_time = false;
+                self.run = run;
+                self.has_run = true;
+                self.forced = false;
+            }
+            Change::End(next) => {
+                self.set_next(next);
+                self.has_run = false;
+            }
+            Change::PutOff(until) => self.set_next(until),
+            Change::Reschedule { time, forced } => {
+                self.set_next(Some(time));
+                self.forced = forced;
+            }
+            Change::Enable(on) => self.enabled = on,
+        }
+    }
+
+    /// Sets the next time, or none.
+    fn set_next(&mut self, next: Option<u64>)
+        ensures { self.new ≡ put_off_to next self.old }
+    {
+        self.has_time = next.is_some();
+        self.time = next.unwrap_or(0);
+    }
+
     /// The run of this number, or why there is none.
     pub(crate) fn run_under(&self, number: u64) -> Result<Run, Refusal>
         ensures { result ≡ run_under number self.now.run }
     {
-        match self.run {
+        match self.run() {
             None => Err(Refusal::NotRunning),
             Some(run) if run.number() == number => Ok(run),
             Some(_) => Err(Refusal::WrongRun),
@@ -119,6 +201,6 @@ impl ObjectState {
     pub(crate) fn freed_time(&self, now: u64) -> u64
         ensures { result ≡ freed_time now self.now }
     {
-        self.next.unwrap_or(now)
+        self.next().unwrap_or(now)
     }
 }

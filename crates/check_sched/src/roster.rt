@@ -1,6 +1,6 @@
 //! The scheduling of all objects: who waits, in two queues, and how many services run.
 
-ghost use Rattle.std.specs.Prelude.{◌≡◌, ◌<◌, ◌≤◌, ◌&&◌, IfOk, Some, drop, length, nat_le, nat_lt, slice_get, slice_set, take};
+ghost use Rattle.std.specs.Prelude.{◌≡◌, ◌<◌, ◌≤◌, ◌&&◌, IfOk, Some, drop, length, nat_le, nat_lt, option_map, slice_get, slice_set, take};
 ghost use Rattle.check_queue.specs.Order.{least};
 ghost use Rattle.check_sched.specs.Candidate.{candidates_among};
 ghost use Rattle.check_sched.specs.Roster.{running_among, waiting_times};
@@ -9,7 +9,6 @@ ghost use Rattle.check_sched.specs.Step.{update_at};
 
 use crate::candidate::{Candidate, earlier};
 use crate::object_state::{Change, ObjectState};
-use crate::packed_state::PackedState;
 use check_objects::MAX_OBJECTS;
 use check_queue::Queue;
 use std::alloc::{AllocError, Global};
@@ -25,7 +24,7 @@ pub(crate) struct Roster {
     // What a call for a service reads and writes stands from here on, side by side; a queue's length is
     // its last field.
     hosts: usize,
-    objects: Vec<PackedState>,
+    objects: Vec<ObjectState>,
     waiting_services: Queue,
     running_services: usize,
 }
@@ -49,7 +48,7 @@ impl Roster {
     pub(crate) fn new(
         alloc: Global,
         hosts: usize,
-        objects: Vec<PackedState>,
+        objects: Vec<ObjectState>,
     ) -> Result<Roster, AllocError>
         requires few { length objects.items ≤ MAX_OBJECTS }
         requires hosts { hosts ≤ length objects.items }
@@ -68,21 +67,18 @@ impl Roster {
     }
 
     /// The state of the object with this number, if there is one.
-    pub(crate) fn get(&self, number: u32) -> Option<ObjectState>
-        ensures { result ≡ slice_get self.now.objects number }
+    pub(crate) fn get(&self, number: u32) -> Option<&ObjectState>
+        ensures { option_map (λ object. object.now) result ≡ slice_get self.now.objects number }
     {
-        match self.objects.get(number as usize) {
-            Some(object) => Some(object.state()),
-            None => None,
-        }
+        self.objects.get(number as usize)
     }
 
     /// The state of the object with this number.
-    pub(crate) fn at(&self, number: u32) -> ObjectState
+    pub(crate) fn at(&self, number: u32) -> &ObjectState
         requires { number < length self.now.objects }
-        ensures { slice_get self.now.objects number ≡ Some result }
+        ensures { slice_get self.now.objects number ≡ Some result.now }
     {
-        self.objects[number as usize].state()
+        &self.objects[number as usize]
     }
 
     /// Does this to the object with this number, in its place.
@@ -151,7 +147,7 @@ fn place(queue: &mut Queue, number: u32, time: Option<u64>)
 /// A queue of the objects that wait, of those with the numbers from `from` on and below `to`.
 fn waiting(
     alloc: Global,
-    objects: &[PackedState],
+    objects: &[ObjectState],
     from: usize,
     to: usize,
 ) -> Result<Queue, AllocError>

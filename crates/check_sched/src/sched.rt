@@ -1,33 +1,10 @@
 //! The scheduler: how it is made, its one call, and what can be read of it between calls.
 
-ghost use Rattle.std.specs.Prelude.{
-  ◌≡◌,
-  ◌<◌,
-  ◌≤◌,
-  IfSome,
-  IfOk,
-  IfErr,
-  IsTrue,
-  Ok,
-  OnOk,
-  length,
-  slice_index,
-};
+ghost use Rattle.std.specs.Prelude.{◌≡◌, ◌<◌, ◌≤◌, IfSome, IfOk, IfErr, IsTrue, Ok, OnOk, length, slice_index};
 ghost use Rattle.std.specs.List.{All};
 ghost use Rattle.check_objects.specs.Configuration.{IsSetup, object_count};
 ghost use Rattle.check_spread.specs.Spread.{initial_times};
-ghost use Rattle.check_sched.specs.State.{
-  IsStandingOf,
-  IsState,
-  is_time,
-  next_of,
-  objects_at,
-  opening_objects,
-  opening,
-  opening_standings,
-  run_number_of,
-  standing_at,
-};
+ghost use Rattle.check_sched.specs.State.{IsStandingOf, IsState, is_time, next_of, objects_at, opening_objects, opening, opening_standings, run_number_of, standing_at};
 ghost use Rattle.check_sched.specs.Step.{known, step, with_object};
 ghost use Rattle.check_sched.specs.Change.{changed, is_quiet};
 ghost use Rattle.check_sched.specs.Board.{board_of, place_of};
@@ -35,7 +12,6 @@ ghost use Rattle.check_sched.specs.Reply.{OnRefused, NamesObjectOf, TellsTimesUp
 
 use crate::call::{Call, Refusal, Reply};
 use crate::object_state::{Change, ObjectState};
-use crate::packed_state::PackedState;
 use crate::results::Results;
 use crate::roster::Roster;
 use check_objects::Setup;
@@ -160,10 +136,11 @@ impl Sched {
     }
 
     /// What is kept of the object with this number.
-    fn object(&self, number: u32) -> Result<ObjectState, Refusal>
-        ensures value { result ≡ known number self.now }
+    fn object(&self, number: u32) -> Result<&ObjectState, Refusal>
+        ensures value { IfOk result (λ object. known number self.now ≡ Ok object.now) }
+        ensures refused { IfErr result (λ why. known number self.now ≡ Err why) }
         ensures there { OnOk result (number < object_count self.now.setup) }
-        ensures times { IfOk result (λ object. IsTrue (is_time object.next)) }
+        ensures times { IfOk result (λ object. IsTrue (is_time object.now.next)) }
     {
         match self.roster.get(number) {
             Some(object) => Ok(object),
@@ -201,12 +178,11 @@ impl Sched {
     pub fn place_of(&self, call: Call) -> Option<u32>
         ensures { result ≡ place_of self.now call }
     {
-        match call {
-            Call::Report {
-                object,
-                run,
-                code: _,
-            } if self.awaited(object, run).is_ok() => Some(object),
+        let Call::Report { object, run, .. } = call else {
+            return None;
+        };
+        match self.object(object) {
+            Ok(state) if state.run_under(run).is_ok() => Some(object),
             _ => None,
         }
     }
@@ -273,7 +249,7 @@ fn reply_of(answer: Result<Reply, Refusal>) -> Reply
 }
 
 /// The state of each object of the setup when scheduling starts, by number.
-fn opening_objects(alloc: Global, setup: &Setup, start: u64) -> Result<Vec<PackedState>, AllocError>
+fn opening_objects(alloc: Global, setup: &Setup, start: u64) -> Result<Vec<ObjectState>, AllocError>
     requires { start ≤ LAST_MOMENT }
     ensures items { IfOk result (λ objects. objects.items ≡ opening_objects setup.now start) }
     ensures valid_setup { OnOk result (IsSetup setup.now) }
@@ -290,7 +266,7 @@ fn objects_at(
     alloc: Global,
     setup: &Setup,
     times: &[Option<u64>],
-) -> Result<Vec<PackedState>, AllocError>
+) -> Result<Vec<ObjectState>, AllocError>
     requires { length times.now ≡ object_count setup.now }
     ensures items { IfOk result (λ objects. objects.items ≡ objects_at setup.now times.now) }
     ensures valid_setup { OnOk result (IsSetup setup.now) }
@@ -298,7 +274,7 @@ fn objects_at(
     let mut objects = Vec::with_capacity(alloc, setup.len())?;
     for (number, first) in times.iter().enumerate() {
         let enabled = setup.object(number as u32).enabled;
-        objects.push(PackedState::opening(*first, enabled))?;
+        objects.push(ObjectState::opening(*first, enabled))?;
     }
     Ok(objects)
 }

@@ -1,35 +1,10 @@
 //! A check from its turn to its result: taken or put off, reported or abandoned.
 
-ghost use Rattle.std.specs.Prelude.{
-  ◌≡◌,
-  ◌+◌,
-  ◌<◌,
-  ◌≤◌,
-  IfSome,
-  IfOk,
-  IfErr,
-  IsTrue,
-  Ok,
-  OnOk,
-  None,
-  length,
-  slice_set,
-  true,
-};
+ghost use Rattle.std.specs.Prelude.{◌≡◌, ◌+◌, ◌<◌, ◌≤◌, IfSome, IfOk, IfErr, IsTrue, Ok, OnOk, None, length, slice_set, true};
 ghost use Rattle.check_objects.specs.Configuration.{object_count};
 ghost use Rattle.check_sched.specs.State.{has_room, is_time};
 ghost use Rattle.check_queue.specs.Order.{least};
-ghost use Rattle.check_sched.specs.Step.{
-  eligible,
-  is_held_back,
-  is_open,
-  known,
-  put_off,
-  step,
-  taken,
-  waiting_reply,
-  within_range,
-};
+ghost use Rattle.check_sched.specs.Step.{eligible, is_held_back, is_open, known, put_off, step, taken, waiting_reply, within_range};
 ghost use Rattle.check_sched.specs.Report.{put_off_until};
 ghost use Rattle.check_sched.specs.Scheduling.{run_under};
 ghost use Rattle.check_sched.specs.Reply.{NamesObjectOf, TellsTimesUpTo, reply_of};
@@ -158,14 +133,16 @@ impl Sched {
         ensures reply { reply_of result ≡ (step self.old (Call.Report object run code)).1 }
         ensures times { TellsTimesUpTo LAST_TIME (reply_of result) }
     {
-        let (state, running) = self.awaited(object, run)?;
+        let state = self.object(object)?;
+        let running = state.run_under(run)?;
+        let already = state.next();
         let before = self.standings[object as usize];
         let found = state_found(&self.setup, &self.standings, object, code);
         let thresholds = flap_thresholds(&self.setup, object);
         let flapping = self.results.add(object, found, before.flapping, thresholds);
         let standing = judged(&self.setup, &self.standings, object, found, flapping);
         let changed = is_changed(before, standing);
-        let next = next_after(&self.setup, object, standing, running.start(), state.next());
+        let next = next_after(&self.setup, object, standing, running.start(), already);
         self.roster.change(object, Change::End(next));
         put_standing(&mut self.standings, object, standing);
         Ok(Reply::Standing {
@@ -173,20 +150,6 @@ impl Sched {
             changed,
             next,
         })
-    }
-
-    /// The object with this number with its run of this number, whose result is awaited; or why a
-    /// report of it is refused.
-    pub(super) fn awaited(&self, object: u32, run: u64) -> Result<(ObjectState, Run), Refusal>
-        ensures found { IfOk result (λ pair. (known object self.now ≡ Ok pair.0)
-            × (run_under run pair.0.run ≡ Ok pair.1)) }
-        ensures times { IfOk result (λ pair. IsTrue (is_time pair.0.next)) }
-        ensures refused { IfErr result (λ why. (code : Code)
-            → step self.now (Call.Report object run code) ≡ (self.now, Reply.Refused why)) }
-    {
-        let state = self.object(object)?;
-        let running = state.run_under(run)?;
-        Ok((state, running))
     }
 
     /// Ends a run without a result.

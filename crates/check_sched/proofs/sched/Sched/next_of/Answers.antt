@@ -4,4 +4,4 @@ use Rattle.check_sched.proofs.sched.Sched.next_of.Goals as goal
 
 pub returns-clause-within : goal.returns-clause-within
 returns-clause-within c =
-    rw c.next.ensures (is_time_reads c.at.result.next (next_of_state (state_of c.self.inside) c.args.number c.at.result c.self.invariant.state c.at.ensures))
+    rw c.next.ensures (is_time_reads c.at.result.now.next (next_of_state (state_of c.self.inside) c.args.number c.at.result.now c.self.invariant.state c.at.ensures))

@@ -26,43 +26,43 @@ standing_there inside n o h e = let l = count_there inside n o h e in let m = h.
 
 pub add-flapping-requires : goal.add-flapping-requires
 add-flapping-requires c =
-    let found = ap (known c.args.object) c.self.view_is ∙ c.in_ok-state.ensures.found.0 in
-    let there = count_there c.self.inside c.args.object c.in_ok-state.state c.self.invariant.state found in
+    let found = ap (known c.args.object) c.self.view_is ∙ c.in_ok-state.ensures.value in
+    let there = count_there c.self.inside c.args.object c.in_ok-state.state.now c.self.invariant.state found in
     let each = c.self.invariant.state.results_each in
     omega (arith, there, each)
 
 pub judged-standing-requires-clause-before : goal.judged-standing-requires-clause-before
 judged-standing-requires-clause-before c =
     let s = state_of c.self.inside in
-    let found = ap (known c.args.object) c.self.view_is ∙ c.in_ok-state.ensures.found.0 in
+    let found = ap (known c.args.object) c.self.view_is ∙ c.in_ok-state.ensures.value in
     rw c.deref-2.ensures.value (standing_of_state s c.args.object c.self.invariant.state
-    (count_there c.self.inside c.args.object c.in_ok-state.state c.self.invariant.state found))
+    (count_there c.self.inside c.args.object c.in_ok-state.state.now c.self.invariant.state found))
 
 pub next_after-next-requires-clause-there : goal.next_after-next-requires-clause-there
 next_after-next-requires-clause-there c =
-    let found = ap (known c.args.object) c.self.view_is ∙ c.in_ok-state.ensures.found.0 in
-    count_there c.self.inside c.args.object c.in_ok-state.state c.self.invariant.state found
+    let found = ap (known c.args.object) c.self.view_is ∙ c.in_ok-state.ensures.value in
+    count_there c.self.inside c.args.object c.in_ok-state.state.now c.self.invariant.state found
 
 pub next_after-next-requires-clause-moment : goal.next_after-next-requires-clause-moment
 next_after-next-requires-clause-moment c =
     let s = state_of c.self.inside in
-    let found = ap (known c.args.object) c.self.view_is ∙ c.in_ok-state.ensures.found.0 in
-    rw c.start.ensures (start_of_state s c.args.object c.in_ok-state.state c.in_ok-state.running c.self.invariant.state
-    (known_is c.args.object s c.in_ok-state.state found)
-    (under_is c.args.run c.in_ok-state.state.run c.in_ok-state.running c.in_ok-state.ensures.found.1))
+    let found = ap (known c.args.object) c.self.view_is ∙ c.in_ok-state.ensures.value in
+    rw c.start.ensures (start_of_state s c.args.object c.in_ok-state.state.now c.in_ok-running.running c.self.invariant.state
+    (known_is c.args.object s c.in_ok-state.state.now found)
+    (under_is c.args.run c.in_ok-state.state.now.run c.in_ok-running.running (sym c.run_under.ensures ∙ c.in_ok-running.was)))
 
 pub put_standing-requires : goal.put_standing-requires
 put_standing-requires c =
-    let found = ap (known c.args.object) c.self.view_is ∙ c.in_ok-state.ensures.found.0 in
-    let there = standing_there c.self.inside c.args.object c.in_ok-state.state c.self.invariant.state found in
+    let found = ap (known c.args.object) c.self.view_is ∙ c.in_ok-state.ensures.value in
+    let there = standing_there c.self.inside c.args.object c.in_ok-state.state.now c.self.invariant.state found in
     omega (arith, there)
 
 -- the object that was found, and its standing
-found : (c : goal.After-put_standing) → known c.args.object (state_of c.self.inside) ≡ Ok c.in_ok-state.state
-found c = ap (known c.args.object) c.self.view_is ∙ c.in_ok-state.ensures.found.0
+found : (c : goal.After-put_standing) → known c.args.object (state_of c.self.inside) ≡ Ok c.in_ok-state.state.now
+found c = ap (known c.args.object) c.self.view_is ∙ c.in_ok-state.ensures.value
 
 there : (c : goal.After-put_standing) → c.args.object < length c.self.inside.standings.items
-there c = standing_there c.self.inside c.args.object c.in_ok-state.state c.self.invariant.state (found c)
+there c = standing_there c.self.inside c.args.object c.in_ok-state.state.now c.self.invariant.state (found c)
 
 -- the state that the code means
 meant : (c : goal.After-put_standing) → c.state_found-found.result ≡ found_in (state_of c.self.inside) c.args.object c.args.code
@@ -93,10 +93,10 @@ answer : (c : goal.After-put_standing) → step (state_of c.self.inside) (call.R
       standing_reply c.args.object c.judged-standing.result c.next_after-next.result (state_of c.self.inside),
     )
 answer c =
-    report_answers c.args.object c.args.run c.args.code (state_of c.self.inside) c.in_ok-state.state c.in_ok-state.running
+    report_answers c.args.object c.args.run c.args.code (state_of c.self.inside) c.in_ok-state.state.now c.in_ok-running.running
     c.state_found-found.result c.judged-standing.result c.next_after-next.result
-    (found c) c.in_ok-state.ensures.found.1 (meant c) (made c)
-    (c.next_after-next.ensures.value ∙ (λ i. next_after c.self.inside.setup c.args.object c.judged-standing.result (c.start.ensures i) (c.next.ensures i)))
+    (found c) (sym c.run_under.ensures ∙ c.in_ok-running.was) (meant c) (made c)
+    (c.next_after-next.ensures.value ∙ (λ i. next_after c.self.inside.setup c.args.object c.judged-standing.result (c.start.ensures i) (c.next-already.ensures i)))
 
 -- the standings that the write leaves
 standings_left : (c : goal.After-put_standing)
@@ -132,7 +132,7 @@ state_left c objects standings results e f g i = record {
 pub invariant_of-self : goal.invariant_of-self
 invariant_of-self c =
     let s = state_of c.self.inside in
-    let known = count_there c.self.inside c.args.object c.in_ok-state.state c.self.invariant.state (found c) in
+    let known = count_there c.self.inside c.args.object c.in_ok-state.state.now c.self.invariant.state (found c) in
     let within : IsStandingOf c.self.inside.setup c.args.object c.judged-standing.result = rw (made c)
     (judged_is_standing c.self.inside.setup c.self.inside.standings.items c.args.object c.state_found-found.result _ c.self.invariant.state.valid_setup
     c.state_found-found.ensures.sort (standing_of_state s c.args.object c.self.invariant.state known)) in

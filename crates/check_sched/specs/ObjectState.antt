@@ -1,6 +1,6 @@
 -- What is kept of one object, as contracts see it.
 use Rattle.std.specs.Prelude.{Some, None, if◌then◌else◌}
-use Rattle.check_sched.specs.declared.packed_state.PackedState.TheInside.{Inside}
+use Rattle.check_sched.specs.declared.object_state.ObjectState.TheInside.{Inside}
 use Rattle.check_sched.specs.Scheduling.{Scheduling}
 
 -- a next time and a run are what the fields hold, where they are there
