@@ -3,11 +3,13 @@
 hand; no part of the gate.
 
     bench/lines.py [OBJECTS] [TAKES]     16 and 1,500 where no number is given; PREFIX=FOLDER where tools/build_c.sh has laid it down
+    bench/lines.py --pass [OBJECTS] [TAKES]     the same of the only pass of a desk, by the workload `ask` of nagsched_bench, which rt has built
 
 Valgrind's lackey traces the loads and stores of the workload `turns` of bench/c_asks.c: two callers by turns take a check and report it.
 The trace is cut where the program counts its calls, and the distinct lines of 64 bytes between two cuts are counted, in the second half of
 the run. The stack isn't counted, and neither is what is one caller's own: lines that its calls come to often, and the other's never.
-Constants of the program, which nobody writes, are told apart: each core keeps them. Wants cc, nm and valgrind.
+Constants of the program, which nobody writes, are told apart: each core keeps them. A pass's trace is cut where a call draws its ticket.
+Wants cc, nm, objdump and valgrind.
 """
 import collections
 import os
@@ -22,11 +24,13 @@ PREFIX = pathlib.Path(os.environ.get("PREFIX", TOP / "out/c"))
 LINE = 64
 # The count of calls in the first of the program's threads, by the order of its fields; an entry of that array is 128 bytes.
 CALLS, THREADS = 16, 66 * 128
-# Above this is the stack.
-STACK = 0x1F00000000
+# Above this is the stack, and below that a program that may lie anywhere, where valgrind puts it.
+STACK, PLACED = 0x1F00000000, 0x4000000
+PLACED_AT = 0x108000
 # As often come to by one caller, and never by the other, a line is its own: a line of the history is written by a call or two.
 OFTEN = 8
 ACCESS = re.compile(r"^(?: ([LSM])|I ) +([0-9a-f]+),(\d+)$")
+DRAW = re.compile(r"^ *([0-9a-f]+):.*lock xadd", re.M)
 
 
 def built(folder):
@@ -39,19 +43,25 @@ def built(folder):
     return program, at(r"threads\."), at("__data_start")
 
 
-def windows(trace, threads):
-    """For each call the lines that it wrote and those that it touched."""
+def built_by_rt():
+    """The program of a desk's only pass, the place of the instruction that draws a ticket, and where what lies elsewhere begins."""
+    program = TOP / "crates/nagsched_bench/out/nagsched_bench"
+    code = subprocess.run(["objdump", "-d", program], check=True, stdout=subprocess.PIPE, text=True).stdout
+    return program, PLACED_AT + int(DRAW.search(code)[1], 16), PLACED
+
+
+def windows(trace, threads, draw):
+    """For each call the lines that it wrote and those that it touched, cut where threads count calls, or where a ticket is drawn."""
     written, touched = set(), set()
     for line in trace:
         found = ACCESS.match(line)
-        if not found or not found[1]:
+        if not found:
             continue
         kind, address, size = found[1], int(found[2], 16), int(found[3])
-        if threads <= address < threads + THREADS:
-            if address == threads + CALLS and kind != "L":
-                yield written, touched
-                written, touched = set(), set()
-        elif address < STACK:
+        if address == draw or (threads and address == threads + CALLS and kind in ("S", "M")):
+            yield written, touched
+            written, touched = set(), set()
+        elif kind and not threads <= address < threads + THREADS and address < STACK:
             lines = range(address // LINE, (address + size - 1) // LINE + 1)
             touched.update(lines)
             if kind != "L":
@@ -64,15 +74,29 @@ def owned(calls):
     return {line for mine, others in (often, often[::-1]) for line, times in mine.items() if times >= OFTEN and line not in others}
 
 
-def main():
-    objects, takes = (sys.argv[1:] + ["16", "1500"][len(sys.argv) - 1:])[:2]
+def traced(words):
+    """What lackey tells of a run, line by line."""
+    words = ["valgrind", "--tool=lackey", "--trace-mem=yes", *words, "untimed"]
+    return subprocess.Popen(words, stdout=subprocess.DEVNULL, stderr=subprocess.PIPE, text=True).stderr
+
+
+def calls_of(by_pass, objects, takes):
+    """For each call of the run's second half the lines that it wrote and those that it touched, and where what may be written begins."""
     with tempfile.TemporaryDirectory() as name:
-        program, threads, writable = built(pathlib.Path(name))
-        words = ["valgrind", "--tool=lackey", "--trace-mem=yes", program, "turns", "1", objects, takes, "untimed"]
-        traced = subprocess.Popen(words, stdout=subprocess.DEVNULL, stderr=subprocess.PIPE, text=True)
-        calls = list(windows(traced.stderr, threads))
-    half = calls[len(calls) // 8 * 4:]
-    own = owned([touched for _, touched in half])
+        if by_pass:
+            program, draw, writable = built_by_rt()
+            calls = list(windows(traced([program, "ask", objects, takes]), 0, draw))[1:]
+        else:
+            program, threads, writable = built(pathlib.Path(name))
+            calls = list(windows(traced([program, "turns", "1", objects, takes]), threads, None))
+    return calls[len(calls) // 8 * 4:], writable
+
+
+def main():
+    given = [word for word in sys.argv[1:] if word != "--pass"]
+    by_pass = len(given) < len(sys.argv) - 1
+    half, writable = calls_of(by_pass, *(given + ["16", "1500"][len(given):])[:2])
+    own = set() if by_pass else owned([touched for _, touched in half])
     constants = range(writable // LINE)
     half = [(len(written - own), len(shared := touched - own), sum(line in constants for line in shared)) for written, touched in half]
     print(f"{'':10} {'written':>10} {'touched':>10} {'constants':>10}")
