@@ -10,11 +10,13 @@
  * ticket  as desk, but all threads use one caller, behind a ticket lock that yields while it waits
  * mutex   the same behind a mutex
  * glance  each thread glances TAKES times, while one thread more takes and reports; with 0 threads one glances alone
+ * entry   makes no call: prints the bytes that an entry of the history takes, by what a desk with room for TAKES of them asks for
  */
 #define _GNU_SOURCE
 #include "nagsched.h"
 
 #include <inttypes.h>
+#include <malloc.h>
 #include <pthread.h>
 #include <stdatomic.h>
 #include <stdio.h>
@@ -175,6 +177,12 @@ int main(int argc, char **argv) {
     const int count = is("one") || is("turns") ? 1 : asked + glances, shared = is("ticket") || is("mutex");
     if (count < 1 || count > MOST_THREADS || objects < 2) return 2;
     read_setup(&setup);
+    if (is("entry")) {
+        const size_t before = mallinfo2().hblkhd;
+        must(nagsched_open(&setup, 0, (size_t)takes, callers, 1));
+        printf("%zu\n", (mallinfo2().hblkhd - before) / (size_t)takes);
+        return 0;
+    }
     must(nagsched_open(&setup, 0, glances ? 0 : (size_t)takes * 2, callers, (size_t)(shared ? 1 : is("turns") ? APART + 1 : count * apart)));
     pthread_barrier_init(&all_there, NULL, (unsigned)count);
     for (int at = 0; at < count; at++) {

@@ -1,0 +1,50 @@
+#!/usr/bin/env bash
+# What sharing one scheduler costs, in one table. Run by hand; no part of the gate.
+#   bench/sharing.sh [REPEATS]    the middle one of so many times is told, 5 where no number is given
+#   PREFIX=FOLDER                 where tools/build_c.sh has laid the C library down; out/c where none is named
+# Lines of the cache by bench/lines.py over 16 objects, as two callers come to them by turns; times of threads by bench/asks.sh, whose
+# table comes first; a take and its report alone by nagsched_bench, which rt has built; the bytes of an entry by the C library.
+set -eu -o pipefail
+repeats=${1:-5}
+top=$(cd "$(dirname "$0")/.." && pwd)
+export PREFIX=${PREFIX:-$top/out/c}
+work=$(mktemp -d)
+trap 'rm -rf "$work"' EXIT
+. "$top/bench/best.sh"
+build_c_asks "$PREFIX" "$work/c_asks"
+alone=("$top/crates/nagsched_bench/out/nagsched_bench" cycle 4096)
+
+"$top/bench/asks.sh" "$repeats" | tee "$work/times"
+echo
+
+# The time of a call by so many threads beside the ticket lock's, over 16 objects: behind a comma the cores.
+ratio() {
+    awk -v column="$1" -v cores="$2" '
+        $1 == 16 && (/cores/ ? $3 == cores : cores == "") { time[$(NF - 5)] = $(NF - 5 + column) }
+        END { printf "%.2f", time["desk"] / time["ticket"] }' "$work/times"
+}
+
+# The least nanoseconds of a pair.
+nanoseconds() {
+    for _ in $(seq "$repeats"); do
+        "${alone[@]}" 500000
+    done | tr '=' ' ' | awk '{ time = $2 / $4; if (!least || time < least) least = time } END { printf "%.0f", least }'
+}
+
+row() {
+    printf '%-66s %10s %8s\n' "$@"
+}
+
+read -r _ _ written touched constants < <("$top/bench/lines.py" | tail -n 1)
+row '' measured wanted
+row 'lines that a call writes, 16 objects' "$written" 10
+row 'lines of the heap that it touches' "$(awk "BEGIN { printf \"%.1f\", $touched - $constants }")" 18
+row 'and constants of the program' "$constants" ''
+row 'a call of 2 threads to one behind a ticket lock of C' "$(ratio 2 '')" 1.5
+row 'of 4 threads' "$(ratio 3 '')" 1.4
+row 'of 2 threads on two cores' "$(ratio 2 2)" 1.5
+row 'of 4 threads on two cores' "$(ratio 3 2)" 1.4
+row 'a take and its report alone, 4,096 objects: instructions' \
+    $((($(instructions "${alone[@]}" 140000 untimed) - $(instructions "${alone[@]}" 100000 untimed)) / 40000)) 900
+row 'nanoseconds' "$(nanoseconds)" 150
+row 'an entry of the history, bytes' "$("$work/c_asks" entry 1 16 1000000)" 64
