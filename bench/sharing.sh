@@ -17,7 +17,7 @@ alone=("$top/crates/nagsched_bench/out/nagsched_bench" cycle 4096)
 "$top/bench/asks.sh" "$repeats" | tee "$work/times"
 echo
 
-# The time of a call by so many threads beside the ticket lock's, over 16 objects: behind a comma the cores.
+# A desk's time of a call to that behind the ticket lock, over 16 objects: of a column of times, on all cores or on so many.
 ratio() {
     awk -v column="$1" -v cores="$2" '
         $1 == 16 && (/cores/ ? $3 == cores : cores == "") { time[$(NF - 5)] = $(NF - 5 + column) }
