@@ -3,4 +3,5 @@ pub mod TimesLaws
 pub mod EntryLaws
 pub mod PlaceLaws
 pub mod SiftLaws
-pub mod QueueLaws
+pub mod HeapLaws
+pub mod FirstLaws

@@ -31,6 +31,10 @@ stands_by es ps n k h = record { bound = grind (arith, nat_tests, h); is = refl;
 pub time_standing : (es : List Entry) (ps : List ℕ) (n k p : ℕ) → StandsAt es ps n k p → time_in es ps n k ≡ Some (entry_at es p).time
 time_standing es ps n k p s = rw (has_entry_by es ps n k (rw s.is s)) (ap (λ q. Some (entry_at es q).time) s.is)
 
+-- the place of a number that has an entry
+pub place_standing : (es : List Entry) (ps : List ℕ) (n k p : ℕ) → StandsAt es ps n k p → place_in es ps n k ≡ Some p
+place_standing es ps n k p s = rw (has_entry_by es ps n k (rw s.is s)) (ap Some s.is)
+
 -- no number past the bound has a time
 past_bound : (es : List Entry) (ps : List ℕ) (n k : ℕ) → length ps ≤ k → time_in es ps n k ≡ None
 past_bound es ps n k l = let h : has_entry es ps n k ≡ false = grind (arith, nat_tests, l) in rw h refl

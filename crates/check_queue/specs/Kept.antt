@@ -1,14 +1,14 @@
--- The queue of the code as contracts see it.
+-- The heap of the code as contracts see it.
 use Rattle.std.specs.Prelude.{◌≡◌, ℕ, List, Option, count_by, is_some}
 use Rattle.check_queue.specs.Heap.{IsOrdered, times_in}
 use Rattle.check_queue.specs.Rows.{entries_of, places_of}
-use Rattle.check_queue.specs.declared.queue.Queue.TheInside.{Inside}
+use Rattle.check_queue.specs.declared.heap.Heap.TheInside.{Inside}
 
 -- the time of each number, by number
 abbrev pub times_of : Inside → List (Option ℕ)
 times_of q = times_in (entries_of q.rows.items) (places_of q.rows.items) q.len
 
--- what is true of the fields of every queue
+-- what is true of the fields of every heap
 pub record IsKept (q : Inside) : Type 0 where
   pub ordered : IsOrdered (entries_of q.rows.items) (places_of q.rows.items) q.len
   -- so that there is room for a number without a time

@@ -3,3 +3,4 @@ pub mod Times
 pub mod Heap
 pub mod Rows
 pub mod Kept
+pub mod Queues

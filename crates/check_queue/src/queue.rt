@@ -1,23 +1,24 @@
 //! The queue.
 
-ghost use Rattle.std.specs.Prelude.{◌≡◌, ◌<◌, ◌≤◌, ℕ, IfOk, IfSome, MatchOption, Some, None, is_some, replicate, length, slice_set, slice_index_or};
+ghost use Rattle.std.specs.Prelude.{◌≡◌, ◌<◌, ℕ, IfOk, IfSome, MatchOption, Some, None, is_some, replicate, length, slice_set, slice_index_or};
 ghost use Rattle.check_queue.specs.Order.{least};
 ghost use Rattle.check_queue.specs.Times.{pairs_of};
 
-use crate::entry::Entry;
-use crate::rows::{Row, entry, place_of, put_place};
-use crate::sift::{sift, sift_up};
+use crate::heap::Heap;
 use std::alloc::{AllocError, Global};
 use std::marker::Model;
 
 /// The numbers from 0 on, below a bound, each with a time or without one. Contracts see it as the
 /// list of these times, by number. (Our own profile.)
+///
+/// The first that is removed leaves its place vacant, and nothing moves: what is put in next, which is
+/// often the same number, takes that place. Another that is removed before closes the heap up.
 #[derive(Drop)]
 pub struct Queue {
-    /// A heap, in the first `len` rows, and the place of each number in it.
-    rows: Vec<Row>,
-    /// How many numbers have a time.
-    len: usize,
+    /// The numbers with a time, and one more where the first place is vacant.
+    heap: Heap,
+    /// Whether the first of the heap was removed.
+    vacant: bool,
 }
 
 impl Model for Queue {
@@ -25,11 +26,9 @@ impl Model for Queue {
 
     ghost Value = { List (Option ℕ) };
 
-    ghost use Rattle.check_queue.specs.Kept.{times_of, IsKept};
+    ghost use Rattle.check_queue.specs.Queues.{times_of};
 
     ghost view = { times_of };
-
-    ghost invariant = { IsKept };
 }
 
 impl Queue {
@@ -39,16 +38,21 @@ impl Queue {
     pub fn new(alloc: Global, n: u32) -> Result<Queue, AllocError>
         ensures { IfOk result (λ queue. queue ≡ replicate n None) }
     {
-        let rows = vec![in alloc; Row::BLANK; n as usize]?;
-        Ok(Queue { rows, len: 0 })
+        let heap = Heap::new(alloc, n)?;
+        Ok(Queue {
+            heap,
+            vacant: false,
+        })
     }
 
     /// The time of a number; None where it has none, or isn't below the bound.
     pub fn time_of(&self, number: u32) -> Option<u64>
         ensures { result ≡ slice_index_or self.now number None }
     {
-        let place = place_of(&self.rows, self.len, number)?;
-        Some(entry(&self.rows, place).time)
+        if self.vacant && self.heap.is_first(number) {
+            return None;
+        }
+        self.heap.time_of(number)
     }
 
     /// The least time with its number, and of equal times the one with the least number. None where
@@ -60,11 +64,11 @@ impl Queue {
             (λ first. slice_index_or self.now first.1 None ≡ Some first.0) }
         ensures within { IfSome result (λ first. first.1 < length self.now) }
     {
-        if self.len == 0 {
-            return None;
+        if self.vacant {
+            self.heap.second()
+        } else {
+            self.heap.first()
         }
-        let top = entry(&self.rows, 0);
-        Some((top.time, top.number))
     }
 
     /// Gives a number this time, in place of one that it may have. All others stay as they are.
@@ -72,14 +76,11 @@ impl Queue {
         requires { number < length self.old }
         ensures { self.new ≡ slice_set self.old number (Some time) }
     {
-        let entry = Entry { time, number };
-        match place_of(&self.rows, self.len, number) {
-            None => {
-                let hole = self.len;
-                self.len += 1;
-                sift_up(&mut self.rows, self.len, hole, entry);
-            }
-            Some(hole) => sift(&mut self.rows, self.len, hole, entry),
+        if self.vacant {
+            self.vacant = false;
+            self.heap.replace_first(number, time);
+        } else {
+            self.heap.put(number, time);
         }
     }
 
@@ -89,16 +90,10 @@ impl Queue {
         ensures had { result ≡ is_some (slice_index_or self.old number None) }
         ensures after { self.new ≡ slice_set self.old number None }
     {
-        let Some(hole) = place_of(&self.rows, self.len, number) else {
-            return false;
-        };
-        self.len -= 1;
-        if hole < self.len {
-            let last = entry(&self.rows, self.len);
-            sift(&mut self.rows, self.len, hole, last);
+        if self.vacant {
+            self.heap.remove_first();
         }
-        // Past the heap's end, so that the next to look for it reads no entry of another.
-        put_place(&mut self.rows, number, self.len);
-        true
+        self.vacant = self.heap.is_first(number);
+        self.vacant || self.heap.remove(number)
     }
 }

@@ -81,3 +81,16 @@ fn first_child(rows: &[Row], len: usize, hole: usize) -> usize
     let left = 2 * hole + 1;
     left + usize::from(is_before(entry(rows, left + 1), entry(rows, left)))
 }
+
+/// Of the entries below the root the place of the one that comes first.
+pub(crate) fn child_of_root(rows: &[Row], len: usize) -> usize
+    requires room { len ≤ length (entries_of rows.now) }
+    requires few { length (entries_of rows.now) < 2 ^ 32 }
+    requires child { 1 < len }
+    ensures { IsFirstChild (entries_of rows.now) len 0 result }
+{
+    if len == 2 {
+        return 1;
+    }
+    first_child(rows, len, 0)
+}

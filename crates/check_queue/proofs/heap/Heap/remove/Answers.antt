@@ -4,9 +4,9 @@ use Rattle.std.proofs.Math.ListN.{set}
 use Rattle.check_queue.specs.Heap.{entry_at, place_in, IsSettled}
 use Rattle.check_queue.specs.Rows.{entries_of, places_of}
 use Rattle.check_queue.proofs.PlaceLaws.{place_found, times_length}
-use Rattle.check_queue.proofs.QueueLaws.{Written, in_vector, had, had_none, leaves, left, left_last, placed_past_end, stays}
-use Rattle.check_queue.proofs.queue.Queue.remove.Goals as goal
-use Rattle.check_queue.proofs.queue.Queue.remove.Goals.{then-hole-self, else-hole-self}
+use Rattle.check_queue.proofs.HeapLaws.{Written, in_vector, had, had_none, leaves, left, left_last, placed_past_end, stays}
+use Rattle.check_queue.proofs.heap.Heap.remove.Goals as goal
+use Rattle.check_queue.proofs.heap.Heap.remove.Goals.{then-hole-self, else-hole-self}
 
 pub returns-in_default-clause-had : goal.returns-in_default-clause-had
 returns-in_default-clause-had c =

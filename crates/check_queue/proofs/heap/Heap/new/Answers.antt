@@ -1,8 +1,8 @@
 use Rattle.std.proofs.Common.{arith}
 use Rattle.std.proofs.lemmas.List.{length-map}
 use Rattle.check_queue.specs.Rows.{entry_of, place_of, entries_of, places_of}
-use Rattle.check_queue.proofs.QueueLaws.{empty}
-use Rattle.check_queue.proofs.queue.Queue.new.Goals as goal
+use Rattle.check_queue.proofs.HeapLaws.{empty}
+use Rattle.check_queue.proofs.heap.Heap.new.Goals as goal
 
 pub invariant_of-result : goal.invariant_of-result
 invariant_of-result c =

@@ -1,4 +1,4 @@
--- What the queue's calls need of the heap.
+-- What the calls of the heap need of its entries and places.
 use Rattle.std.proofs.Common.{◌≡◌, ◌≢◌, ℕ, zero, suc, ◌+◌, ◌-◌, ◌/◌, ◌<◌, ◌≤◌, ◌^◌, true, false, cond, List, length, replicate}
 use Rattle.std.proofs.Common.{Option, Some, None, refl, sym, ap}
 use Rattle.std.proofs.Common.{◌∙◌, arith, inl, inr, Vec, Global}
@@ -42,7 +42,7 @@ first_is_least es ps n k t o f =
     let e = found es ps n k t f in
     by _ _ _ _ (sym e.1) refl (root_first es n o.heap (place_at ps k) (place_at ps k) (omega arith) e.0.within)
 
-none_by : (o : Option ℕ) → ((t : ℕ) → o ≡ Some t → ⊥) → o ≡ None
+pub none_by : (o : Option ℕ) → ((t : ℕ) → o ≡ Some t → ⊥) → o ≡ None
 none_by None h = refl
 none_by (Some t) h = absurd (h t refl)
 
@@ -50,7 +50,7 @@ pub none_where_empty : (es : List Entry) (ps : List ℕ) (n k : ℕ) → n ≡ 0
 none_where_empty es ps n k e = none_by _ (λ t f. let w = (found es ps n k t f).0.within in omega arith)
 
 -- the entry at a place below n is that number's
-at_place : (es : List Entry) (ps : List ℕ) (n i : ℕ) → AreLinked es ps n → i < n → StandsAt es ps n (entry_at es i).number i
+pub at_place : (es : List Entry) (ps : List ℕ) (n i : ℕ) → AreLinked es ps n → i < n → StandsAt es ps n (entry_at es i).number i
 at_place es ps n i a l = record { bound = let size = a.one_place_each in let number = a.number i l in omega arith; is = a.place i l; within = l; number = refl }
 
 -- the root is that number's, with its time

@@ -2,7 +2,7 @@ use Rattle.std.proofs.Common.{◌≡◌, Some, None, ap, get_or, ◌∙◌}
 use Rattle.check_queue.specs.Heap.{place_in}
 use Rattle.check_queue.specs.Rows.{entries_of, places_of}
 use Rattle.check_queue.proofs.PlaceLaws.{time_at_place, no_time_of_none, place_found}
-use Rattle.check_queue.proofs.queue.Queue.time_of.Goals as goal
+use Rattle.check_queue.proofs.heap.Heap.time_of.Goals as goal
 
 pub returns-in_err-place : goal.returns-in_err-place
 returns-in_err-place c =

@@ -4,8 +4,8 @@ use Rattle.std.proofs.Math.ListN.{set}
 use Rattle.check_queue.specs.Heap.{place_in, times_in, IsSettled}
 use Rattle.check_queue.specs.Rows.{entries_of, places_of}
 use Rattle.check_queue.proofs.PlaceLaws.{place_found}
-use Rattle.check_queue.proofs.QueueLaws.{Written, in_vector, joins, joined, moves, moved}
-use Rattle.check_queue.proofs.queue.Queue.put.Goals as goal
+use Rattle.check_queue.proofs.HeapLaws.{Written, in_vector, joins, joined, moves, moved}
+use Rattle.check_queue.proofs.heap.Heap.put.Goals as goal
 
 -- ---- a number without a time
 

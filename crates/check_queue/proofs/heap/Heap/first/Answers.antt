@@ -1,8 +1,8 @@
 use Rattle.std.proofs.Common.{◌≡◌, arith}
 use Rattle.check_queue.specs.Heap.{entry_at}
 use Rattle.check_queue.specs.Rows.{entries_of, places_of}
-use Rattle.check_queue.proofs.QueueLaws.{first_found, none_found, root_time, root_bound}
-use Rattle.check_queue.proofs.queue.Queue.first.Goals as goal
+use Rattle.check_queue.proofs.HeapLaws.{first_found, none_found, root_time, root_bound}
+use Rattle.check_queue.proofs.heap.Heap.first.Goals as goal
 
 pub returns-then-self-eq0-clause-least : goal.returns-then-self-eq0-clause-least
 returns-then-self-eq0-clause-least c = rw (← c.self.view_is) (none_found (entries_of c.self.inside.rows.items) (places_of c.self.inside.rows.items) c.self.inside.len (omega arith))
