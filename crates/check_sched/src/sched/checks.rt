@@ -1,18 +1,17 @@
 //! A check from its turn to its result: taken or put off, reported or abandoned.
 
-ghost use Rattle.std.specs.Prelude.{◌≡◌, ◌+◌, ◌<◌, ◌≤◌, IfSome, IfOk, IfErr, IsTrue, Ok, OnOk, None, length, slice_set, true};
+ghost use Rattle.std.specs.Prelude.{◌≡◌, ◌+◌, ◌<◌, ◌≤◌, IfSome, IsTrue, Ok, OnOk, None, length, slice_set, true};
 ghost use Rattle.check_objects.specs.Configuration.{object_count};
-ghost use Rattle.check_sched.specs.State.{has_room, is_time};
+ghost use Rattle.check_sched.specs.State.{has_room};
 ghost use Rattle.check_queue.specs.Order.{least};
-ghost use Rattle.check_sched.specs.Step.{eligible, is_held_back, is_open, known, put_off, step, taken, waiting_reply, within_range};
+ghost use Rattle.check_sched.specs.Step.{eligible, is_held_back, is_open, put_off, step, taken, waiting_reply, within_range};
 ghost use Rattle.check_sched.specs.Report.{put_off_until};
-ghost use Rattle.check_sched.specs.Scheduling.{run_under};
 ghost use Rattle.check_sched.specs.Reply.{NamesObjectOf, TellsTimesUpTo, reply_of};
 
 use super::{MAX_RUNS, Sched};
 use crate::call::{Call, Refusal, Reply};
 use crate::candidate::{Candidate, if_due};
-use crate::object_state::{Change, ObjectState, Run};
+use crate::object_state::{Change, Run};
 use crate::report::{flap_thresholds, is_changed, judged, next_after, put_off_until, state_found};
 use check_rules::{Code, Standing, blocked, code};
 use check_spread::{LAST_MOMENT, LAST_TIME};
