@@ -54,14 +54,19 @@ impl Results {
 
 /// The last results of one object, and how many of the newest are the same. Contracts see them as a
 /// list, the oldest first.
+///
+/// As long as all results are the same state, that state and their number tell them, and nothing is
+/// written into the block of memory that has room for them.
 #[derive(Drop)]
 struct Ring {
-    /// The results, with room for as many as are kept.
+    /// The results, with room for as many as are kept. It stays empty as long as all are the same.
     results: HeapCircularBuffer<State>,
     /// The newest result, where there is one.
     newest: State,
-    /// How many of the newest results in a row are the same.
+    /// How many of the newest results in a row are the same, of those that are kept.
     same: u8,
+    /// Whether the results are written out: since one of them differed from the one before.
+    written: bool,
 }
 
 impl Model for Ring {
@@ -87,12 +92,14 @@ impl Ring {
             results,
             newest: State::Ok,
             same: 0,
+            written: false,
         })
     }
 
     /// Keeps one more result, and tells whether the object flaps with it, as [`Results::add`] does.
     ///
-    /// Where all 21 are this state, one more of it leaves them as they are, and the percent is 0.
+    /// Where all 21 are this state, one more of it leaves them as they are, and the percent is 0. Where
+    /// there are fewer and all are this state, only their number changes, and the percent is 0 too.
     fn add(&mut self, found: State, was: bool, thresholds: (u8, u8)) -> bool
         ensures kept { self.new ≡ kept_after self.old found }
         ensures flaps { result ≡ is_flapping (kept_after self.old found) was thresholds.0 thresholds.1 }
@@ -100,6 +107,16 @@ impl Ring {
         let same = self.count_newest(found);
         if same as usize == KEPT_RESULTS {
             return flaps_at_zero(was, thresholds);
+        }
+        if !self.written {
+            // All results are this state, or there is none yet.
+            if same == self.same {
+                self.newest = found;
+                self.same = same + 1;
+                return flaps_at_zero(was, thresholds);
+            }
+            write_out(&mut self.results, self.newest, self.same);
+            self.written = true;
         }
         self.results.push_back(found);
         self.newest = found;
@@ -113,6 +130,19 @@ impl Ring {
         ensures within { result ≤ KEPT_RESULTS }
     {
         if self.newest == state { self.same } else { 0 }
+    }
+}
+
+/// Writes out results that are all this state, so many of them, where none is written yet.
+fn write_out(results: &mut HeapCircularBuffer<State>, state: State, count: u8)
+    requires room { results.old.capacity ≡ KEPT_RESULTS }
+    requires none { results.old.items ≡ [] }
+    requires few { count ≤ KEPT_RESULTS }
+    ensures written { results.new.items ≡ replicate count state }
+    ensures room { results.new.capacity ≡ results.old.capacity }
+{
+    for _copy in 0..count {
+        results.push_back(state);
     }
 }
 
