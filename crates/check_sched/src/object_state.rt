@@ -83,7 +83,7 @@ pub(crate) enum Change {
 impl ObjectState {
     ghost use Rattle.std.specs.Prelude.{◌≡◌, is_some, option_map};
     ghost use Rattle.check_sched.specs.Change.{changed};
-    ghost use Rattle.check_sched.specs.Scheduling.{candidate_time, freed_time, opening_object, put_off_to, run_under};
+    ghost use Rattle.check_sched.specs.Scheduling.{candidate_time, opening_object, put_off_to, run_under};
 
     /// The state of an object when scheduling starts: its first check is at `first`, it doesn't
     /// run, it is enabled as the setup says, and nothing is forced.
@@ -194,13 +194,5 @@ impl ObjectState {
             Some(run) if run.number() == number => Ok(run),
             Some(_) => Err(Refusal::WrongRun),
         }
-    }
-
-    /// The time of the next check of an object whose run is given up at `now`: the one that was
-    /// set while it ran, else `now`.
-    pub(crate) fn freed_time(&self, now: u64) -> u64
-        ensures { result ≡ freed_time now self.now }
-    {
-        self.next().unwrap_or(now)
     }
 }

@@ -54,12 +54,9 @@ impl Results {
 
 /// The last results of one object, and how many of the newest are the same. Contracts see them as a
 /// list, the oldest first.
-///
-/// As long as all results are the same state, that state and their number tell them, and nothing is
-/// written into the block of memory that has room for them.
 #[derive(Drop)]
 struct Ring {
-    /// The results, with room for as many as are kept. It stays empty as long as all are the same.
+    /// The results, with room for as many as are kept. Nothing is written here while all are the same.
     results: HeapCircularBuffer<State>,
     /// The newest result, where there is one.
     newest: State,
@@ -98,8 +95,7 @@ impl Ring {
 
     /// Keeps one more result, and tells whether the object flaps with it, as [`Results::add`] does.
     ///
-    /// Where all 21 are this state, one more of it leaves them as they are, and the percent is 0. Where
-    /// there are fewer and all are this state, only their number changes, and the percent is 0 too.
+    /// Where all are this state, one more of it changes how many they are at most, and the percent is 0.
     fn add(&mut self, found: State, was: bool, thresholds: (u8, u8)) -> bool
         ensures kept { self.new ≡ kept_after self.old found }
         ensures flaps { result ≡ is_flapping (kept_after self.old found) was thresholds.0 thresholds.1 }

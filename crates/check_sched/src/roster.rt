@@ -21,8 +21,7 @@ use std::marker::Model;
 #[derive(Drop)]
 pub(crate) struct Roster {
     waiting_hosts: Queue,
-    // What a call for a service reads and writes stands from here on, side by side; a queue's length is
-    // its last field.
+    // What a call for a service reads and writes stands from here on, side by side.
     hosts: usize,
     objects: Vec<ObjectState>,
     waiting_services: Queue,

@@ -160,7 +160,7 @@ impl Sched {
         let state = self.object(object)?;
         test_moment(now)?;
         state.run_under(run)?;
-        let next = state.freed_time(now);
+        let next = state.next().unwrap_or(now);
         self.change(object, Change::End(Some(next)));
         Ok(Reply::Freed { next })
     }
