@@ -52,8 +52,7 @@ impl Results {
     }
 }
 
-/// The last results of one object, and how many of the newest are the same. Contracts see them as a
-/// list, the oldest first.
+/// The last results of one object. Contracts see them as a list, the oldest first.
 #[derive(Drop)]
 struct Ring {
     /// The results, with room for as many as are kept. Nothing is written here while all are the same.
@@ -130,6 +129,7 @@ impl Ring {
 }
 
 /// Writes out results that are all this state, so many of them, where none is written yet.
+#[cold]
 fn write_out(results: &mut HeapCircularBuffer<State>, state: State, count: u8)
     requires room { results.old.capacity ≡ KEPT_RESULTS }
     requires none { results.old.items ≡ [] }
