@@ -2,8 +2,9 @@
 # What sharing one scheduler costs, in one table. Run by hand; no part of the gate.
 #   bench/sharing.sh [REPEATS]    the middle one of so many times is told, 5 where no number is given
 #   PREFIX=FOLDER                 where tools/build_c.sh has laid the C library down; out/c where none is named
-# Lines of the cache by bench/lines.py over 16 objects, as two callers come to them by turns; times of threads by bench/asks.sh, whose
-# table comes first; a take and its report alone by nagsched_bench, which rt has built; the bytes of an entry by the C library.
+# Lines of the cache by bench/lines.py over 16 objects, as two callers come to them by turns, and as one pass of a desk does; times of
+# threads by bench/asks.sh, whose table comes first; a take and its report alone by nagsched_bench, which rt has built; the bytes of an
+# entry by the C library.
 set -eu -o pipefail
 repeats=${1:-5}
 top=$(cd "$(dirname "$0")/.." && pwd)
@@ -35,11 +36,19 @@ row() {
     printf '%-66s %10s %8s\n' "$@"
 }
 
-read -r _ _ written touched constants < <("$top/bench/lines.py" | tail -n 1)
+# The lines of a call, whose caller is named; the words are those of bench/lines.py.
+lines() {
+    local caller=$1 written touched constants
+    shift
+    read -r _ _ written touched constants < <("$top/bench/lines.py" "$@" | tail -n 1)
+    row "lines that a call $caller writes, 16 objects" "$written" 10
+    row 'lines of the heap that it touches' "$(awk "BEGIN { printf \"%.1f\", $touched - $constants }")" 18
+    row 'and constants of the program' "$constants" ''
+}
+
 row '' measured wanted
-row 'lines that a call writes, 16 objects' "$written" 10
-row 'lines of the heap that it touches' "$(awk "BEGIN { printf \"%.1f\", $touched - $constants }")" 18
-row 'and constants of the program' "$constants" ''
+lines 'over the C library'
+lines 'of a desk in Rattle' --pass
 row 'a call of 2 threads to one behind a ticket lock of C' "$(ratio 2 '')" 1.5
 row 'of 4 threads' "$(ratio 3 '')" 1.4
 row 'of 2 threads on two cores' "$(ratio 2 2)" 1.5
