@@ -3,9 +3,9 @@ use Rattle.std.proofs.Common.{◌≡◌, true, Some, refl}
 use Rattle.std.proofs.lemmas.Bool.{and_parts, and_from}
 use Rattle.check_sched.specs.declared.object_state.Change.{Change}
 use Rattle.check_sched.specs.declared.object_state.Change.TheVariants as change
-use Rattle.check_sched.specs.Change.{changed, is_quiet}
+use Rattle.check_sched.specs.Change.{changed, is_quiet, keeps_timed}
 use Rattle.check_sched.specs.Scheduling.{Scheduling}
-use Rattle.check_sched.specs.State.{is_in_time, is_moment, is_time}
+use Rattle.check_sched.specs.State.{is_in_time, is_moment, is_time, is_timed_if_forced}
 use Rattle.check_sched.proofs.LimitLaws.{BeginsNone}
 
 -- a quiet change keeps an object within its limits
@@ -17,8 +17,16 @@ quiet_in_time (change.Reschedule time forced) o q e = and_from (is_time (Some ti
 quiet_in_time (change.Enable on) o q e = e
 
 pub quiet_begins_none : (c : Change) → is_quiet c ≡ true → BeginsNone (changed c)
-quiet_begins_none (change.Begin run) q o e = cc
-quiet_begins_none (change.End next) q o e = cc
-quiet_begins_none (change.PutOff until) q o e = e
-quiet_begins_none (change.Reschedule time forced) q o e = e
-quiet_begins_none (change.Enable on) q o e = e
+quiet_begins_none (change.Begin run) q o r e = cc
+quiet_begins_none (change.End next) q o r e = cc
+quiet_begins_none (change.PutOff until) q o r e = e
+quiet_begins_none (change.Reschedule time forced) q o r e = e
+quiet_begins_none (change.Enable on) q o r e = e
+
+-- a change that leaves no forced mark without a time
+pub stays_timed : (c : Change) (o : Scheduling) → keeps_timed c o.forced ≡ true → is_timed_if_forced o ≡ true → is_timed_if_forced (changed c o) ≡ true
+stays_timed (change.Begin run) o k e = refl
+stays_timed (change.End next) o k e = k
+stays_timed (change.PutOff until) o k e = k
+stays_timed (change.Reschedule time forced) o k e = refl
+stays_timed (change.Enable on) o k e = e

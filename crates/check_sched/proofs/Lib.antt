@@ -2,9 +2,11 @@ pub mod AnswerLaws
 pub mod CandidateLaws
 pub mod EligibleLaws
 pub mod FlappingLaws
+pub mod KeptLaws
 pub mod LimitLaws
 pub mod OpeningLaws
 pub mod OperatorLaws
+pub mod OutLaws
 pub mod PendingLaws
 pub mod PublicLaws
 pub mod ReplyLaws

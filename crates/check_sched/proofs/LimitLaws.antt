@@ -1,20 +1,24 @@
 -- Laws of the limit: how many services are being checked, and that no call passes the limit.
-use Rattle.std.proofs.Common.{◌≡◌, ℕ, zero, suc, ◌+◌, ◌<◌, ◌≤◌, Bool, true, false, ◌||◌, cond, List, [], ◌∷◌, map, drop, refl, ap, ◌∙◌, arith}
+use Rattle.std.proofs.Common.{◌≡◌, ℕ, zero, suc, ◌+◌, ◌<◌, ◌≤◌, Bool, true, false, ◌||◌, cond, List, [], ◌∷◌, map, drop, Option, Some, None, refl, ap, ◌∙◌, arith}
 use Rattle.std.specs.Prelude.{is_some}
 use Rattle.std.proofs.lemmas.Bool.Decides.{nat_tests}
 use Rattle.std.proofs.lemmas.List.Sums.{sum_by-cons}
 use Rattle.check_objects.specs.Configuration.{host_count}
 use Rattle.check_sched.specs.Roster.{running_among}
-use Rattle.check_sched.specs.Scheduling.{Scheduling, running_from}
+use Rattle.check_sched.specs.Scheduling.{OpenRun, Scheduling, running_from}
 use Rattle.check_sched.specs.State.{State, IsWithinLimit, has_room, is_host, limit_of, running_services}
 use Rattle.check_sched.specs.Step.{is_open, taken, update_at, with_object}
 
 busy_cons : (o : Scheduling) (os : List Scheduling) → running_among (o ∷ os) ≡ cond (is_some o.run) 1 0 + running_among os
 busy_cons o os = sum_by-cons (λ x. cond (is_some x.run) 1 0) o os
 
--- whether f begins no run
+-- whether f begins no run: one that is out afterwards was out before
 abbrev pub BeginsNone : (Scheduling → Scheduling) → Type 0
-BeginsNone f = (o : Scheduling) → is_some (f o).run ≡ true → is_some o.run ≡ true
+BeginsNone f = (o : Scheduling) (run : OpenRun) → (f o).run ≡ Some run → o.run ≡ Some run
+
+was_out : (a b : Option OpenRun) → ((run : OpenRun) → a ≡ Some run → b ≡ Some run) → is_some a ≡ true → is_some b ≡ true
+was_out None b h e = cc
+was_out (Some run) b h e = ap is_some (h run refl)
 
 -- ---- one object changed
 
@@ -28,7 +32,7 @@ one_at_most false = omega arith
 
 busy_kept : (n : ℕ) (f : Scheduling → Scheduling) (os : List Scheduling) → BeginsNone f → running_among (update_at n f os) ≤ running_among os
 busy_kept n f [] h = omega arith
-busy_kept zero f (o ∷ os) h = let here = no_more (is_some (f o).run) (is_some o.run) (h o) in omega (arith, here, busy_cons (f o) os, busy_cons o os)
+busy_kept zero f (o ∷ os) h = let here = no_more (is_some (f o).run) (is_some o.run) (was_out (f o).run o.run (h o)) in omega (arith, here, busy_cons (f o) os, busy_cons o os)
 busy_kept (suc n) f (o ∷ os) h = let more = busy_kept n f os h in omega (arith, more, busy_cons o (update_at n f os), busy_cons o os)
 
 busy_more : (n : ℕ) (f : Scheduling → Scheduling) (os : List Scheduling) → running_among (update_at n f os) ≤ running_among os + 1

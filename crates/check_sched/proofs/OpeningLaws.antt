@@ -1,5 +1,5 @@
 -- Laws of the opening.
-use Rattle.std.proofs.Common.{◌≡◌, ℕ, zero, suc, ◌+◌, ◌<◌, ◌≤◌, ◌^◌, Bool, true, List, [], ◌∷◌, ◌++◌, length, map, drop, take, get_or, min, Option, Some, None}
+use Rattle.std.proofs.Common.{◌≡◌, ℕ, zero, suc, ◌+◌, ◌<◌, ◌≤◌, ◌^◌, Bool, true, List, [], ◌∷◌, ◌++◌, length, map, drop, take, get_or, min, replicate, Option, Some, None}
 use Rattle.std.proofs.Common.{option_map, refl, sym, ap, subst, ◌∙◌, arith, IfSome}
 use Rattle.std.specs.Prelude.{slice_get, zip, All}
 use Rattle.std.specs.List.{list_all, enumerate_from}
@@ -17,9 +17,10 @@ use Rattle.check_rules.specs.Standing.{pending_standing}
 use Rattle.check_rules.proofs.VerdictLaws.{pending_is_lawful, pending_sort}
 use Rattle.check_sched.specs.Scheduling.{Scheduling, opening_object}
 use Rattle.check_spread.specs.Spread.{initial_times}
-use Rattle.check_sched.specs.State.{State, IsState, IsStandingOf, IsWithinLimit, is_host, is_in_time, is_time, objects_at, opening, opening_objects}
-use Rattle.check_sched.specs.State.{opening_results, opening_standings}
+use Rattle.check_sched.specs.State.{State, AreResultsOf, IsState, IsStandingOf, IsWithinLimit, is_host, is_in_time, is_time, objects_at, opening}
+use Rattle.check_sched.specs.State.{opening_objects, opening_results, opening_standings, run_number_of}
 use Rattle.check_sched.proofs.LimitLaws.{services_none}
+use Rattle.check_sched.proofs.OutLaws.{none_forced, none_out, timed_unforced}
 use Rattle.check_sched.proofs.ReportLaws.{some_attempts}
 
 -- ---- within the limits
@@ -56,6 +57,7 @@ standings_opening setup k os h n t e =
       lawful = pending_is_lawful (is_host setup (k + n)) _ (some_attempts setup (k + n) h);
       sort = pending_sort
           (is_host setup (k + n));
+      last_hard_sort = pending_sort (is_host setup (k + n));
       until_checked = λ never. refl;
     })
 
@@ -83,6 +85,17 @@ opening_limit setup start some =
     (zip (initial_times setup start) (objects_of setup)) (λ p. refl) in
     omega (arith, none)
 
+-- no object is being checked at the opening
+opening_none : (setup : Configuration) (start n r : ℕ) → run_number_of n (opening setup start) ≡ Some r → ⊥
+opening_none setup start n r e =
+    none_out (λ (p : Option ℕ × Named). opening_object p.0 p.1.object.enabled) (zip (initial_times setup start) (objects_of setup)) n r (λ p. refl) e
+
+-- and no result of any is kept
+none_kept : (count n : ℕ) (rs : List rules.State) → slice_get (replicate count []) n ≡ Some rs → [] ≡ rs
+none_kept zero n rs e = cc
+none_kept (suc count) zero rs e = cc
+none_kept (suc count) (suc n) rs e = none_kept count n rs e
+
 -- a scheduler can be in the state that it opens with
 pub opening_is_state : (setup : Configuration) (start : ℕ) → IsSetup setup → length (initial_times setup start) ≡ object_count setup
     → All (λ first. IfSome first (λ time. time < 2 ^ 61)) (initial_times setup start) → IsState (opening setup start)
@@ -95,6 +108,10 @@ opening_is_state setup start valid count within = record {
   times = times_in_time (initial_times setup start) (objects_of setup) within;
   limit = opening_limit setup start;
   standings = first_standings setup valid;
+  numbered = λ n r e. absurd (opening_none setup start n r e);
+  once = λ m n r e f. absurd (opening_none setup start m r e);
+  forced = none_forced _ (zip (initial_times setup start) (objects_of setup)) (λ p. timed_unforced p.0);
+  results = λ n rs e. subst (AreResultsOf setup n) (none_kept (object_count setup) n rs e) (record { few = omega arith; sort = refl });
 }
 
 -- the same of what the code opens with, by the times that it was given

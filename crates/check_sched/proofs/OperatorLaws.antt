@@ -6,11 +6,12 @@ use Rattle.check_sched.specs.declared.call.Call.TheVariants as call
 use Rattle.check_sched.specs.declared.call.Reply.{Reply}
 use Rattle.check_sched.specs.declared.call.Reply.TheVariants as reply
 use Rattle.check_sched.specs.declared.call.Refusal.{Refusal}
-use Rattle.check_sched.specs.State.{State, IsState, is_in_time, standing_at}
+use Rattle.check_sched.specs.State.{State, IsState, is_in_time, is_timed_if_forced, standing_at}
 use Rattle.check_sched.specs.Step.{known, step, with_object, within_range}
 use Rattle.check_sched.proofs.AnswerLaws.{by_test, known_is, range_is}
 use Rattle.check_sched.proofs.LimitLaws.{BeginsNone, limit_kept}
-use Rattle.check_sched.proofs.UpdateLaws.{length-update_at, all-update_at}
+use Rattle.check_sched.proofs.OutLaws.{numbered_kept, once_kept}
+use Rattle.check_sched.proofs.UpdateLaws.{length-update_at, all-update_at, all-update_at_place}
 use Rattle.std.proofs.lemmas.Option.{slice_get_within}
 
 -- ---- each call, by its answers
@@ -50,8 +51,10 @@ status_cases P n s refused tell = by_test P s (known n s) _ refused (λ o e. tel
 
 -- one object changed, within its limits, leaves the state one that a scheduler can be in
 pub with_object_is_state : (n : ℕ) (f : Scheduling → Scheduling) (s : State) → IsState s
-    → ((o : Scheduling) → is_in_time o ≡ true → is_in_time (f o) ≡ true) → BeginsNone f → IsState (with_object n f s)
-with_object_is_state n f s is_state h none = record {
+    → ((o : Scheduling) → is_in_time o ≡ true → is_in_time (f o) ≡ true) → BeginsNone f
+    → ((o : Scheduling) → slice_get s.objects n ≡ Some o → is_timed_if_forced o ≡ true → is_timed_if_forced (f o) ≡ true)
+    → IsState (with_object n f s)
+with_object_is_state n f s is_state h none timed = record {
   valid_setup = is_state.valid_setup;
   one_each = length-update_at n f s.objects ∙ is_state.one_each;
   one_standing_each = is_state.one_standing_each;
@@ -60,6 +63,10 @@ with_object_is_state n f s is_state h none = record {
   times = all-update_at is_in_time n f s.objects is_state.times h;
   limit = limit_kept n f s none is_state.limit;
   standings = is_state.standings;
+  numbered = numbered_kept n f s none is_state.numbered;
+  once = once_kept n f s none is_state.once;
+  forced = all-update_at_place is_timed_if_forced n f s.objects is_state.forced timed;
+  results = is_state.results;
 }
 
 -- ---- what the code leaves and answers

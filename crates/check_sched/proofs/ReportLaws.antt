@@ -1,7 +1,7 @@
 -- Laws of reports: the standing and the next time that a result gives are within their limits.
 use Rattle.std.proofs.Common.{◌≡◌, ℕ, ◌<◌, ◌≤◌, ◌^◌, Bool, true, false, cond, List, length, get_or, Option}
 use Rattle.std.proofs.Common.{Some, None, Ok, option_map, refl, sym, ap, subst, ◌∙◌, arith, IfSome}
-use Rattle.std.specs.Prelude.{slice_get, unwrap_or}
+use Rattle.std.specs.Prelude.{is_some, slice_get, unwrap_or}
 use Rattle.std.specs.Option.{option_map_or}
 use Rattle.std.proofs.lemmas.Bool.Decides.{nat_tests}
 use Rattle.std.proofs.lemmas.Option.{slice_get-get_or, slice_get_read}
@@ -11,22 +11,28 @@ use Rattle.check_objects.specs.Configuration.{Configuration, Named, objects_of, 
 use Rattle.check_rules.specs.declared.state.Code.{Code}
 use Rattle.check_rules.specs.declared.state.State as rules
 use Rattle.check_rules.specs.declared.state.State.TheVariants as state
+use Rattle.check_rules.specs.declared.standing.Kind.{Kind}
+use Rattle.check_rules.specs.declared.standing.Kind.TheVariants as kind
 use Rattle.check_rules.specs.declared.standing.Standing.{Standing}
 use Rattle.check_rules.specs.State.{is_host_state, is_problem}
-use Rattle.check_rules.specs.Verdict.{verdict_on}
-use Rattle.check_rules.specs.Standing.{is_soft_problem}
-use Rattle.check_rules.proofs.VerdictLaws.{verdict_is_lawful}
+use Rattle.check_rules.specs.Flapping.{kept_after}
+use Rattle.check_rules.specs.Verdict.{kind_and_attempt, last_hard_after, verdict_on}
+use Rattle.check_rules.specs.Standing.{as_checked, is_soft_problem}
+use Rattle.check_rules.proofs.VerdictLaws.{pending_sort, verdict_is_lawful}
 use Rattle.check_rules.specs.Standing.{pending_standing}
 use Rattle.check_sched.specs.Scheduling.{Scheduling, OpenRun, ended, run_under}
 use Rattle.check_sched.specs.declared.call.Reply.{Reply}
 use Rattle.check_sched.specs.declared.call.Reply.TheVariants as reply
 use Rattle.check_sched.specs.declared.call.Refusal.{Refusal}
 use Rattle.check_sched.specs.declared.call.Call.TheVariants as call
-use Rattle.check_sched.specs.State.{State, IsState, IsStandingOf, is_host, is_time, is_moment, is_in_time, max_attempts_of, standing_at}
+use Rattle.check_sched.specs.State.{State, AreResultsOf, IsState, IsStandingOf, is_host, is_time, is_moment, is_in_time, is_timed_if_forced}
+use Rattle.check_sched.specs.State.{max_attempts_of, standing_at}
 use Rattle.check_sched.specs.Step.{found_in, judged_in, known, report_taken, reported, standing_reply, step}
 use Rattle.check_sched.proofs.AnswerLaws.{by_test, known_is, under_is}
 use Rattle.check_sched.proofs.LimitLaws.{limit_kept}
-use Rattle.check_sched.proofs.UpdateLaws.{length-update_at, all-update_at, each-update_at, all_at_place, none_there}
+use Rattle.check_sched.proofs.OutLaws.{numbered_kept, once_kept, timed_if, timed_then}
+use Rattle.check_sched.proofs.KeptLaws.{kept_are_results}
+use Rattle.check_sched.proofs.UpdateLaws.{length-update_at, all-update_at, all-update_at_place, each-changed_at, each-update_at, all_at_place, none_there}
 use Rattle.check_sched.specs.Report.{interval_after, is_host_up, judged, next_after}
 
 -- ---- the limits of an object
@@ -56,6 +62,22 @@ max_attempts_at (Some x) o e = let same : x.object ≡ o = cc in ap (λ y. y.max
 -- ---- the standing
 
 -- an object can have the standing that a result gives it
+-- the last hard state of an object is one of its sort, read as pending where it was never checked,
+checked_sort_by : (before : Standing) (host checked : Bool) → is_host_state before.state ≡ host → is_host_state before.last_hard ≡ host
+    → is_host_state (cond checked before (pending_standing (is_host_state before.state))).last_hard ≡ host
+checked_sort_by before host true sort hard = hard
+checked_sort_by before host false sort hard = pending_sort (is_host_state before.state) ∙ sort
+
+checked_sort : (before : Standing) (host : Bool) → is_host_state before.state ≡ host → is_host_state before.last_hard ≡ host
+    → is_host_state (as_checked before).last_hard ≡ host
+checked_sort before host sort hard = checked_sort_by before host before.checked sort hard
+
+-- and after a result of its sort
+last_hard_sort : (after : Kind) (found before : rules.State) (host : Bool) → is_host_state found ≡ host → is_host_state before ≡ host
+    → is_host_state (last_hard_after after found before) ≡ host
+last_hard_sort kind.Hard found before host e f = e
+last_hard_sort kind.Soft found before host e f = f
+
 pub judged_is_standing : (setup : Configuration) (standings : List Standing) (n : ℕ) (found : rules.State) (flapping : Bool) → IsSetup setup
     → is_host_state found ≡ is_host setup n → IsStandingOf setup n (standing_at standings n)
     → IsStandingOf setup n (judged setup standings n found flapping)
@@ -64,6 +86,9 @@ judged_is_standing setup standings n found flapping h sort b = record {
       verdict_is_lawful (standing_at standings n) found (max_attempts_of setup n) (is_host_up (host_of setup n) standings) flapping
       (some_attempts setup n h) b.lawful;
   sort = sort;
+  last_hard_sort =
+      last_hard_sort (kind_and_attempt (as_checked (standing_at standings n)) found (max_attempts_of setup n) (is_host_up (host_of setup n) standings)).0
+      found (as_checked (standing_at standings n)).last_hard (is_host setup n) sort (checked_sort (standing_at standings n) (is_host setup n) b.sort b.last_hard_sort);
   until_checked = λ never. cc;
 }
 
@@ -123,18 +148,31 @@ start_of_state s n o r is_state e f =
 pub next_of_state : (s : State) (n : ℕ) (o : Scheduling) → IsState s → slice_get s.objects n ≡ Some o → is_time o.next ≡ true
 next_of_state s n o is_state e = (and_parts (is_time o.next) (is_moment o.run) (all_at_place is_in_time s.objects n o is_state.times e)).0
 
+-- the next time after a report is there where one was set already
+pub next_already : (setup : Configuration) (n : ℕ) (standing : Standing) (start : ℕ) (already : Option ℕ) → is_some already ≡ true
+    → is_some (next_after setup n standing start already) ≡ true
+next_already setup n standing start None e = cc
+next_already setup n standing start (Some time) e = refl
+
 -- a report leaves the state one that a scheduler can be in
 pub reported_is_state : (n : ℕ) (found : rules.State) (standing : Standing) (next : Option ℕ) (s : State) → IsState s → is_time next ≡ true
-    → IsStandingOf s.setup n standing → IsState (reported n found standing next s)
-reported_is_state n found standing next s is_state t new = record {
+    → ((o : Scheduling) → slice_get s.objects n ≡ Some o → is_some o.next ≡ true → is_some next ≡ true)
+    → is_host_state found ≡ is_host s.setup n → IsStandingOf s.setup n standing → IsState (reported n found standing next s)
+reported_is_state n found standing next s is_state t already sort new = record {
   valid_setup = is_state.valid_setup;
   one_each = length-update_at n _ s.objects ∙ is_state.one_each;
   one_standing_each = length-update_at n _ s.standings ∙ is_state.one_standing_each;
   results_each = length-update_at n _ s.results ∙ is_state.results_each;
   runs = is_state.runs;
   times = all-update_at is_in_time n (ended next) s.objects is_state.times (λ o e. and_from (is_time next) true t refl);
-  limit = limit_kept n (ended next) s (λ o e. cc) is_state.limit;
+  limit = limit_kept n (ended next) s (λ o r e. cc) is_state.limit;
   standings = each-update_at (IsStandingOf s.setup) n standing s.standings is_state.standings new;
+  numbered = numbered_kept n (ended next) s (λ o r e. cc) is_state.numbered;
+  once = once_kept n (ended next) s (λ o r e. cc) is_state.once;
+  forced =
+      all-update_at_place is_timed_if_forced n (ended next) s.objects is_state.forced
+      (λ o there timed. timed_if next o.forced (λ forced. already o there (timed_then o.next o.forced timed forced)));
+  results = each-changed_at (AreResultsOf s.setup) n (λ kept. kept_after kept found) s.results is_state.results (kept_are_results s.setup n found sort);
 }
 
 -- a time that passes the test is at most 2^61

@@ -23,35 +23,9 @@ use Rattle.check_sched.proofs.AnswerLaws.{by_test, known_is, under_is}
 use Rattle.check_queue.proofs.LeastLaws.{all_at_least, all_filtered}
 use Rattle.check_sched.proofs.CandidateLaws.{candidates_within}
 use Rattle.check_sched.proofs.OperatorLaws.{abandon_cases, enable_cases, reschedule_cases, status_cases}
+use Rattle.check_sched.proofs.OutLaws.{run_apart, run_begun, run_in, run_kept}
 use Rattle.check_sched.proofs.ReportLaws.{report_cases}
 use Rattle.check_sched.proofs.TakeLaws.{take_cases}
-
--- ---- the run of one object
-
-abbrev run_in : ℕ → List Scheduling → Option ℕ
-run_in o xs = option_map (λ r. r.number) (option_and_then (λ x. x.run) (slice_get xs o))
-
--- another object that changes leaves it
-run_apart : (n o : ℕ) (f : Scheduling → Scheduling) (xs : List Scheduling) → n ≢ o → run_in o (update_at n f xs) ≡ run_in o xs
-run_apart n o f [] h = refl
-run_apart zero zero f (x ∷ xs) h = absurd (h refl)
-run_apart zero (suc o) f (x ∷ xs) h = refl
-run_apart (suc n) zero f (x ∷ xs) h = refl
-run_apart (suc n) (suc o) f (x ∷ xs) h = run_apart n o f xs (λ e. h (ap suc e))
-
--- so does a change that leaves the run
-run_kept : (n o : ℕ) (f : Scheduling → Scheduling) (xs : List Scheduling) → ((x : Scheduling) → (f x).run ≡ x.run) → run_in o (update_at n f xs) ≡ run_in o xs
-run_kept n o f [] h = refl
-run_kept zero zero f (x ∷ xs) h = ap (option_map (λ r. r.number)) (h x)
-run_kept zero (suc o) f (x ∷ xs) h = refl
-run_kept (suc n) zero f (x ∷ xs) h = refl
-run_kept (suc n) (suc o) f (x ∷ xs) h = run_kept n o f xs h
-
--- an object whose check begins runs
-run_begun : (n : ℕ) (r : OpenRun) (xs : List Scheduling) → n < length xs → run_in n (update_at n (running_from r) xs) ≡ Some r.number
-run_begun n r [] h = absurd (omega arith)
-run_begun zero r (x ∷ xs) h = refl
-run_begun (suc n) r (x ∷ xs) h = run_begun n r xs (omega arith)
 
 -- ---- what waits doesn't run
 

@@ -16,7 +16,7 @@ use Rattle.check_sched.specs.declared.call.Reply.{Reply}
 use Rattle.check_sched.specs.declared.call.Reply.TheVariants as reply
 use Rattle.check_sched.specs.declared.call.Refusal.{Refusal}
 use Rattle.check_sched.specs.declared.call.Call.TheVariants as call
-use Rattle.check_sched.specs.State.{State, IsState, is_in_time}
+use Rattle.check_sched.specs.State.{State, IsState, is_in_time, is_timed_if_forced}
 use Rattle.check_sched.specs.Report.{put_off_until}
 use Rattle.check_sched.specs.Step.{candidates, due, eligible, is_held_back, is_open, put_off, run_left, step, taken, take_least, waiting_reply, within_range}
 use Rattle.check_sched.proofs.EligibleLaws.{eligible_open}
@@ -24,6 +24,7 @@ use Rattle.check_sched.proofs.LimitLaws.{limit_taken}
 use Rattle.check_sched.proofs.AnswerLaws.{by_test, left_is, range_is}
 use Rattle.check_queue.proofs.LeastLaws.{all_at_least, all_filtered}
 use Rattle.check_sched.proofs.CandidateLaws.{candidates_within, candidates_times}
+use Rattle.check_sched.proofs.OutLaws.{numbered_taken, once_taken}
 use Rattle.check_sched.proofs.UpdateLaws.{length-update_at, all-update_at}
 
 -- ---- what isn't held back
@@ -112,4 +113,8 @@ taken_is_state now n s is_state m r may =
       times = all-update_at is_in_time n (running_from (record { number = s.runs + 1; start = now })) s.objects is_state.times (λ o e. moment);
       limit = limit_taken now n s may is_state.limit;
       standings = is_state.standings;
+      numbered = numbered_taken now n s is_state.numbered;
+      once = once_taken now n s is_state.numbered is_state.once;
+      forced = all-update_at is_timed_if_forced n (running_from (record { number = s.runs + 1; start = now })) s.objects is_state.forced (λ o e. refl);
+      results = is_state.results;
     }

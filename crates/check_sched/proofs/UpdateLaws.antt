@@ -19,6 +19,23 @@ all-update_at p n f [] e h = refl
 all-update_at p zero f (x ∷ xs) e h = let b = and_parts (p x) (list_all p xs) e in and_from (p (f x)) (list_all p xs) (h x b.0) b.1
 all-update_at p (suc n) f (x ∷ xs) e h = let b = and_parts (p x) (list_all p xs) e in and_from (p x) _ b.0 (all-update_at p n f xs b.1 h)
 
+-- the same of what is put in the place of the one that stands there
+pub all-update_at_place : {X : Type 0} (p : X → Bool) (n : ℕ) (f : X → X) (xs : List X) → list_all p xs ≡ true
+    → ((x : X) → slice_get xs n ≡ Some x → p x ≡ true → p (f x) ≡ true) → list_all p (update_at n f xs) ≡ true
+all-update_at_place p n f [] e h = refl
+all-update_at_place p zero f (x ∷ xs) e h = let b = and_parts (p x) (list_all p xs) e in and_from (p (f x)) (list_all p xs) (h x refl b.0) b.1
+all-update_at_place p (suc n) f (x ∷ xs) e h =
+    let b = and_parts (p x) (list_all p xs) e in and_from (p x) _ b.0 (all-update_at_place p n f xs b.1 h)
+
+-- what is true of each, by its place, and of what one becomes
+pub each-changed_at : {X : Type 0} (P : ℕ → X → Type 0) (n : ℕ) (f : X → X) (xs : List X) → ((k : ℕ) (x : X) → slice_get xs k ≡ Some x → P k x)
+    → ((x : X) → P n x → P n (f x)) → (k : ℕ) (x : X) → slice_get (update_at n f xs) k ≡ Some x → P k x
+each-changed_at P n f [] each new k x e = each k x e
+each-changed_at P zero f (z ∷ xs) each new zero x e = let same : f z ≡ x = cc in subst (λ w. P 0 w) same (new z (each 0 z refl))
+each-changed_at P zero f (z ∷ xs) each new (suc k) x e = each (suc k) x e
+each-changed_at P (suc n) f (z ∷ xs) each new zero x e = each zero x e
+each-changed_at P (suc n) f (z ∷ xs) each new (suc k) x e = each-changed_at (λ j w. P (suc j) w) n f xs (λ j w g. each (suc j) w g) new k x e
+
 -- what is true of each, by its place, and of what is put in one place
 pub each-update_at : {X : Type 0} (P : ℕ → X → Type 0) (n : ℕ) (y : X) (xs : List X) → ((k : ℕ) (x : X) → slice_get xs k ≡ Some x → P k x) → P n y
     → (k : ℕ) (x : X) → slice_get (update_at n (λ before. y) xs) k ≡ Some x → P k x

@@ -3,7 +3,7 @@ use Rattle.std.specs.Prelude.{Bool, true, false, Some}
 use Rattle.check_sched.specs.declared.object_state.Change.{Change}
 use Rattle.check_sched.specs.declared.object_state.Change.TheVariants as change
 use Rattle.check_sched.specs.Scheduling.{Scheduling, running_from, ended, put_off_to, rescheduled, enabled_as}
-use Rattle.check_sched.specs.State.{is_time}
+use Rattle.check_sched.specs.State.{is_time, is_timed}
 
 -- the object after a change
 abbrev pub changed : Change → Scheduling → Scheduling
@@ -20,3 +20,11 @@ is_quiet (change.End next) = is_time next
 is_quiet (change.PutOff until) = is_time until
 is_quiet (change.Reschedule time forced) = is_time (Some time)
 is_quiet (change.Enable on) = true
+
+-- whether a change of an object, forced before it or not, leaves no forced mark without a time
+abbrev pub keeps_timed : Change → Bool → Bool
+keeps_timed (change.Begin run) forced = true
+keeps_timed (change.End next) forced = is_timed next forced
+keeps_timed (change.PutOff until) forced = is_timed until forced
+keeps_timed (change.Reschedule time forced) was = true
+keeps_timed (change.Enable on) forced = true

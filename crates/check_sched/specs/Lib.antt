@@ -13,3 +13,4 @@ pub mod Results
 pub mod Flapping
 pub mod Board
 pub mod BoardLaws
+pub mod Saved

@@ -1,5 +1,5 @@
 -- The state of a scheduler as contracts see it, and the state that it opens with.
-use Rattle.std.specs.Prelude.{ℕ, ◌^◌, ◌<◌, ◌≤◌, ◌≡◌, ◌&&◌, ◌||◌, ◌==◌, Bool, true, false, List, [], length, map, zip, drop, replicate, count_by, Option, Some}
+use Rattle.std.specs.Prelude.{ℕ, ◌^◌, ◌<◌, ◌≤◌, ◌≡◌, ◌&&◌, ◌||◌, ◌==◌, Bool, true, false, List, [], length, map, zip, drop, not, replicate, count_by, Option, Some}
 use Rattle.std.specs.Prelude.{None, is_some, option_map, option_and_then, slice_get, nat_le, nat_lt, unwrap_or, if◌then◌else◌}
 use Rattle.std.specs.List.{list_all, enumerate_from}
 use Rattle.std.specs.Option.{option_map_or}
@@ -39,6 +39,10 @@ standing_at standings number = unwrap_or (slice_get standings number) (pending_s
 -- the results that are kept of the object with this number
 abbrev pub results_at : List (List rules.State) → ℕ → List rules.State
 results_at results number = unwrap_or (slice_get results number) []
+
+-- the scheduling of the object with this number
+abbrev pub scheduling_at : List Scheduling → ℕ → Scheduling
+scheduling_at objects number = unwrap_or (slice_get objects number) (opening_object None false)
 
 -- whether the object with this number is a host: hosts have the first numbers
 abbrev pub is_host : Configuration → ℕ → Bool
@@ -128,12 +132,42 @@ is_in_time o = is_time o.next && is_moment o.run
 abbrev pub IsPendingUntilChecked : Configuration → ℕ → Standing → Type 0
 IsPendingUntilChecked setup number standing = standing.checked ≡ false → standing ≡ pending_standing (is_host setup number)
 
--- the object with this number can have this standing: it is lawful for the object's maximum of
--- attempts, its state is one of hosts where the object is a host, and until it is checked it is pending
-pub record IsStandingOf (setup : Configuration) (number : ℕ) (standing : Standing) : Type 0 where
-  pub lawful : is_lawful standing (max_attempts_of setup number) ≡ true
-  pub sort : is_host_state standing.state ≡ is_host setup number
-  pub until_checked : IsPendingUntilChecked setup number standing
+-- An object, a host or a service, with this maximum of attempts can have this standing: it is lawful for that
+-- maximum, its states are ones of hosts where the object is a host, and until it is checked it is pending.
+pub record IsStandingFor (host : Bool) (max : ℕ) (standing : Standing) : Type 0 where
+  pub lawful : is_lawful standing max ≡ true
+  pub sort : is_host_state standing.state ≡ host
+  pub last_hard_sort : is_host_state standing.last_hard ≡ host
+  pub until_checked : standing.checked ≡ false → standing ≡ pending_standing host
+
+-- the object with this number can have this standing
+abbrev pub IsStandingOf : Configuration → ℕ → Standing → Type 0
+IsStandingOf setup number standing = IsStandingFor (is_host setup number) (max_attempts_of setup number) standing
+
+-- ---- what is true of the runs that are out, of forced marks and of results
+
+-- whether a forced mark, if there is one, stands beside a next time
+abbrev pub is_timed : Option ℕ → Bool → Bool
+is_timed (Some time) forced = true
+is_timed None forced = not forced
+
+-- whether the next check of an object has a time where it is forced
+abbrev pub is_timed_if_forced : Scheduling → Bool
+is_timed_if_forced o = is_timed o.next o.forced
+
+-- whether a state is one of hosts, or one of services
+abbrev pub is_of_sort : Bool → rules.State → Bool
+is_of_sort true state = is_host_state state
+is_of_sort false state = not (is_host_state state)
+
+-- An object, a host or a service, can have these results: as many as are kept at most, each a state of its sort.
+pub record AreResultsFor (host : Bool) (results : List rules.State) : Type 0 where
+  pub few : length results ≤ 21
+  pub sort : list_all (is_of_sort host) results ≡ true
+
+-- the object with this number can have these results
+abbrev pub AreResultsOf : Configuration → ℕ → List rules.State → Type 0
+AreResultsOf setup number results = AreResultsFor (is_host setup number) results
 
 -- what is true of every state that a scheduler can be in
 pub record IsState (s : State) : Type 0 where
@@ -145,3 +179,8 @@ pub record IsState (s : State) : Type 0 where
   pub times : list_all is_in_time s.objects ≡ true
   pub limit : IsWithinLimit s
   pub standings : (number : ℕ) (standing : Standing) → slice_get s.standings number ≡ Some standing → IsStandingOf s.setup number standing
+  -- each run that is out has one of the numbers that were handed out, and no two have the same
+  pub numbered : (number run : ℕ) → run_number_of number s ≡ Some run → (1 ≤ run) × (run ≤ s.runs)
+  pub once : (one other run : ℕ) → run_number_of one s ≡ Some run → run_number_of other s ≡ Some run → one ≡ other
+  pub forced : list_all is_timed_if_forced s.objects ≡ true
+  pub results : (number : ℕ) (results : List rules.State) → slice_get s.results number ≡ Some results → AreResultsOf s.setup number results

@@ -5,8 +5,8 @@ ghost use Rattle.std.specs.List.{All};
 ghost use Rattle.check_objects.specs.Configuration.{IsSetup, object_count};
 ghost use Rattle.check_spread.specs.Spread.{initial_times};
 ghost use Rattle.check_sched.specs.State.{IsStandingOf, IsState, is_time, next_of, objects_at, opening_objects, opening, opening_standings, run_number_of, standing_at};
-ghost use Rattle.check_sched.specs.Step.{known, step, with_object};
-ghost use Rattle.check_sched.specs.Change.{changed, is_quiet};
+ghost use Rattle.check_sched.specs.Step.{is_forced, known, step, with_object};
+ghost use Rattle.check_sched.specs.Change.{changed, is_quiet, keeps_timed};
 ghost use Rattle.check_sched.specs.Board.{board_of, place_of};
 ghost use Rattle.check_sched.specs.Reply.{OnRefused, NamesObjectOf, TellsTimesUpTo, reply_of};
 
@@ -130,6 +130,7 @@ impl Sched {
     fn change(&mut self, object: u32, change: Change)
         requires there { object < object_count self.old.setup }
         requires quiet { IsTrue (is_quiet change) }
+        requires timed { IsTrue (keeps_timed change (is_forced self.old object)) }
         ensures { self.new ≡ with_object object (changed change) self.old }
     {
         self.roster.change(object, change);

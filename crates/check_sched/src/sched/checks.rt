@@ -1,10 +1,10 @@
 //! A check from its turn to its result: taken or put off, reported or abandoned.
 
-ghost use Rattle.std.specs.Prelude.{◌≡◌, ◌+◌, ◌<◌, ◌≤◌, IfSome, IsTrue, Ok, OnOk, None, length, slice_set, true};
+ghost use Rattle.std.specs.Prelude.{◌≡◌, ◌+◌, ◌<◌, ◌≤◌, IfSome, IsTrue, Ok, OnOk, None, false, length, slice_set, true};
 ghost use Rattle.check_objects.specs.Configuration.{object_count};
 ghost use Rattle.check_sched.specs.State.{has_room};
 ghost use Rattle.check_queue.specs.Order.{least};
-ghost use Rattle.check_sched.specs.Step.{eligible, is_held_back, is_open, put_off, step, taken, waiting_reply, within_range};
+ghost use Rattle.check_sched.specs.Step.{eligible, is_forced, is_held_back, is_open, put_off, step, taken, waiting_reply, within_range};
 ghost use Rattle.check_sched.specs.Report.{put_off_until};
 ghost use Rattle.check_sched.specs.Reply.{NamesObjectOf, TellsTimesUpTo, reply_of};
 
@@ -83,6 +83,7 @@ impl Sched {
     fn put_off(&mut self, object: u32, now: u64) -> Reply
         requires there { object < object_count self.old.setup }
         requires moment { now ≤ LAST_MOMENT }
+        requires unforced { is_forced self.old object ≡ false }
         ensures state { self.new ≡ put_off now object self.old }
         ensures reply { result ≡ Reply.PutOff object (put_off_until self.old.setup object now) }
         ensures times { TellsTimesUpTo LAST_TIME result }

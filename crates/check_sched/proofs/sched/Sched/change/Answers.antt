@@ -1,6 +1,10 @@
-use Rattle.check_sched.specs.Change.{changed}
+use Rattle.std.proofs.Common.{◌∙◌, ap, false, sym}
+use Rattle.std.specs.Option.{option_map_or}
+use Rattle.check_sched.specs.Change.{changed, keeps_timed}
 use Rattle.check_sched.specs.Sched.{state_of}
-use Rattle.check_sched.proofs.ChangeLaws.{quiet_begins_none, quiet_in_time}
+use Rattle.check_sched.specs.State.{State}
+use Rattle.check_sched.specs.Step.{is_forced}
+use Rattle.check_sched.proofs.ChangeLaws.{quiet_begins_none, quiet_in_time, stays_timed}
 use Rattle.check_sched.proofs.OperatorLaws.{with_object_is_state}
 use Rattle.check_sched.proofs.sched.Sched.change.Goals as goal
 
@@ -10,7 +14,10 @@ invariant_of-self c =
     record {
       state =
           rw (c.change.ensures) (with_object_is_state c.args.object (changed c.args.change) s c.self.invariant.state
-          (λ o e. quiet_in_time c.args.change o c.requires.quiet e) (quiet_begins_none c.args.change c.requires.quiet));
+          (λ o e. quiet_in_time c.args.change o c.requires.quiet e) (quiet_begins_none c.args.change c.requires.quiet)
+          (λ o there. stays_timed c.args.change o
+          (sym (ap (λ found. keeps_timed c.args.change (option_map_or (λ x. x.forced) found false)) there)
+          ∙ ap (λ (t : State). keeps_timed c.args.change (is_forced t c.args.object)) c.self.view_is ∙ c.requires.timed)));
       marks = c.self.invariant.marks;
       hosts = rw c.change.ensures c.self.invariant.hosts;
     }

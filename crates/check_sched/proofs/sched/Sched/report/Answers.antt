@@ -1,4 +1,5 @@
-use Rattle.std.proofs.Common.{◌≡◌, ◌<◌, ◌∙◌, ap, sym, arith, length, ℕ, List, Ok, refl}
+use Rattle.std.proofs.Common.{◌≡◌, ◌<◌, ◌∙◌, ap, sym, arith, length, ℕ, List, Ok, Some, refl, true}
+use Rattle.std.specs.Prelude.{is_some, slice_get}
 use Rattle.check_objects.specs.Configuration.{object_count}
 use Rattle.check_rules.specs.declared.standing.Standing.{Standing}
 use Rattle.check_rules.specs.declared.state.State as rules
@@ -12,7 +13,7 @@ use Rattle.check_sched.specs.Report.{flaps_with, judged, next_after, state_found
 use Rattle.check_sched.specs.Step.{found_in, judged_in, known, reported, standing_reply, step, update_at}
 use Rattle.check_sched.proofs.AnswerLaws.{known_is, under_is}
 use Rattle.check_sched.proofs.OperatorLaws.{known_within}
-use Rattle.check_sched.proofs.ReportLaws.{is_time_holds, judged_is_standing, report_answers, reported_is_state, standing_of_state, standing_read}
+use Rattle.check_sched.proofs.ReportLaws.{is_time_holds, judged_is_standing, next_already, report_answers, reported_is_state, standing_of_state, standing_read}
 use Rattle.check_sched.proofs.ReportLaws.{start_of_state}
 use Rattle.check_sched.proofs.UpdateLaws.{set_is_update}
 use Rattle.check_sched.proofs.sched.Sched.report.Goals as goal
@@ -129,6 +130,15 @@ state_left c objects standings results e f g i = record {
   runs = c.self.inside.runs;
 }
 
+-- a next time that was set while the check ran stays
+already_set : (c : goal.After-put_standing) (o : Scheduling) → slice_get c.self.inside.roster.objects c.args.object ≡ Some o → is_some o.next ≡ true
+    → is_some c.next_after-next.result ≡ true
+already_set c o e f =
+    let there : Some o ≡ Some c.in_ok-state.state.now = sym e ∙ known_is c.args.object (state_of c.self.inside) c.in_ok-state.state.now (found c) in
+    let same : o ≡ c.in_ok-state.state.now = cc in
+    rw c.next_after-next.ensures.value (next_already c.self.inside.setup c.args.object c.judged-standing.result c.start.result c.next-already.result
+    (ap is_some c.next-already.ensures ∙ ap (λ (x : Scheduling). is_some x.next) (sym same) ∙ f))
+
 pub invariant_of-self : goal.invariant_of-self
 invariant_of-self c =
     let s = state_of c.self.inside in
@@ -140,7 +150,7 @@ invariant_of-self c =
       state =
           rw (c.change.ensures, c.add-flapping.ensures.kept, state_left c _ _ _ refl (standings_left c) refl)
           (reported_is_state c.args.object c.state_found-found.result c.judged-standing.result c.next_after-next.result s c.self.invariant.state
-          (is_time_holds c.next_after-next.result c.next_after-next.ensures.within) within);
+          (is_time_holds c.next_after-next.result c.next_after-next.ensures.within) (already_set c) c.state_found-found.ensures.sort within);
       marks = c.self.invariant.marks;
       hosts = rw c.change.ensures c.self.invariant.hosts;
     }

@@ -1,0 +1,154 @@
+-- What is kept of a scheduler that is put down, and the state in which one goes on from it: over the same setup, or over another.
+-- (Our own profile; Nagios keeps its own by retention files, and reads them again at a restart and a reload.)
+use Rattle.std.specs.Prelude.{ℕ, ◌-◌, ◌==◌, ◌&&◌, ◌||◌, Bool, true, false, not, List, ◌++◌, map, take, drop, zip, find, bytes_eq, min}
+use Rattle.std.specs.Prelude.{Option, Some, None, is_some, slice_get, nat_lt, unwrap_or, if◌then◌else◌}
+use Rattle.std.specs.List.{enumerate_from}
+use Rattle.check_drafts.specs.declared.object.Object.{Object}
+use Rattle.check_objects.specs.Configuration.{Configuration, Named, host_count, objects_of}
+use Rattle.check_rules.specs.declared.state.State as rules
+use Rattle.check_rules.specs.declared.standing.Kind.TheVariants as kind
+use Rattle.check_rules.specs.declared.standing.Phase.{Phase}
+use Rattle.check_rules.specs.declared.standing.Phase.TheVariants as phase
+use Rattle.check_rules.specs.declared.standing.Standing.{Standing}
+use Rattle.check_rules.specs.Standing.{pending_standing, phase_of}
+use Rattle.check_sched.specs.Report.{milliseconds}
+use Rattle.check_sched.specs.Roster.{running_among}
+use Rattle.check_sched.specs.Scheduling.{Scheduling, ended, freed_time, opening_object}
+use Rattle.check_sched.specs.State.{State, is_host, limit_of, results_at, scheduling_at, standing_at}
+use Rattle.check_spread.specs.Spread.{initial_times}
+
+-- ---- what is kept
+
+-- what is kept of one object
+pub record SavedObject : Type 0 where
+  -- its full name
+  pub name : List ℕ
+  pub standing : Standing
+  -- the results that are kept, the oldest first
+  pub results : List rules.State
+  -- its next time, the run that is out, whether it is enabled, and whether its next check is forced
+  pub scheduling : Scheduling
+  -- what its setup says of it: the check interval in milliseconds, the maximum of attempts, and whether it is enabled
+  pub interval : ℕ
+  pub max_attempts : ℕ
+  pub setup_enabled : Bool
+
+pub record Saved : Type 0 where
+  -- the moment at which scheduling started
+  pub start : ℕ
+  -- how many runs were handed out
+  pub runs : ℕ
+  -- in the order of their numbers, where a scheduler made it; any other order says the same
+  pub objects : List SavedObject
+
+-- what is kept of the object with this number
+abbrev pub saved_object : State → ℕ × Named → SavedObject
+saved_object s p = record {
+  name = p.1.name;
+  standing = standing_at s.standings p.0;
+  results = results_at s.results p.0;
+  scheduling = scheduling_at s.objects p.0;
+  interval = milliseconds s.setup p.1.object.check_interval;
+  max_attempts = p.1.object.max_check_attempts;
+  setup_enabled = p.1.object.enabled;
+}
+
+-- what is kept of a scheduler in this state
+abbrev pub saved_of : State → Saved
+saved_of s = record { start = s.start; runs = s.runs; objects = map (saved_object s) (enumerate_from 0 (objects_of s.setup)) }
+
+-- what is kept of the object with this full name, if anything is
+abbrev pub saved_named : Saved → List ℕ → Option SavedObject
+saved_named saved name = find (λ o. bytes_eq name o.name) saved.objects
+
+-- ---- one object that is kept
+
+-- The standing of an object that now has this maximum of attempts: a hard problem stands at the maximum; a soft one stays soft below it, and is
+-- hard where the maximum is 1; OK and UP keep their attempt up to the maximum.
+abbrev pub standing_by_phase : Phase → ℕ → Standing → Standing
+standing_by_phase phase.HardProblem max was = record was { attempt = max }
+standing_by_phase phase.SoftProblem max was =
+    if max == 1 then record was { kind = kind.Hard; attempt = 1; last_hard = was.state } else record was { attempt = min was.attempt (max - 1) }
+standing_by_phase phase.Fine max was = record was { attempt = min was.attempt max }
+
+abbrev pub standing_kept : ℕ → Standing → Standing
+standing_kept max was = standing_by_phase (phase_of was) max was
+
+-- whether two switches stand alike
+abbrev pub is_same_switch : Bool → Bool → Bool
+is_same_switch true other = other
+is_same_switch false other = not other
+
+-- the earlier of two times; either by itself where the other is none
+abbrev pub earlier_time : Option ℕ → Option ℕ → Option ℕ
+earlier_time None other = other
+earlier_time (Some time) None = Some time
+earlier_time (Some time) (Some other) = Some (min time other)
+
+-- Whether the next time stays as it was saved: the check interval and the setup's switch are the same, or the object is out, or its next check
+-- is forced.
+abbrev pub keeps_time : Configuration → Object → SavedObject → Bool
+keeps_time setup object saved =
+    (milliseconds setup object.check_interval == saved.interval && is_same_switch object.enabled saved.setup_enabled)
+    || is_some saved.scheduling.run || saved.scheduling.forced
+
+-- The scheduling of an object over a setup whose spread gives it this first time: a switch that an operator set stays where both setups say the
+-- same of the object.
+abbrev pub scheduling_kept : Configuration → Option ℕ → Object → SavedObject → Scheduling
+scheduling_kept setup first object saved = record {
+  next = if keeps_time setup object saved then saved.scheduling.next else earlier_time saved.scheduling.next first;
+  run = saved.scheduling.run;
+  enabled = if is_same_switch object.enabled saved.setup_enabled then saved.scheduling.enabled else object.enabled;
+  forced = saved.scheduling.forced;
+}
+
+-- ---- every object of a setup: kept, where its name was saved, else new
+
+abbrev pub scheduling_of : Configuration → Option ℕ → Object → Option SavedObject → Scheduling
+scheduling_of setup first object None = opening_object first object.enabled
+scheduling_of setup first object (Some saved) = scheduling_kept setup first object saved
+
+abbrev pub standing_of : Bool → Object → Option SavedObject → Standing
+standing_of host object None = pending_standing host
+standing_of host object (Some saved) = standing_kept object.max_check_attempts saved.standing
+
+abbrev pub results_of : Option SavedObject → List rules.State
+results_of None = []
+results_of (Some saved) = saved.results
+
+-- ---- the limit of services that are checked at once
+
+-- the run of an object, given up at this moment
+abbrev pub given_up : ℕ → Scheduling → Scheduling
+given_up now o = if is_some o.run then ended (Some (freed_time now o)) o else o
+
+-- Where more services are out than the limit allows, the runs of all services are given up.
+abbrev pub within_limit : Configuration → ℕ → List Scheduling → List Scheduling
+within_limit setup now objects =
+    let hosts = host_count setup in
+    if 0 == limit_of setup || not (nat_lt (limit_of setup) (running_among (drop hosts objects))) then objects
+    else take hosts objects ++ map (given_up now) (drop hosts objects)
+
+-- ---- the state in which a scheduler goes on
+
+abbrev pub objects_resumed : Configuration → Saved → ℕ → List Scheduling
+objects_resumed setup saved start =
+    within_limit setup start (map (λ p. scheduling_of setup p.0 p.1.object (saved_named saved p.1.name)) (zip (initial_times setup start) (objects_of setup)))
+
+abbrev pub standings_resumed : Configuration → Saved → List Standing
+standings_resumed setup saved =
+    map (λ p. standing_of (is_host setup p.0) p.1.object (saved_named saved p.1.name)) (enumerate_from 0 (objects_of setup))
+
+abbrev pub results_resumed : Configuration → Saved → List (List rules.State)
+results_resumed setup saved = map (λ o. results_of (saved_named saved o.name)) (objects_of setup)
+
+-- over this setup, from this moment on
+abbrev pub resumed : Configuration → Saved → ℕ → State
+resumed setup saved start = record {
+  setup = setup;
+  start = start;
+  objects = objects_resumed setup saved start;
+  standings = standings_resumed setup saved;
+  results = results_resumed setup saved;
+  runs = saved.runs;
+}
