@@ -14,6 +14,7 @@ pub mod ReportLaws
 pub mod ResultsLaws
 pub mod RosterLaws
 pub mod RunLaws
+pub mod SavedLaws
 pub mod StandingLaws
 pub mod StepLaws
 pub mod TakeLaws

@@ -1,16 +1,15 @@
 -- What is kept of a scheduler that is put down, and the state in which one goes on from it: over the same setup, or over another.
 -- (Our own profile; Nagios keeps its own by retention files, and reads them again at a restart and a reload.)
-use Rattle.std.specs.Prelude.{ℕ, ◌-◌, ◌==◌, ◌&&◌, ◌||◌, Bool, true, false, not, List, ◌++◌, map, take, drop, zip, find, bytes_eq, min}
+use Rattle.std.specs.Prelude.{ℕ, ◌-◌, ◌==◌, ◌&&◌, ◌||◌, Bool, true, false, not, List, [], ◌++◌, map, take, drop, find, bytes_eq, min}
 use Rattle.std.specs.Prelude.{Option, Some, None, is_some, slice_get, nat_lt, unwrap_or, if◌then◌else◌}
 use Rattle.std.specs.List.{enumerate_from}
 use Rattle.check_drafts.specs.declared.object.Object.{Object}
 use Rattle.check_objects.specs.Configuration.{Configuration, Named, host_count, objects_of}
 use Rattle.check_rules.specs.declared.state.State as rules
 use Rattle.check_rules.specs.declared.standing.Kind.TheVariants as kind
-use Rattle.check_rules.specs.declared.standing.Phase.{Phase}
-use Rattle.check_rules.specs.declared.standing.Phase.TheVariants as phase
 use Rattle.check_rules.specs.declared.standing.Standing.{Standing}
-use Rattle.check_rules.specs.Standing.{pending_standing, phase_of}
+use Rattle.check_rules.specs.Standing.{is_soft_problem, pending_standing}
+use Rattle.check_rules.specs.State.{is_problem}
 use Rattle.check_sched.specs.Report.{milliseconds}
 use Rattle.check_sched.specs.Roster.{running_among}
 use Rattle.check_sched.specs.Scheduling.{Scheduling, ended, freed_time, opening_object}
@@ -63,16 +62,15 @@ saved_named saved name = find (λ o. bytes_eq name o.name) saved.objects
 
 -- ---- one object that is kept
 
--- The standing of an object that now has this maximum of attempts: a hard problem stands at the maximum; a soft one stays soft below it, and is
--- hard where the maximum is 1; OK and UP keep their attempt up to the maximum.
-abbrev pub standing_by_phase : Phase → ℕ → Standing → Standing
-standing_by_phase phase.HardProblem max was = record was { attempt = max }
-standing_by_phase phase.SoftProblem max was =
+-- A soft problem with this maximum of attempts: it stays soft below the maximum, and is hard where that is 1.
+abbrev pub soft_kept : ℕ → Standing → Standing
+soft_kept max was =
     if max == 1 then record was { kind = kind.Hard; attempt = 1; last_hard = was.state } else record was { attempt = min was.attempt (max - 1) }
-standing_by_phase phase.Fine max was = record was { attempt = min was.attempt max }
 
+-- The standing of an object that now has this maximum of attempts: a hard problem stands at the maximum, and OK and UP keep their attempt up to it.
 abbrev pub standing_kept : ℕ → Standing → Standing
-standing_kept max was = standing_by_phase (phase_of was) max was
+standing_kept max was =
+    if is_soft_problem was then soft_kept max was else if is_problem was.state then record was { attempt = max } else record was { attempt = min was.attempt max }
 
 -- whether two switches stand alike
 abbrev pub is_same_switch : Bool → Bool → Bool
@@ -126,21 +124,28 @@ given_up now o = if is_some o.run then ended (Some (freed_time now o)) o else o
 abbrev pub within_limit : Configuration → ℕ → List Scheduling → List Scheduling
 within_limit setup now objects =
     let hosts = host_count setup in
-    if 0 == limit_of setup || not (nat_lt (limit_of setup) (running_among (drop hosts objects))) then objects
+    if limit_of setup == 0 || not (nat_lt (limit_of setup) (running_among (drop hosts objects))) then objects
     else take hosts objects ++ map (given_up now) (drop hosts objects)
 
 -- ---- the state in which a scheduler goes on
 
+-- the first time that the spread from this moment on gives the object with this number
+abbrev pub first_time : Configuration → ℕ → ℕ → Option ℕ
+first_time setup start number = unwrap_or (slice_get (initial_times setup start) number) None
+
+-- what becomes of each object of a setup, by its number
+abbrev pub each_object : {X : Type 0} → Configuration → (ℕ × Named → X) → List X
+each_object setup made = map made (enumerate_from 0 (objects_of setup))
+
 abbrev pub objects_resumed : Configuration → Saved → ℕ → List Scheduling
 objects_resumed setup saved start =
-    within_limit setup start (map (λ p. scheduling_of setup p.0 p.1.object (saved_named saved p.1.name)) (zip (initial_times setup start) (objects_of setup)))
+    within_limit setup start (each_object setup (λ p. scheduling_of setup (first_time setup start p.0) p.1.object (saved_named saved p.1.name)))
 
 abbrev pub standings_resumed : Configuration → Saved → List Standing
-standings_resumed setup saved =
-    map (λ p. standing_of (is_host setup p.0) p.1.object (saved_named saved p.1.name)) (enumerate_from 0 (objects_of setup))
+standings_resumed setup saved = each_object setup (λ p. standing_of (is_host setup p.0) p.1.object (saved_named saved p.1.name))
 
 abbrev pub results_resumed : Configuration → Saved → List (List rules.State)
-results_resumed setup saved = map (λ o. results_of (saved_named saved o.name)) (objects_of setup)
+results_resumed setup saved = each_object setup (λ p. results_of (saved_named saved p.1.name))
 
 -- over this setup, from this moment on
 abbrev pub resumed : Configuration → Saved → ℕ → State

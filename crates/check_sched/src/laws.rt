@@ -10,7 +10,8 @@ ghost use Rattle.check_rules.specs.declared.standing.Standing.{Standing};
 ghost use Rattle.check_rules.specs.Standing.{pending_standing};
 ghost use Rattle.check_sched.specs.declared.sched.TheConstants.{MAX_RUNS};
 ghost use Rattle.check_sched.specs.declared.call.Call.{Call};
-ghost use Rattle.check_sched.specs.State.{IsStandingOf, IsWithinLimit, flap_thresholds_of, is_host, opening, results_at, standing_at};
+ghost use Rattle.check_sched.specs.Saved.{resumed, saved_of};
+ghost use Rattle.check_sched.specs.State.{IsStandingOf, IsState, IsWithinLimit, State, flap_thresholds_of, is_host, opening, results_at, standing_at};
 ghost use Rattle.check_sched.specs.Step.{after, step};
 ghost use Rattle.check_sched.specs.Runs.{begins, runs_begun, runs_under};
 ghost use Rattle.check_sched.specs.Flapping.{flapping_in, never_checked, states_told, with_results};
@@ -80,4 +81,11 @@ pub fn flaps_by_history()
         → (object : ℕ) → IsLegal step (opening setup start) history
         → results_at (replay step (opening setup start) history).results object
         ≡ keep_last 21 (states_told object history) }
+{}
+
+/// What is kept of a scheduler is all of it: over the same setup one goes on from there in the state in
+/// which the other was put down, but for the start, by which no call goes.
+pub fn resumed_over_the_same()
+    ensures { (s : State) → (start : ℕ) → IsState s
+        → resumed s.setup (saved_of s) start ≡ record s { start = start } }
 {}
