@@ -2,7 +2,8 @@
 use Rattle.std.proofs.Common.{◌≡◌, ℕ, zero, suc, ◌-◌, ◌≤◌, Bool, true, false, List, [], ◌∷◌, ◌++◌, length, drop, refl, arith}
 use Rattle.std.specs.List.{list_all}
 use Rattle.std.proofs.lemmas.Bool.{and_from, and_parts}
-use Rattle.std.proofs.lemmas.List.{length-append, length-drop}
+use Rattle.std.proofs.lemmas.List.{length-drop}
+use Rattle.std.proofs.lemmas.List.Folds.{list_all-append}
 use Rattle.circular_buffer.specs.Buffer.{keep_last}
 use Rattle.check_objects.specs.Configuration.{Configuration}
 use Rattle.check_rules.specs.declared.state.State as rules
@@ -10,11 +11,7 @@ use Rattle.check_rules.specs.Flapping.{kept_after}
 use Rattle.check_rules.specs.State.{is_host_state}
 use Rattle.check_sched.specs.State.{AreResultsOf, is_host, is_of_sort}
 
-all_append : {X : Type 0} (p : X → Bool) (xs ys : List X) → list_all p xs ≡ true → list_all p ys ≡ true → list_all p (xs ++ ys) ≡ true
-all_append p [] ys e f = f
-all_append p (x ∷ xs) ys e f = let b = and_parts (p x) (list_all p xs) e in and_from (p x) _ b.0 (all_append p xs ys b.1 f)
-
-all_dropped : {X : Type 0} (p : X → Bool) (n : ℕ) (xs : List X) → list_all p xs ≡ true → list_all p (drop n xs) ≡ true
+pub all_dropped : {X : Type 0} (p : X → Bool) (n : ℕ) (xs : List X) → list_all p xs ≡ true → list_all p (drop n xs) ≡ true
 all_dropped p zero xs e = e
 all_dropped p (suc n) [] e = refl
 all_dropped p (suc n) (x ∷ xs) e = all_dropped p n xs (and_parts (p x) (list_all p xs) e).1
@@ -31,5 +28,6 @@ kept_are_results setup n found sort results was = record {
   few = let all = results ++ found ∷ [] in let l = length-drop (length all - 21) all in omega (arith, l);
   sort =
       all_dropped (is_of_sort (is_host setup n)) (length (results ++ found ∷ []) - 21) (results ++ found ∷ [])
-      (all_append (is_of_sort (is_host setup n)) results (found ∷ []) was.sort (and_from _ true (of_sort (is_host setup n) found sort) refl));
+      (rw (list_all-append (is_of_sort (is_host setup n)) results (found ∷ []))
+      (and_from _ _ was.sort (and_from _ true (of_sort (is_host setup n) found sort) refl)));
 }

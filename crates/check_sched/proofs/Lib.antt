@@ -13,6 +13,7 @@ pub mod ReplyLaws
 pub mod ReportLaws
 pub mod ResultsLaws
 pub mod RosterLaws
+pub mod ResumedLaws
 pub mod RunLaws
 pub mod SavedLaws
 pub mod StandingLaws

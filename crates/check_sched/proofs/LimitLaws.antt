@@ -86,7 +86,7 @@ limit_taken now n s may within = taken_by now n s (is_host s.setup n) refl may w
 
 -- ---- the opening
 
-busy_none : {X : Type 0} (made : X → Scheduling) (xs : List X) → ((x : X) → is_some (made x).run ≡ false) → running_among (map made xs) ≡ 0
+pub busy_none : {X : Type 0} (made : X → Scheduling) (xs : List X) → ((x : X) → is_some (made x).run ≡ false) → running_among (map made xs) ≡ 0
 busy_none made [] h = refl
 busy_none made (x ∷ xs) h =
     busy_cons (made x) (map made xs) ∙ ap (λ b. cond b 1 0 + running_among (map made xs)) (h x)

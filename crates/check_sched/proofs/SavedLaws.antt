@@ -8,7 +8,7 @@ use Rattle.std.proofs.lemmas.Bool.{and_parts, eqb-true, eq-eqb}
 use Rattle.std.proofs.lemmas.Option.{slice_get_within}
 use Rattle.std.proofs.lemmas.Slice.Eq.{bytes_eq-Decides}
 use Rattle.check_objects.specs.Configuration.{Configuration, IsSetup, Named, host_count, name_of, number_of, object_count, objects_of}
-use Rattle.check_numbers.proofs.NameLemmas.{name_leads_back, names_of_setup}
+use Rattle.check_numbers.proofs.NameLemmas.{name_leads_back, names_of_setup, same_text}
 use Rattle.check_rules.specs.declared.state.State as rules
 use Rattle.check_rules.specs.declared.standing.Kind.{Kind}
 use Rattle.check_rules.specs.declared.standing.Kind.TheVariants as kind
@@ -46,17 +46,14 @@ found_by test made probe k (suc n) x (y ∷ xs) same e t only =
     found_next test made probe k n y (made (k + suc n, x)) (map made (enumerate_from (k + 1) xs)) (test y) refl same (λ f. only 0 y refl f)
     (others ∙ ap (λ j. Some (made (j, x))) there)
 
-same_text : (a b : List ℕ) → bytes_eq a b ≡ true → a ≡ b
-same_text a b e = grind (arith, bytes_eq-Decides a b, e)
-
-text_same : (a : List ℕ) → bytes_eq a a ≡ true
-text_same a = grind (arith, bytes_eq-Decides a a)
+pub text_is : (a b : List ℕ) → bytes_eq a b ≡ true → a ≡ b
+text_is a b e = grind (arith, bytes_eq-Decides a b, e)
 
 some_name : (found : Option Named) (o : Named) → found ≡ Some o → (c : Configuration) (n : ℕ) → slice_get (objects_of c) n ≡ found → name_of c n ≡ o.name
 some_name found o e c n f = rw (f ∙ e) refl
 
 -- no two objects of a setup have the same full name
-alone : (c : Configuration) (m n : ℕ) (x y : Named) → IsSetup c → slice_get (objects_of c) m ≡ Some x → slice_get (objects_of c) n ≡ Some y
+pub alone : (c : Configuration) (m n : ℕ) (x y : Named) → IsSetup c → slice_get (objects_of c) m ≡ Some x → slice_get (objects_of c) n ≡ Some y
     → x.name ≡ y.name → m ≡ n
 alone c m n x y valid e f same =
     let one = name_leads_back c (names_of_setup c valid) m (slice_get_within (objects_of c) m x e) in
@@ -70,7 +67,7 @@ pub found_saved : (s : State) (n : ℕ) (o : Named) → IsSetup s.setup → slic
     → saved_named (saved_of s) o.name ≡ Some (saved_object s (n, o))
 found_saved s n o valid e =
     let found = found_by (λ (x : Named). bytes_eq o.name x.name) (saved_object s) (λ x. bytes_eq o.name x.name) 0 n o (objects_of s.setup)
-    (λ p. refl) e (text_same o.name) (λ m x f t. alone s.setup m n x o valid f e (sym (same_text o.name x.name t))) in
+    (λ p. refl) e (same_text o.name) (λ m x f t. alone s.setup m n x o valid f e (sym (text_is o.name x.name t))) in
     let here : 0 + n ≡ n = omega arith in
     rw here at found
 
@@ -115,7 +112,7 @@ standing_stays max was h = kept_by was.kind (is_problem was.state) max was refl 
 
 -- ---- the same setup
 
-attempts_at : (setup : Configuration) (n : ℕ) (o : Named) → slice_get (objects_of setup) n ≡ Some o → max_attempts_of setup n ≡ o.object.max_check_attempts
+pub attempts_at : (setup : Configuration) (n : ℕ) (o : Named) → slice_get (objects_of setup) n ≡ Some o → max_attempts_of setup n ≡ o.object.max_check_attempts
 attempts_at setup n o e = rw e refl
 
 standings_stay : (s : State) → IsState s → standings_resumed s.setup (saved_of s) ≡ s.standings
