@@ -1,6 +1,6 @@
 //! Laws of the definitions, each the contract of a function without parameters and code.
 
-ghost use Rattle.std.specs.Prelude.{ℕ, ◌≡◌, ◌+◌, ◌^◌, ◌<◌, ◌≤◌, Bool, true, false, List, ◌∷◌, ◌++◌, Some, slice_get};
+ghost use Rattle.std.specs.Prelude.{ℕ, ◌≡◌, ◌+◌, ◌^◌, ◌<◌, ◌≤◌, true, false, List, ◌∷◌, ◌++◌, Some, slice_get};
 ghost use Rattle.ticket_steps.specs.declared.kept.Entry.{Entry};
 ghost use Rattle.ticket_steps.specs.History.{replay, IsLegal};
 ghost use Rattle.circular_buffer.specs.Buffer.{keep_last};
@@ -10,8 +10,8 @@ ghost use Rattle.check_rules.specs.declared.standing.Standing.{Standing};
 ghost use Rattle.check_rules.specs.Standing.{pending_standing};
 ghost use Rattle.check_sched.specs.declared.sched.TheConstants.{MAX_RUNS};
 ghost use Rattle.check_sched.specs.declared.call.Call.{Call};
-ghost use Rattle.check_sched.specs.Saved.{resumed, saved_of, standing_kept};
-ghost use Rattle.check_sched.specs.State.{IsStandingFor, IsStandingOf, IsState, IsWithinLimit, State, flap_thresholds_of, is_host, opening, results_at, standing_at};
+ghost use Rattle.check_sched.specs.Saved.{IsSaved, Saved, resumed, saved_of};
+ghost use Rattle.check_sched.specs.State.{IsStandingOf, IsState, IsWithinLimit, State, flap_thresholds_of, is_host, opening, results_at, standing_at};
 ghost use Rattle.check_sched.specs.Step.{after, step};
 ghost use Rattle.check_sched.specs.Runs.{begins, runs_begun, runs_under};
 ghost use Rattle.check_sched.specs.Flapping.{flapping_in, never_checked, states_told, with_results};
@@ -90,8 +90,9 @@ pub fn resumed_over_the_same()
         → resumed s.setup (saved_of s) start ≡ record s { start = start } }
 {}
 
-/// A problem that was soft isn't made hard by going on over another setup, but where the maximum of attempts is 1.
-pub fn kept_standings()
-    ensures { (host : Bool) → (max more : ℕ) → (was : Standing) → 1 ≤ more
-        → IsStandingFor host max was → IsStandingFor host more (standing_kept more was) }
+/// Whatever was kept, and whatever setup a scheduler goes on over from whatever moment, it goes on in a
+/// state that one can be in.
+pub fn resumed_states()
+    ensures { (setup : Configuration) → (saved : Saved) → (start : ℕ) → IsSetup setup → IsSaved saved
+        → start ≤ LAST_MOMENT → IsState (resumed setup saved start) }
 {}

@@ -1,3 +1,4 @@
 pub mod TimesLemmas
 pub mod TotalLemmas
 pub mod VisitLemmas
+pub mod BoundLemmas
