@@ -35,7 +35,7 @@ use Rattle.check_sched.proofs.UpdateLaws.{length-update_at, update_at_apart}
 -- ---- a place for each object
 
 -- each object has its standing and its results
-abbrev HasPlaces : State → Type 0
+abbrev pub HasPlaces : State → Type 0
 HasPlaces s = (length s.objects ≤ length s.standings) × (length s.objects ≤ length s.results)
 
 object_changed : (n : ℕ) (f : Scheduling → Scheduling) (s : State) → HasPlaces s
@@ -136,7 +136,7 @@ told_first : (thresholds : ℕ × ℕ) (was : Flapping) (told : Option rules.Sta
 told_first thresholds was None later = refl
 told_first thresholds was (Some found) later = refl
 
-replay_tells : (s : State) (h : List (Entry Call Reply)) (object : ℕ) → HasPlaces s → IsLegal step s h
+pub replay_tells : (s : State) (h : List (Entry Call Reply)) (object : ℕ) → HasPlaces s → IsLegal step s h
     → flapping_in (replay step s h) object ≡ with_results (flap_thresholds_of s.setup object) (flapping_in s object) (states_told object h)
 replay_tells s [] object places legal = refl
 replay_tells s (e ∷ h) object places legal =
@@ -190,7 +190,7 @@ keep_more n xs x =
     let count : past + (length (kept ++ x ∷ []) - n) ≡ length (xs ++ x ∷ []) - n = omega (arith, one, all, long) in
     ap (drop (length (kept ++ x ∷ []) - n)) seam ∙ drop-drop (length (kept ++ x ∷ []) - n) past (xs ++ x ∷ []) ∙ ap (λ k. drop k (xs ++ x ∷ [])) count
 
-kept_of_all : (thresholds : ℕ × ℕ) (was : Flapping) (front later : List rules.State) → was.results ≡ keep_last KEPT_RESULTS front
+pub kept_of_all : (thresholds : ℕ × ℕ) (was : Flapping) (front later : List rules.State) → was.results ≡ keep_last KEPT_RESULTS front
     → (with_results thresholds was later).results ≡ keep_last KEPT_RESULTS (front ++ later)
 kept_of_all thresholds was front [] e = e ∙ ap (keep_last KEPT_RESULTS) (sym (append-nil front))
 kept_of_all thresholds was front (found ∷ later) e =

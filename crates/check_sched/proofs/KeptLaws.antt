@@ -1,10 +1,9 @@
 -- Laws of the results that are kept of an object: as many as are kept at most, each a state of its sort.
-use Rattle.std.proofs.Common.{◌≡◌, ℕ, zero, suc, ◌-◌, ◌≤◌, Bool, true, false, List, [], ◌∷◌, ◌++◌, length, drop, refl, arith}
+use Rattle.std.proofs.Common.{◌≡◌, ℕ, zero, suc, ◌-◌, Bool, true, false, List, [], ◌∷◌, ◌++◌, length, drop, refl, arith}
 use Rattle.std.specs.List.{list_all}
 use Rattle.std.proofs.lemmas.Bool.{and_from, and_parts}
 use Rattle.std.proofs.lemmas.List.{length-drop}
 use Rattle.std.proofs.lemmas.List.Folds.{list_all-append}
-use Rattle.circular_buffer.specs.Buffer.{keep_last}
 use Rattle.check_objects.specs.Configuration.{Configuration}
 use Rattle.check_rules.specs.declared.state.State as rules
 use Rattle.check_rules.specs.Flapping.{kept_after}

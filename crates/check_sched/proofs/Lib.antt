@@ -2,6 +2,8 @@ pub mod AnswerLaws
 pub mod CandidateLaws
 pub mod EligibleLaws
 pub mod FlappingLaws
+pub mod FromStateLaws
+pub mod KeepingLaws
 pub mod KeptLaws
 pub mod LimitLaws
 pub mod OpeningLaws

@@ -97,10 +97,11 @@ none_kept (suc count) zero rs e = cc
 none_kept (suc count) (suc n) rs e = none_kept count n rs e
 
 -- a scheduler can be in the state that it opens with
-pub opening_is_state : (setup : Configuration) (start : ℕ) → IsSetup setup → length (initial_times setup start) ≡ object_count setup
+pub opening_is_state : (setup : Configuration) (start : ℕ) → IsSetup setup → start ≤ 2 ^ 60 → length (initial_times setup start) ≡ object_count setup
     → All (λ first. IfSome first (λ time. time < 2 ^ 61)) (initial_times setup start) → IsState (opening setup start)
-opening_is_state setup start valid count within = record {
+opening_is_state setup start valid moment count within = record {
   valid_setup = valid;
+  start = moment;
   one_each = length-objects_at setup (initial_times setup start) count;
   one_standing_each = length-opening_standings setup;
   results_each = length-replicate (object_count setup) [];
@@ -117,13 +118,13 @@ opening_is_state setup start valid count within = record {
 -- the same of what the code opens with, by the times that it was given
 pub opened_is_state : (setup : Configuration) (start : ℕ) (times seen : List (Option ℕ)) (objects : List Scheduling) (standings : List Standing)
     (results : List (List rules.State))
-    → IsSetup setup → times ≡ initial_times setup start → length times ≡ object_count setup → All (λ first. IfSome first (λ time. time < 2 ^ 61)) times
+    → IsSetup setup → start ≤ 2 ^ 60 → times ≡ initial_times setup start → length times ≡ object_count setup → All (λ first. IfSome first (λ time. time < 2 ^ 61)) times
     → seen ≡ times → objects ≡ objects_at setup seen → standings ≡ opening_standings setup → results ≡ opening_results setup
     → let s : State =
     record { setup = setup; start = start; objects = objects; standings = standings; results = results; runs = 0 } in IsState s
-opened_is_state setup start times seen objects standings results valid made count within e o t r =
+opened_is_state setup start times seen objects standings results valid moment made count within e o t r =
     let at : objects ≡ opening_objects setup start = o ∙ ap (objects_at setup) (e ∙ made) in
-    rw (at, t, r) (opening_is_state setup start valid (ap length (sym made) ∙ count) (subst (All (λ first. IfSome first (λ time. time < 2 ^ 61))) made within))
+    rw (at, t, r) (opening_is_state setup start valid moment (ap length (sym made) ∙ count) (subst (All (λ first. IfSome first (λ time. time < 2 ^ 61))) made within))
 
 -- ---- the roster that the code opens with
 

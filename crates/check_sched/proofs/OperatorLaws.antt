@@ -56,6 +56,7 @@ pub with_object_is_state : (n : ℕ) (f : Scheduling → Scheduling) (s : State)
     → IsState (with_object n f s)
 with_object_is_state n f s is_state h none timed = record {
   valid_setup = is_state.valid_setup;
+  start = is_state.start;
   one_each = length-update_at n f s.objects ∙ is_state.one_each;
   one_standing_each = is_state.one_standing_each;
   results_each = is_state.results_each;

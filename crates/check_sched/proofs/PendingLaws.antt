@@ -30,7 +30,7 @@ step_pending s (call.Reschedule n time forced) was = reschedule_cases (λ a. Are
 step_pending s (call.Enable n on) was = enable_cases (λ a. ArePending a.0) n on s (λ why. was) was
 step_pending s (call.Status n) was = status_cases (λ a. ArePending a.0) n s (λ why. was) (λ o e. was)
 
-after_pending : (s : State) (calls : List Call) → ArePending s → ArePending (after s calls)
+pub after_pending : (s : State) (calls : List Call) → ArePending s → ArePending (after s calls)
 after_pending s [] was = was
 after_pending s (c ∷ calls) was = after_pending (step s c).0 calls (step_pending s c was)
 

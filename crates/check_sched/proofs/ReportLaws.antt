@@ -160,6 +160,7 @@ pub reported_is_state : (n : ℕ) (found : rules.State) (standing : Standing) (n
     → is_host_state found ≡ is_host s.setup n → IsStandingOf s.setup n standing → IsState (reported n found standing next s)
 reported_is_state n found standing next s is_state t already sort new = record {
   valid_setup = is_state.valid_setup;
+  start = is_state.start;
   one_each = length-update_at n _ s.objects ∙ is_state.one_each;
   one_standing_each = length-update_at n _ s.standings ∙ is_state.one_standing_each;
   results_each = length-update_at n _ s.results ∙ is_state.results_each;

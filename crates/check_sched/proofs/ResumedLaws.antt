@@ -1,11 +1,11 @@
 -- Laws of the state in which a scheduler goes on: it is one that a scheduler can be in, whatever setup it goes on over.
-use Rattle.std.proofs.Common.{◌≡◌, ℕ, zero, suc, ◌+◌, ◌-◌, ◌<◌, ◌≤◌, ◌^◌, ◌==◌, ◌&&◌, ◌||◌, ◌++◌, Bool, true, false, cond, List, [], ◌∷◌, length, map, drop}
-use Rattle.std.proofs.Common.{take, min, Option, Some, None, option_map, refl, sym, ap, subst, ◌∙◌, arith, inl, inr, get_or, IfSome, bytes_eq}
-use Rattle.std.specs.Prelude.{All, find, is_some, nat_le, nat_lt, not, slice_get, unwrap_or}
+use Rattle.std.proofs.Common.{◌≡◌, ℕ, zero, suc, ◌+◌, ◌<◌, ◌≤◌, ◌^◌, ◌==◌, ◌&&◌, ◌||◌, ◌++◌, Bool, true, false, cond, List, [], ◌∷◌, length, map, drop}
+use Rattle.std.proofs.Common.{take, min, Option, Some, None, option_map, refl, sym, ap, subst, ◌∙◌, arith, get_or, IfSome, bytes_eq}
+use Rattle.std.specs.Prelude.{All, find, is_some, nat_lt, not, slice_get, unwrap_or}
 use Rattle.std.specs.List.{enumerate_from, list_all}
 use Rattle.std.proofs.lemmas.Bool.Decides.{nat_tests}
-use Rattle.std.proofs.lemmas.Bool.{and_from, and_parts, eqb-true}
-use Rattle.std.proofs.lemmas.List.{length-append, length-drop, length-map, length-take}
+use Rattle.std.proofs.lemmas.Bool.{and_from, and_parts}
+use Rattle.std.proofs.lemmas.List.{length-map}
 use Rattle.std.proofs.lemmas.List.Folds.{list_all-append}
 use Rattle.std.proofs.lemmas.List.FromFn.{length-enumerate_from}
 use Rattle.std.proofs.lemmas.Option.{slice_get-get_or, slice_get_within}
@@ -16,9 +16,8 @@ use Rattle.check_numbers.proofs.NameLemmas.{parted_name}
 use Rattle.check_rules.specs.declared.standing.Kind.{Kind}
 use Rattle.check_rules.specs.declared.standing.Kind.TheVariants as kind
 use Rattle.check_rules.specs.declared.standing.Standing.{Standing}
-use Rattle.check_rules.specs.declared.state.State as rules
 use Rattle.check_rules.specs.Standing.{is_lawful, is_soft_problem, pending_standing}
-use Rattle.check_rules.specs.State.{fine_state, is_host_state, is_problem}
+use Rattle.check_rules.specs.State.{fine_state, is_problem}
 use Rattle.check_rules.proofs.VerdictLaws.{pending_is_lawful, pending_sort}
 use Rattle.check_sched.specs.Roster.{running_among}
 use Rattle.check_sched.specs.Saved.{IsSaved, IsSavedObject, Saved, SavedObject, each_object, earlier_time, first_time, given_up, keeps_time, results_of, resumed}
@@ -245,7 +244,7 @@ saved_is saved name x is e =
 -- ---- what is made of each object
 
 -- each is made of the object in its place
-made_at : {X : Type 0} (made : ℕ × Named → X) (k n : ℕ) (os : List Named) (x : X) → slice_get (map made (enumerate_from k os)) n ≡ Some x
+pub made_at : {X : Type 0} (made : ℕ × Named → X) (k n : ℕ) (os : List Named) (x : X) → slice_get (map made (enumerate_from k os)) n ≡ Some x
     → (o : Named) × (slice_get os n ≡ Some o) × (made (k + n, o) ≡ x)
 made_at made k n [] x e = cc
 made_at made k zero (o ∷ os) x e =
@@ -263,20 +262,22 @@ all_made : {X : Type 0} (p : X → Bool) (made : ℕ × Named → X) (k : ℕ) (
 all_made p made k [] h = refl
 all_made p made k (o ∷ os) h = and_from (p (made (k, o))) _ (h k o) (all_made p made (k + 1) os h)
 
-length-made : {X : Type 0} (c : Configuration) (made : ℕ × Named → X) → length (each_object c made) ≡ object_count c
+pub length-made : {X : Type 0} (c : Configuration) (made : ℕ × Named → X) → length (each_object c made) ≡ object_count c
 length-made c made = length-map (enumerate_from 0 (objects_of c)) made ∙ length-enumerate_from 0 (objects_of c)
 
 -- ---- the sort of an object's name
 
+read_at_place : (ts : List Service) (i : ℕ) (x : Service) → slice_get ts i ≡ Some x → x ≡ get_or ts i x
+read_at_place ts i x f = let l = slice_get_within ts i x f in let g = slice_get-get_or ts i x l in let both : Some x ≡ Some (get_or ts i x) = sym f ∙ g in cc
+
+-- a service has its full name
+pub named_by_pair : (c : Configuration) (j : ℕ) (t : Service) → IsSetup c → slice_get c.services j ≡ Some t → t.name ≡ full_name (pair_of c t)
+named_by_pair c j t valid e =
+    subst (λ (x : Service). x.name ≡ full_name (pair_of c x)) (sym (read_at_place c.services j t e))
+    (valid.full_names j t (slice_get_within c.services j t e))
+
 sort_of_service : (c : Configuration) (j : ℕ) (t : Service) → IsSetup c → slice_get c.services j ≡ Some t → is_host_name t.name ≡ false
-sort_of_service c j t valid e =
-    let read : t ≡ get_or c.services j t = read_of c.services j t e in
-    let named : t.name ≡ full_name (pair_of c t) =
-    subst (λ (x : Service). x.name ≡ full_name (pair_of c x)) (sym read) (valid.full_names j t (slice_get_within c.services j t e)) in
-    ap is_host_name named ∙ parted (pair_of c t).0 (pair_of c t).1
-  where
-    read_of : (ts : List Service) (i : ℕ) (x : Service) → slice_get ts i ≡ Some x → x ≡ get_or ts i x
-    read_of ts i x f = let l = slice_get_within ts i x f in let g = slice_get-get_or ts i x l in let both : Some x ≡ Some (get_or ts i x) = sym f ∙ g in cc
+sort_of_service c j t valid e = ap is_host_name (named_by_pair c j t valid e) ∙ parted (pair_of c t).0 (pair_of c t).1
 
 below_suc : (a b : ℕ) (less : Bool) → nat_lt a b ≡ less → less ≡ nat_lt (suc a) (suc b)
 below_suc a b true e = let more : nat_lt (suc a) (suc b) ≡ true = grind (arith, nat_tests, e) in sym more
@@ -402,6 +403,7 @@ resumed_is_state c saved start valid is m within =
     let made : ℕ × Named → Scheduling = λ p. scheduling_of c (first_time c start p.0) p.1.object (saved_named saved p.1.name) in
     record {
       valid_setup = valid;
+      start = m;
       one_each = within_cases (λ os. length os ≡ object_count c) c start (each_object c made) (λ b. length-made c made)
           (length-freed (host_count c) start (each_object c made) ∙ length-made c made);
       one_standing_each = length-made c _;

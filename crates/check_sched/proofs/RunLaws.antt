@@ -1,7 +1,7 @@
 -- No object is taken while it runs: what a history alone says of runs is what the state says that its calls leave.
-use Rattle.std.proofs.Common.{◌≡◌, ◌≢◌, ℕ, zero, suc, ◌+◌, ◌<◌, ◌==◌, ◌&&◌, ◌||◌, Bool, true, false, not, cond, List, [], ◌∷◌, ◌++◌, length, Option, Some}
+use Rattle.std.proofs.Common.{◌≡◌, ℕ, suc, ◌+◌, ◌<◌, ◌==◌, ◌&&◌, ◌||◌, Bool, true, false, not, cond, List, [], ◌∷◌, ◌++◌, length, Option, Some}
 use Rattle.std.proofs.Common.{None, Ok, Err, option_map, refl, sym, ap, ◌∙◌, arith, inl, inr}
-use Rattle.std.specs.Prelude.{is_none, nat_le, nat_lt, option_and_then, slice_get}
+use Rattle.std.specs.Prelude.{is_none, nat_le, nat_lt, slice_get}
 use Rattle.std.specs.List.{cons_option, enumerate_from, filter_map, list_all, list_any}
 use Rattle.std.proofs.lemmas.Bool.Decides.{nat_tests}
 use Rattle.std.proofs.lemmas.Bool.{and_from, eqb-true, eq-eqb, cases_eq, or_parts}
@@ -15,7 +15,7 @@ use Rattle.check_sched.specs.declared.call.Reply.TheVariants as reply
 use Rattle.check_sched.specs.declared.call.Refusal.TheVariants as refusal
 use Rattle.check_sched.specs.Candidate.{Candidate, candidate, candidates_among}
 use Rattle.check_queue.specs.Order.{least}
-use Rattle.check_sched.specs.Scheduling.{Scheduling, OpenRun, candidate_time, run_under, running_from}
+use Rattle.check_sched.specs.Scheduling.{Scheduling, OpenRun, candidate_time, run_under}
 use Rattle.check_sched.specs.State.{State, is_host}
 use Rattle.check_sched.specs.Step.{candidates, due, eligible, is_open, known, step, taken, update_at, waiting_reply, within_range}
 use Rattle.check_sched.specs.Runs.{begins, begins_by, ends, ends_by, runs_begun, runs_under, takes_by}
@@ -193,7 +193,7 @@ waiting_runs : (now : ℕ) (s : State) → s.runs ≡ s.runs + cond (takes_by (w
 waiting_runs now s = waiting_runs_by (list_any (λ c. not (is_host s.setup c.1)) (due now s)) s (option_map (λ c. c.0) (least (candidates s)))
 
 -- a run goes on through a history that doesn't end it
-keeps_running : (s : State) (h : List (Entry Call Reply)) (o r : ℕ) → IsLegal step s h → run_in o s.objects ≡ Some r → list_any (ends o r) h ≡ false
+pub keeps_running : (s : State) (h : List (Entry Call Reply)) (o r : ℕ) → IsLegal step s h → run_in o s.objects ≡ Some r → list_any (ends o r) h ≡ false
     → run_in o (replay step s h).objects ≡ Some r
 keeps_running s [] o r legal runs none = runs
 keeps_running s (e ∷ h) o r legal runs none =
@@ -260,9 +260,26 @@ taken_once s front back e o r other legal is =
     (runs_in_state s front o other (legal_front s front (e ∷ back) legal))
 
 -- its run has the next number
-pub taken_next : (s : State) (front back : List (Entry Call Reply)) (e : Entry Call Reply) (o r : ℕ) → s.runs ≡ 0
-    → IsLegal step s (front ++ e ∷ back) → begins o r e ≡ true → r ≡ runs_begun front + 1
-taken_next s front back e o r none legal is =
+pub taken_number : (s : State) (front back : List (Entry Call Reply)) (e : Entry Call Reply) (o r : ℕ) → IsLegal step s (front ++ e ∷ back)
+    → begins o r e ≡ true → r ≡ s.runs + runs_begun front + 1
+taken_number s front back e o r legal is =
     let begun = begun_by (replay step s front) e o r (legal_back s front (e ∷ back) legal).0 is in
     let count = runs_count s front (legal_front s front (e ∷ back) legal) in
-    omega (arith, begun.next, count, none)
+    omega (arith, begun.next, count)
+
+pub taken_next : (s : State) (front back : List (Entry Call Reply)) (e : Entry Call Reply) (o r : ℕ) → s.runs ≡ 0
+    → IsLegal step s (front ++ e ∷ back) → begins o r e ≡ true → r ≡ runs_begun front + 1
+taken_next s front back e o r none legal is = let next = taken_number s front back e o r legal is in omega (arith, next, none)
+
+or_else : (b : Bool) → (b ≡ false → ⊥) → b ≡ true
+or_else true none = refl
+or_else false none = absurd (none refl)
+
+-- neither is one that was running before all taken, until that run has ended
+pub taken_after : (s : State) (front back : List (Entry Call Reply)) (e : Entry Call Reply) (o r other : ℕ) → IsLegal step s (front ++ e ∷ back)
+    → begins o r e ≡ true → run_in o s.objects ≡ Some other → list_any (ends o other) front ≡ true
+taken_after s front back e o r other legal is out =
+    let begun = begun_by (replay step s front) e o r (legal_back s front (e ∷ back) legal).0 is in
+    or_else (list_any (ends o other) front)
+    (λ f. none_some (run_in o (replay step s front).objects) other begun.free
+    (keeps_running s front o other (legal_front s front (e ∷ back) legal) out f))

@@ -1,15 +1,14 @@
 -- Laws of what is kept: over the same setup a scheduler goes on as if it had never been put down.
-use Rattle.std.proofs.Common.{◌≡◌, ℕ, zero, suc, ◌+◌, ◌-◌, ◌<◌, ◌≤◌, ◌==◌, ◌&&◌, ◌||◌, Bool, true, false, cond, List, [], ◌∷◌, length, map, drop, min}
-use Rattle.std.proofs.Common.{Option, Some, None, refl, sym, ap, ◌∙◌, arith, bytes_eq}
+use Rattle.std.proofs.Common.{◌≡◌, ℕ, zero, suc, ◌+◌, ◌-◌, ◌<◌, ◌≤◌, ◌==◌, ◌||◌, Bool, true, false, List, [], ◌∷◌, length, map, drop, min}
+use Rattle.std.proofs.Common.{Option, Some, refl, sym, ap, ◌∙◌, arith, bytes_eq}
 use Rattle.std.specs.Prelude.{find, nat_lt, not, slice_get}
 use Rattle.std.specs.List.{enumerate_from}
 use Rattle.std.proofs.lemmas.Bool.Decides.{nat_tests}
-use Rattle.std.proofs.lemmas.Bool.{and_parts, eqb-true, eq-eqb}
+use Rattle.std.proofs.lemmas.Bool.{eq-eqb}
 use Rattle.std.proofs.lemmas.Option.{slice_get_within}
 use Rattle.std.proofs.lemmas.Slice.Eq.{bytes_eq-Decides}
-use Rattle.check_objects.specs.Configuration.{Configuration, IsSetup, Named, host_count, name_of, number_of, object_count, objects_of}
+use Rattle.check_objects.specs.Configuration.{Configuration, IsSetup, Named, host_count, name_of, number_of, objects_of}
 use Rattle.check_numbers.proofs.NameLemmas.{name_leads_back, names_of_setup, same_text}
-use Rattle.check_rules.specs.declared.state.State as rules
 use Rattle.check_rules.specs.declared.standing.Kind.{Kind}
 use Rattle.check_rules.specs.declared.standing.Kind.TheVariants as kind
 use Rattle.check_rules.specs.declared.standing.Standing.{Standing}
@@ -19,7 +18,7 @@ use Rattle.check_sched.specs.Roster.{running_among}
 use Rattle.check_sched.specs.Saved.{is_same_switch, objects_resumed, resumed, results_resumed, saved_named, saved_object, saved_of, standing_kept}
 use Rattle.check_sched.specs.Saved.{standings_resumed, within_limit}
 use Rattle.check_sched.specs.Scheduling.{Scheduling}
-use Rattle.check_sched.specs.State.{IsState, IsWithinLimit, State, limit_of, max_attempts_of, results_at, running_services, scheduling_at, standing_at}
+use Rattle.check_sched.specs.State.{IsState, IsWithinLimit, State, limit_of, max_attempts_of, running_services}
 
 -- ---- an object by its name
 

@@ -106,6 +106,7 @@ taken_is_state now n s is_state m r may =
     let moment : nat_le now (2 ^ 60) ≡ true = grind (arith, nat_tests, m) in
     record {
       valid_setup = is_state.valid_setup;
+      start = is_state.start;
       one_each = length-update_at n _ s.objects ∙ is_state.one_each;
       one_standing_each = is_state.one_standing_each;
       results_each = is_state.results_each;

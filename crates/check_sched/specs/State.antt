@@ -172,6 +172,7 @@ AreResultsOf setup number results = AreResultsFor (is_host setup number) results
 -- what is true of every state that a scheduler can be in
 pub record IsState (s : State) : Type 0 where
   pub valid_setup : IsSetup s.setup
+  pub start : s.start ≤ 2 ^ 60
   pub one_each : length s.objects ≡ object_count s.setup
   pub one_standing_each : length s.standings ≡ object_count s.setup
   pub results_each : length s.results ≡ object_count s.setup

@@ -1,6 +1,7 @@
 //! Laws of the definitions, each the contract of a function without parameters and code.
 
 ghost use Rattle.std.specs.Prelude.{ℕ, ◌≡◌, ◌+◌, ◌^◌, ◌<◌, ◌≤◌, true, false, List, ◌∷◌, ◌++◌, Some, slice_get};
+ghost use Rattle.std.specs.List.{list_any};
 ghost use Rattle.ticket_steps.specs.declared.kept.Entry.{Entry};
 ghost use Rattle.ticket_steps.specs.History.{replay, IsLegal};
 ghost use Rattle.circular_buffer.specs.Buffer.{keep_last};
@@ -11,9 +12,9 @@ ghost use Rattle.check_rules.specs.Standing.{pending_standing};
 ghost use Rattle.check_sched.specs.declared.sched.TheConstants.{MAX_RUNS};
 ghost use Rattle.check_sched.specs.declared.call.Call.{Call};
 ghost use Rattle.check_sched.specs.Saved.{IsSaved, Saved, resumed, saved_of};
-ghost use Rattle.check_sched.specs.State.{IsStandingOf, IsState, IsWithinLimit, State, flap_thresholds_of, is_host, opening, results_at, standing_at};
+ghost use Rattle.check_sched.specs.State.{IsStandingOf, IsState, IsWithinLimit, State, flap_thresholds_of, is_host, opening, results_at, run_number_of, standing_at};
 ghost use Rattle.check_sched.specs.Step.{after, step};
-ghost use Rattle.check_sched.specs.Runs.{begins, runs_begun, runs_under};
+ghost use Rattle.check_sched.specs.Runs.{begins, ends, runs_begun, runs_under};
 ghost use Rattle.check_sched.specs.Flapping.{flapping_in, never_checked, states_told, with_results};
 ghost use Rattle.check_sched.specs.declared.call.Reply.{Reply};
 
@@ -91,8 +92,57 @@ pub fn resumed_over_the_same()
 {}
 
 /// Whatever was kept, and whatever setup a scheduler goes on over from whatever moment, it goes on in a
-/// state that one can be in.
+/// state that one can be in (`resumed`). What is kept of a scheduler, in whatever state it can be, is
+/// such a thing (`saved`).
 pub fn resumed_states()
-    ensures { (setup : Configuration) → (saved : Saved) → (start : ℕ) → IsSetup setup → IsSaved saved
-        → start ≤ LAST_MOMENT → IsState (resumed setup saved start) }
+    ensures resumed { (setup : Configuration) → (saved : Saved) → (start : ℕ) → IsSetup setup
+        → IsSaved saved → start ≤ LAST_MOMENT → IsState (resumed setup saved start) }
+    ensures saved { (s : State) → IsState s → IsSaved (saved_of s) }
+{}
+
+/// What is said of a scheduler that was opened is so from every state on that one can be in, as a
+/// scheduler is that goes on from what was kept: whatever calls are made, no more services are being
+/// checked than the limit allows (`limit`), an object that was never checked stands as pending
+/// (`never_checked`), and each object has a standing that it can have (`standings`).
+pub fn from_any_state()
+    ensures limit { (s : State) → (calls : List Call) → IsState s → IsWithinLimit (after s calls) }
+    ensures never_checked { (s : State) → (calls : List Call) → (object : ℕ) → (standing : Standing)
+        → IsState s → slice_get (after s calls).standings object ≡ Some standing
+        → standing.checked ≡ false → standing ≡ pending_standing (is_host s.setup object) }
+    ensures standings { (s : State) → (history : List (Entry Call Reply)) → (object : ℕ) → IsState s
+        → object < object_count s.setup
+        → IsStandingOf s.setup object (standing_at (replay step s history).standings object) }
+{}
+
+/// In every legal history from such a state on: no object is taken while it runs by the history
+/// (`once`), nor while it runs from before, until that run has ended (`out`); and the numbers of runs
+/// go on from those that were handed out before (`numbers`), so that no number comes twice.
+pub fn runs_from_any_state()
+    ensures once { (s : State) → (front back : List (Entry Call Reply)) → (e : Entry Call Reply)
+        → (object run other : ℕ) → IsLegal step s (front ++ e ∷ back) → begins object run e ≡ true
+        → runs_under object other front ≡ false }
+    ensures out { (s : State) → (front back : List (Entry Call Reply)) → (e : Entry Call Reply)
+        → (object run other : ℕ) → IsLegal step s (front ++ e ∷ back) → begins object run e ≡ true
+        → run_number_of object s ≡ Some other → list_any (ends object other) front ≡ true }
+    ensures numbers { (s : State) → (front back : List (Entry Call Reply)) → (e : Entry Call Reply)
+        → (object run : ℕ) → IsLegal step s (front ++ e ∷ back) → begins object run e ≡ true
+        → run ≡ s.runs + runs_begun front + 1 }
+{}
+
+/// In every legal history from such a state on, what it has of an object's results is what the history
+/// tells, behind the results that were kept before (`fold`, `last`).
+pub fn flaps_from_any_state()
+    ensures fold { (s : State) → (history : List (Entry Call Reply)) → (object : ℕ) → IsState s
+        → IsLegal step s history → flapping_in (replay step s history) object
+        ≡ with_results (flap_thresholds_of s.setup object) (flapping_in s object)
+        (states_told object history) }
+    ensures last { (s : State) → (history : List (Entry Call Reply)) → (object : ℕ) → IsState s
+        → IsLegal step s history → results_at (replay step s history).results object
+        ≡ keep_last 21 (results_at s.results object ++ states_told object history) }
+{}
+
+/// No call reads the moment at which scheduling started, and none changes it.
+pub fn start_is_not_read()
+    ensures { (s : State) → (start : ℕ) → (call : Call) → step (record s { start = start }) call
+        ≡ (record (step s call).0 { start = start }, (step s call).1) }
 {}

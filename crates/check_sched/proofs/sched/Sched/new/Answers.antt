@@ -27,7 +27,7 @@ invariant_of-result c =
       state =
           rw c.in-Ok-new.ensures (opened_is_state c.args.setup c.args.start times times c.in-Ok.objects.items
           c.in-Ok-opening_standings.standings.items c.in-Ok-none.results
-          made.valid_setup refl made.one_each made.within refl made.items c.in-Ok-opening_standings.ensures
+          made.valid_setup c.requires refl made.one_each made.within refl made.items c.in-Ok-opening_standings.ensures
           (c.in-Ok-none.ensures ∙ ap (λ count. replicate count []) c.len.ensures.count));
       marks = let l = c.in-Ok-vec.ensures.len in let m = c.len-2.ensures.count in omega (arith, l, m);
       hosts = ap (λ (r : RosterState). r.hosts) c.in-Ok-new.ensures ∙ c.hosts.ensures.count;
