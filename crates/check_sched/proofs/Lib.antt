@@ -8,6 +8,7 @@ pub mod KeptLaws
 pub mod LimitLaws
 pub mod OpeningLaws
 pub mod OperatorLaws
+pub mod OrderedLaws
 pub mod OutLaws
 pub mod PendingLaws
 pub mod PublicLaws

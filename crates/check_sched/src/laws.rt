@@ -2,6 +2,7 @@
 
 ghost use Rattle.std.specs.Prelude.{ℕ, ◌≡◌, ◌+◌, ◌^◌, ◌<◌, ◌≤◌, true, false, List, ◌∷◌, ◌++◌, Some, slice_get};
 ghost use Rattle.std.specs.List.{list_any};
+ghost use Rattle.std.specs.List.Sorted.{IsPermutation};
 ghost use Rattle.ticket_steps.specs.declared.kept.Entry.{Entry};
 ghost use Rattle.ticket_steps.specs.History.{replay, IsLegal};
 ghost use Rattle.circular_buffer.specs.Buffer.{keep_last};
@@ -11,7 +12,7 @@ ghost use Rattle.check_rules.specs.declared.standing.Standing.{Standing};
 ghost use Rattle.check_rules.specs.Standing.{pending_standing};
 ghost use Rattle.check_sched.specs.declared.sched.TheConstants.{MAX_RUNS};
 ghost use Rattle.check_sched.specs.declared.call.Call.{Call};
-ghost use Rattle.check_sched.specs.Saved.{IsSaved, Saved, resumed, saved_of};
+ghost use Rattle.check_sched.specs.Saved.{IsSaved, Saved, SavedObject, resumed, saved_of};
 ghost use Rattle.check_sched.specs.State.{IsStandingOf, IsState, IsWithinLimit, State, flap_thresholds_of, is_host, opening, results_at, run_number_of, standing_at};
 ghost use Rattle.check_sched.specs.Step.{after, step};
 ghost use Rattle.check_sched.specs.Runs.{begins, ends, runs_begun, runs_under};
@@ -98,6 +99,14 @@ pub fn resumed_states()
     ensures resumed { (setup : Configuration) → (saved : Saved) → (start : ℕ) → IsSetup setup
         → IsSaved saved → start ≤ LAST_MOMENT → IsState (resumed setup saved start) }
     ensures saved { (s : State) → IsState s → IsSaved (saved_of s) }
+{}
+
+/// The order of what was kept says nothing: in any other order a scheduler goes on from it in the same
+/// state.
+pub fn resumed_in_any_order()
+    ensures { (setup : Configuration) → (saved : Saved) → (others : List SavedObject) → (start : ℕ)
+        → IsSaved saved → IsPermutation saved.objects others
+        → resumed setup (record saved { objects = others }) start ≡ resumed setup saved start }
 {}
 
 /// What is said of a scheduler that was opened is so from every state on that one can be in, as a
