@@ -7,13 +7,9 @@ use Rattle.check_sched.specs.declared.call.Reply.{Reply}
 use Rattle.check_sched.specs.State.{State}
 use Rattle.check_sched.specs.Step.{step}
 use Rattle.check_sched.proofs.StandingLaws.{replay_setup}
+pub use Rattle.check_sched.proofs.StateLaws.{joined_legal}
 use Rattle.check_book.specs.BookState.{BookState, book_at, book_step}
 use Rattle.check_book.proofs.HistoryLaws.{book_is_legal, book_sched}
-
-pub joined_legal : (opened : State) (earlier later : List (Entry Call Reply)) → IsLegal step opened earlier
-    → IsLegal step (replay step opened earlier) later → IsLegal step opened (earlier ++ later)
-joined_legal opened [] later legal goes_on = goes_on
-joined_legal opened (e ∷ earlier) later legal goes_on = (legal.0, joined_legal (step opened e.call).0 earlier later legal.1 goes_on)
 
 pub joined_state : (opened : State) (earlier later : List (Entry Call Reply))
     → replay step opened (earlier ++ later) ≡ replay step (replay step opened earlier) later

@@ -20,6 +20,7 @@ pub mod ResumedLaws
 pub mod RunLaws
 pub mod SavedLaws
 pub mod StandingLaws
+pub mod StateLaws
 pub mod StepLaws
 pub mod TakeLaws
 pub mod UpdateLaws

@@ -1,12 +1,12 @@
 -- The order of what is kept says nothing: in any order a scheduler goes on from it in the same state.
-use Rattle.std.proofs.Common.{◌≡◌, ℕ, ◌+◌, ◌||◌, Bool, true, false, cond, List, [], ◌∷◌, length, map, Option, Some, None, bytes_eq, refl, sym, ap, ◌∙◌}
+use Rattle.std.proofs.Common.{◌≡◌, ℕ, ◌+◌, ◌||◌, Bool, true, false, cond, List, [], ◌∷◌, map, Some, None, bytes_eq, refl, sym, ap, ◌∙◌}
 use Rattle.std.specs.Prelude.{find, slice_get}
 use Rattle.std.specs.List.{Contains, enumerate_from, list_any}
 use Rattle.std.specs.List.Sorted.{IsPermutation}
 use Rattle.std.proofs.lemmas.List.Sorted.{Contains-permutation, IsPermutation-sym, list_any-IsPermutation}
 use Rattle.std.proofs.lemmas.Option.{get_or_from_slice_get, slice_get-get_or, slice_get_within}
 use Rattle.check_objects.specs.Configuration.{Configuration, Named, objects_of}
-use Rattle.check_sched.specs.Saved.{IsSaved, Saved, SavedObject, each_object, first_time, resumed, results_of, saved_named, scheduling_of, standing_of, within_limit}
+use Rattle.check_sched.specs.Saved.{IsSaved, Saved, SavedObject, first_time, resumed, results_of, saved_named, scheduling_of, standing_of, within_limit}
 use Rattle.check_sched.specs.State.{is_host}
 use Rattle.check_sched.proofs.ResumedLaws.{found_at}
 use Rattle.check_sched.proofs.SavedLaws.{text_is}

@@ -122,7 +122,7 @@ pub object_read_in_range : (setup : Configuration) (n : ℕ) (o : Object) → Is
     → option_map (λ x. x.object) (slice_get (objects_of setup) n) ≡ Some o → is_object_in_range o ≡ true
 object_read_in_range setup n o h f = read_by setup n o (slice_get (objects_of setup) n) h refl f
 
-time_by : (none : Bool) (time : ℕ) → time ≤ 2 ^ 61 → is_time (cond none None (Some time)) ≡ true
+pub time_by : (none : Bool) (time : ℕ) → time ≤ 2 ^ 61 → is_time (cond none None (Some time)) ≡ true
 time_by true time h = refl
 time_by false time h = grind (arith, nat_tests, h)
 

@@ -55,7 +55,7 @@ sort_by setup standings n c false None there = absurd (there refl refl)
 sort_by setup standings n c false (Some s) there = service_sort c
 
 -- a check of a host finds a state of hosts, one of a service a state of services
-found_sort : (s : State) (n : ℕ) (c : Code) → n < object_count s.setup → is_host_state (found_in s n c) ≡ is_host s.setup n
+pub found_sort : (s : State) (n : ℕ) (c : Code) → n < object_count s.setup → is_host_state (found_in s n c) ≡ is_host s.setup n
 found_sort s n c there =
     sort_by s.setup s.standings n c (nat_lt n (host_count s.setup)) (slice_get s.setup.services (n - host_count s.setup))
     (λ past none.

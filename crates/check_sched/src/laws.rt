@@ -101,6 +101,17 @@ pub fn resumed_states()
     ensures saved { (s : State) → IsState s → IsSaved (saved_of s) }
 {}
 
+/// Every call leaves a state that a scheduler can be in (`states`). So histories join: what is legal up to
+/// where a scheduler was put down, and from where one goes on over the same setup, from whatever moment,
+/// is legal together (`joined`).
+pub fn resumed_histories_join()
+    ensures states { (s : State) → (call : Call) → IsState s → IsState (step s call).0 }
+    ensures joined { (s : State) → (before later : List (Entry Call Reply)) → (start : ℕ) → IsState s
+        → IsLegal step s before
+        → IsLegal step (resumed (replay step s before).setup (saved_of (replay step s before)) start) later
+        → IsLegal step s (before ++ later) }
+{}
+
 /// The order of what was kept says nothing: in any other order a scheduler goes on from it in the same
 /// state.
 pub fn resumed_in_any_order()
