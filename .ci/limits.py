@@ -101,6 +101,28 @@ def too_many(held):
     refused(held, "16,385 dependencies", "L3 TooMany", explanation, host_dependencies=[depends("a", "b", criteria="d")] * (PARENTS + 1))
 
 
+def explained_at_limits(held):
+    """Lists at their limits aren't told as too many beside one that is past its own, and a count is told before any other fault."""
+    full = {"hosts": [host(f"h{n}", parents=["h0"] * 4) for n in range(4_096)]}
+    at_limits = [f"{word} {count}" for word, count in {
+        "hosts": 4_096, "services": 0, "dependencies": PARENTS, "parents": PARENTS - 4, "dependency_chain": 1, "parent_chain": 1, "scheduled": 4_096,
+        "disabled": 0, "without_interval": 0, "host_delay": "none", "host_first": 0, "host_last": 0, "service_delay": "none", "service_first": "none",
+        "service_last": "none", "interleave_factor": 1}.items()]
+    full["hosts"][0] = host("h0")
+    document = lines(setup(**full, host_dependencies=[depends("h2", "h1", criteria="d")] * PARENTS))
+    held.compare("three lists at their limits, checked", (lines("setup ok", *at_limits), 0), held.run(["check"], document))
+    full["hosts"][0] = host("h0", parents=["x"] * 4)
+    explanation = "there are 16385 dependencies of both sorts; there can be 16384"
+    many = {"service_dependencies": [depends("a", "b")], "host_dependencies": [depends("a", "b", criteria="d")] * PARENTS}
+    refused(held, "16,384 parents and 16,385 dependencies", "L3 TooMany", explanation, **full, **many)
+    full["hosts"][1] = host("h1", parents=["x"] * 5)
+    explanation = "there are 16385 parents of all hosts; there can be 16384"
+    refused(held, "4,096 hosts and 16,385 parents", "L3 TooMany", explanation, **full, **many)
+    explanation = "there are 4097 hosts and services; there can be 4096"
+    odd = [host("a;", parents=["x"] * 5, max_check_attempts=0) for _ in range(4_096)]
+    refused(held, "4,097 objects with each other fault", "L3 TooMany", explanation, hosts=odd, services=[service("", "")], **many)
+
+
 def most_dependencies(held):
     """As many dependencies as there can be, all of one host on another."""
     members = {"hosts": [host("a"), host("b")], "host_dependencies": [depends("a", "b", criteria="d")] * PARENTS}
@@ -196,6 +218,7 @@ def long_inputs(held):
 
 
 held = Held("limits")
-for part in (many_objects, long_names, many_parents, too_many, most_dependencies, long_chain, long_cycles, last_of_many, places, long_inputs):
+LISTS = (many_objects, long_names, many_parents, too_many, explained_at_limits, most_dependencies, long_chain, long_cycles, last_of_many)
+for part in (*LISTS, places, long_inputs):
     part(held)
 held.end()
