@@ -2,3 +2,4 @@ pub mod Passes
 pub mod Desks
 pub mod Belonging
 pub mod Schedules
+pub mod Reports

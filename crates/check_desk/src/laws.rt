@@ -1,6 +1,6 @@
 //! Laws without code: what is so of the history that all callers share, and of every pass.
 
-ghost use Rattle.std.specs.Prelude.{ℕ, ◌≡◌, ◌+◌, ◌<◌, ◌≤◌, ◌^◌, List, [], ◌∷◌, ◌++◌, length, true, false};
+ghost use Rattle.std.specs.Prelude.{ℕ, ◌≡◌, ◌+◌, ◌<◌, ◌≤◌, ◌^◌, List, [], ◌∷◌, ◌++◌, length, Bool, true, false, Option, Some};
 ghost use Rattle.std.specs.List.{All};
 ghost use mathlib.Core.Option.{some};
 ghost use lib.ListN.{get_elem?};
@@ -8,21 +8,30 @@ ghost use Rattle.ticket_steps.specs.declared.kept.Entry.{Entry};
 ghost use Rattle.ticket_steps.specs.declared.seats.CoreSeat.{CoreSeat};
 ghost use Rattle.ticket_steps.specs.Books.{calls_taken};
 ghost use Rattle.ticket_steps.specs.Happenings.{calls_made, recorded_by};
-ghost use Rattle.ticket_steps.specs.History.{of, replay, IsLegal};
+ghost use Rattle.ticket_steps.specs.History.{entry, of, replay, IsLegal};
 ghost use Rattle.ticket_steps.specs.Schedules.{Schedule};
 ghost use Rattle.ticket_steps.specs.Seats.{posted_one};
 ghost use Rattle.ticket_steps.specs.Sums.{times};
+ghost use Rattle.ticket_lock.specs.Callers.{Caller, drawn};
+ghost use Rattle.ticket_lock.specs.Views.{Follows};
 ghost use Rattle.check_objects.specs.Configuration.{Configuration};
+ghost use Rattle.check_rules.specs.declared.standing.Standing.{Standing};
+ghost use Rattle.check_rules.specs.declared.state.Code.{Code};
 ghost use Rattle.check_sched.specs.declared.call.Call.{Call};
+ghost use Rattle.check_sched.specs.declared.call.Call.TheVariants as call;
 ghost use Rattle.check_sched.specs.declared.call.Reply.{Reply};
+ghost use Rattle.check_sched.specs.declared.call.Reply.TheVariants as reply;
 ghost use Rattle.check_sched.specs.Runs.{begins, runs_begun, runs_under};
 ghost use Rattle.check_sched.specs.State.{opening};
 ghost use Rattle.check_sched.specs.Step.{step};
 ghost use Rattle.check_book.specs.BookState.{BookState};
 ghost use Rattle.check_desk.specs.declared.desk.Desk.{Desk};
+ghost use Rattle.check_desk.specs.declared.passes.Hold.{Hold};
 ghost use Rattle.check_desk.specs.declared.passes.Pass.{Pass};
-ghost use Rattle.check_desk.specs.Desks.{AreNewPasses, IsHistoryOf, IsPassOf};
-ghost use Rattle.check_desk.specs.Passes.{pass_of};
+ghost use Rattle.check_desk.specs.declared.passes.Turn.{Turn};
+ghost use Rattle.check_desk.specs.Desks.{AreNewPasses, HasRecorded, IsHistoryOf, IsPassOf, objects_of, recorded, standing_after};
+ghost use Rattle.check_desk.specs.Passes.{holder_of, pass_of, waiting_of};
+ghost use Rattle.check_desk.specs.Reports.{HasNoReport, HasSeen, IsAfter};
 ghost use Rattle.check_desk.specs.Schedules.{IsScheduleAfter, IsScheduleOver};
 
 /// A law without code: whatever callers do, and in whatever order the steps of their passes come,
@@ -128,4 +137,45 @@ pub fn every_pass()
     ensures few_calls { (pass : Pass) → (pass_of pass).calls < 2 ^ 42 }
     ensures new { (desk : Desk) → (number : ℕ) → (passes : List Pass)
         → AreNewPasses desk number passes → All (IsPassOf desk) passes }
+{}
+
+/// A report whose call has returned is on the board, for the pass that made it and for each that has
+/// gathered it: by what `finish`, `ask`, `gather` and `glance` say, and no clause more.
+///
+/// The call stands in what its pass has seen, under its own number (`finished`, `asked`). It goes on
+/// to stand there while a turn waits (`waiting`), and in all that begins with what was seen (`later`),
+/// as what that pass sees by later polls, calls and glances does, and what a pass has seen that
+/// gathered it. So what such a pass glances of an object is the standing after a history of the desk
+/// that contains the call (`glanced`). Where the call is a report that was answered by the object's
+/// standing, and none that was comes behind it, it is that very standing (`told`).
+///
+/// Of other passes no clause says so: they may be shown the standing before it, as far as contracts
+/// know. That a report is posted before its turn ends is the order of operations on the atomic word.
+pub fn returned_reports()
+    ensures finished { (call : Call) → (reply : Reply) → (hold : Hold) → (pass : Pass)
+        → pass_of pass ≡ recorded call reply (holder_of hold).seen (holder_of hold)
+        → HasSeen (entry (holder_of hold).own call reply) (pass_of pass) }
+    ensures asked { (call : Call) → (reply : Reply) → (before after : Pass)
+        → HasRecorded call reply (pass_of before) (pass_of after)
+        → HasSeen (entry (pass_of before).own call reply) (pass_of after) }
+    ensures waiting { (e : Entry Call Reply) → (pass : Pass) → (turn : Turn)
+        → waiting_of turn ≡ drawn (pass_of pass) → HasSeen e (pass_of pass)
+        → HasSeen e (waiting_of turn) }
+    ensures later { (e : Entry Call Reply) → (caller after : Caller Call Reply)
+        → Follows caller.numbers caller.seen after.seen → HasSeen e caller → HasSeen e after }
+    ensures glanced { (desk : Desk) → (e : Entry Call Reply) → (before after : Pass) → (object : ℕ)
+        → (standing : Option Standing) → HasSeen e (pass_of before)
+        → Follows (pass_of before).numbers (pass_of before).seen (pass_of after).seen
+        → IsHistoryOf desk (pass_of after).seen
+        → standing ≡ Some (standing_after desk (pass_of after).seen object)
+        → IsAfter desk e object standing }
+    ensures told { (desk : Desk) → (before since : List (Entry Call Reply))
+        → (own object run : ℕ) → (code : Code) → (standing : Standing) → (changed : Bool)
+        → (next : Option ℕ) → object < objects_of desk
+        → IsHistoryOf desk (before
+        ++ entry own (call.Report object run code) (reply.Standing standing changed next) ∷ since)
+        → HasNoReport object since
+        → standing_after desk (before
+        ++ entry own (call.Report object run code) (reply.Standing standing changed next) ∷ since)
+        object ≡ standing }
 {}
