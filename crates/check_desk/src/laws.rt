@@ -1,4 +1,5 @@
-//! Laws without code: what is so of the history that all callers share, and of every pass.
+//! Laws without code: what is so of the history that all callers share, of every pass, and of calls
+//! that have returned.
 
 ghost use Rattle.std.specs.Prelude.{ℕ, ◌≡◌, ◌+◌, ◌<◌, ◌≤◌, ◌^◌, List, [], ◌∷◌, ◌++◌, length, Bool, true, false, Option, Some};
 ghost use Rattle.std.specs.List.{All};

@@ -22,15 +22,15 @@ pub struct Pass {
 
 /// A pass that has a ticket and waits for its turn.
 ///
-/// One that isn't spent by `Desk::poll` doesn't compile: a ticket that nobody uses would stop all
-/// that come after it.
+/// One that isn't spent by `Desk::poll` doesn't compile in safe code: a ticket that nobody uses
+/// would stop all that come after it.
 pub struct Turn {
     pub(crate) turn: ticket_lock::Turn<Book>,
 }
 
 /// A pass whose turn it is: it holds the book.
 ///
-/// One that isn't spent by `Desk::finish` doesn't compile: the book has to come back.
+/// One that isn't spent by `Desk::finish` doesn't compile in safe code: the book has to come back.
 pub struct Hold {
     pub(crate) hold: ticket_lock::Hold<Book>,
     pub(crate) book: Book,
