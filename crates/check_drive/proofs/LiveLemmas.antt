@@ -1,5 +1,5 @@
 -- A whole conversation, and what its faults leave.
-use Rattle.std.proofs.Common.{◌≡◌, ℕ, ◌+◌, ◌≤◌, Bool, true, false, List, [], ◌∷◌, ◌++◌, length, Option, Some, None, Result, Ok, Err, refl, sym, ap, ◌∙◌}
+use Rattle.std.proofs.Common.{◌≡◌, ℕ, suc, ◌+◌, ◌≤◌, ◌==◌, cond, length-append, Bool, true, false, List, [], ◌∷◌, ◌++◌, length, Option, Some, None, Result, Ok, Err, refl, sym, ap, ◌∙◌}
 use Rattle.std.proofs.Common.{arith, inl, inr, ◌⊎◌, append_assoc, append-nil, subst}
 use Rattle.std.specs.Prelude.{IfSome, IfOk, IsOkUnless, OnOk, OnErr, IfErr}
 use Rattle.std.specs.Io.KnownBytes.{Appends, Consumes, IsAtEnd, Keeps}
@@ -16,10 +16,14 @@ use Rattle.check_script.specs.declared.refusal.InputRefusal.TheVariants as refus
 use Rattle.check_script.specs.declared.refusal.ScriptError.{ScriptError}
 use Rattle.check_script.specs.declared.refusal.ScriptError.TheVariants as script
 use Rattle.check_script.specs.Agreement.{Gives}
-use Rattle.check_script.specs.Input.{first_line_of, lines_of}
+use Rattle.check_script.specs.declared.live_error.LiveError.{LiveError}
+use Rattle.check_script.specs.declared.live_error.LiveError.TheVariants as live
+use Rattle.check_script.specs.LiveError.{AfterLine, AfterReads, IsWritten, told, told_by}
+use Rattle.check_script.specs.Input.{first_line_of, lines_of, onto_first}
 use Rattle.check_script.specs.LiveInput.{StopsSoon, behind_line, has_feed}
 use Rattle.check_script.specs.Script.{in_setup}
-use Rattle.check_script.proofs.LiveInputLemmas.{Consumes-none, Consumes-then, behind_none, behind_stays, first_all, first_stays, lines_apart}
+use Rattle.check_script.proofs.LiveInputLemmas.{Consumes-none, Consumes-then, behind_none, behind_stays, feed_split, first_all, first_free, first_stays, lines_apart}
+use Rattle.check_text.proofs.LiveLaws.{line_first, lines_by}
 use Rattle.check_script.proofs.KeptLemmas.{setup_stays, too_long}
 use Rattle.check_text.specs.LiveText.{answer_to, answers_from, live_over, live_text, said, state_after}
 use Rattle.check_text.specs.Text.{input_refusal_text, refusal_line, refused_text}
@@ -28,7 +32,7 @@ use Rattle.check_text.proofs.OutputLemmas.{Appends-Keeps, Appends-none, Appends-
 use Rattle.check_drive.specs.declared.drive.Outcome.{Outcome}
 use Rattle.check_drive.specs.declared.drive.Outcome.TheVariants as outcome
 use Rattle.check_drive.specs.Drive.{IsInput, outcome_by}
-use Rattle.check_drive.specs.Live.{AreWholeLines, HasReadLive, IsLiveOnInput, LeavesText, live_outcome}
+use Rattle.check_drive.specs.Live.{AfterAll, AfterLines, AnsweredLines, AreWholeLines, HasReadLive, IsLiveOnInput, LeavesText, live_outcome}
 
 -- ---- what is read
 
@@ -180,8 +184,53 @@ answers_last s n (b ∷ bs) h =
 
 -- ---- one line after another
 
+-- the state behind these lines
+abbrev pub state_behind : State → ℕ → List (List ℕ) → State
+state_behind s n [] = s
+state_behind s n (line ∷ lines) = state_behind (state_after s (said s n line)) (n + 1) lines
+
+-- the answers to lines and one more, and the state behind them
+answers_then : (s : State) (n : ℕ) (lines : List (List ℕ)) (line : List ℕ)
+    → answers_from s n (lines ++ line ∷ []) ≡ answers_from s n lines ++ answer_to (state_behind s n lines) (said (state_behind s n lines) (n + length lines) line)
+answers_then s n [] line = append-nil _ ∙ ap (λ k. answer_to s (said s k line)) (let e : n ≡ n + 0 = omega arith in e)
+answers_then s n (x ∷ xs) line =
+    let t = state_after s (said s n x) in
+    let u = state_behind t (n + 1) xs in
+    ap (λ l. answer_to s (said s n x) ++ l) (answers_then t (n + 1) xs line
+    ∙ ap (λ k. answers_from t (n + 1) xs ++ answer_to u (said u k line)) (let e : n + 1 + length xs ≡ n + suc (length xs) = omega arith in e))
+    ∙ sym (append_assoc (answer_to s (said s n x)) (answers_from t (n + 1) xs) _)
+
+state_then : (s : State) (n : ℕ) (lines : List (List ℕ)) (line : List ℕ)
+    → state_behind s n (lines ++ line ∷ []) ≡ state_after (state_behind s n lines) (said (state_behind s n lines) (n + length lines) line)
+state_then s n [] line = ap (λ k. state_after s (said s k line)) (let e : n ≡ n + 0 = omega arith in e)
+state_then s n (x ∷ xs) line =
+    let t = state_after s (said s n x) in
+    let u = state_behind t (n + 1) xs in
+    state_then t (n + 1) xs line ∙ ap (λ k. state_after u (said u k line)) (let e : n + 1 + length xs ≡ n + suc (length xs) = omega arith in e)
+
+number_is : (count n : ℕ) → count + 2 ≡ n → n ≡ 2 + count
+number_is count n e = omega (arith, e)
+
+one_behind : (first : State) (lines : List (List ℕ)) (line : List ℕ) (s : State) (number : ℕ) → s ≡ state_behind first 2 lines → number ≡ 2 + length lines
+    → (answers_from first 2 (lines ++ line ∷ []) ≡ answers_from first 2 lines ++ answer_to s (said s number line))
+    × (state_behind first 2 (lines ++ line ∷ []) ≡ state_after s (said s number line))
+one_behind first lines line s number same n = rw (same, n) (answers_then first 2 lines line, state_then first 2 lines line)
+
+-- whole lines and one more
+one_more : (taken line : List ℕ) → AreWholeLines taken → has_feed line ≡ false → lines_of (taken ++ (line ++ 10 ∷ [])) ≡ lines_of taken ++ line ∷ []
+one_more taken line full free = lines_by taken (line ++ 10 ∷ []) full ∙ ap (λ l. lines_of taken ++ l) (line_first line [] free)
+
+taken_more : (opened hand rest part given taken : List ℕ) → opened ++ given ≡ taken ++ hand → has_feed (hand ++ part) ≡ true → rest ≡ behind_line (hand ++ part)
+    → opened ++ (given ++ part) ≡ (taken ++ (first_line_of (hand ++ part) ++ 10 ∷ [])) ++ rest
+taken_more opened hand rest part given taken e feed behind =
+    let line = first_line_of (hand ++ part) in
+    sym (append_assoc opened given part) ∙ ap (λ l. l ++ part) e ∙ append_assoc taken hand part
+    ∙ ap (λ l. taken ++ l) (feed_split (hand ++ part) feed ∙ ap (λ l. line ++ 10 ∷ l) (sym behind) ∙ sym (append_assoc line (10 ∷ []) rest))
+    ∙ sym (append_assoc taken (line ++ 10 ∷ []) rest)
+
 -- Where a conversation stands that began at this state with these bytes at hand: the bytes that were given, the whole lines that
 -- were written, and that the text goes on from here as it goes on from the beginning, whatever comes later.
+-- Those bytes are whole lines from the front of what was at hand and was given, with their answers and the state behind them.
 pub record Talked (first : State) (opened : List ℕ) (had left held holds : Option (List ℕ)) (number : ℕ) (s : State) (hand : List ℕ) : Type 0 where
   pub given : List ℕ
   pub front : List ℕ
@@ -189,10 +238,29 @@ pub record Talked (first : State) (opened : List ℕ) (had left held holds : Opt
   pub appended : Appends held holds front
   pub whole : AreWholeLines front
   pub goes_on : (more : List ℕ) → answers_from first 2 (lines_of (opened ++ (given ++ more))) ≡ front ++ answers_from s number (lines_of (hand ++ more))
+  pub taken : List ℕ
+  pub parts : opened ++ given ≡ taken ++ hand
+  pub full : AreWholeLines taken
+  pub count : length (lines_of taken) + 2 ≡ number
+  pub answers : front ≡ answers_from first 2 (lines_of taken)
+  pub state : s ≡ state_behind first 2 (lines_of taken)
 
 pub talk_begins : (first : State) (opened : List ℕ) (had held : Option (List ℕ)) → Talked first opened had had held held 2 first opened
 talk_begins first opened had held =
-    record { given = []; front = []; consumed = Consumes-none had; appended = Appends-none held; whole = inl refl; goes_on = λ more. refl }
+    record {
+      given = [];
+      front = [];
+      consumed = Consumes-none had;
+      appended = Appends-none held;
+      whole = inl refl;
+      goes_on = λ more. refl;
+      taken = [];
+      parts = append-nil opened;
+      full = inl refl;
+      count = refl;
+      answers = refl;
+      state = refl;
+    }
 
 -- a whole line was answered
 pub talk_goes_on : (first s t : State) (opened hand rest part : List ℕ) (had mid left held wrote holds : Option (List ℕ)) (number : ℕ)
@@ -202,6 +270,9 @@ pub talk_goes_on : (first s t : State) (opened hand rest part : List ℕ) (had m
     → Talked first opened had left held holds (number + 1) t rest
 talk_goes_on first s t opened hand rest part had mid left held wrote holds number k read feed behind after wrote_it =
     let line = said s number (first_line_of (hand ++ part)) in
+    let bytes = first_line_of (hand ++ part) ++ 10 ∷ [] in
+    let lines = one_more k.taken (first_line_of (hand ++ part)) k.full (first_free (hand ++ part)) in
+    let more = one_behind first (lines_of k.taken) (first_line_of (hand ++ part)) s number k.state (number_is _ _ k.count) in
     record {
       given = k.given ++ part;
       front = k.front ++ answer_to s line;
@@ -214,14 +285,20 @@ talk_goes_on first s t opened hand rest part had mid left held wrote holds numbe
           ∙ ap (λ l. answer_to s line ++ l) (ap (λ u. answers_from u (number + 1) (lines_of (behind_line (hand ++ part) ++ more))) (sym after)
           ∙ ap (λ l. answers_from t (number + 1) (lines_of (l ++ more))) (sym behind)))
           ∙ sym (append_assoc k.front (answer_to s line) _);
+      taken = k.taken ++ bytes;
+      parts = taken_more opened hand rest part k.given k.taken k.parts feed behind;
+      full = inr (k.taken ++ first_line_of (hand ++ part), sym (append_assoc k.taken (first_line_of (hand ++ part)) (10 ∷ [])));
+      count = (let sizes = ap length lines ∙ length-append (lines_of k.taken) (first_line_of (hand ++ part) ∷ []) in omega (arith, sizes, k.count));
+      answers = ap (λ l. l ++ answer_to s line) k.answers ∙ sym more.0 ∙ ap (answers_from first 2) (sym lines);
+      state = after ∙ sym more.1 ∙ ap (state_behind first 2) (sym lines);
     }
 
 -- what is shown of a conversation that ended
-abbrev pub TalkEnded : {T : Type 0} → State → List ℕ → Option (List ℕ) → Option (List ℕ) → Option (List ℕ) → Option (List ℕ) → Result T DriveError → Type 0
+abbrev pub TalkEnded : {T : Type 0} → State → List ℕ → Option (List ℕ) → Option (List ℕ) → Option (List ℕ) → Option (List ℕ) → Result T LiveError → Type 0
 TalkEnded first opened had left held holds ended =
     (coming : List ℕ) × IsInput had coming × OnOk ended (Consumes had left coming)
     × OnOk ended (Appends held holds (answers_from first 2 (lines_of (opened ++ coming))))
-    × IfErr ended (λ e. LeavesText e held holds (answers_from first 2 (lines_of (opened ++ coming))))
+    × IfErr ended (λ e. LeavesText (told e) held holds (answers_from first 2 (lines_of (opened ++ coming))))
 
 -- the text to the end, where the last line has no line feed
 ended_text : (first s : State) (opened hand part : List ℕ) (had mid left held wrote : Option (List ℕ)) (number : ℕ)
@@ -232,40 +309,65 @@ ended_text first s opened hand part had mid left held wrote number k free =
 
 -- the input ended, and the writer was flushed or not
 pub talk_ends : (first s : State) (opened hand part : List ℕ) (had mid left held wrote wrote' holds : Option (List ℕ)) (number : ℕ)
-    (flushed : Result (Unit {0}) DriveError)
+    (flushed : Result (Unit {0}) LiveError) (wrote_all : Result (Unit {0}) DriveError)
     → Talked first opened had mid held wrote number s hand → Consumes mid left part → has_feed (hand ++ part) ≡ false → IsAtEnd left
-    → Appends wrote wrote' (answer_to s (said s number (first_line_of (hand ++ part)))) → Keeps wrote' holds → IsOkUnless flushed errors.Write
+    → Appends wrote wrote' (answer_to s (said s number (first_line_of (hand ++ part)))) → Keeps wrote' holds → IsWritten flushed wrote_all → IsOkUnless wrote_all errors.Write
     → TalkEnded first opened had left held holds flushed
-talk_ends first s opened hand part had mid left held wrote wrote' holds number (Ok _) k read free end wrote_it kept f =
+talk_ends first s opened hand part had mid left held wrote wrote' holds number (Ok _) written k read free end wrote_it kept w f =
     let given = Consumes-then had mid left k.given part k.consumed read in
     let text = ended_text first s opened hand part had mid left held wrote number k free in
     let all = Appends-Keeps held wrote' holds _ (Appends-trans held wrote wrote' k.front _ k.appended wrote_it) kept in
     (k.given ++ part, input_all had left (k.given ++ part) given end, given, rw text all, tt)
-talk_ends first s opened hand part had mid left held wrote wrote' holds number (Err e) k read free end wrote_it kept f =
+talk_ends first s opened hand part had mid left held wrote wrote' holds number (Err e) written k read free end wrote_it kept w f =
     let given = Consumes-then had mid left k.given part k.consumed read in
     let text = ended_text first s opened hand part had mid left held wrote number k free in
     let all = Appends-trans held wrote wrote' k.front _ k.appended wrote_it in
-    (k.given ++ part, input_all had left (k.given ++ part) given end, tt, tt, rw (f, text) (leaves_all held wrote' holds _ all kept))
+    let fault : told e ≡ errors.Write = subst (λ r. IsOkUnless r errors.Write) w.0 f in
+    (k.given ++ part, input_all had left (k.given ++ part) given end, tt, tt, rw (fault, text) (leaves_all held wrote' holds _ all kept))
 
 -- a line couldn't be taken or answered
 pub talk_fails : (first s : State) (opened hand coming : List ℕ) (had mid left held wrote holds : Option (List ℕ)) (number : ℕ)
-    (e : DriveError) (ended : Result (Unit {0}) DriveError)
+    (e : LiveError) (ended : Result (Unit {0}) LiveError)
     → Talked first opened had mid held wrote number s hand → IsInput mid coming
-    → LeavesText e wrote holds (answers_from s number (lines_of (hand ++ coming))) → ended ≡ Err e → TalkEnded first opened had left held holds ended
+    → LeavesText (told e) wrote holds (answers_from s number (lines_of (hand ++ coming))) → ended ≡ Err e → TalkEnded first opened had left held holds ended
 talk_fails first s opened hand coming had mid left held wrote holds number e ended k i f r =
     rw r (
       k.given ++ coming,
       input_on had mid k.given coming k.consumed i,
       tt,
       tt,
-      leaves_on e held wrote holds k.front (answers_from s number (lines_of (hand ++ coming))) _ k.whole k.appended (k.goes_on coming) f,
+      leaves_on (told e) held wrote holds k.front (answers_from s number (lines_of (hand ++ coming))) _ k.whole k.appended (k.goes_on coming) f,
     )
 
 -- as many lines as can be numbered were answered
-pub talk_spent : (first s : State) (opened hand : List ℕ) (had left held holds : Option (List ℕ)) (number : ℕ) (e : DriveError)
+pub talk_spent : (first s : State) (opened hand : List ℕ) (had left held holds : Option (List ℕ)) (number : ℕ) (e : LiveError)
     → Talked first opened had left held holds number s hand → TalkEnded {T = Unit {0}} first opened had left held holds (Err e)
 talk_spent first s opened hand had left held holds number e k =
-    talk_fails first s opened hand (rest_of left) had left left held holds holds number e (Err e) k (rest_input left) (leaves_none e holds _) refl
+    talk_fails first s opened hand (rest_of left) had left left held holds holds number e (Err e) k (rest_input left) (leaves_none (told e) holds _) refl
+
+pub lines_answered : (first s : State) (opened hand : List ℕ) (had left held holds : Option (List ℕ)) (number count : ℕ)
+    → Talked first opened had left held holds number s hand → number ≡ count + 2 → AnsweredLines count first opened had left held holds
+lines_answered first s opened hand had left held holds number count k e = record {
+  given = k.given;
+  front = k.taken;
+  rest = hand;
+  consumed = k.consumed;
+  parts = k.parts;
+  lines = omega (arith, k.count, e);
+  whole = k.full;
+  answered = subst (Appends held holds) k.answers k.appended;
+}
+
+-- a line couldn't be taken or answered: no loop over lines is spent then, and one over reads by as many bytes
+pub line_spends : (first s : State) (opened hand part : List ℕ) (had mid left held wrote holds : Option (List ℕ)) (number : ℕ) (e : LiveError)
+    → Talked first opened had mid held wrote number s hand → Consumes mid left part → AfterLine part e → AfterLines first opened had left held holds e
+line_spends first s opened hand part had mid left held wrote holds number (live.Reader fault) k read h = tt
+line_spends first s opened hand part had mid left held wrote holds number live.Writer k read h = tt
+line_spends first s opened hand part had mid left held wrote holds number live.Memory k read h = tt
+line_spends first s opened hand part had mid left held wrote holds number live.LinesSpent k read h = absurd h
+line_spends first s opened hand part had mid left held wrote holds number live.ReadsSpent k read h =
+    let sizes = length-append k.given part in
+    (k.given ++ part, Consumes-then had mid left k.given part k.consumed read, omega (arith, sizes, h))
 
 -- ---- one line
 
@@ -356,11 +458,11 @@ live_ran start c given had mid left held holds o s feed read t =
     }
 
 -- they weren't
-live_cut : (start : ℕ) (c : Configuration) (given : List ℕ) (had mid left held holds : Option (List ℕ)) (e : DriveError)
+live_cut : (start : ℕ) (c : Configuration) (given : List ℕ) (had mid left held holds : Option (List ℕ)) (e : LiveError)
     → in_setup (setup_of (first_line_of given)) ≡ Ok c → has_feed given ≡ true → Consumes had mid given
-    → TalkEnded {T = Outcome} (opening c start) (behind_line given) mid left held holds (Err e) → IsLiveOnInput start (Err e) had left held holds
+    → TalkEnded {T = Outcome} (opening c start) (behind_line given) mid left held holds (Err e) → IsLiveOnInput start (Err (told e)) had left held holds
 live_cut start c given had mid left held holds e s feed read t =
-    live_failed start e had left held holds (given ++ t.0) (input_on had mid given t.0 read t.1) (rw (opened_text start c given t.0 s feed) t.4)
+    live_failed start (told e) had left held holds (given ++ t.0) (input_on had mid given t.0 read t.1) (rw (opened_text start c given t.0 s feed) t.4)
 
 -- there are no lines behind the setup
 not_long : (c : Configuration) (given : List ℕ) → in_setup (setup_of (first_line_of given)) ≡ Ok c → has_feed given ≡ false
@@ -394,11 +496,11 @@ short_by start c given had left held s free read (inl end) =
 
 -- what is shown of the lines behind a setup is what is shown of the whole
 pub live_answered : (start : ℕ) (c : Configuration) (given : List ℕ) (had mid left held holds : Option (List ℕ)) (whole : Bool)
-    (r : Result Outcome DriveError)
+    (r : Result Outcome LiveError)
     → in_setup (setup_of (first_line_of given)) ≡ Ok c → whole ≡ has_feed given → Consumes had mid given
     → (whole ≡ false → IsAtEnd mid ⊎ (KEPT_SETUP_BYTES ≤ length given)) → IfOk r (λ o. o ≡ outcome.Ran)
     → (whole ≡ false → (r ≡ Ok outcome.Ran) × (left ≡ mid) × (holds ≡ held))
-    → (whole ≡ true → TalkEnded (opening c start) (behind_line given) mid left held holds r) → IsLiveOnInput start r had left held holds
+    → (whole ≡ true → TalkEnded (opening c start) (behind_line given) mid left held holds r) → IsLiveOnInput start (told_by r) had left held holds
 live_answered start c given had mid left held holds false r s feed read end ran none lines =
     let n = none refl in rw (n.0, n.1, n.2) (short_by start c given had mid held s (sym feed) read (end refl))
 live_answered start c given had mid left held holds true (Ok o) s feed read end ran none lines =
@@ -459,6 +561,112 @@ live_refusal start given had left held holds why whole (Ok o) s read soon feed e
     rw refused (live_refused start given had left held holds why whole s read soon feed end wrote)
 live_refusal start given had left held holds why whole (Err e) s read soon feed end refused wrote f =
     live_unrefused start given had left held holds why whole e s read feed end f
+
+-- ---- a loop that is spent
+
+-- what only writes spends none
+pub written_lines : {T : Type 0} (r : Result T LiveError) (written : Result T DriveError) (first : State) (opened : List ℕ) (had left held holds : Option (List ℕ))
+    → IsWritten r written → IfErr r (AfterLines first opened had left held holds)
+written_lines (Ok x) written first opened had left held holds w = tt
+written_lines (Err (live.Reader fault)) written first opened had left held holds w = tt
+written_lines (Err live.Writer) written first opened had left held holds w = tt
+written_lines (Err live.Memory) written first opened had left held holds w = tt
+written_lines (Err live.LinesSpent) written first opened had left held holds (e, inl f) = cc
+written_lines (Err live.LinesSpent) written first opened had left held holds (e, inr f) = cc
+written_lines (Err live.ReadsSpent) written first opened had left held holds (e, inl f) = cc
+written_lines (Err live.ReadsSpent) written first opened had left held holds (e, inr f) = cc
+
+pub written_spends : {T : Type 0} (r : Result T LiveError) (written : Result T DriveError) (had left : Option (List ℕ)) → IsWritten r written
+    → IfErr r (AfterAll had left)
+written_spends (Ok x) written had left w = tt
+written_spends (Err (live.Reader fault)) written had left w = λ h. absurd h
+written_spends (Err live.Writer) written had left w = λ h. absurd h
+written_spends (Err live.Memory) written had left w = λ h. absurd h
+written_spends (Err live.LinesSpent) written had left (e, inl f) = cc
+written_spends (Err live.LinesSpent) written had left (e, inr f) = cc
+written_spends (Err live.ReadsSpent) written had left (e, inl f) = cc
+written_spends (Err live.ReadsSpent) written had left (e, inr f) = cc
+
+pub error_spends : {T : Type 0} (e : LiveError) (written : Result T DriveError) (had left : Option (List ℕ)) → IsWritten (Err e) written → AfterAll had left e
+error_spends e written had left w = written_spends (Err e) written had left w
+
+pub reads_spend : (e : LiveError) (given : List ℕ) (had left : Option (List ℕ)) → Consumes had left given → AfterReads given e → AfterAll had left e
+reads_spend (live.Reader fault) given had left read h = λ s. absurd s
+reads_spend live.Writer given had left read h = λ s. absurd s
+reads_spend live.Memory given had left read h = λ s. absurd s
+reads_spend live.LinesSpent given had left read h = λ s. absurd h
+reads_spend live.ReadsSpent given had left read h = λ s. (given, read, omega (arith, h))
+
+onto_few : (b n : ℕ) (lines : List (List ℕ)) → length lines ≤ n → length (onto_first b lines) ≤ suc n
+onto_few b n [] h = omega (arith, h)
+onto_few b n (line ∷ lines) h = omega (arith, h)
+
+-- each line has a byte at least
+lines_few : (bytes : List ℕ) → length (lines_of bytes) ≤ length bytes
+lines_few [] = omega arith
+lines_few (b ∷ bs) =
+    let again = lines_few bs in
+    elim (b == 10) as (λ v. length (cond v ([] ∷ lines_of bs) (onto_first b (lines_of bs))) ≤ suc (length bs)) [
+      | true ↦ omega (arith, again)
+      | false ↦ onto_few b (length bs) (lines_of bs) again
+    ]
+
+behind_few : (bytes : List ℕ) → length (behind_line bytes) ≤ length bytes
+behind_few [] = omega arith
+behind_few (b ∷ bs) =
+    let again = behind_few bs in
+    elim (b == 10) as (λ v. length (cond v bs (behind_line bs)) ≤ suc (length bs)) [
+      | true ↦ omega arith
+      | false ↦ omega (arith, again)
+    ]
+
+-- the loops behind a setup that was given so
+pub lines_spend : (e : LiveError) (first : State) (given : List ℕ) (had mid left held holds : Option (List ℕ)) → Consumes had mid given
+    → AfterLines first (behind_line given) mid left held holds e → AfterAll had left e
+lines_spend (live.Reader fault) first given had mid left held holds read h = λ s. absurd s
+lines_spend live.Writer first given had mid left held holds read h = λ s. absurd s
+lines_spend live.Memory first given had mid left held holds read h = λ s. absurd s
+lines_spend live.LinesSpent first given had mid left held holds read a = λ s.
+    let all = length-append given a.given in
+    let hand = length-append (behind_line given) a.given in
+    let parts = ap length a.parts in
+    let sizes = length-append a.front a.rest in
+    let few = lines_few a.front in
+    let behind = behind_few given in
+    (given ++ a.given, Consumes-then had mid left given a.given read a.consumed, omega (arith, all, hand, parts, sizes, few, behind, a.lines))
+lines_spend live.ReadsSpent first given had mid left held holds read g = λ s.
+    let all = length-append given g.0 in
+    (given ++ g.0, Consumes-then had mid left given g.0 read g.1, omega (arith, all, g.2))
+
+pub if_spend : {T : Type 0} (r : Result T LiveError) (first : State) (given : List ℕ) (had mid left held holds : Option (List ℕ)) (whole : Bool)
+    → Consumes had mid given → IfErr r (AfterLines first (behind_line given) mid left held holds) → IfErr r (AfterAll had left)
+if_spend (Ok x) first given had mid left held holds whole read h = tt
+if_spend (Err e) first given had mid left held holds whole read h = lines_spend e first given had mid left held holds read h
+
+-- ---- errors of what only writes
+
+pub written_told : {T : Type 0} (r : Result T LiveError) (written : Result T DriveError) → IsWritten r written → written ≡ told_by r
+written_told (Ok x) written w = w
+written_told (Err e) written w = w.0
+
+-- what is known of the one's error is known of the other's
+pub written_err : {T : Type 0} (e : LiveError) (written : Result T DriveError) (P : DriveError → Type 0) → IsWritten (Err e) written → IfErr written P → P (told e)
+written_err e written P w f = subst (λ r. IfErr r P) w.0 f
+
+pub written_ok : {T P : Type 0} (x : T) (written : Result T DriveError) → IsWritten (Ok x) written → OnOk written P → P
+written_ok {P = P} x written w f = subst (λ r. OnOk r P) w f
+
+pub written_if : {T : Type 0} (x : T) (written : Result T DriveError) (P : T → Type 0) → IsWritten (Ok x) written → IfOk written P → P x
+written_if x written P w f = subst (λ r. IfOk r P) w f
+
+pub written_line : {T : Type 0} (e : LiveError) (written : Result T DriveError) (given : List ℕ) → IsWritten (Err e) written → AfterLine given e
+written_line (live.Reader fault) written given w = tt
+written_line live.Writer written given w = tt
+written_line live.Memory written given w = tt
+written_line live.LinesSpent written given (e, inl f) = cc
+written_line live.LinesSpent written given (e, inr f) = cc
+written_line live.ReadsSpent written given (e, inl f) = cc
+written_line live.ReadsSpent written given (e, inr f) = cc
 
 -- ---- where it is known what the reader had
 

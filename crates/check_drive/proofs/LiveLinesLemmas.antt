@@ -1,9 +1,14 @@
 -- Lines of a conversation that are taken in parts.
-use Rattle.std.proofs.Common.{◌≡◌, ℕ, Bool, false, List, [], ◌++◌, Option, None, Some, refl, sym, ◌∙◌, ap, subst, append_assoc}
+use Rattle.std.proofs.Common.{◌≡◌, ℕ, ◌+◌, ◌<◌, ◌≤◌, ◌⊎◌, inl, inr, length, Bool, false, List, [], ◌++◌, Option, None, Some, refl, sym, ◌∙◌, ap, subst, append_assoc}
+use Rattle.std.specs.Prelude.{Result, Ok, Err, IfErr}
 use Rattle.std.specs.Io.KnownBytes.{Consumes, Keeps}
 use Rattle.check_script.specs.Input.{first_line_of}
+use Rattle.check_script.specs.declared.live_error.LiveError.{LiveError}
+use Rattle.check_script.specs.declared.live_error.LiveError.TheVariants as errors
+use Rattle.check_script.specs.declared.drive_error.DriveError.{DriveError}
+use Rattle.check_script.specs.LiveError.{AfterLine, IsOfInput, IsWritten}
 use Rattle.check_script.specs.LiveInput.{LineFront, TookLine, behind_line, front_of, has_feed}
-use Rattle.check_script.proofs.LiveInputLemmas.{Consumes-then, behind_none, feed_on, first_all, took_all, took_on}
+use Rattle.check_script.proofs.LiveInputLemmas.{Consumes-then, behind_none, feed_on, first_all, more_reads, took_all, took_on}
 
 pub Keeps-none : (known : Option (List ℕ)) → Keeps known known
 Keeps-none None = tt
@@ -15,14 +20,15 @@ Keeps-then (Some a) None holds h k = absurd h
 Keeps-then (Some a) (Some b) None h k = absurd k
 Keeps-then (Some a) (Some b) (Some c) h k = k ∙ h
 
--- more of a line that has begun has come, but not its line feed
-pub record MoreBegun (had left held holds : Option (List ℕ)) (old line : LineFront) (rest : List ℕ) : Type 0 where
+-- more of a line that has begun has come, but not its line feed, and each read gave some
+pub record MoreBegun (had left held holds : Option (List ℕ)) (old line : LineFront) (rest : List ℕ) (reads : ℕ) : Type 0 where
   pub given : List ℕ
   pub consumed : Consumes had left given
   pub feedless : has_feed given ≡ false
   pub kept : (begun : List ℕ) → old ≡ front_of old.most begun → line ≡ front_of old.most (begun ++ given)
   pub nothing : rest ≡ []
   pub written : Keeps held holds
+  pub many : reads ≤ length given
 
 -- what is known of a line behind every beginning that it can have had
 abbrev pub TookBehind : LineFront → List ℕ → LineFront → List ℕ → Type 0 → Bool → Type 0
@@ -45,11 +51,11 @@ more_took_all old line given part hand end free kept same none e begun k f =
     subst (λ l. TookLine old.most l line hand end false) (append_assoc begun given part)
     (took_all old.most (begun ++ given) part hand line end (feed_on begun given f ∙ free) (kept begun k) same none e)
 
-pub more_begun : (had mid left held wrote holds : Option (List ℕ)) (old line new : LineFront) (part hand rest nothing : List ℕ) (whole : Bool)
-    → MoreBegun had mid held wrote old line nothing → Consumes mid left part → Keeps wrote holds → hand ≡ part → whole ≡ has_feed hand
+pub more_begun : (had mid left held wrote holds : Option (List ℕ)) (old line new : LineFront) (part hand rest nothing : List ℕ) (whole : Bool) (reads : ℕ)
+    → MoreBegun had mid held wrote old line nothing reads → Consumes mid left part → Keeps wrote holds → hand ≡ part → whole ≡ has_feed hand
     → rest ≡ behind_line hand → ((b : List ℕ) → line ≡ front_of line.most b → new ≡ front_of line.most (b ++ first_line_of hand)) → whole ≡ false
-    → MoreBegun had left held holds old new rest
-more_begun had mid left held wrote holds old line new part hand rest nothing whole s read kept same w r n e =
+    → 0 < length hand → MoreBegun had left held holds old new rest (reads + 1)
+more_begun had mid left held wrote holds old line new part hand rest nothing whole reads s read kept same w r n e gave =
     let free : has_feed hand ≡ false = sym w ∙ e in
     let some = feed_on s.given part s.feedless ∙ ap has_feed (sym same) ∙ free in
     record {
@@ -65,4 +71,25 @@ more_begun had mid left held wrote holds old line new part hand rest nothing who
           ∙ ap (front_of old.most) (append_assoc begun s.given part);
       nothing = r ∙ behind_none hand free;
       written = Keeps-then held wrote holds s.written kept;
+      many = more_reads reads s.given part hand s.many same gave;
     }
+
+-- ---- errors
+
+-- no read is spent where a device failed, or memory was wanting
+pub after_ask : (given : List ℕ) (e : LiveError) → IsOfInput e ⊎ (e ≡ errors.Writer) → AfterLine given e
+after_ask given (errors.Reader fault) h = tt
+after_ask given errors.Memory h = tt
+after_ask given errors.Writer h = tt
+after_ask given errors.LinesSpent (inl h) = absurd h
+after_ask given errors.LinesSpent (inr h) = cc
+after_ask given errors.ReadsSpent (inl h) = absurd h
+after_ask given errors.ReadsSpent (inr h) = cc
+
+pub written_asked : {T : Type 0} (e : LiveError) (written : Result T DriveError) → IsWritten (Err e) written → IsOfInput e ⊎ (e ≡ errors.Writer)
+written_asked e written (same, inl writer) = inr writer
+written_asked e written (same, inr memory) = inl (rw memory tt)
+
+pub read_asked : {T : Type 0} (r : Result T LiveError) → IfErr r IsOfInput → IfErr r (λ e. IsOfInput e ⊎ (e ≡ errors.Writer))
+read_asked (Ok x) h = tt
+read_asked (Err e) h = inl h

@@ -1,5 +1,5 @@
 -- What a conversation from a reader to a writer leaves, fault or none.
-use Rattle.std.specs.Prelude.{ℕ, ◌≡◌, ◌⊎◌, List, [], ◌∷◌, ◌++◌, Option, Result, Ok, Err, IfOk, IfErr, OnOk}
+use Rattle.std.specs.Prelude.{ℕ, ◌≡◌, ◌-◌, ◌^◌, ◌≤◌, length, ⊤, ◌⊎◌, List, [], ◌∷◌, ◌++◌, Option, Result, Ok, Err, IfOk, IfErr, OnOk}
 use Rattle.std.specs.Io.KnownBytes.{Appends, Consumes}
 use Rattle.check_objects.specs.Configuration.{Configuration}
 use Rattle.check_objects.specs.Setup.{setup_of}
@@ -7,10 +7,14 @@ use Rattle.check_drafts.specs.declared.error.LoadError.{LoadError}
 use Rattle.check_script.specs.declared.drive_error.DriveError.{DriveError}
 use Rattle.check_script.specs.declared.drive_error.DriveError.TheVariants as errors
 use Rattle.check_script.specs.declared.live_input.TheConstants.{KEPT_SETUP_BYTES}
-use Rattle.check_script.specs.Input.{first_line_of}
+use Rattle.check_script.specs.declared.live_error.LiveError.{LiveError}
+use Rattle.check_script.specs.declared.live_error.LiveError.TheVariants as live
+use Rattle.check_script.specs.Input.{first_line_of, lines_of}
+use Rattle.check_script.specs.LiveError.{IsSpent}
 use Rattle.check_script.specs.LiveInput.{StopsSoon}
 use Rattle.check_script.specs.Script.{in_setup}
-use Rattle.check_text.specs.LiveText.{live_text}
+use Rattle.check_sched.specs.State.{State}
+use Rattle.check_text.specs.LiveText.{answers_from, live_text}
 use Rattle.check_text.specs.Output.{WroteFront}
 use Rattle.check_drive.specs.declared.drive.Outcome.{Outcome}
 use Rattle.check_drive.specs.Drive.{IsInput, outcome_by}
@@ -31,6 +35,32 @@ pub record WroteLines (old new : Option (List ℕ)) (text : List ℕ) : Type 0 w
 abbrev pub LeavesText : DriveError → Option (List ℕ) → Option (List ℕ) → List ℕ → Type 0
 LeavesText errors.Memory held holds text = WroteLines held holds text
 LeavesText e held holds text = WroteFront held holds text
+
+-- So many lines were answered, each from its beginning to its line feed: the front of what was at hand and was given then.
+pub record AnsweredLines (count : ℕ) (first : State) (hand : List ℕ) (had left held holds : Option (List ℕ)) : Type 0 where
+  pub given : List ℕ
+  pub front : List ℕ
+  pub rest : List ℕ
+  pub consumed : Consumes had left given
+  pub parts : hand ++ given ≡ front ++ rest
+  pub lines : length (lines_of front) ≡ count
+  pub whole : AreWholeLines front
+  pub answered : Appends held holds (answers_from first 2 (lines_of front))
+
+-- so many bytes were given, or more
+abbrev pub GaveMany : ℕ → Option (List ℕ) → Option (List ℕ) → Type 0
+GaveMany count had left = (given : List ℕ) × Consumes had left given × (count ≤ length given)
+
+-- What it takes to spend a loop over lines: as many answers as lines can have numbers, from 2 on; a loop over reads: as many reads
+-- that gave something.
+abbrev pub AfterLines : State → List ℕ → Option (List ℕ) → Option (List ℕ) → Option (List ℕ) → Option (List ℕ) → LiveError → Type 0
+AfterLines first hand had left held holds live.LinesSpent = AnsweredLines (2 ^ 64 - 3) first hand had left held holds
+AfterLines first hand had left held holds live.ReadsSpent = GaveMany (2 ^ 64 - 1) had left
+AfterLines first hand had left held holds e = ⊤
+
+-- a loop of a conversation is spent only behind so many bytes
+abbrev pub AfterAll : Option (List ℕ) → Option (List ℕ) → LiveError → Type 0
+AfterAll had left e = IsSpent e → GaveMany (2 ^ 64 - 3) had left
 
 -- whether a conversation on the input answers its lines or refuses its setup
 abbrev pub live_outcome : List ℕ → Outcome

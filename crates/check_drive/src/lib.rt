@@ -10,4 +10,5 @@
 
 pub mod drive;
 pub mod live;
+mod live_faults;
 mod live_lines;

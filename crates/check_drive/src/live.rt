@@ -4,20 +4,22 @@ ghost use Rattle.std.specs.Io.KnownBytes.{Appends, Consumes, IsAtEnd, Keeps};
 ghost use Rattle.check_objects.specs.Setup.{setup_of};
 ghost use Rattle.check_script.specs.Agreement.{Gives};
 ghost use Rattle.check_script.specs.Input.{first_line_of, lines_of};
+ghost use Rattle.check_script.specs.LiveError.{AfterLine, AfterReads, told, told_by};
 ghost use Rattle.check_script.specs.LiveInput.{StopsSoon, behind_line, front_of, has_feed};
 ghost use Rattle.check_script.specs.Script.{in_setup};
 ghost use Rattle.check_sched.specs.State.{opening};
 ghost use Rattle.check_text.specs.LiveText.{answer_to, answers_from, live_text, said, state_after};
 ghost use Rattle.check_text.specs.Text.{refusal_line};
 ghost use Rattle.check_drive.specs.Drive.{IsInput};
-ghost use Rattle.check_drive.specs.Live.{HasReadLive, IsLiveOnInput, LeavesText, live_outcome};
+ghost use Rattle.check_drive.specs.Live.{AfterAll, AfterLines, HasReadLive, IsLiveOnInput, LeavesText, live_outcome};
 
 use crate::drive::{Outcome, make_call, open};
+use crate::live_faults::{as_told, as_written};
 use crate::live_lines::take_next_line;
 use check_objects::Setup;
 use check_sched::{Call, LAST_MOMENT, Sched};
 use check_script::{
-    DriveError, InputBuffer, InputRefusal, KEPT_LINE_BYTES, KEPT_SETUP_BYTES, KeptLine,
+    DriveError, InputBuffer, InputRefusal, KEPT_LINE_BYTES, KEPT_SETUP_BYTES, KeptLine, LiveError,
     ScriptError, read_kept, read_setup, take_first_line,
 };
 use check_text::{REPLY_BYTES, flush, write_refusal};
@@ -56,29 +58,30 @@ pub fn live<R: Read, W: Write>(
     ensures input { IsLiveOnInput start result (R.remaining reader.old) (R.remaining reader.new)
         (W.contents writer.old) (W.contents writer.new) }
 {
-    converse(alloc, start, reader, writer)
+    as_told(converse(alloc, start, reader, writer))
 }
 
-/// The same, whatever is known of the reader.
+/// The same, whatever is known of the reader. A loop is spent only where 2^64 - 3 bytes were given.
 fn converse<R: Read, W: Write>(
     alloc: Global,
     start: u64,
     reader: &mut R,
     writer: &mut W,
-) -> Result<Outcome, DriveError>
+) -> Result<Outcome, LiveError>
     requires { start ≤ LAST_MOMENT }
-    ensures { IsLiveOnInput start result (R.remaining reader.old) (R.remaining reader.new)
-        (W.contents writer.old) (W.contents writer.new) }
+    ensures input { IsLiveOnInput start (told_by result) (R.remaining reader.old)
+        (R.remaining reader.new) (W.contents writer.old) (W.contents writer.new) }
+    ensures spent { IfErr result (AfterAll (R.remaining reader.old) (R.remaining reader.new)) }
 {
     let mut at_hand = InputBuffer::new(alloc);
     let (setup, whole) = read_first(alloc, &mut at_hand, reader)?;
     match setup {
         Ok(setup) => {
-            let mut talk = Talk::new(alloc, setup, start, at_hand)?;
+            let mut talk = as_written(Talk::new(alloc, setup, start, at_hand))?;
             talk.answer_all(alloc, whole, reader, writer)
         }
-        Err(ScriptError::Refused(refusal)) => refuse(alloc, refusal, writer),
-        Err(ScriptError::Memory) => Err(DriveError::Memory),
+        Err(ScriptError::Refused(refusal)) => as_written(refuse(alloc, refusal, writer)),
+        Err(ScriptError::Memory) => Err(LiveError::Memory),
     }
 }
 
@@ -93,6 +96,7 @@ fn refuse<W: Write>(
         (Appends (W.contents writer.old) (W.contents writer.new) (refusal_line refusal)) }
     ensures fault { IfErr result (λ e. LeavesText e (W.contents writer.old) (W.contents writer.new)
         (refusal_line refusal)) }
+    ensures kind { IfErr result (λ e. e ≢ DriveError.Read) }
 {
     write_refusal(alloc, refusal, writer)?;
     flush(writer)?;
@@ -104,7 +108,7 @@ fn read_first<R: Read>(
     alloc: Global,
     at_hand: &mut InputBuffer,
     reader: &mut R,
-) -> Result<(Result<Setup, ScriptError>, bool), DriveError>
+) -> Result<(Result<Setup, ScriptError>, bool), LiveError>
     requires { at_hand.old ≡ [] }
     ensures { (given : List ℕ)
         × Consumes (R.remaining reader.old) (R.remaining reader.new) given
@@ -113,7 +117,8 @@ fn read_first<R: Read>(
         Gives (λ setup. setup) first.0 (in_setup (setup_of (first_line_of given)))
         × (first.1 ≡ has_feed given) × (at_hand.new ≡ behind_line given)
         × (first.1 ≡ false
-        → IsAtEnd (R.remaining reader.new) ⊎ (KEPT_SETUP_BYTES ≤ length given))) }
+        → IsAtEnd (R.remaining reader.new) ⊎ (KEPT_SETUP_BYTES ≤ length given)))
+        × IfErr result (AfterReads given) }
 {
     let mut document = KeptLine::new(alloc, KEPT_SETUP_BYTES);
     let whole = take_first_line(at_hand, &mut document, reader)?;
@@ -161,7 +166,7 @@ impl Talk {
         may_follow: bool,
         reader: &mut R,
         writer: &mut W,
-    ) -> Result<Outcome, DriveError>
+    ) -> Result<Outcome, LiveError>
         requires { (self.old.line.most ≡ KEPT_LINE_BYTES)
             × (REPLY_BYTES ≤ string_capacity self.old.reply) }
         ensures outcome { IfOk result (λ outcome. outcome ≡ Outcome.Ran) }
@@ -173,8 +178,12 @@ impl Talk {
             × OnOk result (Consumes (R.remaining reader.old) (R.remaining reader.new) coming)
             × OnOk result (Appends (W.contents writer.old) (W.contents writer.new)
             (answers_from self.old.sched 2 (lines_of (self.old.at_hand ++ coming))))
-            × IfErr result (λ e. LeavesText e (W.contents writer.old) (W.contents writer.new)
+            × IfErr result (λ e. LeavesText (told e) (W.contents writer.old)
+            (W.contents writer.new)
             (answers_from self.old.sched 2 (lines_of (self.old.at_hand ++ coming)))) }
+        ensures spent { IfErr result (AfterLines self.old.sched self.old.at_hand
+            (R.remaining reader.old) (R.remaining reader.new)
+            (W.contents writer.old) (W.contents writer.new)) }
     {
         if may_follow {
             self.answer_lines(alloc, reader, writer)?;
@@ -182,28 +191,33 @@ impl Talk {
         Ok(Outcome::Ran)
     }
 
-    /// Answers each line from line 2 on, to the end of the input, and flushes the writer then.
+    /// Answers each line from line 2 on, to the end of the input, and flushes the writer then. `LinesSpent`
+    /// comes only where 2^64 - 3 lines were answered.
     fn answer_lines<R: Read, W: Write>(
         &mut self,
         alloc: Global,
         reader: &mut R,
         writer: &mut W,
-    ) -> Result<(), DriveError>
+    ) -> Result<(), LiveError>
         requires { (self.old.line.most ≡ KEPT_LINE_BYTES)
             × (REPLY_BYTES ≤ string_capacity self.old.reply) }
-        ensures { (coming : List ℕ) × IsInput (R.remaining reader.old) coming
+        ensures lines { (coming : List ℕ) × IsInput (R.remaining reader.old) coming
             × OnOk result (Consumes (R.remaining reader.old) (R.remaining reader.new) coming)
             × OnOk result (Appends (W.contents writer.old) (W.contents writer.new)
             (answers_from self.old.sched 2 (lines_of (self.old.at_hand ++ coming))))
-            × IfErr result (λ e. LeavesText e (W.contents writer.old) (W.contents writer.new)
+            × IfErr result (λ e. LeavesText (told e) (W.contents writer.old)
+            (W.contents writer.new)
             (answers_from self.old.sched 2 (lines_of (self.old.at_hand ++ coming)))) }
+        ensures spent { IfErr result (AfterLines self.old.sched self.old.at_hand
+            (R.remaining reader.old) (R.remaining reader.new)
+            (W.contents writer.old) (W.contents writer.new)) }
     {
         for number in 2..usize::MAX {
             if !self.answer_next(alloc, number, reader, writer)? {
-                return flush(writer);
+                return as_written(flush(writer));
             }
         }
-        Err(DriveError::Read)
+        Err(LiveError::LinesSpent)
     }
 
     /// Takes the next line, which has this number, and writes its answer; tells whether lines may
@@ -215,7 +229,7 @@ impl Talk {
         number: usize,
         reader: &mut R,
         writer: &mut W,
-    ) -> Result<bool, DriveError>
+    ) -> Result<bool, LiveError>
         requires { (self.old.line.most ≡ KEPT_LINE_BYTES)
             × (REPLY_BYTES ≤ string_capacity self.old.reply) }
         ensures took { (given : List ℕ)
@@ -226,20 +240,21 @@ impl Talk {
             × (self.new.sched ≡ state_after self.old.sched
             (said self.old.sched number (first_line_of (self.old.at_hand ++ given))))
             × Appends (W.contents writer.old) (W.contents writer.new) (answer_to self.old.sched
-            (said self.old.sched number (first_line_of (self.old.at_hand ++ given))))) }
+            (said self.old.sched number (first_line_of (self.old.at_hand ++ given)))))
+            × IfErr result (AfterLine given) }
         ensures unasked { has_feed self.old.at_hand ≡ true → reader.new ≡ reader.old }
         ensures line { OnOk result (self.new.line.most ≡ KEPT_LINE_BYTES) }
         ensures room { REPLY_BYTES ≤ string_capacity self.new.reply }
         ensures fault { IfErr result (λ e. (coming : List ℕ)
             × IsInput (R.remaining reader.old) coming
-            × LeavesText e (W.contents writer.old) (W.contents writer.new)
+            × LeavesText (told e) (W.contents writer.old) (W.contents writer.new)
             (answers_from self.old.sched number (lines_of (self.old.at_hand ++ coming)))) }
-        ensures memory { IfErr result (λ e. e ≡ DriveError.Memory
+        ensures memory { IfErr result (λ e. e ≡ LiveError.Memory
             → (self.new.sched ≡ self.old.sched)
             × Keeps (W.contents writer.old) (W.contents writer.new)) }
     {
         let whole = take_next_line(&mut self.at_hand, &mut self.line, reader, writer)?;
-        self.answer(alloc, number, writer)?;
+        as_written(self.answer(alloc, number, writer))?;
         Ok(whole)
     }
 

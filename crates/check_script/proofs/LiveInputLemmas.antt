@@ -2,13 +2,16 @@
 use Rattle.std.proofs.Common.{◌≡◌, ℕ, zero, suc, ◌+◌, ◌-◌, min, ◌==◌, ◌&&◌, Bool, true, false, not, cond, length, List, [], ◌∷◌, ◌++◌, take, drop, Option, None, Some}
 use Rattle.std.proofs.Common.{refl, sym, ◌∙◌, ap, arith, ◌≤◌, ◌<◌, length-append, length-take, append-nil, append_assoc}
 use Rattle.std.specs.List.{position_or_len, position}
-use Rattle.std.specs.Prelude.{nat_lt, if◌then◌else◌, IfOk, Result, Ok, Err}
+use Rattle.std.specs.Prelude.{nat_lt, IfOk, Result, Ok, Err}
 use Rattle.std.specs.Result.{IsErr}
 use Rattle.std.proofs.lemmas.Bool.Decides.{nat_tests}
 use Rattle.std.proofs.lemmas.List.Folds.{list_all-append}
 use Rattle.std.proofs.lemmas.List.{take_min}
 use Rattle.check_script.specs.Input.{lines_of, first_line_of, onto_first}
 use Rattle.check_script.specs.Line.{is_blank}
+use Rattle.check_script.specs.LiveError.{AfterReads, IsOfInput}
+use Rattle.check_script.specs.declared.live_error.LiveError.{LiveError}
+use Rattle.check_script.specs.declared.live_error.LiveError.TheVariants as errors
 use Rattle.check_script.specs.LiveInput.{LineFront, StopsSoon, TookLine, behind_line, front_of, has_feed}
 use Rattle.check_script.specs.declared.live_input.TheConstants.{ASKED_BYTES}
 use Rattle.std.specs.Io.KnownBytes.{Consumes}
@@ -100,6 +103,26 @@ behind_stays (b ∷ bs) more h =
       | true ↦ λ k. refl
       | false ↦ λ k. behind_stays bs more k
     ]) h
+
+free_by : (b : ℕ) (bs : List ℕ) (is : Bool) → (b == 10) ≡ is → has_feed bs ≡ false → has_feed (cond is [] (b ∷ bs)) ≡ false
+free_by b bs true e h = refl
+free_by b bs false e h = rw e h
+
+-- a first line has none
+pub first_free : (bs : List ℕ) → has_feed (first_line_of bs) ≡ false
+first_free [] = refl
+first_free (b ∷ bs) = free_by b (first_line_of bs) (b == 10) refl (first_free bs)
+
+split_by : (b : ℕ) (bs : List ℕ) (is : Bool) → (b == 10) ≡ is → cond is true (has_feed bs) ≡ true
+    → (has_feed bs ≡ true → bs ≡ first_line_of bs ++ 10 ∷ behind_line bs)
+    → b ∷ bs ≡ cond is [] (b ∷ first_line_of bs) ++ 10 ∷ cond is bs (behind_line bs)
+split_by b bs true e h again = let feed : b ≡ 10 = grind (arith, nat_tests, e) in ap (λ x. x ∷ bs) feed
+split_by b bs false e h again = ap (λ l. b ∷ l) (again h)
+
+-- it stands before the line feed, and what comes later behind it
+pub feed_split : (bs : List ℕ) → has_feed bs ≡ true → bs ≡ first_line_of bs ++ 10 ∷ behind_line bs
+feed_split [] h = cc
+feed_split (b ∷ bs) h = split_by b bs (b == 10) refl h (λ k. feed_split bs k)
 
 -- ---- the lines of bytes are the first and those behind it
 
@@ -200,12 +223,13 @@ not_yet most bytes rest line end whole t e =
 
 -- ---- line 1
 
--- so far line 1 has no line feed, and not as many bytes as are kept of it at most
-pub record FirstBegun (most : ℕ) (had left : Option (List ℕ)) (line : LineFront) (rest : List ℕ) : Type 0 where
+-- so far line 1 has no line feed, and not as many bytes as are kept of it at most, and each read gave some
+pub record FirstBegun (most : ℕ) (had left : Option (List ℕ)) (line : LineFront) (rest : List ℕ) (reads : ℕ) : Type 0 where
   pub given : List ℕ
   pub consumed : Consumes had left given
   pub begun : Begun most given line rest
   pub few : length given < most
+  pub many : reads ≤ length given
 
 pub stops_soon : (most : ℕ) (given part : List ℕ) → has_feed given ≡ false → length given < most → length part ≤ ASKED_BYTES
     → StopsSoon most (given ++ part)
@@ -233,7 +257,22 @@ not_full most bytes line k e =
     let l = length-take most bytes in
     grind (arith, nat_tests, e', l)
 
+-- one more read gave something
+pub more_reads : (reads : ℕ) (given part hand : List ℕ) → reads ≤ length given → hand ≡ part → 0 < length hand → reads + 1 ≤ length (given ++ part)
+more_reads reads given part hand many same some =
+    let all = length-append given part in
+    let sizes = ap length same in
+    omega (arith, all, sizes, many, some)
+
 -- ---- errors
+
+-- no read is spent where the reader failed, or memory was wanting
+pub after_input : (given : List ℕ) (e : LiveError) → IsOfInput e → AfterReads given e
+after_input given (errors.Reader fault) h = tt
+after_input given errors.Memory h = tt
+after_input given errors.Writer h = absurd h
+after_input given errors.LinesSpent h = absurd h
+after_input given errors.ReadsSpent h = absurd h
 
 -- of an error nothing is said that holds of a value
 pub if_ok_never : {T E : Type 0} (r : Result T E) (P : T → Type 0) → IsErr r → IfOk r P

@@ -1,5 +1,6 @@
 pub mod Input
 pub mod LiveInput
+pub mod LiveError
 pub mod Script
 pub mod Line
 pub mod Command

@@ -1,7 +1,8 @@
 //! Why a run or a drill ended early: its reader, its writer, or memory.
 ghost use Rattle.std.specs.Prelude.{◌≡◌};
-ghost use Rattle.check_script.specs.declared.drive_error.DriveError.TheVariants.{Memory};
+ghost use Rattle.check_script.specs.declared.drive_error.DriveError.TheVariants.{Memory, Read};
 
+use crate::reader::ReaderFault;
 use std::alloc::AllocError;
 use thiserror::Error;
 
@@ -27,5 +28,13 @@ impl From<AllocError> for DriveError {
 
     fn from(_refused: AllocError) -> DriveError {
         DriveError::Memory
+    }
+}
+
+impl From<ReaderFault> for DriveError {
+    ghost from_gives = { λ _ e. e ≡ Read };
+
+    fn from(_fault: ReaderFault) -> DriveError {
+        DriveError::Read
     }
 }

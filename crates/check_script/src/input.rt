@@ -6,6 +6,7 @@ ghost use Rattle.std.specs.Iterator.{YieldsFirstRef, item_count};
 ghost use Rattle.check_script.specs.Input.{AreLines, lines_of, first_line_of};
 
 use crate::drive_error::DriveError;
+use crate::reader::ask_reader;
 use memchr::memchr;
 use std::alloc::Global;
 use std::io::Read;
@@ -33,9 +34,7 @@ pub fn read_input<R: Read>(alloc: Global, reader: &mut R) -> Result<Vec<u8>, Dri
     let mut chunk = [0; CHUNK];
     while input.len() < MAX_READ_BYTES {
         let wanted = CHUNK.min(MAX_READ_BYTES - input.len());
-        let Ok(count) = reader.read(&mut chunk[..wanted]) else {
-            return Err(DriveError::Read);
-        };
+        let count = ask_reader(reader, &mut chunk[..wanted])?;
         if count == 0 {
             break;
         }

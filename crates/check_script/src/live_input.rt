@@ -3,12 +3,14 @@
 ghost use Rattle.std.specs.Prelude.{◌≡◌, ◌≢◌, ◌<◌, ◌≤◌, ◌+◌, ◌⊎◌, ◌++◌, ◌&&◌, ℕ, List, [], IfOk, IfErr, OnOk, false, length, true, drop, vec_len, ◌==◌, option_map};
 ghost use Rattle.std.specs.Io.KnownBytes.{Consumes, IsAtEnd};
 ghost use Rattle.check_script.specs.Input.{first_line_of};
+ghost use Rattle.check_script.specs.LiveError.{AfterReads, IsOfInput};
 ghost use Rattle.check_script.specs.LiveInput.{LineFront, StopsSoon, TookLine, behind_line, front_of, has_feed, said_by};
 ghost use Rattle.check_script.specs.Agreement.{Gives};
 
-use crate::drive_error::DriveError;
 use crate::input::line_end;
 use crate::line::{Command, is_blank, read_command};
+use crate::live_error::LiveError;
+use crate::reader::ask_reader;
 use crate::refusal::ScriptError;
 use check_objects::Setup;
 use std::alloc::{AllocError, Global};
@@ -97,7 +99,8 @@ impl KeptLine {
     }
 }
 
-/// The bytes that a reader has given and that aren't taken yet.
+/// The bytes that a reader has given and that aren't taken yet. It holds no more than one read gave, what
+/// was taken of it too.
 #[derive(Drop)]
 pub struct InputBuffer {
     given: Vec<u8>,
@@ -106,12 +109,13 @@ pub struct InputBuffer {
 
 impl Model for InputBuffer {
     ghost use Rattle.std.specs.Prelude.{◌≤◌, List, ℕ, drop, vec_len};
+    ghost use Rattle.check_script.specs.declared.live_input.TheConstants.{ASKED_BYTES};
 
     ghost Value = { List ℕ };
 
     ghost view = { λ b. drop b.taken b.given.items };
 
-    ghost invariant = { λ b. b.taken ≤ vec_len b.given };
+    ghost invariant = { λ b. (b.taken ≤ vec_len b.given) × (vec_len b.given ≤ ASKED_BYTES) };
 }
 
 impl InputBuffer {
@@ -150,7 +154,7 @@ impl InputBuffer {
 
     /// Asks the reader once, where nothing is at hand. Tells whether it gave anything: it gives
     /// nothing at its end.
-    pub fn read_more<R: Read>(&mut self, reader: &mut R) -> Result<bool, DriveError>
+    pub fn read_more<R: Read>(&mut self, reader: &mut R) -> Result<bool, LiveError>
         requires { self.old ≡ [] }
         ensures given { (given : List ℕ)
             × Consumes (R.remaining reader.old) (R.remaining reader.new) given
@@ -158,12 +162,10 @@ impl InputBuffer {
         ensures end { IfOk result (λ more. more ≡ false
             → (self.new ≡ []) × IsAtEnd (R.remaining reader.new)) }
         ensures more { IfOk result (λ more. more ≡ true → 0 < length self.new) }
-        ensures errors { IfErr result (λ e. e ≢ DriveError.Write) }
+        ensures errors { IfErr result IsOfInput }
     {
         let mut chunk = [0; ASKED_BYTES];
-        let Ok(count) = reader.read(&mut chunk) else {
-            return Err(DriveError::Read);
-        };
+        let count = ask_reader(reader, &mut chunk)?;
         self.taken = 0;
         self.given.clear();
         self.given.extend_from_slice(&chunk[..count])?;
@@ -173,22 +175,23 @@ impl InputBuffer {
 
 /// Takes the first line of an input, of which nothing is at hand, and tells whether its line feed
 /// came. Where it didn't, the input has ended, or as many bytes of the line have come as are kept of
-/// it at most. The reader is asked no more than that.
+/// it at most. The reader is asked no more than that. An Err is the reader's fault, `Memory`, or `ReadsSpent`
+/// where 2^64 - 1 reads each gave something.
 pub fn take_first_line<R: Read>(
     at_hand: &mut InputBuffer,
     line: &mut KeptLine,
     reader: &mut R,
-) -> Result<bool, DriveError>
+) -> Result<bool, LiveError>
     requires nothing { at_hand.old ≡ [] }
     requires begins { (line.old ≡ front_of line.old.most []) × (0 < line.old.most) }
     ensures took { (given : List ℕ)
         × Consumes (R.remaining reader.old) (R.remaining reader.new) given
         × IfOk result (TookLine line.old.most given line.new at_hand.new
         (IsAtEnd (R.remaining reader.new) ⊎ (line.old.most ≤ length given)))
-        × StopsSoon line.old.most given }
-    ensures errors { IfErr result (λ e. e ≢ DriveError.Write) }
+        × StopsSoon line.old.most given
+        × IfErr result (AfterReads given) }
 {
-    for _ in 0..u64::MAX {
+    for _reads in 0..u64::MAX {
         if !at_hand.read_more(reader)? {
             return Ok(false);
         }
@@ -199,7 +202,7 @@ pub fn take_first_line<R: Read>(
             return Ok(false);
         }
     }
-    Err(DriveError::Read)
+    Err(LiveError::ReadsSpent)
 }
 
 /// What a line says of which this is kept: nothing where it is blank, or the command of the line with

@@ -135,7 +135,7 @@ behind_whole (b ∷ bs) =
       | false ↦ behind_whole bs
     ]
 
-lines_by : (bytes back : List ℕ) → (bytes ≡ []) ⊎ ((xs : List ℕ) × (bytes ≡ xs ++ 10 ∷ [])) → lines_of (bytes ++ back) ≡ lines_of bytes ++ lines_of back
+pub lines_by : (bytes back : List ℕ) → (bytes ≡ []) ⊎ ((xs : List ℕ) × (bytes ≡ xs ++ 10 ∷ [])) → lines_of (bytes ++ back) ≡ lines_of bytes ++ lines_of back
 lines_by bytes back (inl e) = rw e refl
 lines_by bytes back (inr (xs, e)) = rw e (lines_of-whole xs back)
 
@@ -207,7 +207,7 @@ passes_in (x ∷ xs) s n line ys why e =
     (first ++ again.0, again.1, ap (λ l. first ++ l) again.2 ∙ sym (append_assoc first again.0 _), ap (λ l. first ++ l) again.3 ∙ sym (append_assoc first again.0 again.1))
 
 -- a line without a line feed, and those behind it
-line_first : (line back : List ℕ) → has_feed line ≡ false → lines_of (line ++ 10 ∷ back) ≡ line ∷ lines_of back
+pub line_first : (line back : List ℕ) → has_feed line ≡ false → lines_of (line ++ 10 ∷ back) ≡ line ∷ lines_of back
 line_first [] back h = refl
 line_first (b ∷ bs) back h =
     (elim (b == 10) as (λ v. cond v true (has_feed bs) ≡ false

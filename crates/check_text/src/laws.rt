@@ -1,5 +1,5 @@
-//! Laws of the text that a conversation writes, each the contract of a function without parameters and
-//! code.
+//! Laws of the text that a conversation writes, and of the limit of a reply, each the contract of a
+//! function without parameters and code.
 ghost use Rattle.std.specs.Prelude.{ℕ, ◌≡◌, ◌+◌, ◌++◌, false, List, [], ◌∷◌, Ok, Err, length};
 ghost use Rattle.check_objects.specs.Configuration.{Configuration};
 ghost use Rattle.check_objects.specs.Setup.{setup_of};
@@ -11,6 +11,12 @@ ghost use Rattle.check_script.specs.LiveInput.{has_feed, said_by};
 ghost use Rattle.check_script.specs.Script.{Script, script_of};
 ghost use Rattle.check_text.specs.LiveText.{live_text};
 ghost use Rattle.check_text.specs.Text.{refusal_line, text};
+ghost use Rattle.check_text.specs.declared.text.TheConstants.{REPLY_BYTES};
+
+/// The line of a reply has at most 1,024 bytes.
+pub fn limit_of_a_reply()
+    ensures { REPLY_BYTES ≡ 1024 }
+{}
 
 /// On an input that a run accepts, a conversation writes what the run writes.
 pub fn live_agrees_with_run()

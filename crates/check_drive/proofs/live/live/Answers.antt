@@ -2,13 +2,13 @@ use Rattle.check_drive.proofs.LiveLemmas.{known_fault, known_outcome, known_read
 use Rattle.check_drive.proofs.live.live.Goals as goal
 
 pub returns-clause-written : goal.returns-clause-written
-returns-clause-written g c = known_written _ _ _ _ _ _ c.converse.ensures
+returns-clause-written g c = rw (c.as_told.ensures) (known_written _ _ _ _ _ _ c.converse.ensures.input)
 
 pub returns-clause-outcome : goal.returns-clause-outcome
-returns-clause-outcome g c = known_outcome _ _ _ _ _ _ c.converse.ensures
+returns-clause-outcome g c = rw (c.as_told.ensures) (known_outcome _ _ _ _ _ _ c.converse.ensures.input)
 
 pub returns-clause-read : goal.returns-clause-read
-returns-clause-read g c = known_read _ _ _ _ _ _ c.converse.ensures
+returns-clause-read g c = rw (c.as_told.ensures) (known_read _ _ _ _ _ _ c.converse.ensures.input)
 
 pub returns-clause-fault : goal.returns-clause-fault
-returns-clause-fault g c = known_fault _ _ _ _ _ _ c.converse.ensures
+returns-clause-fault g c = rw (c.as_told.ensures) (known_fault _ _ _ _ _ _ c.converse.ensures.input)

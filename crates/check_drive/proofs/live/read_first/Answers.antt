@@ -1,5 +1,8 @@
 use Rattle.std.proofs.Common.{◌≡◌, ◌∙◌, ap}
+use Rattle.std.specs.Prelude.{IfErr}
+use Rattle.std.proofs.lemmas.Result.{err_from_is_err_and}
 use Rattle.check_objects.specs.Setup.{setup_of}
+use Rattle.check_script.specs.LiveError.{AfterReads}
 use Rattle.check_script.specs.Input.{first_line_of}
 use Rattle.check_script.specs.LiveInput.{LineFront, front_of}
 use Rattle.check_script.specs.Script.{in_setup}
@@ -12,7 +15,9 @@ pub returns-in_err-whole : goal.returns-in_err-whole
 returns-in_err-whole g c =
     let t = c.in_err-whole.ensures.took in
     let most : c.new-document.result.most ≡ KEPT_SETUP_BYTES = ap (λ (x : LineFront). x.most) c.new-document.ensures in
-    (t.0, t.1, rw most at t.3, if_ok_never _ _ c.from_residual.ensures.0)
+    let p = err_from_is_err_and c.from_residual.result c.from_residual.ensures.1 in
+    let after : IfErr c.from_residual.result (AfterReads t.0) = rw (p.1, p.2) t.4 in
+    (t.0, t.1, rw most at t.3, if_ok_never _ _ c.from_residual.ensures.0, after)
 
 pub returns : goal.returns
 returns g c =
@@ -20,4 +25,4 @@ returns g c =
     let most : c.new-document.result.most ≡ KEPT_SETUP_BYTES = ap (λ (x : LineFront). x.most) c.new-document.ensures in
     let kept = t.2.line_is ∙ ap (λ i. front_of i (first_line_of t.0)) most in
     let setup = ap (λ l. in_setup (setup_of l)) (c.bytes.ensures ∙ ap (λ (x : LineFront). x.bytes) kept) ∙ ap in_setup (kept_setup (first_line_of t.0)) in
-    (t.0, t.1, rw most at t.3, (rw setup at c.read_setup.ensures, t.2.whole_is, t.2.rest_is, rw most at t.2.ended))
+    (t.0, t.1, rw most at t.3, (rw setup at c.read_setup.ensures, t.2.whole_is, t.2.rest_is, rw most at t.2.ended), tt)

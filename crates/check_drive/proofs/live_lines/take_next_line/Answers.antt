@@ -19,4 +19,4 @@ returns-then-not-branch-clause-took g c =
     ∙ ap (front_of c.args.line.now.most) (first_all c.args.at_hand.now free) in
     let same : c.take_line.new.line.most ≡ c.args.line.now.most = ap (λ (x : LineFront). x.most) begun in
     let x = c.take_rest.ensures.took in
-    (x.0, x.1, rw (same) at (x.2 c.args.at_hand.now (begun ∙ ap (λ i. front_of i c.args.at_hand.now) (sym same)) free))
+    (x.0, x.1, rw (same) at (x.2 c.args.at_hand.now (begun ∙ ap (λ i. front_of i c.args.at_hand.now) (sym same)) free), x.3)

@@ -4,4 +4,4 @@ use Rattle.check_drive.proofs.live.Talk.answer_all.Goals as goal
 pub returns-in_err-answer_lines-clause-lines : goal.returns-in_err-answer_lines-clause-lines
 returns-in_err-answer_lines-clause-lines g c =
     let p = err_from_is_err_and c.from_residual.result c.from_residual.ensures.1 in
-    rw (p.1, p.2) (λ follows. c.in_err-answer_lines.ensures)
+    rw (p.1, p.2) (λ follows. c.in_err-answer_lines.ensures.lines)

@@ -1,0 +1,53 @@
+//! Why a conversation ends early, as its own functions report it.
+ghost use Rattle.std.specs.Prelude.{◌≡◌};
+ghost use Rattle.check_script.specs.declared.live_error.LiveError.TheVariants.{Memory, Reader};
+
+use crate::drive_error::DriveError;
+use crate::reader::ReaderFault;
+use std::alloc::AllocError;
+
+/// Why a conversation ended early. Its caller is given the [`DriveError`] of it.
+#[derive(Debug, Drop)]
+pub enum LiveError {
+    /// The reader failed or was interrupted.
+    Reader(ReaderFault),
+    /// The writer failed, was interrupted or took no byte, or its flush failed.
+    Writer,
+    /// Out of memory.
+    Memory,
+    /// 2^64 - 3 lines were answered: the next has no number.
+    LinesSpent,
+    /// A line has so many bytes that 2^64 - 1 reads didn't bring its end.
+    ReadsSpent,
+}
+
+impl From<ReaderFault> for LiveError {
+    ghost from_gives = { λ fault e. e ≡ Reader fault };
+
+    fn from(fault: ReaderFault) -> LiveError {
+        LiveError::Reader(fault)
+    }
+}
+
+impl From<AllocError> for LiveError {
+    ghost from_gives = { λ _ e. e ≡ Memory };
+
+    fn from(_refused: AllocError) -> LiveError {
+        LiveError::Memory
+    }
+}
+
+impl From<LiveError> for DriveError {
+    ghost use Rattle.check_script.specs.LiveError.{told};
+
+    ghost from_gives = { λ error e. e ≡ told error };
+
+    fn from(error: LiveError) -> DriveError {
+        match error {
+            LiveError::Reader(_) | LiveError::LinesSpent | LiveError::ReadsSpent =>
+                DriveError::Read,
+            LiveError::Writer => DriveError::Write,
+            LiveError::Memory => DriveError::Memory,
+        }
+    }
+}
