@@ -63,6 +63,13 @@ def many_objects(held):
     held.compare("4,000 services on 90 hosts", (lines(*wanted), 0), held.run([], lines(setup(**members), *takes)))
 
 
+def many_calls(held):
+    """A run of more than 100,000 calls."""
+    count = 120_000
+    script = lines(setup(hosts=[host("h")])) + b'["take",0]\n' * count
+    held.compare(f"{count} calls", (lines("taken 1 h") + lines("idle none") * (count - 1), 0), held.run([], script))
+
+
 def long_names(held):
     """As many hosts as there can be, under long names: a document of more than a million bytes that say something."""
     names = [f"{'h' * 240}{n}" for n in range(4_096)]
@@ -219,6 +226,6 @@ def long_inputs(held):
 
 held = Held("limits")
 LISTS = (many_objects, long_names, many_parents, too_many, explained_at_limits, most_dependencies, long_chain, long_cycles, last_of_many)
-for part in (*LISTS, places, long_inputs):
+for part in (*LISTS, many_calls, places, long_inputs):
     part(held)
 held.end()

@@ -4,19 +4,32 @@
     .ci/live.py PROGRAM
 
 Each case of conformance/ that `run` accepts is answered alike by `live`. A line is sent, and its answer read, again and again;
-ten thousand lines are sent at once, while a thread reads; and who reads the answers goes away, which ends in status 3.
+200,000 lines are sent at once, while a thread reads; setups come byte by byte, and of as many bytes as there may be; and who reads
+the answers goes away, or the device is full, which ends in status 3. A conversation's memory doesn't grow with what was said: a line
+of 70 MB is answered in 64 MB, and a million lines leave it as a thousand did.
 """
+import fcntl
 import pathlib
+import re
+import resource
 import select
+import struct
 import subprocess
 import sys
+import termios
 import threading
+import time
 
 TOP = pathlib.Path(__file__).resolve().parent.parent
 CASES = TOP / "conformance"
 SECONDS = 20
 SETUP = b'{"hosts":[{"name":"gateway","max_check_attempts":3}]}\n'
 TAKE = b'["take",0]\n'
+TAKEN, IDLE = b"taken 1 gateway\n", b"idle none\n"
+DOCUMENT = 16_777_216
+LONG_LINE = 70_000_000
+MEGABYTE = 1 << 20
+ADDRESSES = 64 * MEGABYTE
 
 
 def cases():
@@ -37,9 +50,36 @@ def as_run(program):
         yield None if (ran.returncode, ran.stdout) == (0, wanted) else f"{name}: live writes {ran.stdout[:200]!r}"
 
 
-def talk(program):
+def talk(program, **how):
     """A conversation: the program, over two pipes."""
-    return subprocess.Popen([program, "live"], stdin=subprocess.PIPE, stdout=subprocess.PIPE, bufsize=0)
+    return subprocess.Popen([program, "live"], **{"stdin": subprocess.PIPE, "stdout": subprocess.PIPE, "bufsize": 0, **how})
+
+
+def send(live, rest):
+    """Sends all of it."""
+    rest = memoryview(rest)
+    while rest:
+        rest = rest[live.stdin.write(rest):]
+
+
+def answers_to(live, pieces):
+    """What is answered to these pieces, which are sent while a thread reads, and how the conversation ends."""
+    answers = []
+    reading = threading.Thread(target=lambda: answers.append(live.stdout.read()))
+    reading.start()
+    try:
+        for piece in pieces:
+            send(live, piece)
+    except BrokenPipeError:
+        pass
+    live.stdin.close()
+    reading.join(SECONDS)
+    return b"".join(answers), live.wait(SECONDS)
+
+
+def told(what, wanted, came):
+    """That something else came than was wanted, shortened, or nothing."""
+    return None if came == wanted else f"{what}: wanted {repr(wanted)[:200]}, came {repr(came)[:200]}"
 
 
 def line_by_line(program):
@@ -60,19 +100,84 @@ def line_by_line(program):
         return None if live.wait(SECONDS) == 0 else f"status {live.returncode}"
 
 
-def all_at_once(program):
-    """Ten thousand lines at once, while a thread reads."""
+def all_at_once(program, count):
+    """So many lines at once, while a thread reads."""
     with talk(program) as live:
-        answers = []
-        reading = threading.Thread(target=lambda: answers.append(live.stdout.read()))
-        reading.start()
-        rest = SETUP + TAKE * 10_000
-        while rest:
-            rest = rest[live.stdin.write(rest):]
+        return told(f"{count} lines", (TAKEN + IDLE * (count - 1), 0), answers_to(live, [SETUP, TAKE * count]))
+
+
+def unread(live):
+    """How many bytes lie in the program's input."""
+    return struct.unpack("i", fcntl.ioctl(live.stdin.fileno(), termios.FIONREAD, b"\0" * 4))[0]
+
+
+def byte_by_byte(program):
+    """A setup of 3,000 bytes, and then a line of 3,000, each byte sent when the one before was read."""
+    with talk(program) as live:
+        spaces = b" " * (3_000 - len(SETUP))
+        line = TAKE.replace(b",", b"," + b" " * (3_000 - len(TAKE)))
+        deadline = time.monotonic() + SECONDS
+        for byte in SETUP[:-1] + spaces + b"\n" + line:
+            while unread(live) and time.monotonic() < deadline:
+                time.sleep(0)
+            send(live, bytes([byte]))
+        return told("bytes one at a time", (TAKEN, 0), answers_to(live, []))
+
+
+def long_setup(program):
+    """A setup of as many bytes as there may be, and one of one more: its refusal comes before its line ends."""
+    for size, wanted in {DOCUMENT: (TAKEN, 0), DOCUMENT + 1: (b"refused L12 TooLong\n", 1)}.items():
+        with talk(program) as live:
+            behind = [b"\n", TAKE] if size == DOCUMENT else []
+            wrong = told(f"a setup of {size} bytes", wanted, answers_to(live, [SETUP[:-1].ljust(size), *behind]))
+            if wrong:
+                return wrong
+    return None
+
+
+def few_addresses():
+    """Bounds what a program may have of memory, used or not."""
+    resource.setrlimit(resource.RLIMIT_AS, (ADDRESSES, ADDRESSES))
+
+
+def long_line(program):
+    """A line of 70 MB is refused, and the next one answered, by a program that may have 64 MB of addresses."""
+    with talk(program, preexec_fn=few_addresses) as live:
+        pieces = [SETUP, *[b"x" * MEGABYTE] * (LONG_LINE // MEGABYTE), b"x" * (LONG_LINE % MEGABYTE), b"\n", TAKE]
+        return told("a line of 70 MB", (b"refused S1 TooLong 2\n" + TAKEN, 0), answers_to(live, pieces))
+
+
+def most_memory(live):
+    """How many bytes of memory a program had at most."""
+    text = pathlib.Path(f"/proc/{live.pid}/status").read_text(encoding="utf-8")
+    return int(re.search(r"VmHWM:\s+(\d+) kB", text)[1]) * 1024
+
+
+def answered(live, lines, wanted):
+    """Sends lines while as many answers are read as are wanted, and says whether those came."""
+    sending = threading.Thread(target=send, args=(live, lines))
+    sending.start()
+    came = bytearray()
+    while len(came) < len(wanted):
+        if not select.select([live.stdout], [], [], SECONDS)[0]:
+            break
+        came += live.stdout.read(1 << 16)
+    sending.join(SECONDS)
+    return came == wanted
+
+
+def million_lines(program):
+    """The memory after a million lines is what it was after a thousand."""
+    with talk(program) as live:
+        send(live, SETUP)
+        came = answered(live, TAKE * 1_000, TAKEN + IDLE * 999)
+        before = most_memory(live)
+        came = came and answered(live, TAKE * 999_000, IDLE * 999_000)
+        grown = most_memory(live) - before
         live.stdin.close()
-        reading.join(SECONDS)
-        wanted = b"taken 1 gateway\n" + b"idle none\n" * 9_999
-        return None if live.wait(SECONDS) == 0 and answers == [wanted] else f"status {live.returncode}, other answers"
+        if not came or live.wait(SECONDS):
+            return "a million lines are answered otherwise"
+        return None if grown < MEGABYTE else f"a million lines leave {grown} bytes more"
 
 
 def torn(program):
@@ -89,13 +194,29 @@ def torn(program):
         return None if live.wait(SECONDS) == 3 else f"a torn pipe ends in status {live.returncode}"
 
 
+def full(program):
+    """Nothing can be written: the conversation ends while its input goes on."""
+    for given in (SETUP + TAKE, b"{\n"):
+        with open("/dev/full", "wb") as device, talk(program, stdout=device) as live:
+            send(live, given)
+            try:
+                status = live.wait(SECONDS)
+            except subprocess.TimeoutExpired:
+                live.kill()
+                status = None
+            if status != 3:
+                return f"a full device ends in status {status}"
+    return None
+
+
 def main():
     program = str(pathlib.Path(sys.argv[1]).resolve())
-    told = [*as_run(program), line_by_line(program), all_at_once(program), torn(program)]
-    wrong = [fault for fault in told if fault is not None]
+    faults = [*as_run(program), all_at_once(program, 70_000), all_at_once(program, 200_000)]
+    faults += [part(program) for part in (line_by_line, byte_by_byte, long_setup, long_line, million_lines, torn, full)]
+    wrong = [fault for fault in faults if fault is not None]
     for fault in wrong:
         print(f"live: {fault}")
-    print(f"live: {len(told) - len(wrong)} passed, {len(wrong)} failed")
+    print(f"live: {len(faults) - len(wrong)} passed, {len(wrong)} failed")
     return 1 if wrong else 0
 
 
