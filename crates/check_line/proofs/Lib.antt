@@ -1,3 +1,4 @@
+pub mod FeedLemmas
 pub mod KeyLemmas
 pub mod LineLemmas
 pub mod NumberLemmas

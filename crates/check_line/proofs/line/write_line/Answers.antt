@@ -3,6 +3,7 @@ use Rattle.serde_json.specs.View.{view}
 use Rattle.check_documents.proofs.TreeLemmas.{tree_some}
 use Rattle.check_drafts.specs.LoadError.{refusal}
 use Rattle.std.proofs.lemmas.Result.{err_from_is_err_and}
+use Rattle.check_line.proofs.FeedLemmas.{compact_free}
 use Rattle.check_line.proofs.LineLemmas.{no_tree_is_told, setup_by_tree, shallow_tree, short_document}
 use Rattle.check_line.proofs.line.write_line.Goals as goal
 
@@ -21,3 +22,6 @@ returns-in_err-tree-clause-fault c =
     let p = err_from_is_err_and c.from_residual-in_err-tree.result c.from_residual-in_err-tree.ensures.1 in
     rw (p.1, p.2)
     (no_tree_is_told (refusal c.in_err-tree.field-0.0) c.args.document.now _ c.in_ok-read.ensures.exact c.in_err-tree.ensures)
+
+pub returns-clause-one_line : goal.returns-clause-one_line
+returns-clause-one_line c = compact_free c.in_ok-line.line.items c.in_ok-line.ensures.compact
