@@ -3,27 +3,27 @@
 
     .ci/session.py [PROGRAM]     crates/nagsched/out/nagsched where no program is named
 
-Words that are no text, help, an input that can't be read, an output whose reader has gone away. A folder stands for an input that
-can't be read: whoever reads it ends in status 3, and whoever doesn't, where words ask for help or are refused, never notices.
+Words that are no text, help, an input that can't be read, an output whose reader has gone away, a device that is full, how much of a
+long document is read. A folder stands for an input that can't be read: whoever reads it ends in status 3, and whoever doesn't, where
+words ask for help or are refused, never notices.
 """
 import os
 import subprocess
+import tempfile
 
-from program import EXAMPLES, REFUSED_WORDS, Held
+from program import EXAMPLES, REFUSED_WORDS, SERVICE, TOP, Held
 
-HELP = (["--help"], ["-h"], ["help"])
-HELP_OF = {
-    "run": (["run", "--help"], ["run", "--start", "7", "--help"], ["run", "--start", "x", "--help"], ["help", "run"]),
-    "drill": (["drill", "--help"], ["drill", "--workers", "0", "-h"], ["help", "drill"]),
-}
-# What a help tells beside: the limits and defaults of options, lines of the input and of the output, what each subcommand does.
-TOLD = {
-    ("--help",): (b"Makes the calls of a script on one scheduler", b"Has workers share one scheduler", b"1  the input was refused", b"4  out of memory"),
-    ("run", "--help"): (b'["take",now]', b"standing STATE KIND"),
-    ("live", "--help"): (b"A blank line has no answer",),
-    ("check", "--help"): (b"--line",),
-    ("drill", "--help"): (b"from 0 to 2^60 [default: 0]", b"from 1 to 64 [default: 2]", b"from 0 to 1000000 [default: 1000]",
-                          b'["plugin",name,code,..]', b'["moment",now]', b"total ENTRIES REFUSED"),
+TAKE = b'["take",0]\n'
+DOCUMENT = 16_777_216
+SECONDS = 20
+
+# The words that ask for each help, which is that of its case in conformance/words.
+HELPS = {
+    "help-of-the-program": (["--help"], ["-h"], ["help"]),
+    "help-of-run": (["run", "--help"], ["run", "--start", "7", "--help"], ["run", "--start", "x", "--help"], ["help", "run"]),
+    "help-of-live": (["live", "--help"], ["live", "-h"], ["help", "live"]),
+    "help-of-check": (["check", "--help"], ["check", "--line", "-h"], ["help", "check"]),
+    "help-of-drill": (["drill", "--help"], ["drill", "--workers", "0", "-h"], ["help", "drill"]),
 }
 COLUMNS = 80
 NO_TEXT = ([b"\xff"], [b"run", b"--start", b"\xff"], [b"drill", b"--workers", b"1", b"\xc3"], [b"--help", b"\xed\xa0\x80"])
@@ -48,24 +48,39 @@ def into_torn_pipe(held, words, given):
         os.close(writing)
 
 
+def into_full_device(held, words, given):
+    """The status where no byte of what the program writes finds room."""
+    with open("/dev/full", "wb") as full:
+        return subprocess.run([held.program, *words], input=given, stdout=full).returncode
+
+
+def while_input_is_open(held, given, output):
+    """The status of a conversation that can't write its answers to these lines, while more of them may come."""
+    with subprocess.Popen([held.program, "live"], stdin=subprocess.PIPE, stdout=output) as live:
+        live.stdin.write(given)
+        live.stdin.flush()
+        try:
+            return live.wait(SECONDS)
+        except subprocess.TimeoutExpired:
+            live.kill()
+            return f"not ended after {SECONDS} seconds"
+
+
+def of_file(held, words, given):
+    """What the program writes on a file of these bytes, its status, and how many of them it has read."""
+    with tempfile.TemporaryFile() as file:
+        file.write(given)
+        file.seek(0)
+        return *held.run(words, file.fileno()), os.lseek(file.fileno(), 0, os.SEEK_CUR)
+
+
 def helps(held):
-    """Help has status 0, reads nothing, and names the formats, the statuses and the options of its subcommand."""
-    for words in [*HELP, *HELP_OF["run"], *HELP_OF["drill"]]:
-        text, status = unread(held, words)
-        held.compare(f"{words}: status", 0, status)
-        for part in (b"Usage", b"docs/FORMATS.md", b"Exit status:"):
-            held.compare(f"{words}: {part}", True, part in text)
-        for option, subcommands in {b"--start <N>": ("run", "drill"), b"--workers <N>": ("drill",), b"--room <N>": ("drill",)}.items():
-            wanted = any(words in HELP_OF[subcommand] for subcommand in subcommands)
-            held.compare(f"{words}: {option}", wanted, option in text)
-
-
-def told(held):
-    """Each help tells what it has to, in lines of 80 columns."""
-    for words, parts in TOLD.items():
-        text, _ = unread(held, words)
-        held.compare(f"{words}: what isn't told", [], [part for part in parts if part not in text])
-        held.compare(f"{words}: lines that are too long", [], [line for line in text.decode().splitlines() if len(line) > COLUMNS])
+    """Help has status 0, reads nothing, and is the same to the byte whatever words ask for it, in lines of 80 columns."""
+    for case, forms in HELPS.items():
+        text = (TOP / "conformance/words" / f"{case}.stdout").read_bytes()
+        for words in forms:
+            held.compare(words, (text, 0), unread(held, words))
+        held.compare(f"{case}: lines that are too long", [], [line for line in text.decode().splitlines() if len(line) > COLUMNS])
 
 
 def refused_words(held):
@@ -77,18 +92,46 @@ def refused_words(held):
 
 def faults(held):
     """An input that can't be read, and an output that can't be written, have status 3, whatever was to be written."""
-    for words in ([], ["run", "--start", "7"], ["drill", "--workers", "1"]):
+    for words in ([], ["run", "--start", "7"], ["live"], ["check"], ["check", "--line"], ["drill", "--workers", "1"]):
         held.compare(f"{words}: no input", (b"", 3), unread(held, words))
     office, drill = ((EXAMPLES / name).read_bytes() for name in ("office.txt", "drill.txt"))
     torn = [([], office), ([], b""), (["drill", "--workers", "1"], drill), (["drill", "--workers", "3"], drill)]
+    torn += [(["live"], SERVICE + TAKE), (["live"], b"{}}")]
+    torn += [(words, given) for words in (["check"], ["check", "--line"]) for given in (SERVICE, b"{}}")]
     for words, given in [*torn, (["--help"], b""), (["walk"], b""), ([b"\xff"], b"")]:
         held.compare(f"{words}: a torn pipe", 3, into_torn_pipe(held, words, given))
-    held.compare("nothing to write into a torn pipe", 0, into_torn_pipe(held, [], b"{}\n"))
+        held.compare(f"{words}: a full device", 3, into_full_device(held, words, given))
+    for words in ([], ["live"]):
+        held.compare(f"{words}: nothing to write into a torn pipe", 0, into_torn_pipe(held, words, b"{}\n"))
+
+
+def faults_of_conversations(held):
+    """A conversation whose answers can't be written ends in status 3 at the first of them, though its input is open."""
+    for what, given in {"an answer": SERVICE + TAKE, "a refused line": SERVICE + b"[]\n", "a refused setup": b"{}}\n"}.items():
+        with open("/dev/full", "wb") as full:
+            held.compare(f"{what} into a full device", 3, while_input_is_open(held, given, full))
+        reading, writing = os.pipe()
+        os.close(reading)
+        held.compare(f"{what} into a torn pipe", 3, while_input_is_open(held, given, writing))
+        os.close(writing)
+
+
+def long_documents(held):
+    """A check reads no more of a document than tells that it is too long: one byte past its limit, and behind a line feed one more."""
+    whole = b"{}" + b" " * (DOCUMENT - 2)
+    held.compare("the longest document and its line feed", (b"{}\n", 0, DOCUMENT + 1), of_file(held, ["check", "--line"], whole + b"\n"))
+    for what, given, read in [
+        ("a byte past the limit", whole + b" ", DOCUMENT + 1),
+        ("a long document", whole + b" " * 5_000_000, DOCUMENT + 1),
+        ("a line feed past the limit, and a second one", whole + b"\n\n", DOCUMENT + 2),
+        ("a line feed past the limit, and more behind it", whole + b"\n" + b"5" * 5_000_000, DOCUMENT + 2),
+    ]:
+        for words in (["check"], ["check", "--line"]):
+            text, status, count = of_file(held, words, given)
+            held.compare(f"{words}: {what}", (b"refused L12 TooLong", 1, read), (text.split(b"\n")[0], status, count))
 
 
 held = Held("session")
-helps(held)
-told(held)
-refused_words(held)
-faults(held)
+for part in (helps, refused_words, faults, faults_of_conversations, long_documents):
+    part(held)
 held.end()

@@ -122,6 +122,7 @@ Input is one setup, over as many lines as it likes. No check is scheduled.
 Output, a word and its value a line:
   setup ok
   hosts, services, dependencies, parents         how many there are
+  dependency_chain, parent_chain                 how long the longest chain is
   scheduled, disabled, without_interval          objects, each in one of these
   host_delay, host_first, host_last              the delay method of hosts, and
                                                  the first and last first check

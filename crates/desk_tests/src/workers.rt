@@ -160,7 +160,7 @@ fn crew_of(
     alloc: Global,
     workers: u32,
 ) -> Result<(), Fail>
-    requires { (0 < workers) × (workers ≤ 64) }
+    requires { (0 < workers) × (workers ≤ 65) }
 {
     let (desk, passes) = opened(alloc, TWO_SERVICES, workers, MOST_CALLS)?;
     let Ok((book, tally)) = crew(rt, alloc, desk, passes, &AlwaysOk, &[0, 60_000]) else {
@@ -184,4 +184,10 @@ fn crew_of(
 fn crews_of_three_and_of_sixteen(rt: HostRuntime) -> Result<(), Fail> {
     crew_of(&rt, rt.alloc(), 3)?;
     crew_of(&rt, rt.alloc(), 16)
+}
+
+/// The program has no drill of more than 64 workers; a crew has no such limit.
+#[test]
+fn a_crew_of_sixty_five(rt: HostRuntime) -> Result<(), Fail> {
+    crew_of(&rt, rt.alloc(), 65)
 }
