@@ -1,5 +1,5 @@
 -- A whole check of a setup, and what its faults leave.
-use Rattle.std.proofs.Common.{◌≡◌, ◌≢◌, ℕ, ◌+◌, ◌<◌, ◌≤◌, ◌==◌, Bool, true, false, List, [], ◌∷◌, ◌++◌, length, take, Option, Some, None, Ok, Err, refl, sym, ap, ◌∙◌}
+use Rattle.std.proofs.Common.{◌≡◌, ◌≢◌, ℕ, ◌+◌, ◌<◌, ◌≤◌, ◌==◌, Bool, true, false, List, [], ◌∷◌, ◌++◌, length, take, Option, Some, None, Ok, Err, refl, sym, ap, subst, ◌∙◌}
 use Rattle.std.proofs.Common.{arith, length-take, inl, inr, ◌⊎◌}
 use Rattle.std.specs.Prelude.{nat_lt, IfSome, if◌then◌else◌}
 use Rattle.std.specs.Io.KnownBytes.{Appends, Keeps}
@@ -10,41 +10,14 @@ use Rattle.check_drafts.specs.declared.error.LoadError.TheVariants as load
 use Rattle.check_objects.specs.Setup.{setup_of}
 use Rattle.check_script.specs.declared.drive_error.DriveError.{DriveError}
 use Rattle.check_script.specs.declared.drive_error.DriveError.TheVariants as errors
-use Rattle.check_script.specs.declared.input.TheConstants.{MAX_READ_BYTES}
 use Rattle.check_script.specs.Input.{without_last_feed}
 use Rattle.check_text.specs.Output.{WroteFront}
 use Rattle.check_text.proofs.OutputLemmas.{front_all, Appends-Keeps}
 use Rattle.check_drive.specs.declared.drive.Outcome.{Outcome}
 use Rattle.check_session.specs.Check.{IsCheckOnInput, IsTold}
+use Rattle.check_session.specs.Reading.{read_of}
+use Rattle.check_session.proofs.ReadingLemmas.{cut_length, read_all, read_long}
 use Rattle.check_drive.proofs.DriveLemmas.{input_of, input_of-is, Keeps-same}
-
--- ---- the document of an input
-
--- a line feed at the end is cut off
-pub feed_cut : (bs : List ℕ) → without_last_feed (bs ++ 10 ∷ []) ≡ bs
-feed_cut [] = refl
-feed_cut (b ∷ []) = refl
-feed_cut (b ∷ c ∷ bs) = ap (λ l. b ∷ l) (feed_cut (c ∷ bs))
-
--- any other byte stays
-stays_by : (is : Bool) (last : ℕ) → (is ≡ true → ⊥) → (if is then [] else last ∷ []) ≡ last ∷ []
-stays_by true last n = absurd (n refl)
-stays_by false last n = refl
-
-pub feed_stays : (bs : List ℕ) (last : ℕ) → last ≢ 10 → without_last_feed (bs ++ last ∷ []) ≡ bs ++ last ∷ []
-feed_stays [] last n = stays_by (last == 10) last (λ e. n (eqb-true last 10 e))
-feed_stays (b ∷ []) last n = ap (λ l. b ∷ l) (stays_by (last == 10) last (λ e. n (eqb-true last 10 e)))
-feed_stays (b ∷ c ∷ bs) last n = ap (λ l. b ∷ l) (feed_stays (c ∷ bs) last n)
-
--- no more than one byte is cut off
-cut_one : (t : Bool) (b : ℕ) → 1 ≤ length (if t then [] else b ∷ []) + 1
-cut_one true b = omega arith
-cut_one false b = omega arith
-
-cut_length : (bs : List ℕ) → length bs ≤ length (without_last_feed bs) + 1
-cut_length [] = omega arith
-cut_length (b ∷ []) = cut_one (b == 10) b
-cut_length (b ∷ c ∷ bs) = let h = cut_length (c ∷ bs) in omega (arith, h)
 
 -- ---- an input of which a front was read
 
@@ -57,23 +30,23 @@ told_long : (start : ℕ) (line : Bool) (one other text : List ℕ) (told : Outc
 told_long start true one other text told e f h = rw f (rw e at h)
 told_long start false one other text told e f h = rw f (rw e at h)
 
-read_by : (start : ℕ) (line : Bool) (bytes text : List ℕ) (told : Outcome) → (67108864 < length bytes) ⊎ (length bytes ≤ 67108864)
-    → IsTold start line (without_last_feed (take MAX_READ_BYTES bytes)) text told → IsTold start line (without_last_feed bytes) text told
+read_by : (start : ℕ) (line : Bool) (bytes text : List ℕ) (told : Outcome) → (16777217 < length bytes) ⊎ (length bytes ≤ 16777217)
+    → IsTold start line (without_last_feed (read_of bytes)) text told → IsTold start line (without_last_feed bytes) text told
 read_by start line bytes text told (inl long) h =
     let cut = cut_length bytes in
-    let read = cut_length (take MAX_READ_BYTES bytes) in
-    let l = length-take MAX_READ_BYTES bytes in
-    told_long start line (without_last_feed (take MAX_READ_BYTES bytes)) (without_last_feed bytes) text told
-    (too_long (without_last_feed (take MAX_READ_BYTES bytes)) (omega (arith, read, l, long)))
+    told_long start line (without_last_feed (read_of bytes)) (without_last_feed bytes) text told
+    (too_long (without_last_feed (read_of bytes)) (read_long bytes long))
     (too_long (without_last_feed bytes) (omega (arith, cut, long))) h
-read_by start line bytes text told (inr short) h = let e = take_all MAX_READ_BYTES bytes (omega (arith, short)) in rw e at h
+read_by start line bytes text told (inr short) h =
+    subst (λ read. IsTold start line (without_last_feed read) text told) (read_all bytes short) h
 
 -- what was told of what was read is told of the input
-told_read : (start : ℕ) (line : Bool) (bytes input text : List ℕ) (told : Outcome) → input ≡ take MAX_READ_BYTES bytes
+told_read : (start : ℕ) (line : Bool) (bytes input text : List ℕ) (told : Outcome) → input ≡ read_of bytes
     → IsTold start line (without_last_feed input) text told → IsTold start line (without_last_feed bytes) text told
-told_read start line bytes input text told all h = read_by start line bytes text told (cases_lt 67108864 (length bytes)) (rw all at h)
+told_read start line bytes input text told all h =
+    read_by start line bytes text told (cases_lt 16777217 (length bytes)) (subst (λ read. IsTold start line (without_last_feed read) text told) all h)
 
-told_of : (start : ℕ) (line : Bool) (had : Option (List ℕ)) (read text : List ℕ) (told : Outcome) → IfSome had (λ bytes. read ≡ take MAX_READ_BYTES bytes)
+told_of : (start : ℕ) (line : Bool) (had : Option (List ℕ)) (read text : List ℕ) (told : Outcome) → IfSome had (λ bytes. read ≡ read_of bytes)
     → IsTold start line (without_last_feed read) text told → IsTold start line (without_last_feed (input_of had read)) text told
 told_of start line None read text told all h = h
 told_of start line (Some bytes) read text told all h = told_read start line bytes read text told all h
@@ -82,6 +55,9 @@ told_of start line (Some bytes) read text told all h = told_read start line byte
 
 pub memory_is_no_write : (e : DriveError) → e ≡ errors.Memory → e ≢ errors.Write
 memory_is_no_write e memory write = let both : errors.Memory ≡ errors.Write = sym memory ∙ write in cc
+
+pub write_is_no_memory : {A : Type 0} (e : DriveError) → e ≡ errors.Write → e ≡ errors.Memory → A
+write_is_no_memory e write memory = let both : errors.Write ≡ errors.Memory = sym write ∙ memory in cc
 
 -- an error before anything was written
 pub unwritten_check : (start : ℕ) (line : Bool) (e : DriveError) (had held : Option (List ℕ)) → e ≢ errors.Write
@@ -92,21 +68,21 @@ unwritten_check start line errors.Memory had held n = record { input = input_of 
 
 -- the writer failed
 pub torn_check : (start : ℕ) (line : Bool) (e : DriveError) (had held holds : Option (List ℕ)) (read text : List ℕ) (told : Outcome)
-    → e ≡ errors.Write → IfSome had (λ bytes. read ≡ take MAX_READ_BYTES bytes) → IsTold start line (without_last_feed read) text told
+    → e ≡ errors.Write → IfSome had (λ bytes. read ≡ read_of bytes) → IsTold start line (without_last_feed read) text told
     → WroteFront held holds text → IsCheckOnInput start line (Err e) had held holds
 torn_check start line e had held holds read text told is_write all is front =
     rw is_write (record { input = input_of had read; is_input = input_of-is had read; told = (text, told, told_of start line had read text told all is, front) })
 
 -- its flush failed
 pub unflushed_check : (start : ℕ) (line : Bool) (e : DriveError) (had held mid holds : Option (List ℕ)) (read text : List ℕ) (told : Outcome)
-    → e ≡ errors.Write → IfSome had (λ bytes. read ≡ take MAX_READ_BYTES bytes) → IsTold start line (without_last_feed read) text told
+    → e ≡ errors.Write → IfSome had (λ bytes. read ≡ read_of bytes) → IsTold start line (without_last_feed read) text told
     → Appends held mid text → Keeps mid holds → IsCheckOnInput start line (Err e) had held holds
 unflushed_check start line e had held mid holds read text told is_write all is a k =
     torn_check start line e had held holds read text told is_write all is (front_all held holds text (Appends-Keeps held mid holds text a k))
 
 -- all was told
 pub flushed_check : (start : ℕ) (line : Bool) (had held mid holds : Option (List ℕ)) (read text : List ℕ) (told : Outcome)
-    → IfSome had (λ bytes. read ≡ take MAX_READ_BYTES bytes) → IsTold start line (without_last_feed read) text told
+    → IfSome had (λ bytes. read ≡ read_of bytes) → IsTold start line (without_last_feed read) text told
     → Appends held mid text → Keeps mid holds → IsCheckOnInput start line (Ok told) had held holds
 flushed_check start line had held mid holds read text told all is a k = record {
   input = input_of had read;

@@ -13,10 +13,12 @@ use Rattle.check_words.specs.declared.words.Job.TheVariants as job
 use Rattle.check_words.specs.declared.words.WordsError.{WordsError}
 use Rattle.check_words.specs.declared.words.WordsError.TheVariants as words_error
 use Rattle.check_session.specs.Check.{IsCheckOnInput}
-use Rattle.check_session.specs.Drill.{AfterDrillFault, IsDrillOnInput}
+use Rattle.check_session.specs.Drill.{AfterDrillFault, IsDrillOnInput, WroteDrillShort}
+use Rattle.check_session.specs.Reading.{HasBegun, HasReadDocument}
 use Rattle.check_drive.specs.Drive.{AfterFault, HasRead, IsRunOnInput}
 use Rattle.check_drive.specs.Live.{IsLiveOnInput}
-use Rattle.check_text.specs.Output.{WroteFront}
+use Rattle.check_text.specs.Output.{WroteFront, WroteShort}
+use Rattle.check_text.specs.Text.{text}
 use Rattle.check_words.specs.Words.{AsksHelp, IsRefused, job_asked, program}
 
 -- What a job has done that no error ended, by how it ended, by what the reader had and has left and by what the writer held
@@ -27,18 +29,22 @@ DidJob (job.Run start) outcome had left held holds =
     IsRunOnInput start (Ok outcome) had held holds × IfSome had (HasRead had left)
 DidJob (job.Live start) outcome had left held holds = IsLiveOnInput start (Ok outcome) had left held holds
 DidJob (job.Check start line) outcome had left held holds =
-    IsCheckOnInput start line (Ok outcome) had held holds × IfSome had (HasRead had left)
+    IsCheckOnInput start line (Ok outcome) had held holds × IfSome had (HasReadDocument had left)
 DidJob (job.Drill start workers room) outcome had left held holds =
     IsDrillOnInput start workers room (Ok outcome) had held holds × IfSome had (HasRead had left)
 
--- what a job leaves that an error ended
+-- What a job leaves that an error ended. Out of memory a run and a drill have never written the whole of what was to be written,
+-- and a check has read a byte, unless there was none.
 abbrev pub FailedJob : Job → DriveError → Option (List ℕ) → Option (List ℕ) → Option (List ℕ) → Option (List ℕ) → Type 0
 FailedJob (job.Run start) e had left held holds =
     AfterFault e start had left held holds × IsRunOnInput start (Err e) had held holds
+    × (e ≡ errors.Memory → IfSome had (λ input. WroteShort held holds (text start input)))
 FailedJob (job.Live start) e had left held holds = IsLiveOnInput start (Err e) had left held holds
-FailedJob (job.Check start line) e had left held holds = IsCheckOnInput start line (Err e) had held holds
+FailedJob (job.Check start line) e had left held holds =
+    IsCheckOnInput start line (Err e) had held holds × (e ≡ errors.Memory → HasBegun had left)
 FailedJob (job.Drill start workers room) e had left held holds =
     AfterDrillFault e start workers room had left held holds × IsDrillOnInput start workers room (Err e) had held holds
+    × (e ≡ errors.Memory → IfSome had (λ input. WroteDrillShort start workers room input held holds))
 
 -- words in which `clap` finds no fault, and which ask for this job
 abbrev pub Asks : List Text → Job → Type 0

@@ -1,15 +1,15 @@
 //! A check of a setup: reads one document, and tells what is in it, or why it is refused.
 ghost use Rattle.std.specs.Prelude.{◌≡◌, ◌≤◌, IfOk, IfErr, IfSome, OnOk};
-ghost use Rattle.check_script.specs.Input.{without_last_feed};
 ghost use Rattle.check_session.specs.Check.{IsCheckOnInput, IsLineTold, IsSummaryTold, IsRefusalTold, IsTold};
-ghost use Rattle.check_drive.specs.Drive.{HasRead};
+ghost use Rattle.check_session.specs.Reading.{HasBegun, HasReadDocument};
 
+use crate::reading::{MAX_CHECKED_BYTES, document, read_checked};
 use check_drive::drive::Outcome;
 use check_explain::explain;
 use check_line::write_line;
 use check_objects::{LoadError, Setup};
 use check_sched::LAST_MOMENT;
-use check_script::{DriveError, InputRefusal, read_input};
+use check_script::{DriveError, InputRefusal};
 use check_summary::{Summary, push_summary};
 use check_text::{flush, push_refusal, write_text};
 use std::alloc::{AllocError, Global};
@@ -31,8 +31,10 @@ struct Told {
 /// refused one is told by the line that a run on it writes, and by a line of plain words behind it.
 /// So is a document whose line would be longer than one may be, as `TooLong`.
 ///
-/// Of an input no more than 67,108,865 bytes are read. The writer is flushed once, at the end. After
-/// the errors `Read` and `Memory` nothing was written, after `Write` a front of what was to be told.
+/// Of an input no more than 16,777,217 bytes are read, which tell that a document is too long; where
+/// the last of these is a line feed, one byte more. The writer is flushed once, at the end. After the
+/// errors `Read` and `Memory` nothing was written, after `Write` a front of what was to be told.
+/// `Memory` comes only where a byte was read, or there was none.
 pub fn check<R: Read, W: Write>(
     alloc: Global,
     start: u64,
@@ -44,24 +46,16 @@ pub fn check<R: Read, W: Write>(
     ensures input { IsCheckOnInput start line result (R.remaining reader.old)
         (W.contents writer.old) (W.contents writer.new) }
     ensures read { OnOk result (IfSome (R.remaining reader.old)
-        (HasRead (R.remaining reader.old) (R.remaining reader.new))) }
+        (HasReadDocument (R.remaining reader.old) (R.remaining reader.new))) }
+    ensures memory { IfErr result (λ e. e ≡ DriveError.Memory
+        → HasBegun (R.remaining reader.old) (R.remaining reader.new)) }
+    ensures limit { MAX_CHECKED_BYTES ≡ 16777217 }
 {
-    let input = read_input(alloc, reader)?;
+    let input = read_checked(alloc, reader)?;
     let told = tell(alloc, start, line, document(&input))?;
     write_text(writer, &told.text)?;
     flush(writer)?;
     Ok(told.outcome)
-}
-
-/// The document of an input: the bytes without the line feed at their end, where there is one.
-fn document(input: &[u8]) -> &[u8]
-    ensures { result.now ≡ without_last_feed input.now }
-{
-    match input.split_last() {
-        Some((last, document)) if *last == b'\n' => document,
-        Some(_) => input,
-        None => input,
-    }
 }
 
 /// What is to be told of a document. An Err is `Memory`.

@@ -1,0 +1,174 @@
+-- What a check reads of its input, and the document in it.
+use Rattle.std.proofs.Common.{◌≡◌, ◌≢◌, ℕ, zero, suc, ◌+◌, ◌<◌, ◌≤◌, ◌==◌, ◌&&◌, Bool, true, false, List, [], ◌∷◌, ◌++◌, length, take, Option, Some, None, refl, sym, ap, subst, ◌∙◌}
+use Rattle.std.proofs.Common.{arith, length-take, length-append, append_assoc}
+use Rattle.std.specs.Prelude.{IfSome, if◌then◌else◌}
+use Rattle.std.specs.Io.KnownBytes.{Consumes, IsAtEnd}
+use borrow.Author.Tests.{ltb-false}
+use Rattle.std.proofs.lemmas.Bool.{eqb-true}
+use Rattle.std.proofs.lemmas.Bool.Decides.{nat_tests}
+use Rattle.std.proofs.lemmas.List.{take_all}
+use Rattle.std.proofs.Math.Seq.{take-append_seam, take-append-add}
+use Rattle.check_script.specs.Input.{without_last_feed}
+use Rattle.check_session.specs.Reading.{HasBegun, HasBegunBy, HasReadDocument, is_undecided, read_of}
+use Rattle.check_session.specs.declared.reading.TheConstants.{MAX_CHECKED_BYTES}
+
+-- ---- the document of an input
+
+-- a line feed at the end is cut off
+pub feed_cut : (bs : List ℕ) → without_last_feed (bs ++ 10 ∷ []) ≡ bs
+feed_cut [] = refl
+feed_cut (b ∷ []) = refl
+feed_cut (b ∷ c ∷ bs) = ap (λ l. b ∷ l) (feed_cut (c ∷ bs))
+
+-- any other byte stays
+stays_by : (is : Bool) (last : ℕ) → (is ≡ true → ⊥) → (if is then [] else last ∷ []) ≡ last ∷ []
+stays_by true last n = absurd (n refl)
+stays_by false last n = refl
+
+pub feed_stays : (bs : List ℕ) (last : ℕ) → last ≢ 10 → without_last_feed (bs ++ last ∷ []) ≡ bs ++ last ∷ []
+feed_stays [] last n = stays_by (last == 10) last (λ e. n (eqb-true last 10 e))
+feed_stays (b ∷ []) last n = ap (λ l. b ∷ l) (stays_by (last == 10) last (λ e. n (eqb-true last 10 e)))
+feed_stays (b ∷ c ∷ bs) last n = ap (λ l. b ∷ l) (feed_stays (c ∷ bs) last n)
+
+-- no more than one byte is cut off
+cut_one : (t : Bool) (b : ℕ) → 1 ≤ length (if t then [] else b ∷ []) + 1
+cut_one true b = omega arith
+cut_one false b = omega arith
+
+pub cut_length : (bs : List ℕ) → length bs ≤ length (without_last_feed bs) + 1
+cut_length [] = omega arith
+cut_length (b ∷ []) = cut_one (b == 10) b
+cut_length (b ∷ c ∷ bs) = let h = cut_length (c ∷ bs) in omega (arith, h)
+
+-- ---- reads one after another
+
+pub then_read : (had mid left : Option (List ℕ)) (xs ys : List ℕ) → Consumes had mid xs → Consumes mid left ys → Consumes had left (xs ++ ys)
+then_read None mid left xs ys h k = tt
+then_read (Some a) None left xs ys h k = absurd h
+then_read (Some a) (Some b) None xs ys h k = absurd k
+then_read (Some a) (Some b) (Some c) xs ys h k = h ∙ ap (λ l. xs ++ l) k ∙ sym (append_assoc xs ys c)
+
+-- a byte that is there
+pub some_there : {A : Type 0} (xs : List ℕ) → 0 < length xs → xs ≡ [] → A
+some_there [] h e = absurd (omega (arith, h))
+some_there (x ∷ xs) h e = cc
+
+positive : (n : ℕ) → (n ≡ 0 → ⊥) → 0 < n
+positive zero h = absurd (h refl)
+positive (suc n) h = omega arith
+
+-- what was read before, and a read that gave something
+pub begun_by : (had mid left : Option (List ℕ)) (input piece : List ℕ) (n : ℕ) → Consumes had mid input → Consumes mid left (take n piece)
+    → n ≤ length piece → (n ≡ 0 → ⊥) → HasBegun had left
+begun_by had mid left input piece n h k few some =
+    let more = positive n some in (
+      input ++ take n piece,
+      (
+        then_read had mid left input (take n piece) h k,
+        some_there (input ++ take n piece) (omega (arith, length-append input (take n piece), length-take n piece, few, more)),
+      ),
+    )
+
+-- a read to the limit
+pub at_limit : (had left : Option (List ℕ)) (input : List ℕ) (most : ℕ) → Consumes had left input → length input ≡ most
+    → IfSome had (λ bytes. input ≡ take most bytes)
+at_limit None left input most h e = tt
+at_limit (Some xs) None input most h e = absurd h
+at_limit (Some xs) (Some ys) input most h e = rw (h, ← e) (sym (take-append_seam input ys))
+
+-- a read of nothing, at the end
+pub nothing_left : (had mid left : Option (List ℕ)) (input piece : List ℕ) (n : ℕ) → Consumes had mid input → Consumes mid left (take n piece)
+    → n ≡ 0 → Consumes had left input
+nothing_left None mid left input piece n h k e = tt
+nothing_left (Some xs) None left input piece n h k e = absurd h
+nothing_left (Some xs) (Some ys) None input piece n h k e = absurd k
+nothing_left (Some xs) (Some ys) (Some zs) input piece n h k e = h ∙ ap (λ l. input ++ l) (k ∙ ap (λ m. take m piece ++ zs) e)
+
+append_none : (xs : List ℕ) → xs ++ [] ≡ xs
+append_none [] = refl
+append_none (x ∷ xs) = ap (λ l. x ∷ l) (append_none xs)
+
+pub at_end : (had left : Option (List ℕ)) (input : List ℕ) (most : ℕ) → Consumes had left input → IsAtEnd left → length input ≤ most
+    → IfSome had (λ bytes. input ≡ take most bytes)
+at_end None left input most h f l = tt
+at_end (Some xs) None input most h f l = absurd h
+at_end (Some xs) (Some ys) input most h f l =
+    let all : xs ≡ input = h ∙ ap (λ l. input ++ l) f ∙ append_none input in
+    rw all (sym (take_all most input l))
+
+-- ---- what is read of an input
+
+decided_by : (b : Bool) (n m : ℕ) (bytes : List ℕ) → b ≡ false → take m bytes ≡ take (if b then n else m) bytes
+decided_by true n m bytes e = cc
+decided_by false n m bytes e = refl
+
+undecided_by : (b : Bool) (n m : ℕ) (bytes : List ℕ) → b ≡ true → take n bytes ≡ take (if b then n else m) bytes
+undecided_by true n m bytes e = refl
+undecided_by false n m bytes e = cc
+
+pub decided : (had : Option (List ℕ)) (input : List ℕ) → IfSome had (λ bytes. input ≡ take MAX_CHECKED_BYTES bytes) → is_undecided input ≡ false
+    → IfSome had (λ bytes. input ≡ read_of bytes)
+decided None input all e = tt
+decided (Some bytes) input all e =
+    all ∙ decided_by (is_undecided (take MAX_CHECKED_BYTES bytes)) (MAX_CHECKED_BYTES + 1) MAX_CHECKED_BYTES bytes (ap is_undecided (sym all) ∙ e)
+
+both : (a b : Bool) → (a && b) ≡ true → a ≡ true
+both true b e = refl
+both false b e = cc
+
+pub is_long : (input : List ℕ) → is_undecided input ≡ true → length input ≡ MAX_CHECKED_BYTES
+is_long input e = eqb-true (length input) MAX_CHECKED_BYTES (both (length input == MAX_CHECKED_BYTES) _ e)
+
+-- behind so many bytes it doesn't matter what else was read
+pub begun_long : (had mid left : Option (List ℕ)) (input : List ℕ) → HasBegunBy had mid input → is_undecided input ≡ true → HasBegun mid left
+    → HasBegun had left
+begun_long had mid left input h e b =
+    let long : length input ≡ 16777217 = is_long input e in (
+      input ++ b.0,
+      (then_read had mid left input b.0 h.0 b.1.0, some_there (input ++ b.0) (omega (arith, length-append input b.0, long))),
+    )
+
+pub undecided : (had mid : Option (List ℕ)) (input behind : List ℕ) → IfSome had (λ bytes. input ≡ take MAX_CHECKED_BYTES bytes)
+    → Consumes had mid input → IfSome mid (λ bytes. behind ≡ take 1 bytes) → is_undecided input ≡ true
+    → IfSome had (λ bytes. input ++ behind ≡ read_of bytes)
+undecided None mid input behind all c more e = tt
+undecided (Some bytes) None input behind all c more e = absurd c
+undecided (Some bytes) (Some rest) input behind all c more e =
+    let whole : take (MAX_CHECKED_BYTES + 1) bytes ≡ input ++ take 1 rest =
+    ap (take (MAX_CHECKED_BYTES + 1)) c ∙ ap (λ n. take (n + 1) (input ++ rest)) (sym (is_long input e)) ∙ take-append-add input rest 1 in
+    ap (λ l. input ++ l) more ∙ sym whole
+    ∙ undecided_by (is_undecided (take MAX_CHECKED_BYTES bytes)) (MAX_CHECKED_BYTES + 1) MAX_CHECKED_BYTES bytes (ap is_undecided (sym all) ∙ e)
+
+-- what was read of the input, by the definition
+pub has_read : (had left : Option (List ℕ)) (input : List ℕ) → IfSome had (λ bytes. input ≡ read_of bytes) → Consumes had left input
+    → IfSome had (HasReadDocument had left)
+has_read None left input all c = tt
+has_read (Some bytes) left input all c = subst (λ read. Consumes (Some bytes) left read) all c
+
+-- ---- what is read tells whether the document is too long
+
+all_by : (b : Bool) (bytes : List ℕ) → length bytes ≤ 16777217 → take (if b then MAX_CHECKED_BYTES + 1 else MAX_CHECKED_BYTES) bytes ≡ bytes
+all_by true bytes short = take_all (MAX_CHECKED_BYTES + 1) bytes (omega (arith, short))
+all_by false bytes short = take_all MAX_CHECKED_BYTES bytes (omega (arith, short))
+
+pub read_all : (bytes : List ℕ) → length bytes ≤ 16777217 → read_of bytes ≡ bytes
+read_all bytes short = all_by (is_undecided (take MAX_CHECKED_BYTES bytes)) bytes short
+
+other : (a b : Bool) → a ≡ true → (a && b) ≡ false → b ≡ false
+other true b h e = e
+other false b h e = cc
+
+long_by : (b : Bool) (bytes : List ℕ) → 16777217 < length bytes → is_undecided (take MAX_CHECKED_BYTES bytes) ≡ b
+    → 16777216 < length (without_last_feed (take (if b then MAX_CHECKED_BYTES + 1 else MAX_CHECKED_BYTES) bytes))
+long_by true bytes long e =
+    let read = length-take (MAX_CHECKED_BYTES + 1) bytes in
+    let cut = cut_length (take (MAX_CHECKED_BYTES + 1) bytes) in
+    omega (arith, read, cut, long)
+long_by false bytes long e =
+    let read = length-take MAX_CHECKED_BYTES bytes in
+    let full : length (take MAX_CHECKED_BYTES bytes) ≡ MAX_CHECKED_BYTES = omega (arith, read, long) in
+    let same : (length (take MAX_CHECKED_BYTES bytes) == MAX_CHECKED_BYTES) ≡ true = grind (arith, nat_tests, full) in
+    ltb-false _ _ (other (length (take MAX_CHECKED_BYTES bytes) == MAX_CHECKED_BYTES) _ same e)
+
+pub read_long : (bytes : List ℕ) → 16777217 < length bytes → 16777216 < length (without_last_feed (read_of bytes))
+read_long bytes long = long_by (is_undecided (take MAX_CHECKED_BYTES bytes)) bytes long refl

@@ -1,0 +1,26 @@
+-- What a check reads of its input.
+use Rattle.std.specs.Prelude.{ℕ, ◌≡◌, ◌==◌, ◌&&◌, ◌+◌, nat_lt, Bool, List, [], Option, length, take, if◌then◌else◌}
+use Rattle.std.specs.Io.KnownBytes.{Consumes, IsAtEnd}
+use Rattle.check_script.specs.Input.{without_last_feed}
+use Rattle.check_session.specs.declared.reading.TheConstants.{MAX_CHECKED_BYTES}
+
+-- Bytes from which it isn't known yet whether their document is too long: they are one more than a document may have, and the
+-- last of them is a line feed, which is no part of the document where the input ends behind it.
+abbrev pub is_undecided : List ℕ → Bool
+is_undecided read = (length read == MAX_CHECKED_BYTES) && nat_lt (length (without_last_feed read)) MAX_CHECKED_BYTES
+
+-- what is read of an input: no more than one byte past what a document may have, and past a line feed there one byte more
+abbrev pub read_of : List ℕ → List ℕ
+read_of input = take (if is_undecided (take MAX_CHECKED_BYTES input) then MAX_CHECKED_BYTES + 1 else MAX_CHECKED_BYTES) input
+
+-- so much was read
+abbrev pub HasReadDocument : Option (List ℕ) → Option (List ℕ) → List ℕ → Type 0
+HasReadDocument had left input = Consumes had left (read_of input)
+
+-- these bytes were read: one at least, unless the reader had none
+abbrev pub HasBegunBy : Option (List ℕ) → Option (List ℕ) → List ℕ → Type 0
+HasBegunBy had left given = Consumes had left given × (given ≡ [] → IsAtEnd left)
+
+-- a byte was read, unless the reader had none
+abbrev pub HasBegun : Option (List ℕ) → Option (List ℕ) → Type 0
+HasBegun had left = (given : List ℕ) × HasBegunBy had left given

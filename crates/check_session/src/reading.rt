@@ -1,0 +1,92 @@
+//! What a check reads of its input, and the document in it.
+ghost use Rattle.std.specs.Prelude.{◌≡◌, ◌≢◌, ◌<◌, ◌++◌, IfOk, IfErr, IfSome, IsOkUnless, OnOk, take};
+ghost use Rattle.check_script.specs.Input.{without_last_feed};
+ghost use Rattle.check_session.specs.Reading.{HasBegun, HasBegunBy, is_undecided, read_of};
+
+use check_script::DriveError;
+use std::alloc::Global;
+use std::io::Read;
+
+/// How many bytes of an input are read at first: one more than a document may have, so that a longer
+/// one is known to be too long.
+pub const MAX_CHECKED_BYTES: usize = 16_777_217;
+
+/// How many bytes are asked of the reader at a time.
+const CHUNK: usize = 65_536;
+
+/// Reads to the end of the input or to `MAX_CHECKED_BYTES` bytes, whichever comes first, and one byte
+/// more where the last of these is a line feed: it is no part of the document where the input ends
+/// behind it.
+///
+/// Each error of the reader is a fault, an interruption among them: nothing is tried again. `Memory`
+/// comes only where a byte was read, or there was none.
+pub(crate) fn read_checked<R: Read>(alloc: Global, reader: &mut R) -> Result<Vec<u8>, DriveError>
+    ensures all { IfOk result (λ input.
+        IfSome (R.remaining reader.old) (λ bytes. input.items ≡ read_of bytes)) }
+    ensures left { IfOk result (λ input.
+        HasBegunBy (R.remaining reader.old) (R.remaining reader.new) input.items) }
+    ensures errors { IfErr result (λ e. e ≢ DriveError.Write) }
+    ensures memory { IfErr result (λ e. e ≡ DriveError.Memory
+        → HasBegun (R.remaining reader.old) (R.remaining reader.new)) }
+{
+    let mut input = read_front(alloc, reader, MAX_CHECKED_BYTES)?;
+    if is_undecided(&input) {
+        let behind = read_front(alloc, reader, 1)?;
+        append(&mut input, &behind)?;
+    }
+    Ok(input)
+}
+
+/// Reads to the end of the input or to `most` bytes, whichever comes first.
+fn read_front<R: Read>(alloc: Global, reader: &mut R, most: usize) -> Result<Vec<u8>, DriveError>
+    requires { 0 < most }
+    ensures all { IfOk result (λ input.
+        IfSome (R.remaining reader.old) (λ bytes. input.items ≡ take most bytes)) }
+    ensures left { IfOk result (λ input.
+        HasBegunBy (R.remaining reader.old) (R.remaining reader.new) input.items) }
+    ensures errors { IfErr result (λ e. e ≢ DriveError.Write) }
+    ensures memory { IfErr result (λ e. e ≡ DriveError.Memory
+        → HasBegun (R.remaining reader.old) (R.remaining reader.new)) }
+{
+    let mut input = Vec::new(alloc);
+    let mut chunk = [0; CHUNK];
+    while input.len() < most {
+        let wanted = CHUNK.min(most - input.len());
+        let Ok(count) = reader.read(&mut chunk[..wanted]) else {
+            return Err(DriveError::Read);
+        };
+        if count == 0 {
+            break;
+        }
+        append(&mut input, &chunk[..count])?;
+    }
+    Ok(input)
+}
+
+/// Appends bytes that were read. An Err is `Memory`, and never the reader's.
+fn append(input: &mut Vec<u8>, bytes: &[u8]) -> Result<(), DriveError>
+    ensures added { OnOk result (input.new.items ≡ input.old.items ++ bytes.now) }
+    ensures kind { IsOkUnless result DriveError.Memory }
+{
+    input.extend_from_slice(bytes)?;
+    Ok(())
+}
+
+/// Whether these bytes are one more than a document may have and the last is a line feed. Where the
+/// input ends behind them they hold a document, and else it is too long.
+fn is_undecided(read: &[u8]) -> bool
+    ensures { result ≡ is_undecided read.now }
+{
+    read.len() == MAX_CHECKED_BYTES && document(read).len() < MAX_CHECKED_BYTES
+}
+
+/// The document of an input: the bytes without the line feed at their end, where there is one.
+pub(crate) fn document(input: &[u8]) -> &[u8]
+    ensures { result.now ≡ without_last_feed input.now }
+{
+    match input.split_last() {
+        Some((last, document)) if *last == b'\n' => document,
+        Some(_) => input,
+        None => input,
+    }
+}
