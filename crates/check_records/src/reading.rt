@@ -1,6 +1,7 @@
 //! Structs read back: the call, the reply, the entry or the refusal that has a struct, where one has it.
 
-ghost use Rattle.std.specs.Prelude.{◌≡◌, ◌↔◌, ◌≤◌, ◌^◌, true, IfNone, IfSome};
+ghost use Rattle.std.specs.Prelude.{◌≡◌, ◌≢◌, ◌↔◌, ◌≤◌, ◌^◌, true, IfNone, IfSome};
+ghost use Rattle.check_drafts.specs.declared.error.LoadError.TheVariants.{Memory};
 ghost use Rattle.check_records.specs.Plain.{call_back, place_back, refusal_back, reply_back, standing_back, time_back};
 ghost use Rattle.check_records.specs.Plain.{IsNoCall, IsNoEntry, IsNoRefusal, IsNoReply};
 ghost use Rattle.check_records.specs.Plain.{plain_call, plain_entry, plain_refusal, plain_reply};
@@ -152,9 +153,10 @@ pub fn entry_of(plain: PlainEntry) -> Option<Entry<Call, Reply>>
     Some(Entry { pass, call, reply })
 }
 
-/// The refusal of a document with this struct, where a document can be refused so.
+/// The refusal of a document with this struct, where a document can be refused so: want of memory is none.
 pub fn refusal_of(plain: PlainRefusal) -> Option<LoadError>
     ensures some { IfSome result (λ error. plain_refusal error ≡ plain) }
+    ensures told { IfSome result (λ error. error ≢ Memory) }
     ensures none { IfNone result (IsNoRefusal plain) }
 {
     match refusal_back(plain) {
