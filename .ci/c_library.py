@@ -7,7 +7,8 @@ With --proved the library is built over what `rt ci` has just proved in this tre
 
 The examples, in C with four workers and an operator and in Python with two workers, tell their histories: each caller's entries
 are its calls, runs are 1, 2, 3 and on, and the answers are what the program answers to the same calls in that order. Mistakes change
-nothing; each request for memory is refused in turn; the conformance cases of `run` are answered alike by the library.
+nothing; each request for memory is refused in turn; the conformance cases of `run` are answered alike by the library. Header, Python
+file and definition have the same numbers; two threads read the same handles at once, under ThreadSanitizer where the compiler has it.
 """
 import collections
 import json
@@ -31,6 +32,22 @@ WORKERS = {"embed.c": 4, "embed.py": 2}
 PROVED = sys.argv[2:]
 COUNTED = ["-Wl,--wrap=malloc,--wrap=realloc"]
 EMBEDDING = TOP / "docs" / "EMBEDDING.md"
+DEFINITION = TOP / "crates" / "check_records" / "specs" / "Plain.antt"
+STATUSES = TOP / "crates" / "nagsched_c" / "src" / "status.rt"
+# Each enumeration of the header: its name in Python, what its names begin with in C, and which functions of the definition number it.
+ENUMERATIONS = {
+    "nagsched_result": ("Result", "NAGSCHED_"),
+    "nagsched_code": ("Code", "NAGSCHED_CODE_", "code_number"),
+    "nagsched_state": ("State", "NAGSCHED_STATE_", "state_number"),
+    "nagsched_kind": ("Kind", "NAGSCHED_", "kind_number"),
+    "nagsched_call_kind": ("CallKind", "NAGSCHED_CALL_", "plain_call"),
+    "nagsched_reply_kind": ("ReplyKind", "NAGSCHED_REPLY_", "plain_reply", "refusal_number"),
+    "nagsched_refusal_kind": ("RefusalKind", "NAGSCHED_REFUSAL_", "plain_refusal"),
+    "nagsched_part": ("Part", "NAGSCHED_PART_", "part_number"),
+}
+# A number that the definition has no name for, and names that have no number of their own in C.
+NUMBERED_APART = {"nagsched_part": {"NONE": 0}}
+UNNUMBERED = {"REFUSED", "MEMORY"}
 
 
 def ran(*words, given=None, **how):
@@ -60,6 +77,40 @@ class Library:
         """A run of a Python script over the shared library."""
         env = os.environ | {"NAGSCHED_LIBRARY": str(self.shared), "PYTHONPATH": str(BINDING), "PYTHONDONTWRITEBYTECODE": "1"}
         return ran(sys.executable, script, *words, env=env)
+
+
+def numbers_of(text, pattern):
+    """The numbers that a text gives to the names of each enumeration, by its name."""
+    return {name: {member: int(number) for member, number in re.findall(r"(\w+) = (\d+)", body)}
+            for name, body in re.findall(pattern, text, re.M | re.S)}
+
+
+def defined_numbers():
+    """The numbers that the definition gives, by the function that gives them, with the names of C."""
+    text = DEFINITION.read_text(encoding="utf-8")
+    found = collections.defaultdict(dict)
+    for function, name, number in re.findall(r"^(\w+) \(?(?:\w+)\.(\w+)\b[^=\n]*\)? = (?:\w*(?:_struct|_nowhere|_at) |record \{ kind = )?(\d+)", text, re.M):
+        found[function][re.sub(r"(?<!^)(?=[A-Z])", "_", name).upper()] = int(number)
+    return found
+
+
+def same_numbers(held):
+    """Header, Python file and definition give each name the same number."""
+    header = numbers_of(HEADER.read_text(encoding="utf-8"), r"^enum (\w+) \{(.*?)\};")
+    python = numbers_of((BINDING / "nagsched.py").read_text(encoding="utf-8"), r"^class (\w+)\(enum.IntEnum\):(.*?)\n\n\n")
+    defined = defined_numbers()
+    held.compare("enumerations in Python", sorted(python), sorted(name for name, *_ in ENUMERATIONS.values()))
+    held.compare("enumerations of the header", sorted(ENUMERATIONS), sorted(header))
+    statuses = {name: int(number) for name, number in re.findall(r"const (\w+): u32 = (\d+);", STATUSES.read_text(encoding="utf-8"))}
+    held.compare("the numbers of nagsched_result in the library", {f"NAGSCHED_{name}": number for name, number in statuses.items()}, header["nagsched_result"])
+    for name, (in_python, prefix, *functions) in ENUMERATIONS.items():
+        in_header = {member.removeprefix(prefix): number for member, number in header[name].items()}
+        held.compare(f"the numbers of {name} in Python", in_header, python[in_python])
+        if functions:
+            wanted = dict(NUMBERED_APART.get(name, {}))
+            for function in functions:
+                wanted |= {member: number for member, number in defined[function].items() if member not in UNNUMBERED}
+            held.compare(f"the numbers of {name} in the definition", in_header, wanted)
 
 
 def names(words, kind):
@@ -172,8 +223,30 @@ def mistakes(held, library):
     counting(held, "texts in C", ran(library.compiled(TESTS / "c" / "texts.c", *common)))
     counting(held, "desks in C", ran(library.compiled(TESTS / "c" / "desks.c", *common)))
     counting(held, "books in C", ran(library.compiled(TESTS / "c" / "books.c", *common)))
+    counting(held, "gatherings in C", ran(library.compiled(TESTS / "c" / "gatherings.c", *common)))
+    counting(held, "numbers in C", ran(library.compiled(TESTS / "c" / "numbers.c", *common)))
     counting(held, "refused requests", ran(library.compiled(TESTS / "c" / "refused.c", *common, *COUNTED, "-Wl,--wrap=free")))
+    readers(held, library, [*common, *COUNTED, "-Wl,--wrap=free"])
     counting(held, "mistakes in Python", library.in_python(TESTS / "python" / "wrong.py"))
+
+
+def has_sanitizer(library):
+    """Whether the compiler has ThreadSanitizer, and a program that is built with it runs here."""
+    source = library.folder / "empty.c"
+    source.write_text("int main(void) { return 0; }\n", encoding="utf-8")
+    made = ran("cc", "-fsanitize=thread", source, "-o", library.folder / "empty")
+    return made.returncode == 0 and ran(library.folder / "empty").returncode == 0
+
+
+def readers(held, library, words):
+    """Two threads that read the same handles at once, and write nothing of them; under ThreadSanitizer too, where it is there. It sees
+    what the C code does and asks of the C library; that the proved functions don't write is seen by memory that can't be written."""
+    source = TESTS / "c" / "readers.c"
+    counting(held, "readers in C", ran(library.compiled(source, *words)))
+    if has_sanitizer(library):
+        counting(held, "readers under ThreadSanitizer", ran(library.compiled(source, "-fsanitize=thread", *words)))
+    else:
+        print("readers under ThreadSanitizer: passed over, since the compiler has none that runs here")
 
 
 def words_of(call):
@@ -242,6 +315,7 @@ def main():
     with tempfile.TemporaryDirectory() as folder:
         library = Library(held, pathlib.Path(folder))
         surface(held, library)
+        same_numbers(held)
         examples(held, library)
         mistakes(held, library)
         conformance(held, library)

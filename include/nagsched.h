@@ -21,7 +21,8 @@
  *
  * The caller keeps what no call can see:
  *   - a handle is zeroed (NAGSCHED_EMPTY) before its first use, and never copied, read or written;
- *   - one call at a time is made with a handle, whichever thread makes it;
+ *   - one call at a time is made with a handle, whichever thread makes it; only calls that all take it as const, which
+ *     read it and write nothing of it, may be made with one handle at the same time;
  *   - a call that was answered NAGSCHED_WAIT is made again until it is answered otherwise: its turn stops all others;
  *   - no call is made from a signal handler, or in a child after fork, with a handle from before it;
  *   - what a pointer leads to is as large as its type, or as the length says, and no two pointers of a call lead
@@ -200,7 +201,8 @@ uint32_t nagsched_host_of(const struct nagsched_handle *named, uint32_t number, 
  * Of a setup: start is the moment at which scheduling starts; room is how many entries the history has memory for
  * at once (it grows; only a call past it asks for memory). Of a book without entries, which nagsched_renew makes:
  * start and room are the book's own, and have to be 0 here. Each caller has 2^32 - 1 calls, or calls, 1 to that many.
- * Ask for memory; NO_MEMORY leaves all handles as they were. */
+ * Ask for memory; NO_MEMORY leaves all handles as they were. (One case no proof excludes: a count of 63 bits of those who
+ * share the desk is full. No machine comes to it; setup_or_book would be the desk's one caller then.) */
 uint32_t nagsched_open(struct nagsched_handle *setup_or_book, uint64_t start, size_t room, struct nagsched_handle *callers, size_t count);
 uint32_t nagsched_open_with(struct nagsched_handle *setup_or_book, uint64_t start, size_t room, uint64_t calls, struct nagsched_handle *callers,
                             size_t count);
@@ -218,9 +220,8 @@ uint32_t nagsched_try_status(struct nagsched_handle *caller, uint32_t object, st
  * not of a number that no object has: WRONG. */
 uint32_t nagsched_glance(struct nagsched_handle *caller, uint32_t object, struct nagsched_standing *standing);
 
-/* Adds another caller of the same desk to this one; the other handle is empty then. One that waits, or callers of two
- * desks: WRONG. (Two desks are seen by a mark that is raised through one caller and read through the other, eight times;
- * no clause covers it, and another gather on the second desk in those very instants could hide it: keep desks apart.) */
+/* Adds another caller of the same desk to this one, in any order of their numbers; the other handle is empty then. One
+ * that waits, or callers of two desks: WRONG. (Two desks differ in a number that each gets when it is opened.) */
 uint32_t nagsched_gather(struct nagsched_handle *caller, struct nagsched_handle *other);
 
 /* Ends the desk: the caller, when all others are gathered in it, becomes the desk's book. MISSING before. */

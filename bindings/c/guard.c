@@ -3,8 +3,12 @@
  * A function that is declared in nagsched.h and takes pointers stands here. It answers NAGSCHED_WRONG where one of them is
  * NULL, or where two of one type are the same, and goes on to the proved function otherwise. tools/build_c.sh gives the
  * proved nagsched_open the name nagsched_proved_open, and so on, and links them behind these.
+ *
+ * The proved functions that open a desk take its mark besides, by which callers of two desks are kept apart.
  */
 #include "nagsched.h"
+
+#include <stdatomic.h>
 
 /* A function of the header: its name behind nagsched_, its parameters, what has to be so of them, and their names. */
 #define GUARDED(name, parameters, has_to_be, names)  \
@@ -12,6 +16,23 @@
     uint32_t nagsched_##name parameters {            \
         if (!(has_to_be)) return NAGSCHED_WRONG;     \
         return nagsched_proved_##name names;         \
+    }
+
+/* A mark that no other desk of the process has: 2^64 desks would have to be opened before one comes twice. */
+static uint64_t new_mark(void) {
+    static _Atomic uint64_t marks;
+    return atomic_fetch_add(&marks, 1);
+}
+
+/* The same for a function that only reads a handle, which it takes as const. The proved one takes what the handle leads to out of it
+ * and puts it back; it does so with a copy of the handle. So nothing that another thread may read is written.
+ */
+#define GUARDED_READER(name, read, parameters, has_to_be, names) \
+    uint32_t nagsched_proved_##name parameters;                 \
+    uint32_t nagsched_##name parameters {                       \
+        if (!(has_to_be)) return NAGSCHED_WRONG;                \
+        handle copy = *read;                                    \
+        return nagsched_proved_##name names;                    \
     }
 
 /* Whether a handle is none of so many others. */
@@ -27,21 +48,30 @@ typedef struct nagsched_standing standing;
 GUARDED(read, (const uint8_t *document, size_t bytes, handle *setup, refusal *told), document && setup && told, (document, bytes, setup, told))
 
 GUARDED(refusal_text, (const refusal *told, uint8_t *text, size_t room, size_t *length), told && text && length, (told, text, room, length))
-GUARDED(reply_text, (const handle *named, const call *made, const reply *came, uint8_t *text, size_t room, size_t *length),
-        named && made && came && text && length, (named, made, came, text, room, length))
-GUARDED(entry_text, (const handle *named, const entry *told, uint8_t *text, size_t room, size_t *length), named && told && text && length,
-        (named, told, text, room, length))
+GUARDED_READER(reply_text, named, (const handle *named, const call *made, const reply *came, uint8_t *text, size_t room, size_t *length),
+               named && made && came && text && length, (&copy, made, came, text, room, length))
+GUARDED_READER(entry_text, named, (const handle *named, const entry *told, uint8_t *text, size_t room, size_t *length),
+               named && told && text && length, (&copy, told, text, room, length))
 
-GUARDED(count, (const handle *named, uint32_t *objects, uint32_t *hosts), named && objects && hosts && objects != hosts, (named, objects, hosts))
-GUARDED(number, (const handle *named, const uint8_t *name, size_t bytes, uint32_t *number), named && name && number, (named, name, bytes, number))
-GUARDED(name, (const handle *named, uint32_t number, uint8_t *name, size_t room, size_t *length), named && name && length,
-        (named, number, name, room, length))
-GUARDED(host_of, (const handle *named, uint32_t number, uint32_t *host), named && host, (named, number, host))
+GUARDED_READER(count, named, (const handle *named, uint32_t *objects, uint32_t *hosts), named && objects && hosts && objects != hosts,
+               (&copy, objects, hosts))
+GUARDED_READER(number, named, (const handle *named, const uint8_t *name, size_t bytes, uint32_t *number), named && name && number,
+               (&copy, name, bytes, number))
+GUARDED_READER(name, named, (const handle *named, uint32_t number, uint8_t *name, size_t room, size_t *length), named && name && length,
+               (&copy, number, name, room, length))
+GUARDED_READER(host_of, named, (const handle *named, uint32_t number, uint32_t *host), named && host, (&copy, number, host))
 
-GUARDED(open, (handle *source, uint64_t start, size_t room, handle *callers, size_t count),
-        source && callers && IS_NONE_OF(source, callers, count), (source, start, room, callers, count))
-GUARDED(open_with, (handle *source, uint64_t start, size_t room, uint64_t calls, handle *callers, size_t count),
-        source && callers && IS_NONE_OF(source, callers, count), (source, start, room, calls, callers, count))
+uint32_t nagsched_proved_open(handle *source, uint64_t start, size_t room, uint64_t mark, handle *callers, size_t count);
+uint32_t nagsched_open(handle *source, uint64_t start, size_t room, handle *callers, size_t count) {
+    if (!(source && callers && IS_NONE_OF(source, callers, count))) return NAGSCHED_WRONG;
+    return nagsched_proved_open(source, start, room, new_mark(), callers, count);
+}
+
+uint32_t nagsched_proved_open_with(handle *source, uint64_t start, size_t room, uint64_t mark, uint64_t calls, handle *callers, size_t count);
+uint32_t nagsched_open_with(handle *source, uint64_t start, size_t room, uint64_t calls, handle *callers, size_t count) {
+    if (!(source && callers && IS_NONE_OF(source, callers, count))) return NAGSCHED_WRONG;
+    return nagsched_proved_open_with(source, start, room, new_mark(), calls, callers, count);
+}
 
 GUARDED(try_take, (handle *caller, uint64_t now, reply *came), caller && came, (caller, now, came))
 GUARDED(try_report, (handle *caller, uint32_t object, uint64_t run, uint32_t code, reply *came), caller && came, (caller, object, run, code, came))
@@ -55,8 +85,8 @@ GUARDED(glance, (handle *caller, uint32_t object, standing *seen), caller && see
 GUARDED(gather, (handle *caller, handle *other), caller && other && caller != other, (caller, other))
 GUARDED(close, (handle *caller), caller, (caller))
 
-GUARDED(entries, (const handle *kept, uint64_t *count), kept && count, (kept, count))
-GUARDED(entry, (const handle *kept, uint64_t index, entry *told), kept && told, (kept, index, told))
-GUARDED(refused, (const handle *book, uint64_t *count), book && count, (book, count))
+GUARDED_READER(entries, kept, (const handle *kept, uint64_t *count), kept && count, (&copy, count))
+GUARDED_READER(entry, kept, (const handle *kept, uint64_t index, entry *told), kept && told, (&copy, index, told))
+GUARDED_READER(refused, book, (const handle *book, uint64_t *count), book && count, (&copy, count))
 GUARDED(renew, (handle *book, size_t room, handle *history), book && history && book != history, (book, room, history))
 GUARDED(free, (handle *given), given, (given))

@@ -14,8 +14,10 @@
 
 Moments are milliseconds of a clock of your own, 0 to 2**60. Objects are numbers from 0, or names by `number` and `name`.
 
-Each of the six calls is made whole. One pass is used by one thread at a time; a second one's call raises Wrong. What is
-refused raises: see Error. Nothing here is shared but what a desk's passes share.
+Each of the six calls is made whole. One pass is used by one thread at a time; a second one's call raises Wrong. So it is with a
+setup, a book or a history: where two threads may read one at once, they make the call again. (The library lets them read at the
+same time; this file has one lock for each thing.) What is refused raises: see Error. Nothing here is shared but what a desk's
+passes share.
 
 The library is the one that NAGSCHED_LIBRARY names, else libnagsched.so beside this file, else the one that the system's loader
 finds. Beyond the library this file needs nothing but Python, 3.9 or later.

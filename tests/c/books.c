@@ -1,4 +1,5 @@
-/* Books: calls past their room, and books that are renewed. One that goes on is laid beside one that never ended.
+/* Books: calls past their room, and books that are renewed. One that goes on is laid beside one that never ended. Books of many entries
+ * and of none, large rooms and large documents.
  */
 #include "counted.h"
 
@@ -176,6 +177,74 @@ static void made_again(void) {
     GIVES(OK, nagsched_free(&copy));
 }
 
+/* A book of many entries, for which memory is asked again and again: all are there, and none was refused. */
+static void many_entries(uint64_t calls) {
+    struct desk desk = NO_DESK;
+    struct nagsched_handle history = NAGSCHED_EMPTY;
+    struct nagsched_reply reply;
+    struct nagsched_entry entry;
+    uint64_t made = 0, right = 0, refused = 9;
+    open_desk(&desk, 0);
+    while (made < calls && nagsched_status(of(&desk), made % 2, &reply) == NAGSCHED_OK) made++;
+    IS(made == calls);
+    GIVES(OK, nagsched_close(of(&desk)));
+    is_of(of(&desk), calls);
+    GIVES(OK, nagsched_refused(of(&desk), &refused));
+    IS(refused == 0);
+    for (uint64_t at = 0; at < made; at++) right += nagsched_entry(of(&desk), at, &entry) == NAGSCHED_OK && entry.call.object == at % 2;
+    IS(right == calls);
+    GIVES(OK, nagsched_renew(of(&desk), 0, &history));
+    is_of(of(&desk), 0);
+    is_of(&history, calls);
+    GIVES(OK, nagsched_free(&history));
+    GIVES(OK, nagsched_free(of(&desk)));
+}
+
+/* A book without entries is renewed like any other, with each room, again and again, and stands where it stood. */
+static void without_entries(void) {
+    static const size_t rooms[] = {4, 0, 0, 1000001, 0, 1};
+    struct desk desk = NO_DESK;
+    struct nagsched_handle history = NAGSCHED_EMPTY;
+    struct nagsched_reply reply;
+    open_desk(&desk, 0);
+    for (size_t at = 0; at < sizeof rooms / sizeof *rooms; at++) {
+        GIVES(OK, nagsched_close(of(&desk)));
+        GIVES(OK, nagsched_renew(of(&desk), rooms[at], &history));
+        is_of(&history, 0);
+        GIVES(OK, nagsched_free(&history));
+        GIVES(OK, nagsched_renew(of(&desk), rooms[at], &history));
+        GIVES(OK, nagsched_free(&history));
+        desk.at = 1 - desk.at;
+        GIVES(OK, nagsched_open(&desk.handles[1 - desk.at], 0, 0, of(&desk), 1));
+    }
+    GIVES(OK, nagsched_take(of(&desk), 0, &reply));
+    IS(reply.kind == NAGSCHED_REPLY_TAKEN && reply.run == 1);
+    renew(&desk, 0, &history);
+    is_of(&history, 1);
+    GIVES(OK, nagsched_report(of(&desk), 1, 1, NAGSCHED_CODE_OK, &reply));
+    IS(reply.kind == NAGSCHED_REPLY_STANDING);
+    GIVES(OK, nagsched_free(&history));
+    GIVES(OK, nagsched_close(of(&desk)));
+    is_of(of(&desk), 1);
+    GIVES(OK, nagsched_free(of(&desk)));
+}
+
+/* A document of so many bytes, and a room for so many entries. */
+static void large(size_t bytes, size_t room) {
+    struct nagsched_handle setup = NAGSCHED_EMPTY, caller = NAGSCHED_EMPTY;
+    struct nagsched_refusal refusal;
+    struct nagsched_reply reply;
+    uint8_t *document = malloc(bytes);
+    memset(document, ' ', bytes);
+    memcpy(document + bytes - strlen(ONE_SERVICE), ONE_SERVICE, strlen(ONE_SERVICE));
+    GIVES(OK, nagsched_read(document, bytes, &setup, &refusal));
+    free(document);
+    GIVES(OK, nagsched_open(&setup, 0, room, &caller, 1));
+    GIVES(OK, nagsched_take(&caller, 0, &reply));
+    IS(reply.kind == NAGSCHED_REPLY_TAKEN && reply.object == 1);
+    GIVES(OK, nagsched_free(&caller));
+}
+
 int main(void) {
     past_the_room(4, CALLS);
     past_the_room(1000, 5000);
@@ -183,5 +252,9 @@ int main(void) {
     check_is_out();
     flaps();
     made_again();
+    many_entries(200000);
+    without_entries();
+    large(((size_t)1 << 20) + 1, 1000001);
+    large((size_t)16 << 20, 2000000);
     return told("books");
 }

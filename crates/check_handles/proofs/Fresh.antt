@@ -12,6 +12,7 @@ use Rattle.check_desk.specs.declared.passes.Pass.{Pass}
 use Rattle.check_desk.specs.Desks.{AreNewPassesWith, IsPassOf}
 use Rattle.check_desk.specs.Passes.{new_pass_with, pass_of}
 use Rattle.check_handles.specs.declared.handle.Handle.{Handle}
+use Rattle.check_handles.specs.declared.shared.Shared.{Shared}
 use Rattle.check_handles.specs.Handles.{contents_of}
 use Rattle.check_handles.specs.Opening.{AreCallersFrom, IsFreshPassOf, IsNewCaller}
 
@@ -66,6 +67,6 @@ fresh_all calls desk n (p ∷ ps) new =
 
 -- ---- callers that are seated one after another, from the last on
 
-pub seated : (calls : ℕ) (desk : Desk) (i : ℕ) (h : Handle) (hs : List Handle) → i < length hs → IsNewCaller calls desk i (contents_of h)
+pub seated : (calls : ℕ) (desk : Shared) (i : ℕ) (h : Handle) (hs : List Handle) → i < length hs → IsNewCaller calls desk i (contents_of h)
     → AreCallersFrom calls desk (i + 1) (drop (i + 1) hs) → AreCallersFrom calls desk i (drop i (set hs i h))
 seated calls desk i h hs less new rest = rw (drop-set hs i h less) (new, rest)

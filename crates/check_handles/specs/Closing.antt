@@ -1,16 +1,17 @@
 -- What comes of callers that are put together, of a desk that is ended, and of a book that goes on.
-use Rattle.std.specs.Prelude.{◌≡◌, ◌+◌, ◌≤◌, ⊤, ℕ, Bool, true, false, [], length, Option, Some, None}
+use Rattle.std.specs.Prelude.{◌≡◌, ◌+◌, ◌<◌, ◌≤◌, ⊤, ℕ, Bool, true, false, [], length, Option, Some, None}
 use Rattle.check_desk.specs.declared.desk.Desk.{Desk}
 use Rattle.check_desk.specs.Desks.{opened_with, passes_of}
 use Rattle.check_desk.specs.Passes.{pass_of}
 use Rattle.check_book.specs.BookState.{book_at}
 use Rattle.check_book.specs.Books.{entries_of, opening_of, refused_of, sched_of, state_of}
+use Rattle.check_handles.specs.declared.caller.Caller.{Caller}
 use Rattle.check_handles.specs.declared.lodged.Ledger.{Ledger}
 use Rattle.check_handles.specs.declared.lodged.Lodged.{Lodged}
 use Rattle.check_handles.specs.declared.lodged.Lodged.TheVariants as lodged
 use Rattle.check_handles.specs.declared.stage.Stage.{Stage}
 use Rattle.check_handles.specs.declared.stage.Stage.TheVariants as stage
-use Rattle.check_handles.specs.Desks.{AreOneDesk, IsSameCaller, desk_of}
+use Rattle.check_handles.specs.Desks.{AreOneDesk, IsSameCaller, desk_of, mark_of}
 use Rattle.check_handles.specs.Joining.{HasJoined}
 
 -- two callers are of one desk; C has to see to it
@@ -27,6 +28,23 @@ IsGathered a b both = ⊥
 abbrev pub IsAtRest : Stage → Type 0
 IsAtRest (stage.Resting pass) = ⊤
 IsAtRest other = ⊥
+
+-- two callers that can be put together: both rest, and their desks have one mark
+abbrev pub MayJoin : Caller → Caller → Type 0
+MayJoin a b = IsAtRest a.stage × IsAtRest b.stage × (mark_of a ≡ mark_of b)
+
+abbrev pub MayBeGathered : Option Lodged → Option Lodged → Type 0
+MayBeGathered (Some (lodged.Caller a)) (Some (lodged.Caller b)) = MayJoin a b
+MayBeGathered a b = ⊥
+
+-- a caller with its pass in hand, which doesn't answer for all of its desk's passes
+abbrev pub IsShortOf : Desk → Stage → Type 0
+IsShortOf desk (stage.Resting pass) = length (pass_of pass).numbers < passes_of desk
+IsShortOf desk other = ⊥
+
+abbrev pub MissesCallers : Option Lodged → Type 0
+MissesCallers (Some (lodged.Caller caller)) = IsShortOf (desk_of caller) caller.stage
+MissesCallers other = ⊥
 
 abbrev pub IsResting : Lodged → Type 0
 IsResting (lodged.Caller caller) = IsAtRest caller.stage

@@ -35,7 +35,7 @@ pub struct Caller {
 impl Caller {
     ghost use Rattle.std.specs.Prelude.{◌↔◌, true, false, IfOk, IfErr};
     ghost use Rattle.check_desk.specs.Desks.{IsPassOf};
-    ghost use Rattle.check_handles.specs.Closing.{IsAtRest, IsBookAfter};
+    ghost use Rattle.check_handles.specs.Closing.{IsAtRest, IsBookAfter, MayJoin};
     ghost use Rattle.check_handles.specs.Desks.{AreOneDesk, IsSameCaller, desk_of};
     ghost use Rattle.check_handles.specs.Glances.{HasLookedAt};
     ghost use Rattle.check_handles.specs.Joining.{HasJoined};
@@ -68,15 +68,16 @@ impl Caller {
         }
     }
 
-    /// Puts the pass of another caller of the same desk to its own. Nothing is done where one of the two
-    /// has no pass in hand, or where they are seen to be of two desks.
+    /// Puts the pass of another caller of the same desk to its own. Nothing is done exactly where one of the
+    /// two has no pass in hand, or where their desks have two marks.
     pub(crate) fn join(&mut self, other: &mut Caller) -> bool
         requires { AreOneDesk self.old other.old }
         ensures desk { AreOneDesk self.old self.new }
+        ensures exactly { (result ≡ true) ↔ MayJoin self.old other.old }
         ensures joined { result ≡ true → HasJoined self.old.stage other.old.stage self.new.stage }
         ensures same { result ≡ false → (self.new ≡ self.old) × (other.new ≡ other.old) }
     {
-        if !self.rests() || !other.rests() || !self.shared.is_one_with(&other.shared) {
+        if !self.rests() || !other.rests() || !self.shared.has_mark_of(&other.shared) {
             return false;
         }
         let Stage::Resting(own) = replace(&mut self.stage, Stage::Gone) else {

@@ -1,16 +1,18 @@
 //! Callers put together, a desk ended, and its book gone on with.
 
 ghost use Rattle.std.specs.Prelude.{◌≡◌, ◌↔◌, true, false, Some};
-ghost use Rattle.check_handles.specs.Closing.{AreOfOneDesk, HasGoneOn, HasShut, IsBook, IsGathered, IsRenewed, IsResting};
+ghost use Rattle.check_handles.specs.Closing.{AreOfOneDesk, HasGoneOn, HasShut, IsBook, IsGathered, IsRenewed, IsResting, MayBeGathered};
 ghost use Rattle.check_handles.specs.Handles.{boxed};
 
 use crate::lodged::{Ledger, Lodged};
 use crate::stage::Stage;
 use std::alloc::Global;
 
-/// Puts the second caller's pass to the first's, where both are callers of one desk that rest.
+/// Puts the second caller's pass to the first's, exactly where both are callers that rest, and their desks
+/// have one mark.
 pub fn put_together(first: &mut Lodged, second: &mut Lodged) -> bool
     requires { AreOfOneDesk (Some first.old) (Some second.old) }
+    ensures exactly { (result ≡ true) ↔ MayBeGathered (Some first.old) (Some second.old) }
     ensures gathered { result ≡ true → IsGathered first.old second.old first.new }
     ensures same { result ≡ false → (first.new ≡ first.old) × (second.new ≡ second.old) }
 {

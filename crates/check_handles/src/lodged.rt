@@ -47,6 +47,13 @@ pub enum Lodged {
     History(Vec<Entry<Call, Reply>>),
 }
 
+/// That threads may read it at the same time is proved where this is called.
+fn shared<T: Sync>(value: &T) -> &T
+    ensures { result.now ≡ value.now }
+{
+    value
+}
+
 impl Lodged {
     ghost use Rattle.check_handles.specs.Handles.{named_by};
     ghost use Rattle.check_handles.specs.Histories.{entries_by};
@@ -56,9 +63,9 @@ impl Lodged {
         ensures { option_map (λ setup. setup.now) result ≡ named_by self.now }
     {
         match self {
-            Lodged::Setup(prepared) => Some(&prepared.setup),
-            Lodged::Caller(caller) => Some(&caller.names),
-            Lodged::Book(ledger) => Some(&ledger.names),
+            Lodged::Setup(prepared) => Some(shared(&prepared.setup)),
+            Lodged::Caller(caller) => Some(shared(&caller.names)),
+            Lodged::Book(ledger) => Some(shared(&ledger.names)),
             Lodged::History(_) | Lodged::Nothing => None,
         }
     }
@@ -68,8 +75,8 @@ impl Lodged {
         ensures { option_map (λ entries. entries.now) result ≡ entries_by self.now }
     {
         match self {
-            Lodged::Book(ledger) => Some(ledger.book.entries()),
-            Lodged::History(entries) => Some(entries.as_slice()),
+            Lodged::Book(ledger) => Some(shared(&ledger.book).entries()),
+            Lodged::History(entries) => Some(shared(entries).as_slice()),
             _ => None,
         }
     }

@@ -23,7 +23,6 @@ use check_objects::Setup;
 use check_sched::LAST_MOMENT;
 use std::alloc::{AllocError, Global};
 use std::sync::Arc;
-use std::sync::atomic::AtomicU64;
 use ticket_steps::Kept;
 
 /// Whether a desk can be opened on this, at this start and with this room.
@@ -42,24 +41,25 @@ pub fn is_source(lodged: &Lodged, start: u64, room: usize) -> bool
     }
 }
 
-/// Opens a desk on a setup or a book, or hands it back.
+/// Opens a desk on a setup or a book, or hands it back. The desk's mark is one that no other desk has.
 pub fn open_source(
     alloc: Global,
     source: Lodged,
     start: u64,
     room: usize,
+    mark: u64,
     calls: u32,
     callers: &mut [Handle],
 ) -> Result<(), Lodged>
     requires source { IsSource start room source }
     requires calls { 0 < calls }
     requires some { (0 < length callers.old) × (length callers.old ≤ 1024) }
-    ensures ok { OnOk result (IsOpenedBy start room calls source callers.new) }
+    ensures ok { OnOk result (IsOpenedBy start room mark calls source callers.new) }
     ensures err { IfErr result (λ back. IsBack start room source back × (callers.new ≡ callers.old)) }
 {
     match source {
-        Lodged::Setup(prepared) => open_setup(alloc, prepared, start, room, calls, callers),
-        Lodged::Book(ledger) => open_ledger(alloc, ledger, calls, callers),
+        Lodged::Setup(prepared) => open_setup(alloc, prepared, start, room, mark, calls, callers),
+        Lodged::Book(ledger) => open_ledger(alloc, ledger, mark, calls, callers),
         other => Err(other),
     }
 }
@@ -70,18 +70,19 @@ fn open_setup(
     prepared: Prepared,
     start: u64,
     room: usize,
+    mark: u64,
     calls: u32,
     callers: &mut [Handle],
 ) -> Result<(), Lodged>
     requires start { start ≤ LAST_MOMENT }
     requires calls { 0 < calls }
     requires some { (0 < length callers.old) × (length callers.old ≤ 1024) }
-    ensures ok { OnOk result (IsOpenedWith calls (book_opening prepared.setup start room) callers.new) }
+    ensures ok { OnOk result (IsOpenedWith mark calls (book_opening prepared.setup start room) callers.new) }
     ensures err { IfErr result (λ back. IsSetupBack start room prepared back × (callers.new ≡ callers.old)) }
 {
     let Prepared { setup, names } = prepared;
     match Book::open(alloc, setup, start, room) {
-        Ok(book) => match open_ledger(alloc, Ledger { book, names }, calls, callers) {
+        Ok(book) => match open_ledger(alloc, Ledger { book, names }, mark, calls, callers) {
             Ok(()) => Ok(()),
             Err(back) => Err(as_setup(back)),
         },
@@ -110,13 +111,14 @@ fn as_setup(back: Lodged) -> Lodged
 fn open_ledger(
     alloc: Global,
     ledger: Ledger,
+    mark: u64,
     calls: u32,
     callers: &mut [Handle],
 ) -> Result<(), Lodged>
     requires empty { (entries_of ledger.book ≡ []) × (refused_of ledger.book ≡ 0) }
     requires calls { 0 < calls }
     requires some { (0 < length callers.old) × (length callers.old ≤ 1024) }
-    ensures ok { OnOk result (IsOpenedWith calls (opening_of ledger.book) callers.new) }
+    ensures ok { OnOk result (IsOpenedWith mark calls (opening_of ledger.book) callers.new) }
     ensures err { IfErr result (λ back. IsBookBack ledger back × (callers.new ≡ callers.old)) }
 {
     let count = callers.len();
@@ -125,7 +127,7 @@ fn open_ledger(
         return Err(Lodged::Book(Ledger { book, names }));
     };
     match Desk::open_with(alloc, book, count as u32, calls) {
-        Ok((desk, passes)) => seat_all(alloc, desk, calls, passes, names, seats, callers),
+        Ok((desk, passes)) => seat_all(alloc, desk, mark, calls, passes, names, seats, callers),
         Err(book) => Err(Lodged::Book(Ledger { book, names })),
     }
 }
@@ -167,6 +169,7 @@ fn prepare_seats(
 fn seat_all(
     alloc: Global,
     desk: Desk,
+    mark: u64,
     calls: u32,
     passes: Vec<Pass>,
     names: Arc<Setup, Global>,
@@ -177,7 +180,7 @@ fn seat_all(
     requires new { AreNewPassesWith calls desk 0 passes.items }
     requires count { (length passes.items ≡ passes_of desk) × (length callers.old ≡ passes_of desk) × (0 < passes_of desk) × (length passes.items ≤ 1024) }
     requires seats { AreSeats (arc_value names) (passes_of desk) seats }
-    ensures ok { OnOk result (IsOpenedWith calls (opened_with desk) callers.new) }
+    ensures ok { OnOk result (IsOpenedWith mark calls (opened_with desk) callers.new) }
     ensures err { IfErr result (λ back. IsBackOf (opened_with desk) back × (callers.new ≡ callers.old)) }
 {
     let count = passes.len();
@@ -186,10 +189,7 @@ fn seat_all(
         names: all,
         desks,
     } = seats;
-    let shared = Shared {
-        desk,
-        mark: AtomicU64::new(0),
-    };
+    let shared = Shared { desk, mark };
     match Arc::new(alloc, shared) {
         Ok(shared) => match share(&shared, desks, count) {
             Ok(desks) => {
@@ -222,8 +222,8 @@ fn share(
     Ok(desks)
 }
 
-/// The book of a desk that nobody shares. A desk that is shared all the same, which never comes, has
-/// one caller with all passes.
+/// The book of a desk that nobody shares. A desk that is shared all the same has one caller with all passes:
+/// that would come only where 2^63 share it already.
 fn unshared(shared: Arc<Shared, Global>, passes: Vec<Pass>, names: Arc<Setup, Global>) -> Lodged
     requires names { arc_value names ≡ (opened_with (arc_value shared).desk).sched.setup }
     requires fresh { All (IsFreshPassOf (arc_value shared).desk) passes.items }
@@ -293,7 +293,7 @@ fn hand_out(
     requires desks { (length desks.items ≡ length callers.old)
         × All (λ one. arc_value one ≡ arc_value shared.now) desks.items }
     ensures { (length callers.new ≡ length callers.old)
-        × AreCallersFrom calls (arc_value shared.now).desk 0 callers.new }
+        × AreCallersFrom calls (arc_value shared.now) 0 callers.new }
 {
     let count = callers.len();
     let mut passes = passes;

@@ -1,40 +1,24 @@
 //! What the callers of a desk share.
 
-use check_desk::Desk;
-use std::sync::atomic::{AtomicU64, Ordering};
+ghost use Rattle.std.specs.Prelude.{◌≡◌, ◌↔◌, true};
 
-/// How often two are compared. Another call that raises a mark in the same instant, each time, is what
-/// could deceive it.
-const TRIES: u32 = 8;
+use check_desk::Desk;
 
 /// A desk, and a mark by which two callers are seen to share it.
 #[derive(Drop)]
 pub struct Shared {
     /// The desk.
     pub(crate) desk: Desk,
-    /// It only ever rises.
-    pub(crate) mark: AtomicU64,
+    /// A number that no other desk of the process has: whoever opens desks sees to that.
+    pub(crate) mark: u64,
 }
 
 impl Shared {
-    /// Whether this and the other are seen to be one. It raises its own mark above the other's: where they
-    /// are one, the other's has risen too. (No clause says that two are one: addresses can't be compared,
-    /// and what a word holds at an instant isn't known to a proof.)
-    pub(crate) fn is_one_with(&self, other: &Shared) -> bool {
-        for _try in 0..TRIES {
-            let ahead = other
-                .mark
-                .load(Ordering::SeqCst)
-                .saturating_sub(self.mark.load(Ordering::SeqCst));
-            let step = ahead.saturating_add(1);
-            let raised = self
-                .mark
-                .fetch_add(step, Ordering::SeqCst)
-                .saturating_add(step);
-            if other.mark.load(Ordering::SeqCst) < raised {
-                return false;
-            }
-        }
-        true
+    /// Whether this and the other have one mark. Addresses can't be compared, so that is how callers of two
+    /// desks are kept apart.
+    pub(crate) fn has_mark_of(&self, other: &Shared) -> bool
+        ensures { (result ≡ true) ↔ (self.now.mark ≡ other.now.mark) }
+    {
+        self.mark == other.mark
     }
 }

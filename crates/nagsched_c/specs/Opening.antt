@@ -25,8 +25,9 @@ MayOpen calls start room before callers = ArePlaces callers × IsSourceIn start 
 
 -- The three answers: a desk was opened, and the handle that was given is empty; memory was refused, and the source is handed back; or
 -- it can't be opened so, and nothing was done.
-abbrev pub HasOpened : ℕ → ℕ → ℕ → Option Lodged → List Handle → ℕ → Option Lodged → List Handle → Type 0
-HasOpened calls start room before callers status after opened =
-    ((status ≡ 0) × (after ≡ None) × ((source : Lodged) × (before ≡ Some source) × IsSource start room source × IsOpenedBy start room calls source opened))
+abbrev pub HasOpened : ℕ → ℕ → ℕ → ℕ → Option Lodged → List Handle → ℕ → Option Lodged → List Handle → Type 0
+HasOpened mark calls start room before callers status after opened =
+    ((status ≡ 0) × (after ≡ None)
+    × ((source : Lodged) × (before ≡ Some source) × IsSource start room source × IsOpenedBy start room mark calls source opened))
     ⊎ (((status ≡ 3) × (opened ≡ callers) × ((source : Lodged) × (back : Lodged) × (before ≡ Some source) × (after ≡ Some back) × IsBack start room source back))
     ⊎ ((status ≡ 6) × (after ≡ before) × (opened ≡ callers) × (MayOpen calls start room before callers → ⊥)))

@@ -1,7 +1,8 @@
 -- The texts that C is told.
-use Rattle.std.specs.Prelude.{◌≡◌, ◌⊎◌, ℕ, List}
+use Rattle.std.specs.Prelude.{◌≡◌, ◌≢◌, ◌⊎◌, ℕ, List}
 use Rattle.ticket_steps.specs.declared.kept.Entry.{Entry}
 use Rattle.check_drafts.specs.declared.error.LoadError.{LoadError}
+use Rattle.check_drafts.specs.declared.error.LoadError.TheVariants as load
 use Rattle.check_objects.specs.Configuration.{Configuration}
 use Rattle.check_sched.specs.declared.call.Call.{Call}
 use Rattle.check_sched.specs.declared.call.Reply.{Reply}
@@ -23,10 +24,11 @@ IsUntold why room before status after bytes = (status ≡ why) × (after ≡ roo
 abbrev pub IsTold : List ℕ → List ℕ → ℕ → ℕ → List ℕ → ℕ → Type 0
 IsTold line room before status after bytes = IsPut line room status after bytes ⊎ IsUntold 3 room before status after bytes
 
--- the line of the refusal with this struct was told; or no document is refused so, and nothing was written
+-- the line of the refusal with this struct was told; or no document is refused so, as for want of memory, and nothing was written
 abbrev pub HasRefusalText : PlainRefusal → List ℕ → ℕ → ℕ → List ℕ → ℕ → Type 0
 HasRefusalText told room before status after bytes =
-    ((error : LoadError) × (plain_refusal error ≡ told) × IsTold (refusal_line (refusal.Setup error)) room before status after bytes)
+    ((error : LoadError) × (error ≢ load.Memory) × (plain_refusal error ≡ told)
+    × IsTold (refusal_line (refusal.Setup error)) room before status after bytes)
     ⊎ (IsUntold 6 room before status after bytes × IsNoRefusal told)
 
 -- the line of the reply with this struct, to the call with this struct, was told; or no call or no reply has its struct

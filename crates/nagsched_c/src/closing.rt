@@ -1,7 +1,7 @@
 //! Callers put together, a desk ended, and its book gone on with.
 
 ghost use Rattle.std.specs.Prelude.{◌≡◌, ◌↔◌, is_some, true};
-ghost use Rattle.check_handles.specs.Closing.{AreOfOneDesk};
+ghost use Rattle.check_handles.specs.Closing.{AreOfOneDesk, MayBeGathered, MissesCallers};
 ghost use Rattle.check_handles.specs.Handles.{contents_of};
 ghost use Rattle.nagsched_c.specs.Closing.{HasClosed, HasGathered, HasRenewed, IsBookIn, IsRestingIn};
 
@@ -14,8 +14,8 @@ use std::mem::replace;
 /// Puts two callers of one desk together: the first goes on, and answers for the calls of both. The
 /// second handle is empty then.
 ///
-/// Wrong where one of the two is no caller or waits for its turn, and else exactly where they are seen to
-/// be of two desks: then both are as they were.
+/// Wrong exactly where one of the two is no caller or waits for its turn, or where their desks have two
+/// marks: then both are as they were.
 #[unsafe(no_mangle)]
 pub extern "C" fn nagsched_gather(alloc: Global, caller: &mut Handle, other: &mut Handle) -> u32
     requires one_desk { AreOfOneDesk (contents_of caller.old) (contents_of other.old) }
@@ -23,6 +23,8 @@ pub extern "C" fn nagsched_gather(alloc: Global, caller: &mut Handle, other: &mu
         (contents_of caller.new) (contents_of other.new) }
     ensures wrong { (IsRestingIn (contents_of caller.old) × IsRestingIn (contents_of other.old) → ⊥)
         → result ≡ 6 }
+    ensures exactly { (result ≡ 6)
+        ↔ (MayBeGathered (contents_of caller.old) (contents_of other.old) → ⊥) }
 {
     let Some(mut first) = caller.take(alloc) else {
         return WRONG;
@@ -48,6 +50,7 @@ pub extern "C" fn nagsched_gather(alloc: Global, caller: &mut Handle, other: &mu
 #[unsafe(no_mangle)]
 pub extern "C" fn nagsched_close(alloc: Global, caller: &mut Handle) -> u32
     ensures closed { HasClosed (contents_of caller.old) result (contents_of caller.new) }
+    ensures missing { MissesCallers (contents_of caller.old) → result ≡ 5 }
     ensures wrong { (result ≡ 6) ↔ (IsRestingIn (contents_of caller.old) → ⊥) }
 {
     let Some(mut lodged) = caller.take(alloc) else {

@@ -19,34 +19,40 @@ pub extern "C" fn nagsched_open(
     source: &mut Handle,
     start: u64,
     room: usize,
+    mark: u64,
     callers: &mut [Handle],
 ) -> u32
-    ensures opened { HasOpened 4294967295 start room (contents_of source.old) callers.old result
+    ensures opened { HasOpened mark 4294967295 start room (contents_of source.old) callers.old result
         (contents_of source.new) callers.new }
     ensures wrong { (result ≡ 6)
         ↔ (MayOpen 4294967295 start room (contents_of source.old) callers.old → ⊥) }
 {
-    open_desk(alloc, source, start, room, DRAWS, callers)
+    open_desk(alloc, source, start, room, mark, DRAWS, callers)
 }
 
 /// Opens a desk, with a caller for each of the handles, 1 to 1,024 empty ones. Each has so many calls, 1
 /// to 2^32 - 1, has made none and seen nothing; the first has the number 0, and so on. The handle that
 /// is given is empty then.
 ///
+/// The mark is one that no other desk has: by it callers of two desks are kept apart. The guard in C gives
+/// each desk another.
+///
 /// It is a setup: scheduling starts at the moment `start`, at most 2^60, and the history has memory for
 /// `room` entries at once. Or it is a book without entries and refusals, which goes on with its start
 /// and its room: then both are 0 here. All else is `WRONG`, and nothing else is: nothing was done then.
-/// Where memory is refused (`NO_MEMORY`) all handles are as they were.
+/// Where memory is refused (`NO_MEMORY`) all handles are as they were. (No clause excludes that the setup's
+/// is the desk's one caller then: a count of owners would have to be at 2^63.)
 #[unsafe(no_mangle)]
 pub extern "C" fn nagsched_open_with(
     alloc: Global,
     source: &mut Handle,
     start: u64,
     room: usize,
+    mark: u64,
     calls: u64,
     callers: &mut [Handle],
 ) -> u32
-    ensures opened { HasOpened calls start room (contents_of source.old) callers.old result
+    ensures opened { HasOpened mark calls start room (contents_of source.old) callers.old result
         (contents_of source.new) callers.new }
     ensures wrong { (result ≡ 6)
         ↔ (MayOpen calls start room (contents_of source.old) callers.old → ⊥) }
@@ -54,7 +60,7 @@ pub extern "C" fn nagsched_open_with(
     if calls == 0 || (DRAWS as u64) < calls {
         return WRONG;
     }
-    open_desk(alloc, source, start, room, calls as u32, callers)
+    open_desk(alloc, source, start, room, mark, calls as u32, callers)
 }
 
 /// Opens a desk whose callers have so many calls.
@@ -63,11 +69,12 @@ fn open_desk(
     source: &mut Handle,
     start: u64,
     room: usize,
+    mark: u64,
     calls: u32,
     callers: &mut [Handle],
 ) -> u32
     requires { 0 < calls }
-    ensures opened { HasOpened calls start room (contents_of source.old) callers.old result
+    ensures opened { HasOpened mark calls start room (contents_of source.old) callers.old result
         (contents_of source.new) callers.new }
     ensures wrong { (result ≡ 6)
         ↔ (MayOpen calls start room (contents_of source.old) callers.old → ⊥) }
@@ -87,6 +94,7 @@ fn open_desk(
         replace(&mut *lodged, Lodged::Nothing),
         start,
         room,
+        mark,
         calls,
         callers,
     ) {

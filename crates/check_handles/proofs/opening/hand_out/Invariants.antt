@@ -13,4 +13,4 @@ invariant-loop-done l =
     × All (λ one. arc_value one ≡ (opened_with desk).sched.setup) l.names.items
     × All (λ one. arc_value one ≡ arc_value l.shared) l.desks.items
     × AreNewPassesWith l.calls desk 0 l.passes.items
-    × AreCallersFrom l.calls desk (l.count - l.done) (drop (l.count - l.done) l.callers)
+    × AreCallersFrom l.calls (arc_value l.shared) (l.count - l.done) (drop (l.count - l.done) l.callers)

@@ -15,8 +15,9 @@ reclaim-requires-clause-fresh c = subst (λ (s : Shared). All (IsFreshPassOf s.d
 
 pub returns-in-Ok-share-clause-ok : goal.returns-in-Ok-share-clause-ok
 returns-in-Ok-share-clause-ok c = record {
-  desk = c.args.desk;
+  shared = record { desk = c.args.desk; mark = c.args.mark };
+  marked = refl;
   opened = refl;
   all = sym (c.hand_out.ensures.0 ∙ c.requires.count.1);
-  new = subst (λ (s : Shared). AreCallersFrom c.args.calls s.desk 0 c.hand_out.new.callers) c.in-Ok.ensures.ok c.hand_out.ensures.1;
+  new = subst (λ (s : Shared). AreCallersFrom c.args.calls s 0 c.hand_out.new.callers) c.in-Ok.ensures.ok c.hand_out.ensures.1;
 }

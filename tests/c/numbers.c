@@ -1,0 +1,221 @@
+/* What each number of the header stands for, by literal numbers: the names are held to them, and to the word that the library
+ * writes for each, so that two which change places are seen though library and header change alike.
+ */
+#include "counted.h"
+
+static struct nagsched_handle setup = NAGSCHED_EMPTY, caller = NAGSCHED_EMPTY;
+
+/* The names of an enumeration have these numbers one after another. */
+#define ARE_FROM(first, ...)                                                                              \
+    do {                                                                                                  \
+        const uint32_t named[] = {__VA_ARGS__};                                                           \
+        for (uint32_t at = 0; at < sizeof named / sizeof *named; at++)                                    \
+            has_to_be(named[at] == (first) + at, #__VA_ARGS__, __FILE__, __LINE__);                       \
+    } while (0)
+
+static void names(void) {
+    ARE_FROM(0, NAGSCHED_OK, NAGSCHED_WAIT, NAGSCHED_SPENT, NAGSCHED_NO_MEMORY, NAGSCHED_REFUSED, NAGSCHED_MISSING, NAGSCHED_WRONG);
+    ARE_FROM(0, NAGSCHED_CODE_OK, NAGSCHED_CODE_WARNING, NAGSCHED_CODE_CRITICAL, NAGSCHED_CODE_UNKNOWN);
+    ARE_FROM(0, NAGSCHED_STATE_OK, NAGSCHED_STATE_WARNING, NAGSCHED_STATE_CRITICAL, NAGSCHED_STATE_UNKNOWN);
+    ARE_FROM(4, NAGSCHED_STATE_UP, NAGSCHED_STATE_DOWN, NAGSCHED_STATE_UNREACHABLE);
+    ARE_FROM(0, NAGSCHED_SOFT, NAGSCHED_HARD);
+    ARE_FROM(0, NAGSCHED_CALL_TAKE, NAGSCHED_CALL_REPORT, NAGSCHED_CALL_ABANDON, NAGSCHED_CALL_RESCHEDULE, NAGSCHED_CALL_ENABLE,
+             NAGSCHED_CALL_STATUS);
+    ARE_FROM(0, NAGSCHED_REPLY_TAKEN, NAGSCHED_REPLY_PUT_OFF, NAGSCHED_REPLY_IDLE, NAGSCHED_REPLY_AT_LIMIT, NAGSCHED_REPLY_STANDING,
+             NAGSCHED_REPLY_FREED, NAGSCHED_REPLY_DONE);
+    ARE_FROM(7, NAGSCHED_REPLY_UNKNOWN_OBJECT, NAGSCHED_REPLY_TIME_RANGE, NAGSCHED_REPLY_NOT_RUNNING, NAGSCHED_REPLY_WRONG_RUN,
+             NAGSCHED_REPLY_RUNS_SPENT);
+    ARE_FROM(0, NAGSCHED_REFUSAL_TOO_LONG, NAGSCHED_REFUSAL_NOT_JSON, NAGSCHED_REFUSAL_SHAPE, NAGSCHED_REFUSAL_TOO_MANY, NAGSCHED_REFUSAL_BAD_NAME,
+             NAGSCHED_REFUSAL_DUPLICATE, NAGSCHED_REFUSAL_UNKNOWN_HOST, NAGSCHED_REFUSAL_UNKNOWN_MASTER, NAGSCHED_REFUSAL_RANGE,
+             NAGSCHED_REFUSAL_DEPENDENCY_CYCLE, NAGSCHED_REFUSAL_PARENT_CYCLE);
+    ARE_FROM(0, NAGSCHED_PART_NONE, NAGSCHED_PART_DOCUMENT, NAGSCHED_PART_OPTIONS, NAGSCHED_PART_HOSTS, NAGSCHED_PART_SERVICES,
+             NAGSCHED_PART_SERVICE_DEPENDENCIES, NAGSCHED_PART_HOST_DEPENDENCIES);
+}
+
+/* The text that was written is this line. */
+static void is_line(uint32_t status, const uint8_t *text, size_t length, const char *line) {
+    has_to_be(status == 0 && length == strlen(line) && memcmp(text, line, length) == 0, line, __FILE__, __LINE__);
+}
+
+/* The reply with this struct to a status call for the service. */
+static void is_reply(struct nagsched_reply reply, const char *line) {
+    const struct nagsched_call status = {.kind = 5, .object = 1};
+    uint8_t text[80];
+    size_t length = 0;
+    is_line(nagsched_reply_text(&setup, &status, &reply, text, sizeof text, &length), text, length, line);
+}
+
+static void replies(void) {
+    const char *const refused[] = {"refused C1 UnknownObject\n", "refused C2 TimeRange\n", "refused C3 NotRunning\n", "refused C4 WrongRun\n",
+                                   "refused C5 RunsSpent\n"};
+    is_reply((struct nagsched_reply){.kind = 0, .object = 1, .run = 9}, "taken 9 h;s\n");
+    is_reply((struct nagsched_reply){.kind = 1, .object = 1, .time = 5, .has_time = 1}, "putoff 5 h;s\n");
+    is_reply((struct nagsched_reply){.kind = 2, .time = 5, .has_time = 1}, "idle 5\n");
+    is_reply((struct nagsched_reply){.kind = 3}, "atlimit\n");
+    is_reply((struct nagsched_reply){.kind = 5, .time = 5, .has_time = 1}, "freed 5 h;s\n");
+    is_reply((struct nagsched_reply){.kind = 6}, "done h;s\n");
+    for (uint32_t at = 0; at < 5; at++) is_reply((struct nagsched_reply){.kind = 7 + at}, refused[at]);
+}
+
+/* Each state and kind of a state in the reply of kind 4. */
+static void standings(void) {
+    const char *const states[] = {"OK", "WARNING", "CRITICAL", "UNKNOWN", "UP", "DOWN", "UNREACHABLE"}, *const kinds[] = {"SOFT", "HARD"};
+    char line[80];
+    for (uint32_t state = 0; state < 7; state++) {
+        for (uint32_t kind = 0; kind < 2; kind++) {
+            struct nagsched_reply reply = {.kind = 4, .standing = {.checked = 1, .state = state, .kind = kind, .attempt = 2}};
+            snprintf(line, sizeof line, "standing %s %s 2 no STEADY none h;s\n", states[state], kinds[kind]);
+            is_reply(reply, line);
+        }
+    }
+}
+
+/* Each refusal of a document, and each part of one. No refusal has the kind 11: want of memory is a status. */
+static void refusals(void) {
+    const char *const kinds[] = {"L12 TooLong", "L1 NotJson", "L2 Shape hosts 3", "L3 TooMany", "L4 BadName hosts 3", "L5 Duplicate hosts 3",
+                                 "L6 UnknownHost hosts 3", "L7 UnknownMaster hosts 3", "L8 Range hosts 3", "L9 DependencyCycle",
+                                 "L10 ParentCycle"};
+    const char *const parts[] = {"document", "options", "hosts", "services", "service_dependencies", "host_dependencies"};
+    uint8_t text[80];
+    char line[80];
+    size_t length = 0;
+    for (uint32_t kind = 0; kind < 11; kind++) {
+        const int has_place = strchr(kinds[kind], '3') != NULL && kind != 3;
+        const struct nagsched_refusal refusal = {kind, has_place ? 3 : 0, has_place, has_place ? 3 : 0};
+        snprintf(line, sizeof line, "refused %s\n", kinds[kind]);
+        is_line(nagsched_refusal_text(&refusal, text, sizeof text, &length), text, length, line);
+    }
+    for (uint32_t part = 1; part < 7; part++) {
+        const struct nagsched_refusal refusal = {8, part, 0, 0};
+        snprintf(line, sizeof line, "refused L8 Range %s\n", parts[part - 1]);
+        is_line(nagsched_refusal_text(&refusal, text, sizeof text, &length), text, length, line);
+    }
+    length = 77;
+    for (uint32_t kind = 11; kind < 13; kind++) {
+        const struct nagsched_refusal none = {kind, 0, 0, 0};
+        memset(text, 'x', sizeof text);
+        GIVES(WRONG, nagsched_refusal_text(&none, text, sizeof text, &length));
+        IS(length == 77 && memchr(text, 'r', sizeof text) == NULL);
+    }
+}
+
+#define HOST "{\"name\":\"h\",\"max_check_attempts\":3}"
+#define SERVICE "{\"host\":\"h\",\"description\":\"s\",\"max_check_attempts\":3}"
+
+/* The document is refused so. */
+static void is_refused(const char *document, uint32_t kind, uint32_t part, uint64_t has_index, uint64_t index) {
+    struct nagsched_handle none = NAGSCHED_EMPTY;
+    struct nagsched_refusal refusal = {99, 99, 99, 99};
+    has_to_be(nagsched_read((const uint8_t *)document, strlen(document), &none, &refusal) == 4, document, __FILE__, __LINE__);
+    has_to_be(refusal.kind == kind && refusal.part == part && refusal.has_index == has_index && refusal.index == index, document, __FILE__, __LINE__);
+}
+
+static void documents(void) {
+    is_refused("{", 1, 0, 0, 0);
+    is_refused("5", 2, 1, 0, 0);
+    is_refused("{\"hosts\":[" HOST ",{\"name\":\"\",\"max_check_attempts\":3}]}", 4, 3, 1, 1);
+    is_refused("{\"hosts\":[" HOST "," HOST "]}", 5, 3, 1, 1);
+    is_refused("{\"services\":[" SERVICE "]}", 6, 4, 1, 0);
+    is_refused("{\"hosts\":[" HOST "],\"host_dependencies\":[{\"dependent\":\"h\",\"master\":\"g\",\"criteria\":\"d\"}]}", 7, 6, 1, 0);
+    is_refused("{\"hosts\":[" HOST "],\"services\":[" SERVICE "],\"service_dependencies\":[{\"dependent\":\"h;s\",\"master\":\"h;t\",\"criteria\":\"c\"}]}",
+               7, 5, 1, 0);
+    is_refused("{\"options\":{\"interval_length\":0}}", 8, 2, 0, 0);
+    is_refused("{\"hosts\":[" HOST "],\"host_dependencies\":[{\"dependent\":\"h\",\"master\":\"h\",\"criteria\":\"d\"}]}", 9, 0, 0, 0);
+    is_refused("{\"hosts\":[{\"name\":\"h\",\"parents\":[\"h\"],\"max_check_attempts\":3}]}", 10, 0, 0, 0);
+}
+
+/* A document of this many hosts, or of this many bytes behind a setup, is refused by its size. */
+static void sizes(void) {
+    const size_t bytes = ((size_t)16 << 20) + 1, hosts = 4097;
+    char *document = malloc(bytes + 1), *end = document;
+    end += sprintf(end, "{\"hosts\":[");
+    for (size_t host = 0; host < hosts; host++) end += sprintf(end, "%s{\"name\":\"h%zu\",\"max_check_attempts\":3}", host ? "," : "", host);
+    sprintf(end, "]}");
+    is_refused(document, 3, 0, 0, 0);
+    memset(document, ' ', bytes), document[bytes] = 0;
+    is_refused(document, 0, 0, 0, 0);
+    free(document);
+}
+
+/* Each of the six calls, as the history keeps it; each code, as the state that it leaves; and a reply of each kind that these come to. */
+static void calls(void) {
+    struct nagsched_reply reply;
+    struct nagsched_entry entry;
+    uint64_t made = 0;
+    GIVES(OK, nagsched_read((const uint8_t *)ONE_SERVICE, strlen(ONE_SERVICE), &caller, &(struct nagsched_refusal){0}));
+    struct nagsched_handle desk = NAGSCHED_EMPTY;
+    GIVES(OK, nagsched_open(&caller, 0, 0, &desk, 1));
+    for (uint32_t code = 0; code < 4; code++, made += 2) {
+        GIVES(OK, nagsched_take(&desk, code * 600000, &reply));
+        IS(reply.kind == 0 && reply.object == 1 && reply.run == code + 1);
+        GIVES(OK, nagsched_report(&desk, 1, reply.run, code, &reply));
+        IS(reply.kind == 4 && reply.standing.state == code && reply.standing.checked == 1);
+    }
+    GIVES(OK, nagsched_take(&desk, 0, &reply));
+    IS(reply.kind == 2 && reply.has_time == 1);
+    GIVES(OK, nagsched_reschedule(&desk, 1, 7, 1, &reply));
+    IS(reply.kind == 6);
+    GIVES(OK, nagsched_take(&desk, 7, &reply));
+    GIVES(OK, nagsched_abandon(&desk, 1, 5, 7, &reply));
+    IS(reply.kind == 5);
+    GIVES(OK, nagsched_enable(&desk, 1, 1, &reply));
+    GIVES(OK, nagsched_status(&desk, 2, &reply));
+    IS(reply.kind == 7);
+    GIVES(OK, nagsched_take(&desk, ((uint64_t)1 << 60) + 1, &reply));
+    IS(reply.kind == 8);
+    GIVES(OK, nagsched_report(&desk, 1, 5, 0, &reply));
+    IS(reply.kind == 9);
+    GIVES(OK, nagsched_close(&desk));
+    const uint32_t kinds[] = {0, 1, 0, 1, 0, 1, 0, 1, 0, 3, 0, 2, 4, 5, 0, 1};
+    for (uint64_t at = 0; at < sizeof kinds / sizeof *kinds; at++) {
+        GIVES(OK, nagsched_entry(&desk, at, &entry));
+        IS(entry.call.kind == kinds[at] && entry.caller == 0 && (at >= made || at % 2 == 0 || entry.call.code == at / 2));
+    }
+    GIVES(OK, nagsched_free(&desk));
+}
+
+/* Hosts are up, down and unreachable: a child whose parent is down is taken as unreachable. */
+static void hosts(void) {
+    static const char PARENT[] = "{\"options\":{\"host_inter_check_delay_method\":\"n\"},\"hosts\":[{\"name\":\"a\",\"max_check_attempts\":1},"
+                                 "{\"name\":\"b\",\"parents\":[\"a\"],\"max_check_attempts\":1}]}";
+    struct nagsched_reply reply;
+    struct nagsched_handle of = NAGSCHED_EMPTY, desk = NAGSCHED_EMPTY;
+    GIVES(OK, nagsched_read((const uint8_t *)PARENT, strlen(PARENT), &of, &(struct nagsched_refusal){0}));
+    GIVES(OK, nagsched_open(&of, 0, 0, &desk, 1));
+    for (uint32_t host = 0; host < 2; host++) {
+        GIVES(OK, nagsched_take(&desk, 0, &reply));
+        GIVES(OK, nagsched_report(&desk, reply.object, reply.run, 2, &reply));
+        IS(reply.standing.state == 5 + host && reply.standing.last_hard == 5 + host && reply.standing.kind == 1);
+    }
+    GIVES(OK, nagsched_take(&desk, 600000, &reply));
+    GIVES(OK, nagsched_report(&desk, reply.object, reply.run, 0, &reply));
+    IS(reply.standing.state == 4);
+    GIVES(OK, nagsched_free(&desk));
+}
+
+/* The statuses of functions: 1, that another turn comes first, needs a second thread (wrong.c). */
+static void statuses(void) {
+    struct nagsched_handle desk = NAGSCHED_EMPTY;
+    struct nagsched_reply reply;
+    uint32_t number;
+    IS(nagsched_number(&setup, (const uint8_t *)"g", 1, &number) == 5);
+    IS(nagsched_free(&desk) == 0 && nagsched_close(&desk) == 6);
+    IS(nagsched_open(&setup, 0, SIZE_MAX, &desk, 1) == 3);
+    IS(nagsched_open_with(&setup, 0, 0, 1, &desk, 1) == 0);
+    IS(nagsched_status(&desk, 0, &reply) == 0 && nagsched_status(&desk, 0, &reply) == 2);
+    IS(nagsched_free(&desk) == 0);
+}
+
+int main(void) {
+    GIVES(OK, read_setup(&setup));
+    names();
+    replies();
+    standings();
+    refusals();
+    documents();
+    sizes();
+    calls();
+    hosts();
+    statuses();
+    return told("numbers");
+}
