@@ -33,8 +33,8 @@ static void names(void) {
 }
 
 /* The text that was written is this line. */
-static void is_line(uint32_t status, const uint8_t *text, size_t length, const char *line) {
-    has_to_be(status == 0 && length == strlen(line) && memcmp(text, line, length) == 0, line, __FILE__, __LINE__);
+static void is_line(uint32_t status, const uint8_t *text, const size_t *length, const char *line) {
+    has_to_be(status == 0 && *length == strlen(line) && memcmp(text, line, *length) == 0, line, __FILE__, __LINE__);
 }
 
 /* The reply with this struct to a status call for the service. */
@@ -42,7 +42,7 @@ static void is_reply(struct nagsched_reply reply, const char *line) {
     const struct nagsched_call status = {.kind = 5, .object = 1};
     uint8_t text[80];
     size_t length = 0;
-    is_line(nagsched_reply_text(&setup, &status, &reply, text, sizeof text, &length), text, length, line);
+    is_line(nagsched_reply_text(&setup, &status, &reply, text, sizeof text, &length), text, &length, line);
 }
 
 static void replies(void) {
@@ -83,12 +83,12 @@ static void refusals(void) {
         const int has_place = strchr(kinds[kind], '3') != NULL && kind != 3;
         const struct nagsched_refusal refusal = {kind, has_place ? 3 : 0, has_place, has_place ? 3 : 0};
         snprintf(line, sizeof line, "refused %s\n", kinds[kind]);
-        is_line(nagsched_refusal_text(&refusal, text, sizeof text, &length), text, length, line);
+        is_line(nagsched_refusal_text(&refusal, text, sizeof text, &length), text, &length, line);
     }
     for (uint32_t part = 1; part < 7; part++) {
         const struct nagsched_refusal refusal = {8, part, 0, 0};
         snprintf(line, sizeof line, "refused L8 Range %s\n", parts[part - 1]);
-        is_line(nagsched_refusal_text(&refusal, text, sizeof text, &length), text, length, line);
+        is_line(nagsched_refusal_text(&refusal, text, sizeof text, &length), text, &length, line);
     }
     length = 77;
     for (uint32_t kind = 11; kind < 13; kind++) {

@@ -61,8 +61,8 @@ static void was_written(int signal) {
 }
 
 /* Whether a text is this line. */
-static int is_text(uint32_t status, const uint8_t *text, size_t length, const char *line) {
-    return status == NAGSCHED_OK && length == strlen(line) && memcmp(text, line, length) == 0;
+static int is_text(uint32_t status, const uint8_t *text, const size_t *length, const char *line) {
+    return status == NAGSCHED_OK && *length == strlen(line) && memcmp(text, line, *length) == 0;
 }
 
 /* How many of the calls that know names are answered as they have to be, of four. */
@@ -73,7 +73,7 @@ static int named(const struct nagsched_handle *of) {
     int right = nagsched_count(of, &objects, &hosts) == NAGSCHED_OK && objects == 2 && hosts == 1;
     right += nagsched_number(of, (const uint8_t *)"h;s", 3, &number) == NAGSCHED_OK && number == 1;
     right += nagsched_host_of(of, 1, &host) == NAGSCHED_OK && host == 0;
-    return right + is_text(nagsched_name(of, 1, text, sizeof text, &length), text, length, "h;s");
+    return right + is_text(nagsched_name(of, 1, text, sizeof text, &length), text, &length, "h;s");
 }
 
 /* The same of calls that know entries, of four: one of them is a text. */
@@ -86,7 +86,7 @@ static int kept(const struct nagsched_handle *of, const struct nagsched_handle *
     right += nagsched_entry(of, index, &entry) == NAGSCHED_OK && entry.call.object == index % 2 && entry.reply.kind == NAGSCHED_REPLY_STANDING;
     right += nagsched_entry(of, ENTRIES, &entry) == NAGSCHED_WRONG;
     const char *line = index % 2 ? "0 standing PENDING HARD 1 no STEADY 0 h;s\n" : "0 standing PENDING HARD 1 no STEADY 0 h\n";
-    return right + is_text(nagsched_entry_text(names, &entry, text, sizeof text, &length), text, length, line);
+    return right + is_text(nagsched_entry_text(names, &entry, text, sizeof text, &length), text, &length, line);
 }
 
 /* One round of a thread's reads, of which so many are right. */
@@ -100,7 +100,7 @@ static int round_of(uint64_t index) {
     right += kept(&sealed->book, &sealed->setup, index) + kept(&sealed->history, &sealed->caller, index);
     right += nagsched_refused(&sealed->book, &refused) == NAGSCHED_OK && refused == 0;
     right += nagsched_refused(&sealed->setup, &refused) == NAGSCHED_WRONG && nagsched_count(&sealed->history, NULL, NULL) == NAGSCHED_WRONG;
-    return right + is_text(nagsched_reply_text(&sealed->book, &call, &reply, text, sizeof text, &length), text, length, "done h;s\n");
+    return right + is_text(nagsched_reply_text(&sealed->book, &call, &reply, text, sizeof text, &length), text, &length, "done h;s\n");
 }
 
 enum { READS = 3 * 4 + 2 * 4 + 3 };
