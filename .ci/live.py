@@ -33,13 +33,13 @@ ADDRESSES = 64 * MEGABYTE
 
 
 def cases():
-    """The cases that `run` accepts: the words of `live` in its words' place, its input, and what it writes."""
+    """The cases that `run` accepts, but for its help: the words of `live` in its words' place, its input, and what it writes."""
     for row in (CASES / "STATUS.tsv").read_text(encoding="utf-8").splitlines():
         folder, name, status = row.split("\t")
         case = CASES / folder / name
         args = case.with_name(name + ".args")
         words = args.read_text(encoding="utf-8").splitlines() if args.exists() else ["run"]
-        if status == "0" and words[0] == "run":
+        if status == "0" and words[0] == "run" and "--help" not in words:
             yield f"{folder}/{name}", ["live", *words[1:]], case.read_bytes(), case.with_name(name + ".stdout").read_bytes()
 
 
