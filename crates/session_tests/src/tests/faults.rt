@@ -1,6 +1,6 @@
 //! Readers and writers that fail.
 
-use super::devices::{FailingReader, KINDS, ShortWriter};
+use super::devices::{FailingReader, KINDS, OnceFailingReader, ShortWriter};
 use super::with_host;
 use check_drive::drive::{Outcome, drive};
 use check_script::DriveError;
@@ -26,6 +26,47 @@ fn readers_fail(rt: HostRuntime) -> Result<(), Fail> {
             let result = drive(alloc, 0, &mut reader, &mut writer);
             assert_eq!(rt; result, Err(DriveError::Read));
             assert!(rt; writer.taken.is_empty());
+        }
+    }
+    Ok(())
+}
+
+/// A reader that fails once, and would go on then, isn't asked once more.
+#[test]
+fn readers_fail_once(rt: HostRuntime) -> Result<(), Fail> {
+    let alloc = rt.alloc();
+    let input = with_host(alloc, LINES)?;
+    for count in 0..=input.len() {
+        for error in KINDS {
+            let mut reader = OnceFailingReader {
+                bytes: input.as_bytes(),
+                most: 7,
+                fails_at: Some(count),
+                error,
+            };
+            let mut writer = ShortWriter::new(alloc, 7);
+            let result = drive(alloc, 0, &mut reader, &mut writer);
+            assert_eq!(rt; result, Err(DriveError::Read));
+            assert!(rt; writer.taken.is_empty());
+        }
+    }
+    Ok(())
+}
+
+/// Nor is a writer that fails once written to once more.
+#[test]
+fn writers_fail_once(rt: HostRuntime) -> Result<(), Fail> {
+    let alloc = rt.alloc();
+    let input = with_host(alloc, LINES)?;
+    for room in 0..TEXT.len() {
+        for error in KINDS {
+            let mut writer = ShortWriter::new(alloc, 3);
+            writer.room = room;
+            writer.error = error;
+            writer.once = true;
+            let result = drive(alloc, 0, &mut input.as_bytes(), &mut writer);
+            assert_eq!(rt; result, Err(DriveError::Write));
+            assert!(rt; writer.taken.as_slice() == &TEXT[..room]);
         }
     }
     Ok(())
@@ -95,13 +136,19 @@ fn flushes_once(rt: HostRuntime) -> Result<(), Fail> {
 #[test]
 fn flush_fails(rt: HostRuntime) -> Result<(), Fail> {
     let alloc = rt.alloc();
-    let input = with_host(alloc, LINES)?;
-    let mut reader = input.as_bytes();
-    let mut writer = ShortWriter::new(alloc, 100);
-    writer.flush_error = Some(ErrorKind::Interrupted);
-    let result = drive(alloc, 0, &mut reader, &mut writer);
-    assert_eq!(rt; result, Err(DriveError::Write));
-    assert!(rt; writer.taken.as_slice() == TEXT);
-    assert_eq!(rt; writer.flushes, 1);
+    let refused = b"refused S2 NotJson 2\n".as_slice();
+    for (lines, wanted) in [("", b"".as_slice()), (LINES, TEXT), ("[", refused)] {
+        for once in [false, true] {
+            let input = with_host(alloc, lines)?;
+            let mut reader = input.as_bytes();
+            let mut writer = ShortWriter::new(alloc, 100);
+            writer.flush_error = Some(ErrorKind::Interrupted);
+            writer.once = once;
+            let result = drive(alloc, 0, &mut reader, &mut writer);
+            assert_eq!(rt; result, Err(DriveError::Write));
+            assert!(rt; writer.taken.as_slice() == wanted);
+            assert_eq!(rt; writer.flushes, 1);
+        }
+    }
     Ok(())
 }

@@ -2,7 +2,7 @@
 //! is asked for.
 
 use super::HOST;
-use super::devices::{FailingReader, ShortWriter};
+use super::devices::{FailingReader, OnceFailingReader, ShortWriter};
 use check_drive::drive::Outcome;
 use check_drive::live::live;
 use check_script::DriveError;
@@ -47,10 +47,13 @@ struct Asker<'a> {
     /// How many lines were flushed.
     told: &'a Cell<usize>,
     late: &'a Cell<bool>,
+    /// How often it was asked.
+    asked: &'a Cell<usize>,
 }
 
 impl Read for Asker<'_> {
     fn read(&mut self, buf: &mut [u8]) -> io::Result<usize> {
+        self.asked.set(self.asked.get().saturating_add(1));
         if self.told.get() < self.given.saturating_sub(1) {
             self.late.set(true);
         }
@@ -88,7 +91,7 @@ impl Write for Teller<'_> {
     }
 }
 
-/// A reader that gives a byte a call, a few, or all at once.
+/// A reader that gives a byte a call, a few, or all at once. It is asked no more often than that takes.
 #[test]
 fn answers_whatever_the_pieces(rt: HostRuntime) -> Result<(), Fail> {
     let alloc = rt.alloc();
@@ -96,19 +99,27 @@ fn answers_whatever_the_pieces(rt: HostRuntime) -> Result<(), Fail> {
     for most in [1, 7, 100_000] {
         let told = Cell::new(0);
         let late = Cell::new(false);
+        let asked = Cell::new(0);
         let mut reader = Asker {
             rest: input.as_bytes(),
             most,
             given: 0,
             told: &told,
             late: &late,
+            asked: &asked,
         };
         let mut writer = Vec::new(alloc);
         let ended = live(alloc, 0, &mut reader, &mut writer);
         assert_eq!(rt; ended, Ok(Outcome::Ran));
         assert!(rt; writer.as_slice() == answers.as_bytes());
+        assert_eq!(rt; asked.get(), reads_of(input.len(), most));
     }
     Ok(())
+}
+
+/// How many reads bring so many bytes, `most` a read, and find the end behind them.
+fn reads_of(bytes: usize, most: usize) -> usize {
+    bytes.div_ceil(most).saturating_add(1)
 }
 
 /// Each answer is flushed before the reader is asked for more, and at the end.
@@ -122,12 +133,14 @@ fn flushes_before_it_asks(rt: HostRuntime) -> Result<(), Fail> {
     for most in [1, 7, 100_000] {
         let told = Cell::new(0);
         let late = Cell::new(false);
+        let asked = Cell::new(0);
         let mut reader = Asker {
             rest: input.as_bytes(),
             most,
             given: 0,
             told: &told,
             late: &late,
+            asked: &asked,
         };
         let mut writer = Teller {
             lines: 0,
@@ -202,4 +215,98 @@ fn refused_setup_ends_a_conversation(rt: HostRuntime) {
         }
         assert!(rt; writer.as_slice() == wanted.as_bytes());
     }
+}
+
+/// The bytes of an input, seven a call.
+fn in_sevens(bytes: &[u8]) -> OnceFailingReader<'_> {
+    OnceFailingReader {
+        bytes,
+        most: 7,
+        fails_at: None,
+        error: ErrorKind::Interrupted,
+    }
+}
+
+/// A writer of which so many flushes succeed, and the next doesn't.
+fn flushing(alloc: Global, good_flushes: u32, once: bool) -> ShortWriter {
+    let mut writer = ShortWriter::new(alloc, 7);
+    writer.flush_error = Some(ErrorKind::Interrupted);
+    writer.good_flushes = good_flushes;
+    writer.once = once;
+    writer
+}
+
+/// A flush that fails ends a conversation: before the first read behind the setup, between lines and at
+/// the end. Nothing is written or flushed behind it.
+#[test]
+fn flush_fails_in_a_conversation(rt: HostRuntime) -> Result<(), Fail> {
+    let alloc = rt.alloc();
+    let (input, answers) = conversation(alloc, LINES)?;
+    let mut whole = ShortWriter::new(alloc, 7);
+    let ended = live(alloc, 0, &mut in_sevens(input.as_bytes()), &mut whole);
+    assert_eq!(rt; ended, Ok(Outcome::Ran));
+    assert!(rt; 8 < whole.flushes);
+    for once in [false, true] {
+        for good in 0..whole.flushes {
+            let mut writer = flushing(alloc, good, once);
+            let ended = live(alloc, 0, &mut in_sevens(input.as_bytes()), &mut writer);
+            assert_eq!(rt; ended, Err(DriveError::Write));
+            assert_eq!(rt; writer.flushes.saturating_sub(1), good);
+            assert_eq!(rt; writer.flushed, writer.taken.len());
+            assert!(rt; answers.as_bytes().starts_with(&writer.taken));
+        }
+    }
+    Ok(())
+}
+
+/// The same behind the line of a refused setup.
+#[test]
+fn flush_fails_behind_a_refused_setup(rt: HostRuntime) {
+    let alloc = rt.alloc();
+    for once in [false, true] {
+        let mut writer = flushing(alloc, 0, once);
+        let ended = live(alloc, 0, &mut in_sevens(b"{\n"), &mut writer);
+        assert_eq!(rt; ended, Err(DriveError::Write));
+        assert!(rt; writer.taken.as_slice() == b"refused L1 NotJson\n".as_slice());
+        assert_eq!(rt; writer.flushes, 1);
+    }
+}
+
+/// A reader that fails once, and would go on then, isn't asked once more.
+#[test]
+fn reader_fails_once_in_a_conversation(rt: HostRuntime) -> Result<(), Fail> {
+    let alloc = rt.alloc();
+    let (input, answers) = conversation(alloc, LINES)?;
+    for count in 0..=input.len() {
+        for error in [ErrorKind::Interrupted, ErrorKind::WouldBlock] {
+            let mut reader = in_sevens(input.as_bytes());
+            reader.fails_at = Some(count);
+            reader.error = error;
+            let mut writer = ShortWriter::new(alloc, 7);
+            let ended = live(alloc, 0, &mut reader, &mut writer);
+            assert_eq!(rt; ended, Err(DriveError::Read));
+            assert!(rt; reader.fails_at.is_none());
+            assert!(rt; answers.as_bytes().starts_with(&writer.taken));
+        }
+    }
+    Ok(())
+}
+
+/// Nor is a writer that fails once written to once more.
+#[test]
+fn writer_fails_once_in_a_conversation(rt: HostRuntime) -> Result<(), Fail> {
+    let alloc = rt.alloc();
+    let (input, answers) = conversation(alloc, LINES)?;
+    for room in 0..answers.len() {
+        for error in [ErrorKind::Interrupted, ErrorKind::WouldBlock] {
+            let mut writer = ShortWriter::new(alloc, 7);
+            writer.room = room;
+            writer.error = error;
+            writer.once = true;
+            let ended = live(alloc, 0, &mut input.as_bytes(), &mut writer);
+            assert_eq!(rt; ended, Err(DriveError::Write));
+            assert!(rt; writer.taken.as_slice() == &answers.as_bytes()[..room]);
+        }
+    }
+    Ok(())
 }
