@@ -2,6 +2,7 @@
 //! fail, flushes, sessions over such devices, conversations in pieces, drills of several workers, and
 //! explanations of a refusal that another document had.
 
+mod checks;
 mod devices;
 mod drill_faults;
 mod drills;
