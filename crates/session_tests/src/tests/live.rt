@@ -119,7 +119,8 @@ fn answers_whatever_the_pieces(rt: HostRuntime) -> Result<(), Fail> {
 
 /// How many reads bring so many bytes, `most` a read, and find the end behind them.
 fn reads_of(bytes: usize, most: usize) -> usize {
-    bytes.div_ceil(most).saturating_add(1)
+    let rounded_up = bytes.saturating_add(most.saturating_sub(1));
+    rounded_up.checked_div(most).unwrap_or(0).saturating_add(1)
 }
 
 /// Each answer is flushed before the reader is asked for more, and at the end.
