@@ -212,7 +212,7 @@ def long_inputs(held):
     held.compare("spaces past the limit", past, run_file(held, b"", b" ", DOCUMENT + 1))
     checked = ["check", "--line"]
     held.compare("a check at the limit", (lines("{}"), 0, DOCUMENT), run_file(held, b"{}", b" ", DOCUMENT, checked))
-    explained = lines("refused L12 TooLong", f"the document has {DOCUMENT + 1} bytes; it can have {DOCUMENT}")
+    explained = lines("refused L12 TooLong", f"the document has more than {DOCUMENT} bytes")
     held.compare("a check past the limit", (explained, 1, DOCUMENT + 1), run_file(held, b"{}", b" ", DOCUMENT + 1, checked))
     held.compare("an input at its limit", (b"", 0, WHOLE_INPUT), run_file(held, b"{}", b"\n", WHOLE_INPUT))
     held.compare("an input past its limit", (*too_long, WHOLE_INPUT + 1), run_file(held, b"{}", b"\n", WHOLE_INPUT + 1))

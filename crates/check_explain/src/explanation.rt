@@ -35,7 +35,7 @@ fn push_explanation(
     refusal: LoadError,
 ) -> Result<(), AllocError> {
     match refusal {
-        LoadError::TooLong => push_length(line, document.len()),
+        LoadError::TooLong => push_too_long(line),
         LoadError::Memory => line.push_words("memory ran out; that says nothing of the document"),
         _ => match Value::from_slice(alloc, document) {
             Ok(tree) => push_fault(alloc, line, &tree, refusal),
@@ -44,12 +44,11 @@ fn push_explanation(
     }
 }
 
-/// Appends how long a document is that is too long.
-fn push_length(line: &mut Line, length: usize) -> Result<(), AllocError> {
-    line.push_words("the document has ")?;
-    line.push_number(length as u64)?;
-    line.push_words(" bytes; it can have ")?;
-    line.push_number(MAX_DOCUMENT_BYTES as u64)
+/// Appends how long a document can be that is too long. It may have been read no further than that.
+fn push_too_long(line: &mut Line) -> Result<(), AllocError> {
+    line.push_words("the document has more than ")?;
+    line.push_number(MAX_DOCUMENT_BYTES as u64)?;
+    line.push_words(" bytes")
 }
 
 /// Appends where reading a document stops that is no JSON.
