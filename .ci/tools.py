@@ -5,11 +5,13 @@
 
 The small network of conformance/nagios, as Nagios 4.4.6 wrote it out, becomes a setup whose counts, intervals and first checks are
 those that Nagios tells of its schedule (schedule.txt); a made network of 10,000 services goes into parts that the program accepts;
-a template is refused with its place; and the picture of README is drawn again.
+a template is refused with its place; the command line of each object is written out, with its macros; and the picture of README is drawn
+again.
 """
 import json
 import pathlib
 import re
+import shlex
 import subprocess
 import sys
 import tempfile
@@ -35,6 +37,47 @@ SERVICE = """define service {{
 \tactive_checks_enabled\t1
 \t}}
 """
+
+
+COMMANDS = """define command {
+	command_name	plain
+	command_line	$USER1$/check -H '$HOSTADDRESS$' -n "$HOSTALIAS$" -w $ARG1$ -c "$ARG2$" -x$ARG3$
+	}
+define command {
+	command_name	piped
+	command_line	$USER1$/check -s "$SERVICEDESC$" -o $_SERVICEOID$ -p '$_HOSTPASSWORD$' | head -1
+	}
+define command {
+	command_name	dollars
+	command_line	/bin/echo costs $$5 '$_HOSTMISSING$' $HOSTDISPLAYNAME$
+	}
+define command {
+	command_name	late
+	command_line	/bin/echo $LASTHOSTCHECK$
+	}
+define command {
+	command_name	torn
+	command_line	/bin/echo 'one
+	}
+define host {
+	host_name	h
+	alias	The host
+	address	127.0.0.4
+	check_command	dollars
+	max_check_attempts	3
+	_PASSWORD	se cret
+	}
+"""
+# Of each service: its check_command, and the words of the command line that is wanted, if there is one.
+LINES = {
+    "args": ("plain!10%!5 6\\!7", ["/plugins/check", "-H", "127.0.0.4", "-n", "The host", "-w", "10%", "-c", "5 6!7", "-x"]),
+    "shell": ("piped", ["/bin/sh", "-c", "/plugins/check -s \"shell\" -o .1.3 -p 'se cret' | head -1"]),
+    "nested": ("plain!$_SERVICEOID$!$HOSTNAME$!a", ["/plugins/check", "-H", "127.0.0.4", "-n", "The host", "-w", ".1.3", "-c", "h", "-xa"]),
+    "at run time": ("late", None),
+    "unbalanced": ("torn", None),
+    "unknown": ("nothing!1", None),
+    "none": (None, None),
+}
 
 
 def from_nagios(*words):
@@ -117,6 +160,28 @@ def template(work):
     yield "a template", (status, told) == (1, "") and "template.cfg:" in why
 
 
+def command_lines(work):
+    """The command line of each object, with macros written out; those without one are named, and disabled."""
+    (work / "resource.cfg").write_text("# macros\n$USER1$=/plugins\n")
+    objects, wanted = COMMANDS, {"h": ["/bin/sh", "-c", "/bin/echo costs $5 '$_HOSTMISSING$' h"]}
+    for name, (command, line) in LINES.items():
+        said = "" if command is None else f"\tcheck_command\t{command}\n"
+        objects += f"define service {{\n\thost_name\th\n\tservice_description\t{name}\n{said}\tmax_check_attempts\t3\n\t_OID\t.1.3\n\t}}\n"
+        if line is not None:
+            wanted[f"h;{name}"] = line
+    (work / "site.precache").write_text(objects)
+    file = work / "commands.json"
+    status, made, told = from_nagios("--commands", file, "--resource", work / "resource.cfg", OFFICE / "nagios.cfg", work / "site.precache")
+    lines = json.loads(file.read_text()) if status == 0 else {}
+    yield "the command lines of a site", {name: shlex.split(line) for name, line in lines.items()} == wanted
+    yield "that only their owner reads them", file.stat().st_mode & 0o777 == 0o600
+    off = {it["description"] for it in json.loads(made)["services"] if it.get("enabled") is False}
+    without = {name for name, (_, line) in LINES.items() if line is None}
+    yield "which services have none", off == without and all(f": h;{name}: " in told for name in without)
+    status, made, told = from_nagios("--commands", file, "--resource", work / "missing.cfg", OFFICE / "nagios.cfg", work / "site.precache")
+    yield "a resource file that isn't there", (status, made) == (1, "") and "missing.cfg" in told
+
+
 def pictures():
     drawn = [subprocess.run([sys.executable, TOP / "tools/timeline.py", TOP / f"examples/{name}.txt", TOP / f"examples/{name}.out"],
                             capture_output=True, text=True).stdout for name in ("office", "drill")]
@@ -128,7 +193,7 @@ def main():
     program = str(pathlib.Path(sys.argv[1]).resolve())
     with tempfile.TemporaryDirectory() as folder:
         work = pathlib.Path(folder)
-        told = [*office(program), *large(program, work), *template(work), *pictures()]
+        told = [*office(program), *large(program, work), *template(work), *command_lines(work), *pictures()]
     wrong = [what for what, is_so in told if not is_so]
     for what in wrong:
         print(f"tools: {what}: otherwise than wanted")

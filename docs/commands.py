@@ -48,6 +48,7 @@ IN_THE_GATE = {
     "tools/build_c.sh --proved [PREFIX]": ".ci/c_library.py",
     "tools/build_c.sh && NAGSCHED_LIBRARY=out/c/lib/libnagsched.so PYTHONPATH=bindings/python examples/embed.py [MINUTES]": ".ci/c_library.py",
     "tools/from_nagios.py": ".ci/tools.py",
+    "tools/from_nagios.py --commands commands.json /etc/nagios4/nagios.cfg /var/lib/nagios4/objects.precache > setup.json": ".ci/tools.py",
     "tools/from_nagios.py --parts": ".ci/tools.py",
     "tools/from_nagios.py /etc/nagios4/nagios.cfg /var/lib/nagios4/objects.precache > setup.json": ".ci/tools.py",
     "examples/embed.py": ".ci/c_library.py",

@@ -1,7 +1,7 @@
 #!/usr/bin/env python3
 """Makes a setup of a configuration of Nagios Core 4.
 
-    tools/from_nagios.py [--parts DIRECTORY] nagios.cfg objects.precache > setup.json
+    tools/from_nagios.py [--parts DIRECTORY] [--commands FILE] nagios.cfg objects.precache > setup.json
 
 The second file is what Nagios makes of its object files, with templates, groups and inheritance written out:
 `nagios4 -vp nagios.cfg` writes it where `precached_object_file` says, and a running Nagios keeps the same as its
@@ -10,14 +10,22 @@ error, each kind once; what can't be taken over is an error with its file and li
 
 With --parts the objects go into few setups, DIRECTORY/part-1.json and on, such that no parent, no dependency and no
 service's host stands in another part.
+
+With --commands the command line of each object goes into FILE, by its full name, as examples/monitor.py wants it: macros
+are written out, and a line that needs a shell is given to one. The file is for its owner only, since command lines may hold
+passwords. An object that has no such line is named on standard error; it is disabled in the setup, so that nothing stands
+as checked that isn't.
 """
 import argparse
 import collections
 import fractions
 import json
 import math
+import os
 import pathlib
 import sys
+
+import nagios_commands
 
 MOST_OBJECTS, MOST_LINKS, MOST_UNITS = 4_096, 16_384, 525_600
 MINUTES, MILLISECONDS = 525_600, 86_400_000
@@ -409,6 +417,32 @@ def parts_of(setup):
     return [{"options": setup["options"]} | part for part in parts]
 
 
+# ---- command lines
+
+
+def take_commands(words, options, objects, setup):
+    """Writes the command line of each object, and disables those that have none."""
+    path = nagios_commands.resource_file(options, words.options, words.resource)
+    try:
+        resource = nagios_commands.read_resource(lines_of(path)) if path is not None else {}
+    except nagios_commands.NoCommand as error:
+        raise CannotTakeOver(str(error)) from None
+    lines, without = nagios_commands.commands_of(objects, resource)
+    for host in setup["hosts"]:
+        if host["name"] in without:
+            host["enabled"] = False
+    for service in setup["services"]:
+        if f"{service['host']};{service['description']}" in without:
+            service["enabled"] = False
+    for why in without.values():
+        print(f"without a command, and disabled: {why}", file=sys.stderr)
+    file = os.open(words.commands, os.O_WRONLY | os.O_CREAT | os.O_TRUNC, 0o600)
+    os.fchmod(file, 0o600)
+    with open(file, "w", encoding="utf-8") as commands:
+        json.dump(lines, commands, ensure_ascii=False, indent=1)
+        commands.write("\n")
+
+
 def written(setup):
     return json.dumps(setup, ensure_ascii=False, separators=(",", ":")) + "\n"
 
@@ -416,12 +450,17 @@ def written(setup):
 def main():
     arguments = argparse.ArgumentParser(description=__doc__, formatter_class=argparse.RawDescriptionHelpFormatter)
     arguments.add_argument("--parts", metavar="DIRECTORY", type=pathlib.Path, help="write few setups into this folder")
+    arguments.add_argument("--commands", metavar="FILE", type=pathlib.Path, help="write the command line of each object into this file")
+    arguments.add_argument("--resource", metavar="FILE", type=pathlib.Path, help="the resource file, if not the one that nagios.cfg names")
     arguments.add_argument("options", metavar="nagios.cfg", type=pathlib.Path)
     arguments.add_argument("objects", metavar="objects.precache", type=pathlib.Path)
     words = arguments.parse_args()
     left_out = LeftOut()
     try:
-        setup = documents_of(read_options(words.options), read_objects(words.objects), left_out)
+        options, objects = read_options(words.options), read_objects(words.objects)
+        setup = documents_of(options, objects, left_out)
+        if words.commands is not None:
+            take_commands(words, options, objects, setup)
         if words.parts is None and not has_room({"hosts": [], "services": [], "service_dependencies": [], "host_dependencies": []}, setup):
             raise CannotTakeOver("more than one setup can have ({} objects, {} dependencies, {} parents): --parts makes several".format(*sizes(setup)))
         parts = [] if words.parts is None else parts_of(setup)
