@@ -1,7 +1,8 @@
 #![tactic(auto)]
 //! The program `nagsched_refusals`: makes each call of the library that may run out of memory and that
 //! no function of the C library makes, and writes a line for each, to show that a refused request for
-//! memory is told and loses nothing. The others are tried from C (`tests/c/refused.c`).
+//! memory is reported and loses nothing, except the passes of a crew that gets no thread. The others are
+//! tried from C (`tests/c/refused.c`).
 //!
 //! With ample memory each line ends in `answered`. It is meant to be run with its Nth request
 //! refused, for N = 1, 2, 3 and on (`rt try --fail-alloc N`). The call whose request was refused has
