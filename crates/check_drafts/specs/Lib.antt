@@ -1,5 +1,7 @@
 pub mod Place
 pub mod Agreement
+pub mod Member
+pub mod Members
 pub mod LoadError
 pub mod Name
 pub mod Text
