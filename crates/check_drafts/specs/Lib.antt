@@ -2,6 +2,7 @@ pub mod Place
 pub mod Agreement
 pub mod Member
 pub mod Members
+pub mod Fault
 pub mod LoadError
 pub mod Name
 pub mod Text

@@ -1,5 +1,5 @@
 -- A member of a setup document's objects: its name, what its value has to be, and what holds without it.
-use Rattle.std.specs.Prelude.{ℕ, ◌&&◌, Bool, true, List, Option, Some, None, nat_le}
+use Rattle.std.specs.Prelude.{ℕ, ◌&&◌, Bool, true, List, Option, Some, None, nat_le, is_none}
 use Rattle.check_drafts.specs.declared.member.DefaultValue.{DefaultValue}
 use Rattle.check_drafts.specs.declared.member.DefaultValue.TheVariants as default
 use Rattle.check_drafts.specs.declared.member.Kind.{Kind}
@@ -15,6 +15,10 @@ pub record Row : Type 0 where
 
 abbrev pub as_row : declared.Member → Row
 as_row m = record { name = m.name.now; kind = m.kind; default = m.default }
+
+-- whether an object without the member is refused
+abbrev pub is_required : Row → Bool
+is_required m = is_none m.default
 
 -- the least and the most that a number can be
 abbrev pub limits_of : Kind → Option (ℕ × ℕ)

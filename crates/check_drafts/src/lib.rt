@@ -10,6 +10,7 @@
 mod dependency;
 mod draft;
 mod error;
+mod fault;
 pub mod laws;
 mod limits;
 mod member;
@@ -22,6 +23,7 @@ mod place;
 pub use dependency::{Criteria, Dependency, HOST_LETTERS, SERVICE_LETTERS};
 pub use draft::{CheckDraft, DependencyDraft, Drafts, HostDraft, ServiceDraft, text};
 pub use error::LoadError;
+pub use fault::{Count, Fault, RangeFault, ShapeFault};
 pub use limits::{
     MAX_ATTEMPTS, MAX_CONCURRENT_CHECKS, MAX_DELAY, MAX_DEPENDENCIES, MAX_DOCUMENT_BYTES,
     MAX_FACTOR, MAX_FLAP_THRESHOLD, MAX_INTERVAL, MAX_INTERVAL_LENGTH, MAX_NAME_BYTES, MAX_OBJECTS,

@@ -80,14 +80,24 @@ impl Kind {
 }
 
 impl Member {
-    ghost use Rattle.std.specs.Prelude.{◌≡◌, is_some, not};
-    ghost use Rattle.check_drafts.specs.Member.{as_row, default_number, default_switch};
+    ghost use Rattle.std.specs.Prelude.{◌≡◌};
+    ghost use Rattle.check_drafts.specs.Member.{as_row, default_number, default_switch, is_required, is_within_limits};
 
     /// Whether an object without it is refused.
     pub fn is_required(self) -> bool
-        ensures { result ≡ not (is_some self.default) }
+        ensures { result ≡ is_required (as_row self) }
     {
         self.default.is_none()
+    }
+
+    /// Whether a number is within its limits. Every number is where its kind has none.
+    pub fn allows(self, number: u64) -> bool
+        ensures { result ≡ is_within_limits (as_row self) number }
+    {
+        match self.kind.limits() {
+            Some((low, high)) => low <= number && number <= high,
+            None => true,
+        }
     }
 
     /// The number that holds without it. None where it is required, or another kind's.

@@ -312,9 +312,12 @@ pub const MASTER: Member = Member {
     purpose: "the full name of the object that is depended on: a host's name, or host;description",
 };
 
+/// What the criteria of both sorts of dependencies are called.
+pub const CRITERIA: &str = "criteria";
+
 /// In which states of the master a dependency between services fails.
 pub const SERVICE_CRITERIA: Member = Member {
-    name: "criteria",
+    name: CRITERIA,
     kind: Kind::ServiceLetters,
     default: None,
     purpose: "the states of the master in which the dependency fails: OK (o), WARNING (w), UNKNOWN (u), CRITICAL (c), pending (p), none (n)",
@@ -322,7 +325,7 @@ pub const SERVICE_CRITERIA: Member = Member {
 
 /// In which states of the master a dependency between hosts fails.
 pub const HOST_CRITERIA: Member = Member {
-    name: "criteria",
+    name: CRITERIA,
     kind: Kind::HostLetters,
     default: None,
     purpose: "the states of the master in which the dependency fails: UP (o), UNREACHABLE (u), DOWN (d), pending (p), none (n)",
