@@ -137,7 +137,7 @@ fn default_delay(wanted: Member) -> Option<DelayMethod>
 }
 
 /// A method by its letter, or a number of milliseconds.
-fn delay_method(value: &Value) -> Option<DelayMethod>
+pub(crate) fn delay_method(value: &Value) -> Option<DelayMethod>
     ensures { result ≡ delay_method (view value.now) }
 {
     match value.as_str() {
@@ -170,7 +170,7 @@ fn default_factor(wanted: Member) -> Option<InterleaveFactor>
 }
 
 /// The smart factor by its letter, or a number.
-fn interleave_factor(value: &Value) -> Option<InterleaveFactor>
+pub(crate) fn interleave_factor(value: &Value) -> Option<InterleaveFactor>
     ensures { result ≡ interleave_factor (view value.now) }
 {
     match value.as_str() {

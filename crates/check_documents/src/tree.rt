@@ -97,7 +97,7 @@ pub(crate) fn texts_in<'v>(value: Option<&'v Value>) -> Option<&'v [Value]>
     }
 }
 
-fn texts<'v>(value: &'v Value) -> Option<&'v [Value]>
+pub(crate) fn texts<'v>(value: &'v Value) -> Option<&'v [Value]>
     ensures { option_map (λ items. map text items.now) result ≡ texts_in (Some (view value.now)) }
 {
     let items = value.as_array()?;
