@@ -1,3 +1,4 @@
 pub mod TreeLemmas
 pub mod CriteriaLemmas
 pub mod FaultLemmas
+pub mod ReadingLaws

@@ -10,6 +10,7 @@ use Rattle.check_drafts.specs.declared.fault.Count.{Count}
 use Rattle.check_drafts.specs.declared.fault.Count.TheVariants as count
 use Rattle.check_drafts.specs.declared.member.Kind.{Kind}
 use Rattle.check_drafts.specs.declared.member.Kind.TheVariants as kind
+use Rattle.check_drafts.specs.declared.place.Part.{Part}
 use Rattle.check_drafts.specs.declared.place.Part.TheVariants as part
 use Rattle.check_drafts.specs.declared.place.Place.{Place}
 use Rattle.check_drafts.specs.Fault as fault
@@ -117,13 +118,18 @@ crossed_thresholds d =
     else if are_crossed d members.low_host_flap_threshold members.high_host_flap_threshold then Some fault.host_thresholds
     else None
 
--- which number of an object with such members is out of its limits: that of the first member, else thresholds that are crossed
-abbrev pub wrong_number : List Row → Data → Option WrongNumber
-wrong_number ms d = first_of (option_map fault.beyond (find (is_beyond d) ms)) (crossed_thresholds d)
+-- which thresholds are crossed in a part of the document; only the options have thresholds
+abbrev pub crossed_in : Part → Data → Option WrongNumber
+crossed_in part.Options d = crossed_thresholds d
+crossed_in p d = None
+
+-- which number of an object of a part is out of its limits: that of the first of its members, else thresholds that are crossed
+abbrev pub wrong_number : Part → List Row → Data → Option WrongNumber
+wrong_number p ms d = first_of (option_map fault.beyond (find (is_beyond d) ms)) (crossed_in p d)
 
 -- which number at a place is out of its limits, if any is
 abbrev pub wrong_number_at : Data → Place → Option WrongNumber
-wrong_number_at d place = members_at place >=> λ ms. (value_at d place >=> wrong_number ms)
+wrong_number_at d place = members_at place >=> λ ms. (value_at d place >=> wrong_number place.part ms)
 
 -- ---- counts
 

@@ -8,6 +8,7 @@
 mod counts;
 mod criteria;
 mod faults;
+pub mod laws;
 mod lists;
 mod places;
 mod ranges;

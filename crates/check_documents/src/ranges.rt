@@ -3,7 +3,7 @@ ghost use Rattle.std.specs.Prelude.{◌≡◌, find, map, option_map, unwrap_or}
 ghost use Rattle.serde_json.specs.View.{view};
 ghost use Rattle.check_drafts.specs.Fault.{host_thresholds, range_seen};
 ghost use Rattle.check_drafts.specs.Member.{as_row};
-ghost use Rattle.check_documents.specs.Faults.{are_crossed, crossed_thresholds, is_beyond, wrong_number, wrong_number_at};
+ghost use Rattle.check_documents.specs.Faults.{are_crossed, crossed_in, crossed_thresholds, is_beyond, wrong_number, wrong_number_at};
 
 use crate::places::value_at;
 use crate::tree::number_in;
@@ -11,7 +11,7 @@ use check_drafts::members::{
     HIGH_HOST_FLAP_THRESHOLD, HIGH_SERVICE_FLAP_THRESHOLD, LOW_HOST_FLAP_THRESHOLD,
     LOW_SERVICE_FLAP_THRESHOLD,
 };
-use check_drafts::{Member, Place, RangeFault, members_at};
+use check_drafts::{Member, Part, Place, RangeFault, members_at};
 use serde_json::Value;
 
 /// Which number is out of its limits at a place that was refused. Of any other place it is the
@@ -28,16 +28,27 @@ fn range_fault_at(tree: &Value, place: Place) -> Option<RangeFault>
 {
     let members = members_at(place)?;
     let value = value_at(tree, place)?;
-    number_fault(value, members)
+    number_fault(place.part, value, members)
 }
 
-/// Which number of an object with such members is out of its limits. None where none is.
-fn number_fault(object: &Value, members: &[Member]) -> Option<RangeFault>
-    ensures { option_map range_seen result ≡ wrong_number (map as_row members.now) (view object.now) }
+/// Which number of an object of a part with such members is out of its limits. None where none is.
+fn number_fault(part: Part, object: &Value, members: &[Member]) -> Option<RangeFault>
+    ensures { option_map range_seen result
+        ≡ wrong_number part (map as_row members.now) (view object.now) }
 {
     match first_beyond(object, members) {
         Some(member) => Some(RangeFault::Beyond(member)),
-        None => crossed_thresholds(object),
+        None => crossed_in(part, object),
+    }
+}
+
+/// Which low threshold of flapping in a part is above its high one. Only the options have thresholds.
+fn crossed_in(part: Part, object: &Value) -> Option<RangeFault>
+    ensures { option_map range_seen result ≡ crossed_in part (view object.now) }
+{
+    match part {
+        Part::Options => crossed_thresholds(object),
+        _ => None,
     }
 }
 

@@ -29,7 +29,7 @@ none_by : (b : Bool) (i : ℕ) → cond b (Some i) None ≡ None → b ≡ false
 none_by true i e = cc
 none_by false i e = refl
 
-twice_not : (b : Bool) → not (not b) ≡ b
+pub twice_not : (b : Bool) → not (not b) ≡ b
 twice_not true = refl
 twice_not false = refl
 

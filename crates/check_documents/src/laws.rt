@@ -1,0 +1,26 @@
+//! Laws of the definitions, each the contract of a function without parameters and code.
+ghost use Rattle.std.specs.Prelude.{◌≡◌, is_none, is_some, Some};
+ghost use Rattle.serde_json.specs.Data.{Data};
+ghost use Rattle.check_drafts.specs.declared.member.Kind.TheVariants as kind;
+ghost use Rattle.check_drafts.specs.Members as members;
+ghost use Rattle.check_documents.specs.Faults.{wrong_object};
+ghost use Rattle.check_documents.specs.Reading.{dependency_draft, document_members, host_draft, host_letters, options_of, service_draft, service_letters};
+ghost use Rattle.check_documents.specs.Tree.{has_only};
+
+/// Reading goes by the table of members: a value is read exactly where nothing is wrong with it by the
+/// table. So the names, the kinds and what is required are the table's; the defaults and the limits of
+/// numbers are taken from it.
+pub fn reading_goes_by_the_table()
+    ensures document { (d : Data) → has_only document_members d
+        ≡ is_none (wrong_object members.document_members d) }
+    ensures options { (d : Data) → is_some (options_of (Some d))
+        ≡ is_none (wrong_object members.option_members d) }
+    ensures host { (d : Data) → is_some (host_draft d)
+        ≡ is_none (wrong_object members.host_members d) }
+    ensures service { (d : Data) → is_some (service_draft d)
+        ≡ is_none (wrong_object members.service_members d) }
+    ensures service_dependency { (d : Data) → is_some (dependency_draft service_letters d)
+        ≡ is_none (wrong_object (members.dependency_members kind.ServiceLetters) d) }
+    ensures host_dependency { (d : Data) → is_some (dependency_draft host_letters d)
+        ≡ is_none (wrong_object (members.dependency_members kind.HostLetters) d) }
+{}
