@@ -2,3 +2,4 @@ pub mod TreeLemmas
 pub mod CriteriaLemmas
 pub mod FaultLemmas
 pub mod ReadingLaws
+pub mod ShapeLaws

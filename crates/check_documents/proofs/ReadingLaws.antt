@@ -1,11 +1,10 @@
 -- Reading goes by the table of members: a value is read exactly where nothing is wrong with it by the table.
-use Rattle.std.proofs.Common.{◌≡◌, ℕ, suc, ◌+◌, ◌&&◌, not, Bool, true, false, cond, List, [], ◌∷◌, map, length, find, is_some, is_none, option_map, Option, Some, None, option_and_then, refl, sym, ap, ◌∙◌, arith}
+use Rattle.std.proofs.Common.{◌≡◌, ℕ, suc, ◌+◌, ◌&&◌, not, Bool, true, false, cond, List, [], ◌∷◌, length, find, is_some, is_none, option_map, Option, Some, None, option_and_then, refl, sym, ap, ◌∙◌, arith}
 use Rattle.std.specs.Prelude.{nat_lt}
 use Rattle.std.specs.List.{list_all, position, prefix_len}
 use Rattle.std.proofs.lemmas.Bool.Decides.{nat_tests}
-use Rattle.serde_json.specs.Data.{Data, null, boolean, number, string, array, object, Items, Members, no_members, member}
+use Rattle.serde_json.specs.Data.{Data, null, boolean, number, string, array, object, Members, no_members, member}
 use Rattle.serde_json.specs.Find.{as_array, as_bool, as_str, get}
-use Rattle.check_drafts.specs.declared.draft.CheckDraft.{CheckDraft}
 use Rattle.check_drafts.specs.declared.member.DefaultValue.TheVariants as default_value
 use Rattle.check_drafts.specs.declared.member.Kind.{Kind}
 use Rattle.check_drafts.specs.declared.member.Kind.TheVariants as kind
@@ -20,8 +19,8 @@ use Rattle.check_drafts.specs.Members as members
 use Rattle.check_drafts.proofs.RefusalLemmas.{twice_not}
 use Rattle.check_documents.specs.Criteria.{criteria_of}
 use Rattle.check_documents.specs.Faults.{first_of, first_unknown, has_kind, is_misfit, is_missing, is_other, keys_in, wrong_member, wrong_object}
-use Rattle.check_documents.specs.Reading.{check_draft, delay_in, delay_method, dependency_draft, dependency_members, document_members, factor_in, host_draft, host_letters, host_members, interleave_factor, names, option_members, options_but_thresholds, options_of, service_draft, service_members, service_letters, with_thresholds}
-use Rattle.check_documents.specs.Tree.{has_only, is_among, member_or, number_in, only_members, read_by, switch_in, texts_in, texts_of, whole_number, ◌>=>◌}
+use Rattle.check_documents.specs.Reading.{check_draft, delay_in, delay_method, dependency_draft, dependency_members, document_members, factor_in, host_draft, host_members, interleave_factor, names, option_members, options_but_thresholds, options_of, service_draft, service_members, with_thresholds}
+use Rattle.check_documents.specs.Tree.{has_only, is_among, member_or, number_in, only_members, switch_in, texts_in, texts_of, whole_number, ◌>=>◌}
 
 -- ---- nothing is found where all pass
 
