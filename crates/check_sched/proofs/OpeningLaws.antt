@@ -15,9 +15,10 @@ use Rattle.check_rules.specs.declared.standing.Standing.{Standing}
 use Rattle.check_rules.specs.declared.state.State as rules
 use Rattle.check_rules.specs.Standing.{pending_standing}
 use Rattle.check_rules.proofs.VerdictLaws.{pending_is_lawful, pending_sort}
-use Rattle.check_sched.specs.Scheduling.{Scheduling, opening_object}
+use Rattle.check_sched.specs.Scheduling.{opening_object}
+use Rattle.check_saved.specs.Scheduling.{Scheduling, is_in_time, is_time}
 use Rattle.check_spread.specs.Spread.{initial_times}
-use Rattle.check_sched.specs.State.{State, AreResultsOf, IsState, IsStandingOf, IsWithinLimit, is_host, is_in_time, is_time, objects_at, opening}
+use Rattle.check_sched.specs.State.{State, AreResultsOf, IsState, IsStandingOf, IsWithinLimit, is_host, objects_at, opening}
 use Rattle.check_sched.specs.State.{opening_objects, opening_results, opening_standings, run_number_of}
 use Rattle.check_sched.proofs.LimitLaws.{services_none}
 use Rattle.check_sched.proofs.OutLaws.{none_forced, none_out, timed_unforced}

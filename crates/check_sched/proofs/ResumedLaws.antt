@@ -16,15 +16,18 @@ use Rattle.check_numbers.proofs.NameLemmas.{parted_name}
 use Rattle.check_rules.specs.declared.standing.Kind.{Kind}
 use Rattle.check_rules.specs.declared.standing.Kind.TheVariants as kind
 use Rattle.check_rules.specs.declared.standing.Standing.{Standing}
-use Rattle.check_rules.specs.Standing.{is_lawful, is_soft_problem, pending_standing}
+use Rattle.check_rules.specs.Standing.{is_lawful, is_soft_problem, pending_standing, IsStandingFor}
 use Rattle.check_rules.specs.State.{fine_state, is_problem}
 use Rattle.check_rules.proofs.VerdictLaws.{pending_is_lawful, pending_sort}
 use Rattle.check_sched.specs.Roster.{running_among}
-use Rattle.check_sched.specs.Saved.{IsSaved, IsSavedObject, Saved, SavedObject, each_object, earlier_time, first_time, given_up, keeps_time, results_of, resumed}
-use Rattle.check_sched.specs.Saved.{saved_named, scheduling_of, standing_kept, standing_of, within_limit}
-use Rattle.check_sched.specs.Scheduling.{OpenRun, Scheduling, freed_time}
-use Rattle.check_sched.specs.State.{AreResultsFor, AreResultsOf, IsStandingFor, IsState, is_host, max_attempts_of, run_number_of}
-use Rattle.check_sched.specs.State.{is_in_time, is_moment, is_time, is_timed, is_timed_if_forced, limit_of}
+use Rattle.check_sched.specs.Saved.{each_object, earlier_time, first_time, given_up, keeps_time, results_of, resumed}
+use Rattle.check_saved.specs.Saved.{IsSaved, IsSavedObject, Saved, SavedObject, saved_named}
+use Rattle.check_sched.specs.Saved.{scheduling_of, standing_kept, standing_of, within_limit}
+use Rattle.check_sched.specs.Scheduling.{freed_time}
+use Rattle.check_saved.specs.Scheduling.{OpenRun, Scheduling, is_in_time, is_moment, is_time, is_timed, is_timed_if_forced}
+use Rattle.check_sched.specs.State.{AreResultsOf, IsState, is_host, max_attempts_of, run_number_of}
+use Rattle.check_rules.specs.Flapping.{AreResultsFor}
+use Rattle.check_sched.specs.State.{limit_of}
 use Rattle.check_sched.proofs.KeptLaws.{all_dropped}
 use Rattle.check_sched.proofs.LimitLaws.{busy_none}
 use Rattle.check_sched.proofs.OutLaws.{none_out, run_in, timed_unforced}

@@ -15,7 +15,8 @@ use Rattle.check_sched.specs.declared.call.Reply.TheVariants as reply
 use Rattle.check_sched.specs.declared.call.Refusal.TheVariants as refusal
 use Rattle.check_sched.specs.Candidate.{Candidate, candidate, candidates_among}
 use Rattle.check_queue.specs.Order.{least}
-use Rattle.check_sched.specs.Scheduling.{Scheduling, OpenRun, candidate_time, run_under}
+use Rattle.check_sched.specs.Scheduling.{candidate_time, run_under}
+use Rattle.check_saved.specs.Scheduling.{Scheduling, OpenRun}
 use Rattle.check_sched.specs.State.{State, is_host}
 use Rattle.check_sched.specs.Step.{candidates, due, eligible, is_open, known, step, taken, update_at, waiting_reply, within_range}
 use Rattle.check_sched.specs.Runs.{begins, begins_by, ends, ends_by, runs_begun, runs_under, takes_by}

@@ -12,7 +12,7 @@ pub(crate) struct Run {
 }
 
 impl Model for Run {
-    ghost use Rattle.check_sched.specs.Scheduling.{OpenRun};
+    ghost use Rattle.check_saved.specs.Scheduling.{OpenRun, Scheduling};
 
     ghost Value = { OpenRun };
 
@@ -56,7 +56,6 @@ pub(crate) struct ObjectState {
 }
 
 impl Model for ObjectState {
-    ghost use Rattle.check_sched.specs.Scheduling.{Scheduling};
 
     ghost Value = { Scheduling };
 

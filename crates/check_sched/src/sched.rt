@@ -4,7 +4,8 @@ ghost use Rattle.std.specs.Prelude.{◌≡◌, ◌<◌, ◌≤◌, IfSome, IfOk,
 ghost use Rattle.std.specs.List.{All};
 ghost use Rattle.check_objects.specs.Configuration.{IsSetup, object_count};
 ghost use Rattle.check_spread.specs.Spread.{initial_times};
-ghost use Rattle.check_sched.specs.State.{IsStandingOf, IsState, is_time, next_of, objects_at, opening_objects, opening, opening_standings, run_number_of, standing_at};
+ghost use Rattle.check_sched.specs.State.{IsStandingOf, IsState, next_of, objects_at, opening_objects, opening, opening_standings, run_number_of, standing_at};
+ghost use Rattle.check_saved.specs.Scheduling.{is_time};
 ghost use Rattle.check_sched.specs.Step.{is_forced, known, step, with_object};
 ghost use Rattle.check_sched.specs.Change.{changed, is_quiet, keeps_timed};
 ghost use Rattle.check_sched.specs.Board.{board_of, place_of};
