@@ -25,3 +25,6 @@ pub mod StepLaws
 pub mod TakeLaws
 pub mod UpdateLaws
 pub mod ChangeLaws
+pub mod EachLaws
+pub mod GivenUpLaws
+pub mod PlacesLaws

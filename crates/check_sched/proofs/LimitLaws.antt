@@ -10,7 +10,7 @@ use Rattle.check_saved.specs.Scheduling.{OpenRun, Scheduling}
 use Rattle.check_sched.specs.State.{State, IsWithinLimit, has_room, is_host, limit_of, running_services}
 use Rattle.check_sched.specs.Step.{is_open, taken, update_at, with_object}
 
-busy_cons : (o : Scheduling) (os : List Scheduling) → running_among (o ∷ os) ≡ cond (is_some o.run) 1 0 + running_among os
+pub busy_cons : (o : Scheduling) (os : List Scheduling) → running_among (o ∷ os) ≡ cond (is_some o.run) 1 0 + running_among os
 busy_cons o os = sum_by-cons (λ x. cond (is_some x.run) 1 0) o os
 
 -- whether f begins no run: one that is out afterwards was out before

@@ -5,7 +5,6 @@ use Rattle.std.specs.Prelude.{slice_get, zip, All}
 use Rattle.std.specs.List.{list_all, enumerate_from}
 use Rattle.std.proofs.lemmas.Bool.Decides.{nat_tests}
 use Rattle.std.proofs.lemmas.List.{length-append, length-map, length-replicate, take_more}
-use Rattle.check_sched.specs.Roster.{running_among}
 use Rattle.std.proofs.lemmas.List.FromFn.{length-enumerate_from}
 use Rattle.std.proofs.lemmas.Slice.Zip.{length-zip}
 use Rattle.std.proofs.lemmas.Bool.{and_from}
@@ -145,13 +144,6 @@ pub opened_hosts : (setup : Configuration) (times : List (Option ℕ)) (objects 
     → objects ≡ objects_at setup times → host_count setup ≤ length objects
 opened_hosts setup times objects count e =
     let long = ap length e ∙ length-objects_at setup times count ∙ count_is setup in omega (arith, long)
-
--- no service is being checked
-pub opened_idle : (setup : Configuration) (times : List (Option ℕ)) (objects : List Scheduling) → objects ≡ objects_at setup times
-    → running_among (drop (host_count setup) objects) ≡ 0
-opened_idle setup times objects e =
-    ap (λ os. running_among (drop (host_count setup) os)) e
-    ∙ services_none (host_count setup) (λ (p : Option ℕ × Named). opening_object p.0 p.1.object.enabled) (zip times (objects_of setup)) (λ p. refl)
 
 -- ---- the opening, object by object
 

@@ -105,17 +105,25 @@ within_limit setup now objects =
 
 -- ---- the state in which a scheduler goes on
 
--- the first time that the spread from this moment on gives the object with this number
+-- the first time that the spread gives the object with this number
+abbrev pub time_among : List (Option ℕ) → ℕ → Option ℕ
+time_among times number = unwrap_or (slice_get times number) None
+
+-- the same from this moment on
 abbrev pub first_time : Configuration → ℕ → ℕ → Option ℕ
-first_time setup start number = unwrap_or (slice_get (initial_times setup start) number) None
+first_time setup start number = time_among (initial_times setup start) number
 
 -- what becomes of each object of a setup, by its number
 abbrev pub each_object : {X : Type 0} → Configuration → (ℕ × Named → X) → List X
 each_object setup made = map made (enumerate_from 0 (objects_of setup))
 
+-- the scheduling of each object, where the spread gives these first times
+abbrev pub objects_kept : Configuration → Saved → List (Option ℕ) → List Scheduling
+objects_kept setup saved times =
+    each_object setup (λ p. scheduling_of setup (time_among times p.0) p.1.object (saved_named saved p.1.name))
+
 abbrev pub objects_resumed : Configuration → Saved → ℕ → List Scheduling
-objects_resumed setup saved start =
-    within_limit setup start (each_object setup (λ p. scheduling_of setup (first_time setup start p.0) p.1.object (saved_named saved p.1.name)))
+objects_resumed setup saved start = within_limit setup start (objects_kept setup saved (initial_times setup start))
 
 abbrev pub standings_resumed : Configuration → Saved → List Standing
 standings_resumed setup saved = each_object setup (λ p. standing_of (is_host setup p.0) p.1.object (saved_named saved p.1.name))

@@ -23,6 +23,8 @@ use std::marker::Model;
 
 mod checks;
 mod operators;
+mod resuming;
+mod saving;
 
 /// How many runs are handed out at most.
 pub const MAX_RUNS: u64 = 1 << 60;
