@@ -29,6 +29,21 @@ get_each made k zero (p ∷ os) o d e =
 get_each made k (suc n) (p ∷ os) o d e =
     let there : k + 1 + n ≡ k + suc n = omega arith in get_each made (k + 1) n os o d e ∙ ap (λ j. made (j, o)) there
 
+pub slice_each : {X : Type 0} (made : ℕ × Named → X) (n : ℕ) (os : List Named) (o : Named) → slice_get os n ≡ Some o
+    → slice_get (map made (enumerate_from 0 os)) n ≡ Some (made (n, o))
+slice_each made n os o e =
+    let z : 0 + n ≡ n = omega arith in from_k made 0 n os o e ∙ ap (λ j. Some (made (j, o))) z
+  where
+    from_k : {X : Type 0} (f : ℕ × Named → X) (k m : ℕ) (xs : List Named) (x : Named) → slice_get xs m ≡ Some x
+        → slice_get (map f (enumerate_from k xs)) m ≡ Some (f (k + m, x))
+    from_k f k m [] x g = cc
+    from_k f k zero (y ∷ xs) x g =
+        let same : y ≡ x = cc in
+        let here : k ≡ k + 0 = omega arith in
+        λ i. Some (f (here i, same i))
+    from_k f k (suc m) (y ∷ xs) x g =
+        let there : k + 1 + m ≡ k + suc m = omega arith in from_k f (k + 1) m xs x g ∙ ap (λ j. Some (f (j, x))) there
+
 -- one object more
 pub one_each : {X : Type 0} (c : Configuration) (made : ℕ × Named → X) (n : ℕ) (was more : List X) (x : X) → n < object_count c
     → more ≡ was ++ x ∷ [] → was ≡ take n (each_object c made) → ((o : Named) → slice_get (objects_of c) n ≡ Some o → x ≡ made (n, o))

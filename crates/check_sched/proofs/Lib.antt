@@ -28,3 +28,4 @@ pub mod ChangeLaws
 pub mod EachLaws
 pub mod GivenUpLaws
 pub mod PlacesLaws
+pub mod ResumedRunLaws

@@ -1,10 +1,10 @@
 -- What is saved of a scheduler that is put down, and the state in which one goes on from it: over the same setup, or over another.
 -- (Our own profile; Nagios keeps its own by retention files, and reads them again at a restart and a reload.)
 use Rattle.std.specs.Prelude.{ℕ, ◌-◌, ◌==◌, ◌&&◌, ◌||◌, Bool, true, false, not, List, [], ◌++◌, map, take, drop, min}
-use Rattle.std.specs.Prelude.{Option, Some, None, is_some, slice_get, nat_lt, unwrap_or, if◌then◌else◌}
+use Rattle.std.specs.Prelude.{Option, Some, None, is_some, option_and_then, option_map, slice_get, nat_lt, unwrap_or, if◌then◌else◌}
 use Rattle.std.specs.List.{enumerate_from}
 use Rattle.check_drafts.specs.declared.object.Object.{Object}
-use Rattle.check_objects.specs.Configuration.{Configuration, Named, host_count, objects_of}
+use Rattle.check_objects.specs.Configuration.{Configuration, Named, host_count, name_of, objects_of}
 use Rattle.check_rules.specs.declared.state.State as rules
 use Rattle.check_rules.specs.declared.standing.Kind.TheVariants as kind
 use Rattle.check_rules.specs.declared.standing.Standing.{Standing}
@@ -96,12 +96,15 @@ results_of (Some saved) = saved.results
 abbrev pub given_up : ℕ → Scheduling → Scheduling
 given_up now o = if is_some o.run then ended (Some (freed_time now o)) o else o
 
+-- whether no more services are out than the limit, where it isn't 0, allows
+abbrev pub keeps_limit : Configuration → List Scheduling → Bool
+keeps_limit setup objects = limit_of setup == 0 || not (nat_lt (limit_of setup) (running_among (drop (host_count setup) objects)))
+
 -- Where more services are out than the limit allows, the runs of all services are given up.
 abbrev pub within_limit : Configuration → ℕ → List Scheduling → List Scheduling
 within_limit setup now objects =
     let hosts = host_count setup in
-    if limit_of setup == 0 || not (nat_lt (limit_of setup) (running_among (drop hosts objects))) then objects
-    else take hosts objects ++ map (given_up now) (drop hosts objects)
+    if keeps_limit setup objects then objects else take hosts objects ++ map (given_up now) (drop hosts objects)
 
 -- ---- the state in which a scheduler goes on
 
@@ -141,3 +144,15 @@ resumed setup saved start = record {
   results = results_resumed setup saved;
   runs = saved.runs;
 }
+
+-- ---- what is still out
+
+-- the number of the run under which the object with this number was out when it was saved, if it was
+abbrev pub run_saved_of : Configuration → Saved → ℕ → Option ℕ
+run_saved_of setup saved number =
+    option_map (λ r. r.number) (option_and_then (λ o. o.scheduling.run) (saved_named saved (name_of setup number)))
+
+-- Whether the check of the object with this number stays out, where one was: a host's always, a service's where no more are out than the limit
+-- allows.
+abbrev pub stays_out : Configuration → Saved → ℕ → ℕ → Bool
+stays_out setup saved start number = is_host setup number || keeps_limit setup (objects_kept setup saved (initial_times setup start))
