@@ -18,9 +18,9 @@ use Rattle.check_saved.specs.Scheduling.{Scheduling}
 use Rattle.check_sched.specs.State.{State, is_host, limit_of, results_at, scheduling_at, standing_at}
 use Rattle.check_spread.specs.Spread.{initial_times}
 
--- ---- what is kept
+-- ---- what is saved
 
--- what is kept of the object with this number
+-- what is saved of the object with this number
 abbrev pub saved_object : State → ℕ × Named → SavedObject
 saved_object s p = record {
   name = p.1.name;
@@ -32,7 +32,7 @@ saved_object s p = record {
   setup_enabled = p.1.object.enabled;
 }
 
--- what is kept of a scheduler in this state
+-- what is saved of a scheduler in this state
 abbrev pub saved_of : State → Saved
 saved_of s = record { start = s.start; runs = s.runs; objects = map (saved_object s) (enumerate_from 0 (objects_of s.setup)) }
 

@@ -86,16 +86,16 @@ pub fn flaps_by_history()
         ≡ keep_last 21 (states_told object history) }
 {}
 
-/// What is kept of a scheduler is all of it: over the same setup one goes on from there in the state in
-/// which the other was put down, but for the start, by which no call goes.
+/// What is saved of a scheduler is all of it: over the same setup another goes on from there in the state
+/// in which the first was put down, except for the start, by which no call goes.
 pub fn resumed_over_the_same()
     ensures { (s : State) → (start : ℕ) → IsState s
         → resumed s.setup (saved_of s) start ≡ record s { start = start } }
 {}
 
-/// Whatever was kept, and whatever setup a scheduler goes on over from whatever moment, it goes on in a
-/// state that one can be in (`resumed`). What is kept of a scheduler, in whatever state it can be, is
-/// such a thing (`saved`).
+/// Whatever was saved, and whatever setup a scheduler goes on over from whatever moment, it goes on in a
+/// state that one can be in (`resumed`). What is saved of a scheduler, in whatever state it can be, is
+/// well formed (`saved`).
 pub fn resumed_states()
     ensures resumed { (setup : Configuration) → (saved : Saved) → (start : ℕ) → IsSetup setup
         → IsSaved saved → start ≤ LAST_MOMENT → IsState (resumed setup saved start) }
@@ -142,7 +142,7 @@ pub fn resumed_problems_stay_soft()
         → is_soft_problem (standing_at (resumed setup saved start).standings object) ≡ true }
 {}
 
-/// The order of what was kept says nothing: in any other order a scheduler goes on from it in the same
+/// The order of what was saved says nothing: in any other order a scheduler goes on from it in the same
 /// state.
 pub fn resumed_in_any_order()
     ensures { (setup : Configuration) → (saved : Saved) → (others : List SavedObject) → (start : ℕ)
@@ -151,7 +151,7 @@ pub fn resumed_in_any_order()
 {}
 
 /// What is said of a scheduler that was opened is so from every state on that one can be in, as a
-/// scheduler is that goes on from what was kept: whatever calls are made, no more services are being
+/// scheduler is that goes on from what was saved: whatever calls are made, no more services are being
 /// checked than the limit allows (`limit`), an object that was never checked stands as pending
 /// (`never_checked`), and each object has a standing that it can have (`standings`).
 pub fn from_any_state()

@@ -3,7 +3,8 @@
 //! answers and leaves.
 //!
 //! A [`Sched`] is made from a setup and the moment at which scheduling starts, and moves by
-//! [`Sched::apply`], one [`Call`] at a time. Moments, times and intervals are in milliseconds.
+//! [`Sched::apply`], one [`Call`] at a time. From what [`Sched::save`] saves of it another goes on, by
+//! [`Sched::resume`], over the same setup or another. Moments, times and intervals are in milliseconds.
 //! The rules are those of the Nagios Core 4 manual, chapter "Service and Host Check Scheduling";
 //! where the manual leaves a choice, the profile of this project makes it, and the item says so.
 //!

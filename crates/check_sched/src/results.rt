@@ -29,7 +29,7 @@ impl Model for Results {
 impl Results {
     /// No results of so many objects, with room for all that will be kept.
     ///
-    /// An Err means out of memory. This is the one call that needs memory.
+    /// An Err means out of memory. What is added later needs none.
     pub(crate) fn none(alloc: Global, count: usize) -> Result<Results, AllocError>
         ensures { IfOk result (λ results. results ≡ replicate count []) }
     {

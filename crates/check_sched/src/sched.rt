@@ -63,8 +63,8 @@ impl Sched {
     /// setup's options say; an object that is disabled or whose check interval is 0 begins without
     /// a next time. (Manual: "Service and Host Check Scheduling".)
     ///
-    /// An Err means out of memory, and hands the setup back as it was. This is the one call that
-    /// needs memory.
+    /// An Err means out of memory, and hands the setup back as it was. No call that is made later
+    /// needs memory, except [`Sched::save`].
     pub fn new(alloc: Global, setup: Setup, start: u64) -> Result<Sched, Setup>
         requires { start ≤ LAST_MOMENT }
         ensures ok { IfOk result (λ scheduler. scheduler ≡ opening setup start) }
