@@ -1,8 +1,8 @@
 -- Laws of the runs that are handed out, and of those that are still out, when a scheduler goes on from what was saved.
-use Rattle.std.proofs.Common.{◌≡◌, ◌≢◌, ℕ, zero, suc, ◌+◌, ◌-◌, ◌<◌, ◌≤◌, ◌==◌, ◌||◌, Bool, true, false, cond, List, [], ◌∷◌, ◌++◌, length, map, take, drop, min}
-use Rattle.std.proofs.Common.{Option, Some, None, option_map, unwrap_or, refl, sym, ap, subst, ◌∙◌, arith}
-use Rattle.std.specs.Prelude.{nat_lt, option_and_then, slice_get}
-use Rattle.std.specs.List.{enumerate_from, list_any}
+use Rattle.std.proofs.Common.{◌≡◌, ◌≢◌, ℕ, zero, suc, ◌-◌, ◌<◌, ◌≤◌, ◌==◌, ◌||◌, Bool, true, false, cond, List, [], ◌∷◌, ◌++◌, min}
+use Rattle.std.proofs.Common.{Option, Some, None, option_map, unwrap_or, refl, sym, ap, ◌∙◌, arith}
+use Rattle.std.specs.Prelude.{option_and_then}
+use Rattle.std.specs.List.{list_any}
 use Rattle.std.proofs.lemmas.Bool.{eqb-true}
 use Rattle.std.proofs.lemmas.Bool.Decides.{nat_tests}
 use Rattle.std.proofs.lemmas.List.Sums.{sum_by-append, sum_by-cons}
@@ -11,7 +11,6 @@ use Rattle.ticket_steps.specs.History.{replay, IsLegal}
 use Rattle.check_drafts.specs.declared.object.Object.{Object}
 use Rattle.check_numbers.proofs.NameLemmas.{item_at}
 use Rattle.check_objects.specs.Configuration.{Configuration, Named, host_count, name_of, object_count, objects_of}
-use Rattle.check_rules.specs.declared.standing.Kind.TheVariants as kind
 use Rattle.check_rules.specs.declared.standing.Standing.{Standing}
 use Rattle.check_rules.specs.Standing.{is_soft_problem, pending_standing}
 use Rattle.check_saved.specs.Saved.{Saved, SavedObject, saved_named}
@@ -19,8 +18,8 @@ use Rattle.check_saved.specs.Scheduling.{Scheduling}
 use Rattle.check_sched.specs.declared.call.Call.{Call}
 use Rattle.check_sched.specs.declared.call.Reply.{Reply}
 use Rattle.check_sched.specs.declared.call.Reply.TheVariants as reply
-use Rattle.check_sched.specs.Runs.{begins, begins_by, ends, runs_begun, takes_by}
-use Rattle.check_sched.specs.Saved.{given_up, keeps_limit, objects_kept, objects_resumed, resumed, run_saved_of, saved_of, scheduling_of, soft_kept, standing_kept, standing_of}
+use Rattle.check_sched.specs.Runs.{begins, begins_by, ends, takes_by}
+use Rattle.check_sched.specs.Saved.{keeps_limit, objects_kept, resumed, run_saved_of, scheduling_of, standing_kept, standing_of}
 use Rattle.check_sched.specs.Saved.{standings_resumed, stays_out, time_among, within_limit}
 use Rattle.check_sched.specs.State.{State, is_host, max_attempts_of, standing_at}
 use Rattle.check_sched.specs.Step.{step}

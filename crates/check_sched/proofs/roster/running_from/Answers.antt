@@ -1,4 +1,4 @@
-use Rattle.std.proofs.Common.{◌<◌, ◌≡◌, ap, arith, drop, length, refl, ◌∙◌}
+use Rattle.std.proofs.Common.{◌<◌, ap, arith, length, ◌∙◌}
 use mir.Val.{bool_byte}
 use Rattle.std.proofs.lemmas.List.{drop_all}
 use Rattle.check_sched.specs.Roster.{running_among}

@@ -1,4 +1,4 @@
-use Rattle.std.proofs.Common.{◌≡◌, ◌≤◌, ap, arith, subst, sym}
+use Rattle.std.proofs.Common.{◌≡◌, ◌≤◌, ap, subst, sym}
 use Rattle.std.specs.Prelude.{vec_capacity}
 use Rattle.check_objects.specs.Configuration.{IsSetup}
 use Rattle.ticket_steps.specs.History.{replay, IsLegal}

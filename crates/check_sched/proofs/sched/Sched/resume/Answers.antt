@@ -1,4 +1,4 @@
-use Rattle.std.proofs.Common.{◌≡◌, ◌∙◌, ap, subst, sym}
+use Rattle.std.proofs.Common.{◌≡◌, ap, subst, sym}
 use Rattle.check_spread.proofs.BoundLemmas.{first_times_below}
 use Rattle.check_sched.specs.Roster.{RosterState}
 use Rattle.check_sched.specs.Saved.{resumed}
