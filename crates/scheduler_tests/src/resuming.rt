@@ -6,7 +6,7 @@ ghost use Rattle.std.specs.Prelude.{◌≤◌};
 use check_objects::Setup;
 use check_rules::Code;
 use check_sched::laws::{
-    from_any_state, flaps_from_any_state, resumed_histories_join, resumed_in_any_order,
+    flaps_from_any_state, from_any_state, resumed_histories_join, resumed_in_any_order,
     resumed_over_the_same, resumed_problems_stay_soft, resumed_runs, resumed_states,
     runs_from_any_state, start_is_not_read,
 };
@@ -33,7 +33,11 @@ fn resumed(alloc: Global, document: &[u8], saved: &Saved, start: u64) -> Result<
     requires { start ≤ LAST_MOMENT }
 {
     let setup = Setup::read(alloc, document)?;
-    Ok(Sched::resume(alloc, setup, saved, start).ok().ok_or("no memory")?)
+    Ok(
+        Sched::resume(alloc, setup, saved, start)
+            .ok()
+            .ok_or("no memory")?,
+    )
 }
 
 #[test]
