@@ -1,6 +1,7 @@
 pub mod BookState
 pub mod Logs
 pub mod Books
+pub mod Resumed
 pub mod Board
 pub mod BoardLaws
 pub mod SetupLaws

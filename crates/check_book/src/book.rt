@@ -3,6 +3,7 @@
 ghost use Rattle.std.specs.Prelude.{◌≡◌, ◌+◌, ◌^◌, ◌<◌, ◌≤◌, [], ◌∷◌, ◌++◌, length};
 ghost use Rattle.std.specs.Prelude.{IfOk, IfErr, OnOk, OnErr, vec_capacity, vec_len};
 ghost use Rattle.check_objects.specs.Configuration.{IsSetup};
+ghost use Rattle.check_sched.specs.Saved.{resumed, saved_of};
 ghost use Rattle.check_sched.specs.State.{IsState, opening};
 ghost use Rattle.check_sched.specs.Step.{step};
 ghost use Rattle.check_book.specs.BookState.{BookState, book_at, book_opening, book_step};
@@ -15,7 +16,7 @@ ghost use Rattle.ticket_steps.specs.History.{entry, replay, IsLegal, IsLegal-pro
 
 use crate::opening::Opening;
 use check_objects::Setup;
-use check_sched::{Call, LAST_MOMENT, Reply, Sched};
+use check_sched::{Call, LAST_MOMENT, Reply, Saved, Sched};
 use std::alloc::{AllocError, Global};
 use std::mem;
 use ticket_steps::{Entry, Kept, NoMemory};
@@ -94,7 +95,54 @@ impl Book {
             return Err(setup);
         };
         let sched = Sched::new(alloc, setup, start)?;
-        // for the proof: the opening is a state that a scheduler can be in
+        Book::over(alloc, sched, entries, room)
+    }
+
+    /// A book without entries over a scheduler that goes on from what was saved of another
+    /// ([`Sched::resume`]), over this setup and from the moment `start` on, in milliseconds. There is
+    /// room for so many entries: their calls take no memory. Run numbers go on from the saved ones, and a
+    /// check that was out is reported under its number as ever.
+    ///
+    /// An Err means out of memory, and hands the setup back as it was.
+    pub fn resume(
+        alloc: Global,
+        setup: Setup,
+        saved: &Saved,
+        start: u64,
+        room: usize,
+    ) -> Result<Book, Setup>
+        requires { start ≤ LAST_MOMENT }
+        ensures empty { IfOk result (λ book. (entries_of book ≡ []) × (refused_of book ≡ 0)) }
+        ensures sched { IfOk result (λ book. sched_of book ≡ resumed setup saved.now start) }
+        ensures room { IfOk result (λ book. room_of book ≡ room) }
+        ensures opening { IfOk result (λ book.
+            opening_of book ≡ book_at (resumed setup saved.now start) room) }
+        ensures err { IfErr result (λ handed_back. handed_back ≡ setup) }
+    {
+        let Ok(entries) = Vec::with_capacity(alloc, room) else {
+            return Err(setup);
+        };
+        let sched = Sched::resume(alloc, setup, saved, start)?;
+        Book::over(alloc, sched, entries, room)
+    }
+
+    /// A book over this scheduler, which opens where it stands, with these entries, of which there are
+    /// none, and their room. An Err means out of memory, and hands the setup back.
+    fn over(
+        alloc: Global,
+        sched: Sched,
+        entries: Vec<Entry<Call, Reply>>,
+        room: usize,
+    ) -> Result<Book, Setup>
+        requires none { entries.items ≡ [] }
+        requires reserved { room ≤ vec_capacity entries }
+        ensures empty { IfOk result (λ book. (entries_of book ≡ []) × (refused_of book ≡ 0)) }
+        ensures sched { IfOk result (λ book. sched_of book ≡ sched) }
+        ensures room { IfOk result (λ book. room_of book ≡ room) }
+        ensures opening { IfOk result (λ book. opening_of book ≡ book_at sched room) }
+        ensures err { IfErr result (λ handed_back. handed_back ≡ sched.setup) }
+    {
+        // for the proof: it stands in a state that a scheduler can be in
         sched.is_state();
         let opened = Opening::of(&sched);
         let log = Log {
@@ -108,6 +156,14 @@ impl Book {
             Ok(log) => Ok(Book { log }),
             Err(refused) => Err(refused.value.sched.into_setup()),
         }
+    }
+
+    /// What is saved of the scheduler ([`Sched::save`]), in the state in which the book stands. The book
+    /// stays as it is. An Err means out of memory.
+    pub fn save(&self, alloc: Global) -> Result<Saved, AllocError>
+        ensures { IfOk result (λ saved. saved ≡ saved_of (sched_of self.now)) }
+    {
+        self.log.sched.save(alloc)
     }
 
     /// A new book that opens in the state in which this one stands, without entries and refusals, and

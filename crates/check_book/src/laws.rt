@@ -17,6 +17,7 @@ ghost use Rattle.check_book.specs.declared.book.Book.{Book};
 ghost use Rattle.check_book.specs.Board.{book_board};
 ghost use Rattle.check_book.specs.Books.{opening_of, sched_of, state_of};
 ghost use Rattle.check_book.specs.BookState.{BookState, book_at, book_opening, book_step};
+ghost use Rattle.check_book.specs.Resumed.{resumed_from};
 
 /// The history of a book is a history of its scheduler (`books`): so what
 /// [`runs_once`](check_sched::laws::runs_once) and
@@ -79,6 +80,10 @@ pub fn board_shows_standings()
 /// the schedulers of books, whatever their rooms (`book`, `book_state`), and no call changes a book's
 /// setup (`setup`). So each law of legal histories holds of the joined history of books that were
 /// [renewed](crate::Book::renew).
+///
+/// The same holds where a scheduler was put down and another book was [resumed](crate::Book::resume) from
+/// what was saved of it, over the same setup, with whatever start and room (`resumed`, `resumed_state`):
+/// the state is the same but for the start, by which no call goes.
 pub fn generations()
     ensures legal { (opened : State) → (earlier later : List (Entry Call Reply))
         → IsLegal step opened earlier → IsLegal step (replay step opened earlier) later
@@ -94,4 +99,12 @@ pub fn generations()
         ≡ replay step opened (earlier ++ later) }
     ensures setup { (opened : BookState) → (later : List (Entry Call Reply))
         → (replay book_step opened later).sched.setup ≡ opened.sched.setup }
+    ensures resumed { (opened : State) → (start room : ℕ) → (earlier later : List (Entry Call Reply))
+        → IsState opened → IsLegal step opened earlier
+        → IsLegal book_step (book_at (resumed_from (replay step opened earlier) start) room) later
+        → IsLegal step opened (earlier ++ later) }
+    ensures resumed_state { (opened : State) → (start room : ℕ)
+        → (earlier later : List (Entry Call Reply)) → IsState opened
+        → (replay book_step (book_at (resumed_from (replay step opened earlier) start) room) later).sched
+        ≡ record (replay step opened (earlier ++ later)) { start = start } }
 {}

@@ -18,7 +18,7 @@ use Rattle.check_sched.specs.Step.{step}
 use Rattle.check_book.specs.BookState.{BookState, book_at, book_opening, book_step}
 use Rattle.check_book.specs.contracts.book.BookKept.TheImpl.{ghosts as kept_book}
 use Rattle.check_book.proofs.PublicLaws.{book_is_legal, joined_book, joined_book_state}
-use Rattle.check_desk.specs.Schedules.{IsScheduleAfter, IsScheduleOver}
+use Rattle.check_desk.specs.Schedules.{IsScheduleAfter, IsScheduleFrom, IsScheduleOver}
 
 -- the scheduler of a book goes through its calls alone
 sched_replayed : (s : State) (room : ℕ) (es : List (Entry Call Reply)) → (replay book_step (record { sched = s; room = room }) es).sched ≡ replay step s es
@@ -54,6 +54,20 @@ module _ (setup : Configuration) (start : ℕ) (earlier : List (Entry Call Reply
   pub sched_joined : s.end.book.state.sched ≡ replay step (opening setup start) (earlier ++ s.end.book.entries)
   sched_joined =
       ap (λ (b : BookState). b.sched) lawful_later.replayed ∙ joined_book_state (opening setup start) room earlier s.end.book.entries
+
+module _ (opened : BookState) (s : Schedule BookState Call Reply) (is : IsScheduleFrom opened s) where
+  lawful_from : IsLawfulBook book_step opened s.end.book
+  lawful_from = subst (λ (o : BookState). IsLawfulBook book_step o s.end.book) is.opens (schedule_book kept_book s is.schedule)
+
+  pub legal_from : IsLegal step opened.sched s.end.book.entries
+  legal_from = book_is_legal opened.sched opened.room s.end.book.entries lawful_from.legal
+
+  pub from_parts : (front back : List (Entry Call Reply)) (e : Entry Call Reply) → s.end.book.entries ≡ front ++ e ∷ back
+      → IsLegal step opened.sched (front ++ e ∷ back)
+  from_parts front back e parts = subst (IsLegal step opened.sched) parts legal_from
+
+  pub sched_from : s.end.book.state.sched ≡ replay step opened.sched s.end.book.entries
+  sched_from = ap (λ (b : BookState). b.sched) lawful_from.replayed ∙ sched_replayed opened.sched opened.room s.end.book.entries
 
 -- Where one seat stands for all numbers, the calls that it tells of are all, and one more while it has posted a call.
 pub taken_by_one : (s : Schedule BookState Call Reply) → IsSchedule kept_book s → (i : ℕ) (p : CoreSeat) → get_elem? s.end.seats i ≡ some p

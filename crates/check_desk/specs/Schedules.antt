@@ -23,3 +23,8 @@ pub record IsScheduleAfter (setup : Configuration) (start : ℕ) (earlier : List
   pub schedule : IsSchedule kept_book s
   pub legal_before : IsLegal step (opening setup start) earlier
   pub opens : s.opening ≡ book_at (replay step (opening setup start) earlier) room
+
+-- The same over a book that opens empty in this state, as one does that goes on from what was saved.
+pub record IsScheduleFrom (opened : BookState) (s : Schedule BookState Call Reply) : Type 0 where
+  pub schedule : IsSchedule kept_book s
+  pub opens : s.opening ≡ opened

@@ -2,7 +2,7 @@
 //! that have returned.
 
 ghost use Rattle.std.specs.Prelude.{ℕ, ◌≡◌, ◌+◌, ◌<◌, ◌≤◌, ◌^◌, List, [], ◌∷◌, ◌++◌, length, Bool, true, false, Option, Some};
-ghost use Rattle.std.specs.List.{All};
+ghost use Rattle.std.specs.List.{All, list_any};
 ghost use mathlib.Core.Option.{some};
 ghost use lib.ListN.{get_elem?};
 ghost use Rattle.ticket_steps.specs.declared.kept.Entry.{Entry};
@@ -22,8 +22,8 @@ ghost use Rattle.check_sched.specs.declared.call.Call.{Call};
 ghost use Rattle.check_sched.specs.declared.call.Call.TheVariants as call;
 ghost use Rattle.check_sched.specs.declared.call.Reply.{Reply};
 ghost use Rattle.check_sched.specs.declared.call.Reply.TheVariants as reply;
-ghost use Rattle.check_sched.specs.Runs.{begins, runs_begun, runs_under};
-ghost use Rattle.check_sched.specs.State.{opening};
+ghost use Rattle.check_sched.specs.Runs.{begins, ends, runs_begun, runs_under};
+ghost use Rattle.check_sched.specs.State.{opening, run_number_of};
 ghost use Rattle.check_sched.specs.Step.{step};
 ghost use Rattle.check_book.specs.BookState.{BookState};
 ghost use Rattle.check_desk.specs.declared.desk.Desk.{Desk};
@@ -33,7 +33,7 @@ ghost use Rattle.check_desk.specs.declared.passes.Turn.{Turn};
 ghost use Rattle.check_desk.specs.Desks.{AreNewPasses, HasRecorded, IsHistoryOf, IsPassOf, objects_of, recorded, standing_after};
 ghost use Rattle.check_desk.specs.Passes.{holder_of, pass_of, waiting_of};
 ghost use Rattle.check_desk.specs.Reports.{HasNoReport, HasSeen, IsAfter};
-ghost use Rattle.check_desk.specs.Schedules.{IsScheduleAfter, IsScheduleOver};
+ghost use Rattle.check_desk.specs.Schedules.{IsScheduleAfter, IsScheduleFrom, IsScheduleOver};
 
 /// A law without code: whatever callers do, and in whatever order the steps of their passes come,
 /// the history that they share is one thread's.
@@ -119,6 +119,45 @@ pub fn headline()
         → calls_taken s.end.book ≡ calls_made s.happened }
     ensures later_all { (setup : Configuration) (start : ℕ) (earlier : List (Entry Call Reply)) (room : ℕ)
         → (s : Schedule BookState Call Reply) → IsScheduleAfter setup start earlier room s
+        → (i : ℕ) (p : CoreSeat) → get_elem? s.end.seats i ≡ some p
+        → length p.numbers ≡ s.numbers
+        → calls_taken s.end.book ≡ p.calls + posted_one p.phase }
+{}
+
+/// What [`headline`] says, of a book that opens in any state, as one does that was
+/// [resumed](check_book::Book::resume) from what was saved, over the same setup or another.
+///
+/// - Each reply is the sequential scheduler's at its place, from that state on (`legal`), and the
+///   scheduler is in the state that those calls leave (`state`).
+/// - No object is taken while it runs, by the history alone (`once`), nor while a check of it is out from
+///   before, until that run was reported or given up (`out`). The numbers of runs go on from those that
+///   were handed out before (`runs`).
+/// - What the schedule of the book's callers leaves is as `headline` says (`entries`, `strangers`,
+///   `made`, `all`).
+pub fn headline_from_any_state()
+    ensures legal { (opened : BookState) (s : Schedule BookState Call Reply) → IsScheduleFrom opened s
+        → IsLegal step opened.sched s.end.book.entries }
+    ensures state { (opened : BookState) (s : Schedule BookState Call Reply) → IsScheduleFrom opened s
+        → s.end.book.state.sched ≡ replay step opened.sched s.end.book.entries }
+    ensures once { (opened : BookState) (s : Schedule BookState Call Reply) → IsScheduleFrom opened s
+        → (front back : List (Entry Call Reply)) (e : Entry Call Reply) (object run other : ℕ)
+        → s.end.book.entries ≡ front ++ e ∷ back → begins object run e ≡ true
+        → runs_under object other front ≡ false }
+    ensures out { (opened : BookState) (s : Schedule BookState Call Reply) → IsScheduleFrom opened s
+        → (front back : List (Entry Call Reply)) (e : Entry Call Reply) (object run other : ℕ)
+        → s.end.book.entries ≡ front ++ e ∷ back → begins object run e ≡ true
+        → run_number_of object opened.sched ≡ Some other → list_any (ends object other) front ≡ true }
+    ensures runs { (opened : BookState) (s : Schedule BookState Call Reply) → IsScheduleFrom opened s
+        → (front back : List (Entry Call Reply)) (e : Entry Call Reply) (object run : ℕ)
+        → s.end.book.entries ≡ front ++ e ∷ back → begins object run e ≡ true
+        → run ≡ opened.sched.runs + runs_begun front + 1 }
+    ensures entries { (opened : BookState) (s : Schedule BookState Call Reply) → IsScheduleFrom opened s
+        → (number : ℕ) → of number s.end.book.entries ≡ recorded_by number s.happened }
+    ensures strangers { (opened : BookState) (s : Schedule BookState Call Reply) → IsScheduleFrom opened s
+        → (number : ℕ) → s.numbers ≤ number → of number s.end.book.entries ≡ [] }
+    ensures made { (opened : BookState) (s : Schedule BookState Call Reply) → IsScheduleFrom opened s
+        → calls_taken s.end.book ≡ calls_made s.happened }
+    ensures all { (opened : BookState) (s : Schedule BookState Call Reply) → IsScheduleFrom opened s
         → (i : ℕ) (p : CoreSeat) → get_elem? s.end.seats i ≡ some p
         → length p.numbers ≡ s.numbers
         → calls_taken s.end.book ≡ p.calls + posted_one p.phase }

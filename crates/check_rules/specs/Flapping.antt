@@ -1,17 +1,22 @@
 -- Flapping: an object whose state keeps changing. ("Detection and Handling of State Flapping"; how many
 -- results count, what a change weighs, and that a percent at the high threshold starts it are our own
 -- profile.)
-use Rattle.std.specs.Prelude.{ℕ, ◌+◌, ◌*◌, ◌==◌, Bool, not, List, [], ◌∷◌, ◌++◌, length, zip, drop, nat_lt, nat_le, if◌then◌else◌, ◌/◌}
-use Rattle.std.specs.List.{enumerate_from, sum_by}
+use Rattle.std.specs.Prelude.{ℕ, ◌≡◌, ◌≤◌, ◌+◌, ◌*◌, ◌==◌, Bool, true, not, List, [], ◌∷◌, ◌++◌, length, zip, drop, nat_lt, nat_le, if◌then◌else◌, ◌/◌}
+use Rattle.std.specs.List.{enumerate_from, list_all, sum_by}
 use Rattle.circular_buffer.specs.Buffer.{keep_last}
 use Rattle.check_rules.specs.declared.state.State.{State}
-use Rattle.check_rules.specs.State.{is_another_state}
+use Rattle.check_rules.specs.State.{is_another_state, is_of_sort}
 
 -- ---- the results that are kept
 
 -- the results that are kept after one more: the last 21, the oldest first
 abbrev pub kept_after : List State → State → List State
 kept_after results found = keep_last 21 (results ++ found ∷ [])
+
+-- An object, a host or a service, can have these results: as many as are kept at most, each a state of its sort.
+pub record AreResultsFor (host : Bool) (results : List State) : Type 0 where
+  pub few : length results ≤ 21
+  pub sort : list_all (is_of_sort host) results ≡ true
 
 -- ---- the percent
 

@@ -1,5 +1,5 @@
 -- What is known of an object.
-use Rattle.std.specs.Prelude.{ℕ, Bool, true, false, not, ◌&&◌, ◌==◌, nat_lt, nat_le, if◌then◌else◌}
+use Rattle.std.specs.Prelude.{ℕ, ◌≡◌, Bool, true, false, not, ◌&&◌, ◌==◌, nat_lt, nat_le, if◌then◌else◌}
 use Rattle.check_rules.specs.declared.state.State.{State}
 use Rattle.check_rules.specs.declared.standing.Kind.{Kind}
 use Rattle.check_rules.specs.declared.standing.Kind.TheVariants as kind
@@ -62,3 +62,11 @@ is_last_hard_of phase.HardProblem last_hard = true
 -- whether an object with this maximum of attempts can have this standing
 abbrev pub is_lawful : Standing → ℕ → Bool
 is_lawful s max = is_attempt_of (phase_of s) s.attempt max && is_last_hard_of (phase_of s) s.last_hard
+
+-- An object, a host or a service, with this maximum of attempts can have this standing: it is lawful for that
+-- maximum, its states are ones of hosts where the object is a host, and until it is checked it is pending.
+pub record IsStandingFor (host : Bool) (max : ℕ) (standing : Standing) : Type 0 where
+  pub lawful : is_lawful standing max ≡ true
+  pub sort : is_host_state standing.state ≡ host
+  pub last_hard_sort : is_host_state standing.last_hard ≡ host
+  pub until_checked : standing.checked ≡ false → standing ≡ pending_standing host

@@ -12,6 +12,11 @@ is_host_state state.Down = true
 is_host_state state.Unreachable = true
 is_host_state s = false
 
+-- whether a state is one of hosts, or one of services
+abbrev pub is_of_sort : Bool → State → Bool
+is_of_sort true state = is_host_state state
+is_of_sort false state = not (is_host_state state)
+
 -- Whether a state is a problem: any but OK and UP. ("State Types".)
 abbrev pub is_problem : State → Bool
 is_problem state.Ok = false

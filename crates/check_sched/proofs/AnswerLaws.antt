@@ -3,7 +3,8 @@
 use Rattle.std.proofs.Common.{◌≡◌, ℕ, ◌<◌, ◌≤◌, ◌^◌, Bool, true, false, ◌==◌, cond, Option, Some, None, Ok, Err, refl, ap, arith}
 use Rattle.std.specs.Prelude.{nat_lt}
 use Rattle.std.proofs.lemmas.Bool.Decides.{nat_tests}
-use Rattle.check_sched.specs.Scheduling.{OpenRun, run_under}
+use Rattle.check_sched.specs.Scheduling.{run_under}
+use Rattle.check_saved.specs.Scheduling.{OpenRun}
 use Rattle.check_sched.specs.declared.call.Refusal.TheVariants as refusal
 use Rattle.check_sched.specs.State.{State}
 pub use Rattle.check_sched.specs.BoardLaws.{by_test, known_is}

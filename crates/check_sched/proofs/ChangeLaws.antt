@@ -4,8 +4,7 @@ use Rattle.std.proofs.lemmas.Bool.{and_parts, and_from}
 use Rattle.check_sched.specs.declared.object_state.Change.{Change}
 use Rattle.check_sched.specs.declared.object_state.Change.TheVariants as change
 use Rattle.check_sched.specs.Change.{changed, is_quiet, keeps_timed}
-use Rattle.check_sched.specs.Scheduling.{Scheduling}
-use Rattle.check_sched.specs.State.{is_in_time, is_moment, is_time, is_timed_if_forced}
+use Rattle.check_saved.specs.Scheduling.{Scheduling, is_in_time, is_moment, is_time, is_timed_if_forced}
 use Rattle.check_sched.proofs.LimitLaws.{BeginsNone}
 
 -- a quiet change keeps an object within its limits

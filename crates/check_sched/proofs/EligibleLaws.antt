@@ -7,7 +7,8 @@ use Rattle.std.proofs.Math.Bool.{or-false}
 use Rattle.std.proofs.lemmas.Bool.Decides.{nat_tests}
 use Rattle.std.proofs.lemmas.Bool.{and_from}
 use Rattle.check_objects.specs.Configuration.{Configuration, host_count}
-use Rattle.check_sched.specs.Scheduling.{Scheduling, candidate_time}
+use Rattle.check_sched.specs.Scheduling.{candidate_time}
+use Rattle.check_saved.specs.Scheduling.{Scheduling}
 use Rattle.check_sched.specs.Candidate.{Candidate, candidate, candidates_among, due_among, if_due}
 use Rattle.check_queue.specs.Order.{least}
 use Rattle.check_sched.specs.declared.call.Reply.{Reply}

@@ -21,7 +21,8 @@ use Rattle.check_sched.specs.declared.call.Call.{Call}
 use Rattle.check_sched.specs.declared.call.Call.TheVariants as call
 use Rattle.check_sched.specs.declared.call.Reply.{Reply}
 use Rattle.check_sched.specs.Report.{next_after}
-use Rattle.check_sched.specs.Scheduling.{Scheduling, ended}
+use Rattle.check_sched.specs.Scheduling.{ended}
+use Rattle.check_saved.specs.Scheduling.{Scheduling}
 use Rattle.check_sched.specs.State.{State, flap_thresholds_of, is_host, opening, opening_objects, opening_results, results_at, standing_at}
 use Rattle.check_sched.specs.Step.{found_in, judged_in, reported, step, update_at}
 use Rattle.check_sched.specs.Flapping.{Flapping, flapping_in, never_checked, states_told, told_by, with_result, with_results}

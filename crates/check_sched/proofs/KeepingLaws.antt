@@ -10,9 +10,13 @@ use Rattle.check_drafts.specs.Name.{is_name}
 use Rattle.check_objects.specs.Configuration.{Configuration, Host, IsSetup, Named, Service, name_of, named_host, named_service}
 use Rattle.check_objects.specs.Configuration.{objects_of, pair_of}
 use Rattle.check_numbers.proofs.NameLemmas.{name_of_host}
-use Rattle.check_sched.specs.Saved.{IsFullName, IsSaved, IsSavedObject, SavedObject, saved_object, saved_of}
-use Rattle.check_sched.specs.Scheduling.{OpenRun, Scheduling, opening_object}
-use Rattle.check_sched.specs.State.{AreResultsFor, IsStandingFor, IsState, State, is_host, is_in_time, is_timed_if_forced, results_at}
+use Rattle.check_sched.specs.Saved.{saved_object, saved_of}
+use Rattle.check_saved.specs.Saved.{IsFullName, IsSaved, IsSavedObject, SavedObject}
+use Rattle.check_sched.specs.Scheduling.{opening_object}
+use Rattle.check_saved.specs.Scheduling.{OpenRun, Scheduling, is_in_time, is_timed_if_forced}
+use Rattle.check_sched.specs.State.{IsState, State, is_host, results_at}
+use Rattle.check_rules.specs.Flapping.{AreResultsFor}
+use Rattle.check_rules.specs.Standing.{IsStandingFor}
 use Rattle.check_sched.specs.State.{standing_at}
 use Rattle.check_sched.proofs.OpeningLaws.{count_is}
 use Rattle.check_sched.proofs.ReportLaws.{object_in_range, standing_of_state}

@@ -7,8 +7,8 @@ use Rattle.std.proofs.lemmas.List.Folds.{list_all-append}
 use Rattle.check_objects.specs.Configuration.{Configuration}
 use Rattle.check_rules.specs.declared.state.State as rules
 use Rattle.check_rules.specs.Flapping.{kept_after}
-use Rattle.check_rules.specs.State.{is_host_state}
-use Rattle.check_sched.specs.State.{AreResultsOf, is_host, is_of_sort}
+use Rattle.check_rules.specs.State.{is_host_state, is_of_sort}
+use Rattle.check_sched.specs.State.{AreResultsOf, is_host}
 
 pub all_dropped : {X : Type 0} (p : X → Bool) (n : ℕ) (xs : List X) → list_all p xs ≡ true → list_all p (drop n xs) ≡ true
 all_dropped p zero xs e = e

@@ -25,3 +25,7 @@ pub mod StepLaws
 pub mod TakeLaws
 pub mod UpdateLaws
 pub mod ChangeLaws
+pub mod EachLaws
+pub mod GivenUpLaws
+pub mod PlacesLaws
+pub mod ResumedRunLaws

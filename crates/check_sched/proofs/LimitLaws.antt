@@ -5,11 +5,12 @@ use Rattle.std.proofs.lemmas.Bool.Decides.{nat_tests}
 use Rattle.std.proofs.lemmas.List.Sums.{sum_by-cons}
 use Rattle.check_objects.specs.Configuration.{host_count}
 use Rattle.check_sched.specs.Roster.{running_among}
-use Rattle.check_sched.specs.Scheduling.{OpenRun, Scheduling, running_from}
+use Rattle.check_sched.specs.Scheduling.{running_from}
+use Rattle.check_saved.specs.Scheduling.{OpenRun, Scheduling}
 use Rattle.check_sched.specs.State.{State, IsWithinLimit, has_room, is_host, limit_of, running_services}
 use Rattle.check_sched.specs.Step.{is_open, taken, update_at, with_object}
 
-busy_cons : (o : Scheduling) (os : List Scheduling) → running_among (o ∷ os) ≡ cond (is_some o.run) 1 0 + running_among os
+pub busy_cons : (o : Scheduling) (os : List Scheduling) → running_among (o ∷ os) ≡ cond (is_some o.run) 1 0 + running_among os
 busy_cons o os = sum_by-cons (λ x. cond (is_some x.run) 1 0) o os
 
 -- whether f begins no run: one that is out afterwards was out before

@@ -1,11 +1,10 @@
 -- Laws of the opening.
-use Rattle.std.proofs.Common.{◌≡◌, ℕ, zero, suc, ◌+◌, ◌<◌, ◌≤◌, ◌^◌, Bool, true, List, [], ◌∷◌, ◌++◌, length, map, drop, take, get_or, min, replicate, Option, Some, None}
+use Rattle.std.proofs.Common.{◌≡◌, ℕ, zero, suc, ◌+◌, ◌<◌, ◌≤◌, ◌^◌, Bool, true, List, [], ◌∷◌, ◌++◌, length, map, take, get_or, min, replicate, Option, Some, None}
 use Rattle.std.proofs.Common.{option_map, refl, sym, ap, subst, ◌∙◌, arith, IfSome}
 use Rattle.std.specs.Prelude.{slice_get, zip, All}
 use Rattle.std.specs.List.{list_all, enumerate_from}
 use Rattle.std.proofs.lemmas.Bool.Decides.{nat_tests}
 use Rattle.std.proofs.lemmas.List.{length-append, length-map, length-replicate, take_more}
-use Rattle.check_sched.specs.Roster.{running_among}
 use Rattle.std.proofs.lemmas.List.FromFn.{length-enumerate_from}
 use Rattle.std.proofs.lemmas.Slice.Zip.{length-zip}
 use Rattle.std.proofs.lemmas.Bool.{and_from}
@@ -15,9 +14,10 @@ use Rattle.check_rules.specs.declared.standing.Standing.{Standing}
 use Rattle.check_rules.specs.declared.state.State as rules
 use Rattle.check_rules.specs.Standing.{pending_standing}
 use Rattle.check_rules.proofs.VerdictLaws.{pending_is_lawful, pending_sort}
-use Rattle.check_sched.specs.Scheduling.{Scheduling, opening_object}
+use Rattle.check_sched.specs.Scheduling.{opening_object}
+use Rattle.check_saved.specs.Scheduling.{Scheduling, is_in_time, is_time}
 use Rattle.check_spread.specs.Spread.{initial_times}
-use Rattle.check_sched.specs.State.{State, AreResultsOf, IsState, IsStandingOf, IsWithinLimit, is_host, is_in_time, is_time, objects_at, opening}
+use Rattle.check_sched.specs.State.{State, AreResultsOf, IsState, IsStandingOf, IsWithinLimit, is_host, objects_at, opening}
 use Rattle.check_sched.specs.State.{opening_objects, opening_results, opening_standings, run_number_of}
 use Rattle.check_sched.proofs.LimitLaws.{services_none}
 use Rattle.check_sched.proofs.OutLaws.{none_forced, none_out, timed_unforced}
@@ -144,13 +144,6 @@ pub opened_hosts : (setup : Configuration) (times : List (Option ℕ)) (objects 
     → objects ≡ objects_at setup times → host_count setup ≤ length objects
 opened_hosts setup times objects count e =
     let long = ap length e ∙ length-objects_at setup times count ∙ count_is setup in omega (arith, long)
-
--- no service is being checked
-pub opened_idle : (setup : Configuration) (times : List (Option ℕ)) (objects : List Scheduling) → objects ≡ objects_at setup times
-    → running_among (drop (host_count setup) objects) ≡ 0
-opened_idle setup times objects e =
-    ap (λ os. running_among (drop (host_count setup) os)) e
-    ∙ services_none (host_count setup) (λ (p : Option ℕ × Named). opening_object p.0 p.1.object.enabled) (zip times (objects_of setup)) (λ p. refl)
 
 -- ---- the opening, object by object
 

@@ -1,12 +1,13 @@
 -- Laws of the operators' calls: Abandon, Reschedule, Enable and Status.
 use Rattle.std.proofs.Common.{◌≡◌, ℕ, ◌<◌, ◌≤◌, ◌^◌, Bool, true, false, Some, Ok, length, refl, ◌∙◌}
 use Rattle.std.specs.Prelude.{slice_get}
-use Rattle.check_sched.specs.Scheduling.{Scheduling, OpenRun, ended, enabled_as, freed_time, rescheduled, run_under}
+use Rattle.check_sched.specs.Scheduling.{ended, enabled_as, freed_time, rescheduled, run_under}
+use Rattle.check_saved.specs.Scheduling.{Scheduling, OpenRun, is_in_time, is_timed_if_forced}
 use Rattle.check_sched.specs.declared.call.Call.TheVariants as call
 use Rattle.check_sched.specs.declared.call.Reply.{Reply}
 use Rattle.check_sched.specs.declared.call.Reply.TheVariants as reply
 use Rattle.check_sched.specs.declared.call.Refusal.{Refusal}
-use Rattle.check_sched.specs.State.{State, IsState, is_in_time, is_timed_if_forced, standing_at}
+use Rattle.check_sched.specs.State.{State, IsState, standing_at}
 use Rattle.check_sched.specs.Step.{known, step, with_object, within_range}
 use Rattle.check_sched.proofs.AnswerLaws.{by_test, known_is, range_is}
 use Rattle.check_sched.proofs.LimitLaws.{BeginsNone, limit_kept}

@@ -6,7 +6,8 @@ use Rattle.std.specs.List.Sorted.{IsPermutation}
 use Rattle.std.proofs.lemmas.List.Sorted.{Contains-permutation, IsPermutation-sym, list_any-IsPermutation}
 use Rattle.std.proofs.lemmas.Option.{get_or_from_slice_get, slice_get-get_or, slice_get_within}
 use Rattle.check_objects.specs.Configuration.{Configuration, Named, objects_of}
-use Rattle.check_sched.specs.Saved.{IsSaved, Saved, SavedObject, first_time, resumed, results_of, saved_named, scheduling_of, standing_of, within_limit}
+use Rattle.check_sched.specs.Saved.{first_time, resumed, results_of, scheduling_of, standing_of, within_limit}
+use Rattle.check_saved.specs.Saved.{IsSaved, Saved, SavedObject, saved_named}
 use Rattle.check_sched.specs.State.{is_host}
 use Rattle.check_sched.proofs.ResumedLaws.{found_at}
 use Rattle.check_sched.proofs.SavedLaws.{text_is}

@@ -4,8 +4,9 @@ use Rattle.std.proofs.Common.{option_map, refl, sym, ap, ◌∙◌, arith, inl, 
 use Rattle.std.specs.Prelude.{is_some, option_and_then, slice_get}
 use Rattle.std.specs.List.{list_all}
 use Rattle.std.proofs.lemmas.Bool.{and_from}
-use Rattle.check_sched.specs.Scheduling.{Scheduling, OpenRun, running_from}
-use Rattle.check_sched.specs.State.{State, is_timed, is_timed_if_forced, run_number_of}
+use Rattle.check_sched.specs.Scheduling.{running_from}
+use Rattle.check_saved.specs.Scheduling.{Scheduling, OpenRun, is_timed, is_timed_if_forced}
+use Rattle.check_sched.specs.State.{State, run_number_of}
 use Rattle.check_sched.specs.Step.{taken, update_at, with_object}
 use Rattle.check_sched.proofs.LimitLaws.{BeginsNone}
 

@@ -4,3 +4,5 @@
 pub use Rattle.check_sched.proofs.RunLaws.{taken_next, taken_once}
 -- standings_are_lawful
 pub use Rattle.check_sched.proofs.StandingLaws.{opened_standing}
+-- runs_from_any_state: out, numbers
+pub use Rattle.check_sched.proofs.RunLaws.{taken_after, taken_number}

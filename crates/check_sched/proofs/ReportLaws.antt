@@ -20,12 +20,13 @@ use Rattle.check_rules.specs.Verdict.{kind_and_attempt, last_hard_after, verdict
 use Rattle.check_rules.specs.Standing.{as_checked, is_soft_problem}
 use Rattle.check_rules.proofs.VerdictLaws.{pending_sort, verdict_is_lawful}
 use Rattle.check_rules.specs.Standing.{pending_standing}
-use Rattle.check_sched.specs.Scheduling.{Scheduling, OpenRun, ended, run_under}
+use Rattle.check_sched.specs.Scheduling.{ended, run_under}
+use Rattle.check_saved.specs.Scheduling.{Scheduling, OpenRun, is_time, is_moment, is_in_time, is_timed_if_forced}
 use Rattle.check_sched.specs.declared.call.Reply.{Reply}
 use Rattle.check_sched.specs.declared.call.Reply.TheVariants as reply
 use Rattle.check_sched.specs.declared.call.Refusal.{Refusal}
 use Rattle.check_sched.specs.declared.call.Call.TheVariants as call
-use Rattle.check_sched.specs.State.{State, AreResultsOf, IsState, IsStandingOf, is_host, is_time, is_moment, is_in_time, is_timed_if_forced}
+use Rattle.check_sched.specs.State.{State, AreResultsOf, IsState, IsStandingOf, is_host}
 use Rattle.check_sched.specs.State.{max_attempts_of, standing_at}
 use Rattle.check_sched.specs.Step.{found_in, judged_in, known, report_taken, reported, standing_reply, step}
 use Rattle.check_sched.proofs.AnswerLaws.{by_test, known_is, under_is}

@@ -16,15 +16,18 @@ use Rattle.check_numbers.proofs.NameLemmas.{parted_name}
 use Rattle.check_rules.specs.declared.standing.Kind.{Kind}
 use Rattle.check_rules.specs.declared.standing.Kind.TheVariants as kind
 use Rattle.check_rules.specs.declared.standing.Standing.{Standing}
-use Rattle.check_rules.specs.Standing.{is_lawful, is_soft_problem, pending_standing}
+use Rattle.check_rules.specs.Standing.{is_lawful, is_soft_problem, pending_standing, IsStandingFor}
 use Rattle.check_rules.specs.State.{fine_state, is_problem}
 use Rattle.check_rules.proofs.VerdictLaws.{pending_is_lawful, pending_sort}
 use Rattle.check_sched.specs.Roster.{running_among}
-use Rattle.check_sched.specs.Saved.{IsSaved, IsSavedObject, Saved, SavedObject, each_object, earlier_time, first_time, given_up, keeps_time, results_of, resumed}
-use Rattle.check_sched.specs.Saved.{saved_named, scheduling_of, standing_kept, standing_of, within_limit}
-use Rattle.check_sched.specs.Scheduling.{OpenRun, Scheduling, freed_time}
-use Rattle.check_sched.specs.State.{AreResultsFor, AreResultsOf, IsStandingFor, IsState, is_host, max_attempts_of, run_number_of}
-use Rattle.check_sched.specs.State.{is_in_time, is_moment, is_time, is_timed, is_timed_if_forced, limit_of}
+use Rattle.check_sched.specs.Saved.{each_object, earlier_time, first_time, given_up, keeps_time, objects_resumed, results_of, resumed}
+use Rattle.check_saved.specs.Saved.{IsSaved, IsSavedObject, Saved, SavedObject, saved_named}
+use Rattle.check_sched.specs.Saved.{scheduling_of, standing_kept, standing_of, within_limit}
+use Rattle.check_sched.specs.Scheduling.{freed_time}
+use Rattle.check_saved.specs.Scheduling.{OpenRun, Scheduling, is_in_time, is_moment, is_time, is_timed, is_timed_if_forced}
+use Rattle.check_sched.specs.State.{AreResultsOf, IsState, is_host, max_attempts_of, run_number_of}
+use Rattle.check_rules.specs.Flapping.{AreResultsFor}
+use Rattle.check_sched.specs.State.{limit_of}
 use Rattle.check_sched.proofs.KeptLaws.{all_dropped}
 use Rattle.check_sched.proofs.LimitLaws.{busy_none}
 use Rattle.check_sched.proofs.OutLaws.{none_out, run_in, timed_unforced}
@@ -176,7 +179,7 @@ all_changed p f [] h e = refl
 all_changed p f (x ∷ xs) h e = let b = and_parts (p x) (list_all p xs) e in and_from (p (f x)) _ (h x b.0) (all_changed p f xs h b.1)
 
 -- the objects with the runs of all services given up
-abbrev freed : ℕ → ℕ → List Scheduling → List Scheduling
+abbrev pub freed : ℕ → ℕ → List Scheduling → List Scheduling
 freed hosts now objects = take hosts objects ++ map (given_up now) (drop hosts objects)
 
 within_by : (P : List Scheduling → Type 0) (setup : Configuration) (now : ℕ) (objects : List Scheduling) (b : Bool)
@@ -192,7 +195,7 @@ within_cases : (P : List Scheduling → Type 0) (setup : Configuration) (now : �
     → P (freed (host_count setup) now objects) → P (within_limit setup now objects)
 within_cases P setup now objects stay give = within_by P setup now objects _ refl stay give
 
-length-freed : (hosts now : ℕ) (objects : List Scheduling) → length (freed hosts now objects) ≡ length objects
+pub length-freed : (hosts now : ℕ) (objects : List Scheduling) → length (freed hosts now objects) ≡ length objects
 length-freed zero now objects = length-map objects (given_up now)
 length-freed (suc hosts) now [] = refl
 length-freed (suc hosts) now (o ∷ objects) = ap suc (length-freed hosts now objects)
@@ -371,7 +374,7 @@ all_times (first ∷ times) zero h = time_of first (h 0 None (omega arith))
 all_times (first ∷ times) (suc n) h = all_times times n (λ k d l. h (suc k) d (omega arith))
 
 -- what is true of everything that was saved is true of what is found
-if_saved : (saved : Saved) (P : SavedObject → Type 0) (name : List ℕ) (found : Option SavedObject) → IsSaved saved → saved_named saved name ≡ found
+pub if_saved : (saved : Saved) (P : SavedObject → Type 0) (name : List ℕ) (found : Option SavedObject) → IsSaved saved → saved_named saved name ≡ found
     → ((x : SavedObject) → IsSavedObject saved.runs x → name ≡ x.name → P x) → IfSome found P
 if_saved saved P name None is e h = tt
 if_saved saved P name (Some x) is e h = let s = saved_is saved name x is e in h x s.0 s.1
@@ -395,6 +398,13 @@ results_made host (Some x) h = h
 
 limit_open : (limit running : ℕ) → (limit == 0 || not (nat_lt limit running)) ≡ true → 0 < limit → running ≤ limit
 limit_open limit running e some = grind (arith, nat_tests, e, some)
+
+-- of each object of the setup there is one
+pub length-resumed : (c : Configuration) (saved : Saved) (start : ℕ) → length (objects_resumed c saved start) ≡ object_count c
+length-resumed c saved start =
+    let made : ℕ × Named → Scheduling = λ p. scheduling_of c (first_time c start p.0) p.1.object (saved_named saved p.1.name) in
+    within_cases (λ os. length os ≡ object_count c) c start (each_object c made) (λ b. length-made c made)
+    (length-freed (host_count c) start (each_object c made) ∙ length-made c made)
 
 -- Whatever was saved, and whatever setup a scheduler goes on over: the state is one that a scheduler can be in.
 pub resumed_is_state : (c : Configuration) (saved : Saved) (start : ℕ) → IsSetup c → IsSaved saved → start ≤ 2 ^ 60

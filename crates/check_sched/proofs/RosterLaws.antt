@@ -7,7 +7,7 @@ use Rattle.std.specs.Prelude.{filter, is_some, nat_le, nat_lt}
 use Rattle.std.specs.List.{list_all, list_any, enumerate_from, cons_option}
 use Rattle.std.proofs.lemmas.Bool.Decides.{nat_tests}
 use Rattle.std.proofs.lemmas.Bool.{and_parts, and_from}
-use Rattle.std.proofs.lemmas.List.{length-map, set-get_or}
+use Rattle.std.proofs.lemmas.List.{drop_more, length-map, set-get_or}
 use Rattle.std.proofs.lemmas.List.FromFn.{length-enumerate_from}
 use Rattle.std.proofs.lemmas.List.Sums.{sum_by-set}
 use Rattle.check_queue.specs.Order.{least}
@@ -16,8 +16,10 @@ use Rattle.check_queue.proofs.LeastLaws.{FoundLeast, IsLeast, all_at, all_weaker
 use Rattle.check_queue.proofs.LeastLaws.{no_later_holds, no_later_time, or_true}
 use Rattle.check_sched.specs.Candidate.{Candidate, candidates_among, earlier_of}
 use Rattle.check_sched.specs.Roster.{running_among, waiting_from, waiting_times}
-use Rattle.check_sched.specs.Scheduling.{Scheduling, candidate_time}
+use Rattle.check_sched.specs.Scheduling.{candidate_time}
+use Rattle.check_saved.specs.Scheduling.{Scheduling}
 use Rattle.check_sched.proofs.EligibleLaws.{filtered_pass, numbered, numbered_first}
+use Rattle.check_sched.proofs.LimitLaws.{busy_cons}
 
 -- ---- the times of those that wait
 
@@ -239,3 +241,15 @@ running_apart zero n os new l = absurd (omega arith)
 running_apart (suc hosts) n [] new l = refl
 running_apart (suc hosts) zero (o ∷ os) new l = refl
 running_apart (suc hosts) (suc n) (o ∷ os) new l = running_apart hosts n os new (omega arith)
+
+-- the count of those from one on is by the first of them and the others
+pub running_next : (n : ℕ) (os : List Scheduling) (o : Scheduling) → n < length os → o ≡ get_or os n o
+    → running_among (drop n os) ≡ bool_byte (is_some o.run) + running_among (drop (n + 1) os)
+running_next n os o l e =
+    ap running_among (drop_more os n o l) ∙ busy_cons (get_or os n o) (drop (n + 1) os)
+    ∙ ap (λ (x : Scheduling). cond (is_some x.run) 1 0 + running_among (drop (n + 1) os)) (sym e)
+    ∙ ap (λ b. b + running_among (drop (n + 1) os)) (sym (byte_is (is_some o.run)))
+
+pub byte_few : (b : Bool) → bool_byte b ≤ 1
+byte_few true = omega arith
+byte_few false = omega arith

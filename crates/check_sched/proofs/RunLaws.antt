@@ -15,7 +15,8 @@ use Rattle.check_sched.specs.declared.call.Reply.TheVariants as reply
 use Rattle.check_sched.specs.declared.call.Refusal.TheVariants as refusal
 use Rattle.check_sched.specs.Candidate.{Candidate, candidate, candidates_among}
 use Rattle.check_queue.specs.Order.{least}
-use Rattle.check_sched.specs.Scheduling.{Scheduling, OpenRun, candidate_time, run_under}
+use Rattle.check_sched.specs.Scheduling.{candidate_time, run_under}
+use Rattle.check_saved.specs.Scheduling.{Scheduling, OpenRun}
 use Rattle.check_sched.specs.State.{State, is_host}
 use Rattle.check_sched.specs.Step.{candidates, due, eligible, is_open, known, step, taken, update_at, waiting_reply, within_range}
 use Rattle.check_sched.specs.Runs.{begins, begins_by, ends, ends_by, runs_begun, runs_under, takes_by}
@@ -229,7 +230,7 @@ step_runs s (call.Reschedule n time forced) =
 step_runs s (call.Enable n on) = enable_cases (λ a. a.0.runs ≡ s.runs + cond (takes_by a.1) 1 0) n on s (λ why. none_more s) (none_more s)
 step_runs s (call.Status n) = status_cases (λ a. a.0.runs ≡ s.runs + cond (takes_by a.1) 1 0) n s (λ why. none_more s) (λ x k. none_more s)
 
-runs_count : (s : State) (h : List (Entry Call Reply)) → IsLegal step s h → (replay step s h).runs ≡ s.runs + runs_begun h
+pub runs_count : (s : State) (h : List (Entry Call Reply)) → IsLegal step s h → (replay step s h).runs ≡ s.runs + runs_begun h
 runs_count s [] legal = none_more s
 runs_count s (e ∷ h) legal =
     let first : (step s e.call).0.runs ≡ s.runs + cond (takes_by e.reply) 1 0 = rw legal.0 (step_runs s e.call) in

@@ -15,9 +15,10 @@ use Rattle.check_rules.specs.declared.standing.Standing.{Standing}
 use Rattle.check_rules.specs.Standing.{is_lawful, is_soft_problem}
 use Rattle.check_rules.specs.State.{is_problem}
 use Rattle.check_sched.specs.Roster.{running_among}
-use Rattle.check_sched.specs.Saved.{is_same_switch, objects_resumed, resumed, results_resumed, saved_named, saved_object, saved_of, standing_kept}
+use Rattle.check_sched.specs.Saved.{is_same_switch, objects_resumed, resumed, results_resumed, saved_object, saved_of, standing_kept}
+use Rattle.check_saved.specs.Saved.{saved_named}
 use Rattle.check_sched.specs.Saved.{standings_resumed, within_limit}
-use Rattle.check_sched.specs.Scheduling.{Scheduling}
+use Rattle.check_saved.specs.Scheduling.{Scheduling}
 use Rattle.check_sched.specs.State.{IsState, IsWithinLimit, State, limit_of, max_attempts_of, running_services}
 
 -- ---- an object by its name

@@ -20,7 +20,7 @@ use Rattle.check_sched.specs.declared.call.Call.{Call}
 use Rattle.check_sched.specs.declared.call.Call.TheVariants as call
 use Rattle.check_sched.specs.declared.call.Reply.{Reply}
 use Rattle.check_sched.specs.Report.{flaps_with, state_found_by}
-use Rattle.check_sched.specs.Scheduling.{Scheduling}
+use Rattle.check_saved.specs.Scheduling.{Scheduling}
 use Rattle.check_sched.specs.State.{State, IsState, IsStandingOf, is_host, opening, standing_at}
 use Rattle.check_sched.specs.Step.{found_in, judged_in, step, update_at}
 use Rattle.check_sched.proofs.OpeningLaws.{count_is, first_standings, length-objects_at, length-opening_standings}

@@ -18,8 +18,9 @@ use Rattle.check_sched.specs.declared.call.Reply.{Reply}
 use Rattle.check_sched.specs.declared.call.Reply.TheVariants as reply
 use Rattle.check_sched.specs.Report.{flaps_with, interval_after, milliseconds, next_after, put_off_until, time_after}
 use Rattle.check_sched.specs.Saved.{resumed, saved_of}
-use Rattle.check_sched.specs.Scheduling.{Scheduling, ended, enabled_as, freed_time, put_off_to, rescheduled}
-use Rattle.check_sched.specs.State.{IsState, State, is_moment, is_time}
+use Rattle.check_sched.specs.Scheduling.{ended, enabled_as, freed_time, put_off_to, rescheduled}
+use Rattle.check_saved.specs.Scheduling.{Scheduling, is_moment, is_time}
+use Rattle.check_sched.specs.State.{IsState, State}
 use Rattle.check_sched.specs.Step.{eligible, found_in, is_forced, is_held_back, judged_in, put_off, run_left, step, take_least, taken, within_range}
 use Rattle.check_sched.proofs.AnswerLaws.{by_test, left_is, range_is}
 use Rattle.check_sched.proofs.EligibleLaws.{eligible_open}

@@ -16,7 +16,8 @@ use Rattle.check_sched.specs.declared.call.Reply.{Reply}
 use Rattle.check_sched.specs.declared.call.Reply.TheVariants as reply
 use Rattle.check_sched.specs.declared.call.Refusal.{Refusal}
 use Rattle.check_sched.specs.declared.call.Call.TheVariants as call
-use Rattle.check_sched.specs.State.{State, IsState, is_in_time, is_timed_if_forced}
+use Rattle.check_sched.specs.State.{State, IsState}
+use Rattle.check_saved.specs.Scheduling.{is_in_time, is_timed_if_forced}
 use Rattle.check_sched.specs.Report.{put_off_until}
 use Rattle.check_sched.specs.Step.{candidates, due, eligible, is_held_back, is_open, put_off, run_left, step, taken, take_least, waiting_reply, within_range}
 use Rattle.check_sched.proofs.EligibleLaws.{eligible_open}

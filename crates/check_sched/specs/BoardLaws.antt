@@ -17,7 +17,8 @@ use Rattle.check_sched.specs.declared.call.Reply.{Reply}
 use Rattle.check_sched.specs.declared.call.Reply.TheVariants as reply
 use Rattle.check_sched.specs.declared.call.Refusal.{Refusal}
 use Rattle.check_sched.specs.declared.call.Refusal.TheVariants as refusal
-use Rattle.check_sched.specs.Scheduling.{Scheduling, OpenRun, run_under}
+use Rattle.check_sched.specs.Scheduling.{run_under}
+use Rattle.check_saved.specs.Scheduling.{Scheduling, OpenRun}
 use Rattle.check_sched.specs.Candidate.{Candidate}
 use Rattle.check_sched.specs.Report.{put_off_until}
 use Rattle.check_sched.specs.State.{State, standing_at}

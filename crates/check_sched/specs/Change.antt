@@ -2,8 +2,8 @@
 use Rattle.std.specs.Prelude.{Bool, true, false, Some}
 use Rattle.check_sched.specs.declared.object_state.Change.{Change}
 use Rattle.check_sched.specs.declared.object_state.Change.TheVariants as change
-use Rattle.check_sched.specs.Scheduling.{Scheduling, running_from, ended, put_off_to, rescheduled, enabled_as}
-use Rattle.check_sched.specs.State.{is_time, is_timed}
+use Rattle.check_sched.specs.Scheduling.{running_from, ended, put_off_to, rescheduled, enabled_as}
+use Rattle.check_saved.specs.Scheduling.{Scheduling, is_time, is_timed}
 
 -- the object after a change
 abbrev pub changed : Change → Scheduling → Scheduling

@@ -14,3 +14,4 @@ pub mod Flapping
 pub mod Board
 pub mod BoardLaws
 pub mod Saved
+pub mod Places

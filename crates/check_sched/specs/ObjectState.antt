@@ -1,7 +1,7 @@
 -- What is kept of one object, as contracts see it.
 use Rattle.std.specs.Prelude.{Some, None, if◌then◌else◌}
 use Rattle.check_sched.specs.declared.object_state.ObjectState.TheInside.{Inside}
-use Rattle.check_sched.specs.Scheduling.{Scheduling}
+use Rattle.check_saved.specs.Scheduling.{Scheduling}
 
 -- a next time and a run are what the fields hold, where they are there
 abbrev pub scheduling_of : Inside → Scheduling

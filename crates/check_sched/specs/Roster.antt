@@ -1,7 +1,8 @@
 -- The scheduling of all objects, with the queues of those that wait for a check.
 use Rattle.std.specs.Prelude.{ℕ, ◌≡◌, ◌≤◌, Bool, not, List, length, map, drop, count_by, Option, None, is_some, nat_lt, if◌then◌else◌}
 use Rattle.std.specs.List.{enumerate_from}
-use Rattle.check_sched.specs.Scheduling.{Scheduling, candidate_time}
+use Rattle.check_sched.specs.Scheduling.{candidate_time}
+use Rattle.check_saved.specs.Scheduling.{Scheduling}
 use Rattle.check_sched.specs.declared.roster.Roster.TheInside.{Inside}
 use Rattle.check_drafts.specs.declared.limits.TheConstants.{MAX_OBJECTS}
 

@@ -1,11 +1,10 @@
--- What is kept of a scheduler that is put down, and the state in which one goes on from it: over the same setup, or over another.
+-- What is saved of a scheduler that is put down, and the state in which one goes on from it: over the same setup, or over another.
 -- (Our own profile; Nagios keeps its own by retention files, and reads them again at a restart and a reload.)
-use Rattle.std.specs.Prelude.{ℕ, ◌≡◌, ◌⊎◌, ◌^◌, ◌≤◌, ◌-◌, ◌==◌, ◌&&◌, ◌||◌, Bool, true, false, not, List, [], ◌++◌, length, map, take, drop, find, bytes_eq, min}
-use Rattle.std.specs.Prelude.{Option, Some, None, is_some, option_map, slice_get, nat_lt, unwrap_or, if◌then◌else◌}
+use Rattle.std.specs.Prelude.{ℕ, ◌-◌, ◌==◌, ◌&&◌, ◌||◌, Bool, true, false, not, List, [], ◌++◌, map, take, drop, min}
+use Rattle.std.specs.Prelude.{Option, Some, None, is_some, option_and_then, option_map, slice_get, nat_lt, unwrap_or, if◌then◌else◌}
 use Rattle.std.specs.List.{enumerate_from}
 use Rattle.check_drafts.specs.declared.object.Object.{Object}
-use Rattle.check_drafts.specs.Name.{full_name, is_host_name, is_name}
-use Rattle.check_objects.specs.Configuration.{Configuration, Named, host_count, objects_of}
+use Rattle.check_objects.specs.Configuration.{Configuration, Named, host_count, name_of, objects_of}
 use Rattle.check_rules.specs.declared.state.State as rules
 use Rattle.check_rules.specs.declared.standing.Kind.TheVariants as kind
 use Rattle.check_rules.specs.declared.standing.Standing.{Standing}
@@ -13,36 +12,15 @@ use Rattle.check_rules.specs.Standing.{is_soft_problem, pending_standing}
 use Rattle.check_rules.specs.State.{is_problem}
 use Rattle.check_sched.specs.Report.{milliseconds}
 use Rattle.check_sched.specs.Roster.{running_among}
-use Rattle.check_sched.specs.Scheduling.{Scheduling, ended, freed_time, opening_object}
-use Rattle.check_sched.specs.State.{State, AreResultsFor, IsStandingFor, is_host, is_in_time, is_timed_if_forced, limit_of, results_at, scheduling_at}
-use Rattle.check_sched.specs.State.{standing_at}
+use Rattle.check_sched.specs.Scheduling.{ended, freed_time, opening_object}
+use Rattle.check_saved.specs.Saved.{Saved, SavedObject, saved_named}
+use Rattle.check_saved.specs.Scheduling.{Scheduling}
+use Rattle.check_sched.specs.State.{State, is_host, limit_of, results_at, scheduling_at, standing_at}
 use Rattle.check_spread.specs.Spread.{initial_times}
 
--- ---- what is kept
+-- ---- what is saved
 
--- what is kept of one object
-pub record SavedObject : Type 0 where
-  -- its full name
-  pub name : List ℕ
-  pub standing : Standing
-  -- the results that are kept, the oldest first
-  pub results : List rules.State
-  -- its next time, the run that is out, whether it is enabled, and whether its next check is forced
-  pub scheduling : Scheduling
-  -- what its setup says of it: the check interval in milliseconds, the maximum of attempts, and whether it is enabled
-  pub interval : ℕ
-  pub max_attempts : ℕ
-  pub setup_enabled : Bool
-
-pub record Saved : Type 0 where
-  -- the moment at which scheduling started
-  pub start : ℕ
-  -- how many runs were handed out
-  pub runs : ℕ
-  -- in the order of their numbers, where a scheduler made it; any other order says the same
-  pub objects : List SavedObject
-
--- what is kept of the object with this number
+-- what is saved of the object with this number
 abbrev pub saved_object : State → ℕ × Named → SavedObject
 saved_object s p = record {
   name = p.1.name;
@@ -54,13 +32,9 @@ saved_object s p = record {
   setup_enabled = p.1.object.enabled;
 }
 
--- what is kept of a scheduler in this state
+-- what is saved of a scheduler in this state
 abbrev pub saved_of : State → Saved
 saved_of s = record { start = s.start; runs = s.runs; objects = map (saved_object s) (enumerate_from 0 (objects_of s.setup)) }
-
--- what is kept of the object with this full name, if anything is
-abbrev pub saved_named : Saved → List ℕ → Option SavedObject
-saved_named saved name = find (λ o. bytes_eq name o.name) saved.objects
 
 -- ---- one object that is kept
 
@@ -122,26 +96,37 @@ results_of (Some saved) = saved.results
 abbrev pub given_up : ℕ → Scheduling → Scheduling
 given_up now o = if is_some o.run then ended (Some (freed_time now o)) o else o
 
+-- whether no more services are out than the limit, where it isn't 0, allows
+abbrev pub keeps_limit : Configuration → List Scheduling → Bool
+keeps_limit setup objects = limit_of setup == 0 || not (nat_lt (limit_of setup) (running_among (drop (host_count setup) objects)))
+
 -- Where more services are out than the limit allows, the runs of all services are given up.
 abbrev pub within_limit : Configuration → ℕ → List Scheduling → List Scheduling
 within_limit setup now objects =
     let hosts = host_count setup in
-    if limit_of setup == 0 || not (nat_lt (limit_of setup) (running_among (drop hosts objects))) then objects
-    else take hosts objects ++ map (given_up now) (drop hosts objects)
+    if keeps_limit setup objects then objects else take hosts objects ++ map (given_up now) (drop hosts objects)
 
 -- ---- the state in which a scheduler goes on
 
--- the first time that the spread from this moment on gives the object with this number
+-- the first time that the spread gives the object with this number
+abbrev pub time_among : List (Option ℕ) → ℕ → Option ℕ
+time_among times number = unwrap_or (slice_get times number) None
+
+-- the same from this moment on
 abbrev pub first_time : Configuration → ℕ → ℕ → Option ℕ
-first_time setup start number = unwrap_or (slice_get (initial_times setup start) number) None
+first_time setup start number = time_among (initial_times setup start) number
 
 -- what becomes of each object of a setup, by its number
 abbrev pub each_object : {X : Type 0} → Configuration → (ℕ × Named → X) → List X
 each_object setup made = map made (enumerate_from 0 (objects_of setup))
 
+-- the scheduling of each object, where the spread gives these first times
+abbrev pub objects_kept : Configuration → Saved → List (Option ℕ) → List Scheduling
+objects_kept setup saved times =
+    each_object setup (λ p. scheduling_of setup (time_among times p.0) p.1.object (saved_named saved p.1.name))
+
 abbrev pub objects_resumed : Configuration → Saved → ℕ → List Scheduling
-objects_resumed setup saved start =
-    within_limit setup start (each_object setup (λ p. scheduling_of setup (first_time setup start p.0) p.1.object (saved_named saved p.1.name)))
+objects_resumed setup saved start = within_limit setup start (objects_kept setup saved (initial_times setup start))
 
 abbrev pub standings_resumed : Configuration → Saved → List Standing
 standings_resumed setup saved = each_object setup (λ p. standing_of (is_host setup p.0) p.1.object (saved_named saved p.1.name))
@@ -160,33 +145,14 @@ resumed setup saved start = record {
   runs = saved.runs;
 }
 
--- ---- what is true of everything that is kept
+-- ---- what is still out
 
--- a host's name; or a host's name and a description, which a semicolon parts
-abbrev pub IsFullName : List ℕ → Type 0
-IsFullName name =
-    (is_name name ≡ true) ⊎ ((host description : List ℕ) × (name ≡ full_name (host, description)) × (is_name host ≡ true) × (is_name description ≡ true))
+-- the number of the run under which the object with this number was out when it was saved, if it was
+abbrev pub run_saved_of : Configuration → Saved → ℕ → Option ℕ
+run_saved_of setup saved number =
+    option_map (λ r. r.number) (option_and_then (λ o. o.scheduling.run) (saved_named saved (name_of setup number)))
 
--- What is kept of one object, of a scheduler that handed out so many runs: it has a full name, a standing and results that an object of its
--- sort with its maximum of attempts can have, its times are within their limits, its run, if one is out, is one of those that were handed
--- out, and it has a next time where it is forced.
-pub record IsSavedObject (runs : ℕ) (o : SavedObject) : Type 0 where
-  pub name : IsFullName o.name
-  pub standing : IsStandingFor (is_host_name o.name) o.max_attempts o.standing
-  pub results : AreResultsFor (is_host_name o.name) o.results
-  pub in_time : is_in_time o.scheduling ≡ true
-  pub timed : is_timed_if_forced o.scheduling ≡ true
-  pub numbered : (run : ℕ) → option_map (λ r. r.number) o.scheduling.run ≡ Some run → (1 ≤ run) × (run ≤ runs)
-  pub some_attempts : 1 ≤ o.max_attempts
-  pub few_attempts : o.max_attempts ≤ 255
-
--- What is true of everything that is kept: of at most 4,096 objects, no two with one name or with one run.
-pub record IsSaved (saved : Saved) : Type 0 where
-  pub few : length saved.objects ≤ 4096
-  pub start : saved.start ≤ 2 ^ 60
-  pub runs : saved.runs ≤ 2 ^ 60
-  pub each : (place : ℕ) (o : SavedObject) → slice_get saved.objects place ≡ Some o → IsSavedObject saved.runs o
-  pub apart : (one other : ℕ) (o p : SavedObject) → slice_get saved.objects one ≡ Some o → slice_get saved.objects other ≡ Some p
-      → o.name ≡ p.name → one ≡ other
-  pub once : (one other run : ℕ) (o p : SavedObject) → slice_get saved.objects one ≡ Some o → slice_get saved.objects other ≡ Some p
-      → option_map (λ r. r.number) o.scheduling.run ≡ Some run → option_map (λ r. r.number) p.scheduling.run ≡ Some run → one ≡ other
+-- Whether the check of the object with this number stays out, where one was: a host's always, a service's where no more are out than the limit
+-- allows.
+abbrev pub stays_out : Configuration → Saved → ℕ → ℕ → Bool
+stays_out setup saved start number = is_host setup number || keeps_limit setup (objects_kept setup saved (initial_times setup start))

@@ -1,23 +1,8 @@
--- The scheduling of one object.
+-- How the scheduling of one object begins, and what is done to it.
 use Rattle.std.specs.Prelude.{ℕ, Bool, false, ◌&&◌, ◌||◌, ◌==◌, Option, Some, None, Result, Ok, Err, is_none, unwrap_or, if◌then◌else◌}
+use Rattle.check_saved.specs.Scheduling.{OpenRun, Scheduling}
 use Rattle.check_sched.specs.declared.call.Refusal.{Refusal}
 use Rattle.check_sched.specs.declared.call.Refusal.TheVariants as refusal
-
--- A check that was handed out and hasn't come back: its number, and the moment at which it was handed
--- out, in milliseconds.
-pub record OpenRun : Type 0 where
-  pub number : ℕ
-  pub start : ℕ
-
-pub record Scheduling : Type 0 where
-  -- the time of the next check in milliseconds, if one is set
-  pub next : Option ℕ
-  -- the check that is out, if one is
-  pub run : Option OpenRun
-  -- whether active checks are enabled
-  pub enabled : Bool
-  -- whether the next check is forced
-  pub forced : Bool
 
 -- An object when scheduling starts: its first check is at this time, if at all, it doesn't run, its
 -- active checks are enabled or not, and nothing is forced. (Our own profile.)

@@ -1,14 +1,15 @@
 -- The state of a scheduler as contracts see it, and the state that it opens with.
-use Rattle.std.specs.Prelude.{ℕ, ◌^◌, ◌<◌, ◌≤◌, ◌≡◌, ◌&&◌, ◌||◌, ◌==◌, Bool, true, false, List, [], length, map, zip, drop, not, replicate, count_by, Option, Some}
-use Rattle.std.specs.Prelude.{None, is_some, option_map, option_and_then, slice_get, nat_le, nat_lt, unwrap_or, if◌then◌else◌}
+use Rattle.std.specs.Prelude.{ℕ, ◌^◌, ◌<◌, ◌≤◌, ◌≡◌, ◌||◌, ◌==◌, Bool, true, false, List, [], length, map, zip, drop, replicate, count_by, Option, Some}
+use Rattle.std.specs.Prelude.{None, is_some, option_map, option_and_then, slice_get, nat_lt, unwrap_or, if◌then◌else◌}
 use Rattle.std.specs.List.{list_all, enumerate_from}
 use Rattle.std.specs.Option.{option_map_or}
 use Rattle.check_objects.specs.Configuration.{Configuration, objects_of, object_count, host_count, IsSetup}
 use Rattle.check_rules.specs.declared.standing.Standing.{Standing}
 use Rattle.check_rules.specs.declared.state.State as rules
-use Rattle.check_rules.specs.State.{is_host_state}
-use Rattle.check_rules.specs.Standing.{pending_standing, is_lawful}
-use Rattle.check_sched.specs.Scheduling.{OpenRun, Scheduling, opening_object}
+use Rattle.check_rules.specs.Standing.{IsStandingFor, pending_standing}
+use Rattle.check_sched.specs.Scheduling.{opening_object}
+use Rattle.check_saved.specs.Scheduling.{Scheduling, is_in_time, is_timed_if_forced}
+use Rattle.check_rules.specs.Flapping.{AreResultsFor}
 use Rattle.check_spread.specs.Spread.{initial_times}
 
 pub record State : Type 0 where
@@ -114,56 +115,13 @@ opening setup start = record {
 
 -- ---- what is true of every scheduler
 
--- a next time, if there is one, is at most 2^61 milliseconds
-abbrev pub is_time : Option ℕ → Bool
-is_time None = true
-is_time (Some time) = nat_le time (2 ^ 61)
-
--- a run, if there is one, began at 2^60 milliseconds at the latest
-abbrev pub is_moment : Option OpenRun → Bool
-is_moment None = true
-is_moment (Some run) = nat_le run.start (2 ^ 60)
-
--- the next time of an object, and the start of its run, are within their limits
-abbrev pub is_in_time : Scheduling → Bool
-is_in_time o = is_time o.next && is_moment o.run
-
 -- the object with this number, where it was never checked, stands as pending
 abbrev pub IsPendingUntilChecked : Configuration → ℕ → Standing → Type 0
 IsPendingUntilChecked setup number standing = standing.checked ≡ false → standing ≡ pending_standing (is_host setup number)
 
--- An object, a host or a service, with this maximum of attempts can have this standing: it is lawful for that
--- maximum, its states are ones of hosts where the object is a host, and until it is checked it is pending.
-pub record IsStandingFor (host : Bool) (max : ℕ) (standing : Standing) : Type 0 where
-  pub lawful : is_lawful standing max ≡ true
-  pub sort : is_host_state standing.state ≡ host
-  pub last_hard_sort : is_host_state standing.last_hard ≡ host
-  pub until_checked : standing.checked ≡ false → standing ≡ pending_standing host
-
 -- the object with this number can have this standing
 abbrev pub IsStandingOf : Configuration → ℕ → Standing → Type 0
 IsStandingOf setup number standing = IsStandingFor (is_host setup number) (max_attempts_of setup number) standing
-
--- ---- what is true of the runs that are out, of forced marks and of results
-
--- whether a forced mark, if there is one, stands beside a next time
-abbrev pub is_timed : Option ℕ → Bool → Bool
-is_timed (Some time) forced = true
-is_timed None forced = not forced
-
--- whether the next check of an object has a time where it is forced
-abbrev pub is_timed_if_forced : Scheduling → Bool
-is_timed_if_forced o = is_timed o.next o.forced
-
--- whether a state is one of hosts, or one of services
-abbrev pub is_of_sort : Bool → rules.State → Bool
-is_of_sort true state = is_host_state state
-is_of_sort false state = not (is_host_state state)
-
--- An object, a host or a service, can have these results: as many as are kept at most, each a state of its sort.
-pub record AreResultsFor (host : Bool) (results : List rules.State) : Type 0 where
-  pub few : length results ≤ 21
-  pub sort : list_all (is_of_sort host) results ≡ true
 
 -- the object with this number can have these results
 abbrev pub AreResultsOf : Configuration → ℕ → List rules.State → Type 0

@@ -9,7 +9,8 @@ use Rattle.check_sched.specs.declared.call.Reply.{Reply}
 use Rattle.check_sched.specs.declared.call.Reply.TheVariants as reply
 use Rattle.check_sched.specs.declared.call.Refusal.{Refusal}
 use Rattle.check_sched.specs.declared.call.Refusal.TheVariants as refusal
-use Rattle.check_sched.specs.Scheduling.{Scheduling, running_from, ended, run_under, freed_time, put_off_to, rescheduled, enabled_as}
+use Rattle.check_sched.specs.Scheduling.{running_from, ended, run_under, freed_time, put_off_to, rescheduled, enabled_as}
+use Rattle.check_saved.specs.Scheduling.{Scheduling}
 use Rattle.check_sched.specs.Candidate.{Candidate, candidates_among, due_among}
 use Rattle.check_queue.specs.Order.{least}
 use Rattle.check_rules.specs.declared.state.Code.{Code}

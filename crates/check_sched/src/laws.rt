@@ -1,19 +1,20 @@
 //! Laws of the definitions, each the contract of a function without parameters and code.
 
-ghost use Rattle.std.specs.Prelude.{ℕ, ◌≡◌, ◌+◌, ◌^◌, ◌<◌, ◌≤◌, true, false, List, ◌∷◌, ◌++◌, Some, slice_get};
+ghost use Rattle.std.specs.Prelude.{ℕ, ◌≡◌, ◌≢◌, ◌+◌, ◌^◌, ◌<◌, ◌≤◌, true, false, List, ◌∷◌, ◌++◌, Some, slice_get};
 ghost use Rattle.std.specs.List.{list_any};
 ghost use Rattle.std.specs.List.Sorted.{IsPermutation};
 ghost use Rattle.ticket_steps.specs.declared.kept.Entry.{Entry};
 ghost use Rattle.ticket_steps.specs.History.{replay, IsLegal};
 ghost use Rattle.circular_buffer.specs.Buffer.{keep_last};
-ghost use Rattle.check_objects.specs.Configuration.{Configuration, IsSetup, object_count};
+ghost use Rattle.check_objects.specs.Configuration.{Configuration, IsSetup, name_of, object_count};
 ghost use Rattle.check_spread.specs.declared.limits.TheConstants.{LAST_MOMENT, LAST_TIME};
 ghost use Rattle.check_rules.specs.declared.standing.Standing.{Standing};
-ghost use Rattle.check_rules.specs.Standing.{pending_standing};
+ghost use Rattle.check_rules.specs.Standing.{is_soft_problem, pending_standing};
 ghost use Rattle.check_sched.specs.declared.sched.TheConstants.{MAX_RUNS};
 ghost use Rattle.check_sched.specs.declared.call.Call.{Call};
-ghost use Rattle.check_sched.specs.Saved.{IsSaved, Saved, SavedObject, resumed, saved_of};
-ghost use Rattle.check_sched.specs.State.{IsStandingOf, IsState, IsWithinLimit, State, flap_thresholds_of, is_host, opening, results_at, run_number_of, standing_at};
+ghost use Rattle.check_saved.specs.Saved.{IsSaved, Saved, SavedObject, saved_named};
+ghost use Rattle.check_sched.specs.Saved.{resumed, run_saved_of, saved_of, stays_out};
+ghost use Rattle.check_sched.specs.State.{IsStandingOf, IsState, IsWithinLimit, State, flap_thresholds_of, is_host, max_attempts_of, opening, results_at, run_number_of, standing_at};
 ghost use Rattle.check_sched.specs.Step.{after, step};
 ghost use Rattle.check_sched.specs.Runs.{begins, ends, runs_begun, runs_under};
 ghost use Rattle.check_sched.specs.Flapping.{flapping_in, never_checked, states_told, with_results};
@@ -85,16 +86,16 @@ pub fn flaps_by_history()
         ≡ keep_last 21 (states_told object history) }
 {}
 
-/// What is kept of a scheduler is all of it: over the same setup one goes on from there in the state in
-/// which the other was put down, but for the start, by which no call goes.
+/// What is saved of a scheduler is all of it: over the same setup another goes on from there in the state
+/// in which the first was put down, except for the start, by which no call goes.
 pub fn resumed_over_the_same()
     ensures { (s : State) → (start : ℕ) → IsState s
         → resumed s.setup (saved_of s) start ≡ record s { start = start } }
 {}
 
-/// Whatever was kept, and whatever setup a scheduler goes on over from whatever moment, it goes on in a
-/// state that one can be in (`resumed`). What is kept of a scheduler, in whatever state it can be, is
-/// such a thing (`saved`).
+/// Whatever was saved, and whatever setup a scheduler goes on over from whatever moment, it goes on in a
+/// state that one can be in (`resumed`). What is saved of a scheduler, in whatever state it can be, is
+/// well formed (`saved`).
 pub fn resumed_states()
     ensures resumed { (setup : Configuration) → (saved : Saved) → (start : ℕ) → IsSetup setup
         → IsSaved saved → start ≤ LAST_MOMENT → IsState (resumed setup saved start) }
@@ -112,7 +113,36 @@ pub fn resumed_histories_join()
         → IsLegal step s (before ++ later) }
 {}
 
-/// The order of what was kept says nothing: in any other order a scheduler goes on from it in the same
+/// Over whatever setup a scheduler goes on, and from whatever was saved: each run that is handed out later
+/// has a greater number than those that were handed out before (`greater`), of which none is above the
+/// count that is saved (`counted`). So no run number comes twice. An object whose check was out isn't taken
+/// until that run was reported or given up, except for a service where the limit gave all of them up
+/// (`out`).
+pub fn resumed_runs()
+    ensures greater { (setup : Configuration) → (saved : Saved) → (start : ℕ)
+        → (front back : List (Entry Call Reply)) → (e : Entry Call Reply) → (object run : ℕ)
+        → IsLegal step (resumed setup saved start) (front ++ e ∷ back) → begins object run e ≡ true
+        → saved.runs < run }
+    ensures counted { (s : State) → (front back : List (Entry Call Reply)) → (e : Entry Call Reply)
+        → (object run : ℕ) → IsLegal step s (front ++ e ∷ back) → begins object run e ≡ true
+        → run ≤ (saved_of (replay step s (front ++ e ∷ back))).runs }
+    ensures out { (setup : Configuration) → (saved : Saved) → (start : ℕ)
+        → (front back : List (Entry Call Reply)) → (e : Entry Call Reply)
+        → (object run other : ℕ) → object < object_count setup
+        → run_saved_of setup saved object ≡ Some other → stays_out setup saved start object ≡ true
+        → IsLegal step (resumed setup saved start) (front ++ e ∷ back) → begins object run e ≡ true
+        → list_any (ends object other) front ≡ true }
+{}
+
+/// Going on over whatever setup makes no soft problem hard, except where the maximum of attempts is 1.
+pub fn resumed_problems_stay_soft()
+    ensures { (setup : Configuration) → (saved : Saved) → (start object : ℕ) → (o : SavedObject)
+        → object < object_count setup → saved_named saved (name_of setup object) ≡ Some o
+        → is_soft_problem o.standing ≡ true → max_attempts_of setup object ≢ 1
+        → is_soft_problem (standing_at (resumed setup saved start).standings object) ≡ true }
+{}
+
+/// The order of what was saved says nothing: in any other order a scheduler goes on from it in the same
 /// state.
 pub fn resumed_in_any_order()
     ensures { (setup : Configuration) → (saved : Saved) → (others : List SavedObject) → (start : ℕ)
@@ -121,7 +151,7 @@ pub fn resumed_in_any_order()
 {}
 
 /// What is said of a scheduler that was opened is so from every state on that one can be in, as a
-/// scheduler is that goes on from what was kept: whatever calls are made, no more services are being
+/// scheduler is that goes on from what was saved: whatever calls are made, no more services are being
 /// checked than the limit allows (`limit`), an object that was never checked stands as pending
 /// (`never_checked`), and each object has a standing that it can have (`standings`).
 pub fn from_any_state()

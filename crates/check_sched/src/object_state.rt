@@ -1,6 +1,7 @@
 //! What the scheduler keeps of one object between calls.
 
 use crate::call::Refusal;
+use check_saved::SavedRun;
 use std::marker::Model;
 
 /// A check that was handed out and hasn't come back: its number, and the moment at which it was
@@ -12,7 +13,7 @@ pub(crate) struct Run {
 }
 
 impl Model for Run {
-    ghost use Rattle.check_sched.specs.Scheduling.{OpenRun};
+    ghost use Rattle.check_saved.specs.Scheduling.{OpenRun};
 
     ghost Value = { OpenRun };
 
@@ -56,7 +57,7 @@ pub(crate) struct ObjectState {
 }
 
 impl Model for ObjectState {
-    ghost use Rattle.check_sched.specs.Scheduling.{Scheduling};
+    ghost use Rattle.check_saved.specs.Scheduling.{Scheduling};
 
     ghost Value = { Scheduling };
 
@@ -83,6 +84,7 @@ pub(crate) enum Change {
 impl ObjectState {
     ghost use Rattle.std.specs.Prelude.{◌≡◌, is_some, option_map};
     ghost use Rattle.check_sched.specs.Change.{changed};
+    ghost use Rattle.check_sched.specs.Saved.{given_up};
     ghost use Rattle.check_sched.specs.Scheduling.{candidate_time, opening_object, put_off_to, run_under};
 
     /// The state of an object when scheduling starts: its first check is at `first`, it doesn't
@@ -103,6 +105,35 @@ impl ObjectState {
         }
     }
 
+    /// The state of an object with this next time and run, if there are any, enabled and forced or not.
+    pub(crate) fn saved(
+        next: Option<u64>,
+        run: Option<SavedRun>,
+        enabled: bool,
+        forced: bool,
+    ) -> ObjectState
+        ensures { result ≡ record { next = next; run = run; enabled = enabled; forced = forced } }
+    {
+        let out = match run {
+            Some(run) => Run {
+                number: run.number,
+                start: run.start,
+            },
+            None => Run {
+                number: 0,
+                start: 0,
+            },
+        };
+        ObjectState {
+            time: next.unwrap_or(0),
+            run: out,
+            has_time: next.is_some(),
+            has_run: run.is_some(),
+            enabled,
+            forced,
+        }
+    }
+
     /// The time of the next check, if one is set.
     pub(crate) fn next(&self) -> Option<u64>
         ensures { result ≡ self.now.next }
@@ -115,6 +146,17 @@ impl ObjectState {
         ensures { result ≡ self.now.run }
     {
         if self.has_run { Some(self.run) } else { None }
+    }
+
+    /// The run of the check that is out, if one is, as it is saved.
+    pub(crate) fn saved_run(&self) -> Option<SavedRun>
+        ensures { result ≡ self.now.run }
+    {
+        let run = self.run()?;
+        Some(SavedRun {
+            number: run.number(),
+            start: run.start(),
+        })
     }
 
     /// Whether the object is being checked.
@@ -132,6 +174,13 @@ impl ObjectState {
             Some(run) => Some(run.number()),
             None => None,
         }
+    }
+
+    /// Whether the active checks are enabled.
+    pub(crate) fn is_enabled(&self) -> bool
+        ensures { result ≡ self.now.enabled }
+    {
+        self.enabled
     }
 
     /// Whether the next check is forced.
@@ -174,6 +223,16 @@ impl ObjectState {
                 self.forced = forced;
             }
             Change::Enable(on) => self.enabled = on,
+        }
+    }
+
+    /// Gives up the run of the check that is out, if one is, at this moment.
+    pub(crate) fn give_up(&mut self, now: u64)
+        ensures { self.new ≡ given_up now self.old }
+    {
+        if self.is_running() {
+            let next = self.next().unwrap_or(now);
+            self.change(Change::End(Some(next)));
         }
     }
 

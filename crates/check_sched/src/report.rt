@@ -174,7 +174,7 @@ fn interval_after(object: &Object, standing: Standing) -> u64
 }
 
 /// An interval of units of `interval_length`, in milliseconds.
-fn milliseconds(setup: &Setup, interval: u64) -> u64
+pub(crate) fn milliseconds(setup: &Setup, interval: u64) -> u64
     requires valid_setup { IsSetup setup.now }
     requires interval { interval ≤ MAX_INTERVAL }
     ensures value { result ≡ milliseconds setup.now interval }

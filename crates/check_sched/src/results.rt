@@ -29,7 +29,7 @@ impl Model for Results {
 impl Results {
     /// No results of so many objects, with room for all that will be kept.
     ///
-    /// An Err means out of memory. This is the one call that needs memory.
+    /// An Err means out of memory. What is added later needs none.
     pub(crate) fn none(alloc: Global, count: usize) -> Result<Results, AllocError>
         ensures { IfOk result (λ results. results ≡ replicate count []) }
     {
@@ -38,6 +38,22 @@ impl Results {
             rings.push(Ring::empty(alloc)?)?;
         }
         Ok(Results { rings })
+    }
+
+    /// Results that were kept before: of each object by number a list, the oldest first.
+    pub(crate) fn of(rings: Vec<Ring>) -> Results
+        ensures { result ≡ rings.items }
+    {
+        Results { rings }
+    }
+
+    /// A copy of the results of the object with this number, the oldest first. An Err means out of
+    /// memory.
+    pub(crate) fn copy(&self, alloc: Global, number: u32) -> Result<Vec<State>, AllocError>
+        requires { number < length self.now }
+        ensures { IfOk result (λ copy. copy.items ≡ results_at self.now number) }
+    {
+        self.rings[number as usize].copy(alloc)
     }
 
     /// Keeps one more result of the object with this number, and tells whether the object flaps with
@@ -54,7 +70,7 @@ impl Results {
 
 /// The last results of one object. Contracts see them as a list, the oldest first.
 #[derive(Drop)]
-struct Ring {
+pub(crate) struct Ring {
     /// The results, with room for as many as are kept. Nothing is written here while all are the same.
     results: HeapCircularBuffer<State>,
     /// The newest result, where there is one.
@@ -80,16 +96,41 @@ impl Model for Ring {
 
 impl Ring {
     /// No results, with room for all that will be kept.
-    fn empty(alloc: Global) -> Result<Ring, AllocError>
+    pub(crate) fn empty(alloc: Global) -> Result<Ring, AllocError>
         ensures { IfOk result (λ ring. ring ≡ []) }
     {
-        let results = HeapCircularBuffer::with_capacity(alloc, KEPT_RESULTS)?;
+        let results = room(alloc)?;
         Ok(Ring {
             results,
             newest: State::Ok,
             same: 0,
             written: false,
         })
+    }
+
+    /// These results, the oldest first, with room for all that will be kept.
+    pub(crate) fn of(alloc: Global, kept: &[State]) -> Result<Ring, AllocError>
+        requires { length kept.now ≤ KEPT_RESULTS }
+        ensures { IfOk result (λ ring. ring ≡ kept.now) }
+    {
+        let mut results = room(alloc)?;
+        results.extend_from_slice(kept);
+        Ok(Ring {
+            results,
+            newest: State::Ok,
+            same: 0,
+            written: true,
+        })
+    }
+
+    /// A copy of the results, the oldest first. An Err means out of memory.
+    fn copy(&self, alloc: Global) -> Result<Vec<State>, AllocError>
+        ensures { IfOk result (λ copy. copy.items ≡ self.now) }
+    {
+        if !self.written {
+            return vec![in alloc; self.newest; self.same as usize];
+        }
+        self.results.to_vec(alloc)
     }
 
     /// Keeps one more result, and tells whether the object flaps with it, as [`Results::add`] does.
@@ -126,6 +167,14 @@ impl Ring {
     {
         if self.newest == state { self.same } else { 0 }
     }
+}
+
+/// Room for as many results as are kept, and none of them yet.
+fn room(alloc: Global) -> Result<HeapCircularBuffer<State>, AllocError>
+    ensures none { IfOk result (λ room. room.items ≡ []) }
+    ensures room { IfOk result (λ room. room.capacity ≡ KEPT_RESULTS) }
+{
+    HeapCircularBuffer::with_capacity(alloc, KEPT_RESULTS)
 }
 
 /// Writes out results that are all this state, so many of them, where none is written yet.

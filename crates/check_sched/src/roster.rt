@@ -41,7 +41,7 @@ impl Model for Roster {
 }
 
 impl Roster {
-    /// The roster of these objects, the first of which are hosts; no service is being checked.
+    /// The roster of these objects, the first of which are hosts.
     ///
     /// An Err means out of memory. This is the one call that needs memory.
     pub(crate) fn new(
@@ -51,17 +51,17 @@ impl Roster {
     ) -> Result<Roster, AllocError>
         requires few { length objects.items ≤ MAX_OBJECTS }
         requires hosts { hosts ≤ length objects.items }
-        requires idle { running_among (drop hosts objects.items) ≡ 0 }
         ensures { IfOk result (λ roster. roster ≡ record { hosts = hosts; objects = objects.items }) }
     {
         let waiting_hosts = waiting(alloc, &objects, 0, hosts)?;
         let waiting_services = waiting(alloc, &objects, hosts, objects.len())?;
+        let running_services = running_from(&objects, hosts);
         Ok(Roster {
             hosts,
             objects,
             waiting_hosts,
             waiting_services,
-            running_services: 0,
+            running_services,
         })
     }
 
@@ -160,4 +160,16 @@ fn waiting(
         place(&mut queue, number as u32, objects[number].candidate_time());
     }
     Ok(queue)
+}
+
+/// How many of the objects with the numbers from `from` on are being checked.
+pub(crate) fn running_from(objects: &[ObjectState], from: usize) -> usize
+    requires { from ≤ length objects.now }
+    ensures { result ≡ running_among (drop from objects.now) }
+{
+    let mut running = 0;
+    for number in from..objects.len() {
+        running += usize::from(objects[number].is_running());
+    }
+    running
 }

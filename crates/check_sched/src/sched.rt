@@ -4,7 +4,8 @@ ghost use Rattle.std.specs.Prelude.{◌≡◌, ◌<◌, ◌≤◌, IfSome, IfOk,
 ghost use Rattle.std.specs.List.{All};
 ghost use Rattle.check_objects.specs.Configuration.{IsSetup, object_count};
 ghost use Rattle.check_spread.specs.Spread.{initial_times};
-ghost use Rattle.check_sched.specs.State.{IsStandingOf, IsState, is_time, next_of, objects_at, opening_objects, opening, opening_standings, run_number_of, standing_at};
+ghost use Rattle.check_sched.specs.State.{IsStandingOf, IsState, next_of, objects_at, opening_objects, opening, opening_standings, run_number_of, standing_at};
+ghost use Rattle.check_saved.specs.Scheduling.{is_time};
 ghost use Rattle.check_sched.specs.Step.{is_forced, known, step, with_object};
 ghost use Rattle.check_sched.specs.Change.{changed, is_quiet, keeps_timed};
 ghost use Rattle.check_sched.specs.Board.{board_of, place_of};
@@ -22,6 +23,8 @@ use std::marker::Model;
 
 mod checks;
 mod operators;
+mod resuming;
+mod saving;
 
 /// How many runs are handed out at most.
 pub const MAX_RUNS: u64 = 1 << 60;
@@ -60,8 +63,8 @@ impl Sched {
     /// setup's options say; an object that is disabled or whose check interval is 0 begins without
     /// a next time. (Manual: "Service and Host Check Scheduling".)
     ///
-    /// An Err means out of memory, and hands the setup back as it was. This is the one call that
-    /// needs memory.
+    /// An Err means out of memory, and hands the setup back as it was. No call that is made later
+    /// needs memory, except [`Sched::save`].
     pub fn new(alloc: Global, setup: Setup, start: u64) -> Result<Sched, Setup>
         requires { start ≤ LAST_MOMENT }
         ensures ok { IfOk result (λ scheduler. scheduler ≡ opening setup start) }

@@ -6,7 +6,8 @@ use Rattle.std.proofs.lemmas.List.{length-set}
 use Rattle.check_sched.specs.Change.{changed}
 use Rattle.check_sched.specs.Roster.{RosterState, roster_of, running_among}
 use Rattle.check_sched.specs.declared.roster.Roster.TheInside.{Inside}
-use Rattle.check_sched.specs.Scheduling.{Scheduling, candidate_time}
+use Rattle.check_sched.specs.Scheduling.{candidate_time}
+use Rattle.check_saved.specs.Scheduling.{Scheduling}
 use Rattle.check_sched.proofs.RosterLaws.{length-waiting_from, running_apart, running_left, running_set, waiting_apart, waiting_set}
 use Rattle.check_sched.specs.Step.{update_at}
 use Rattle.check_sched.proofs.UpdateLaws.{set_is_update}

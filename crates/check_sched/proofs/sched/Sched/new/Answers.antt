@@ -1,7 +1,7 @@
 use Rattle.std.proofs.Common.{[], replicate, refl, ap, arith, ◌∙◌}
 use Rattle.check_spread.specs.Spread.{initial_times}
 use Rattle.check_sched.specs.Roster.{RosterState}
-use Rattle.check_sched.proofs.OpeningLaws.{opened_few, opened_hosts, opened_idle, opened_is_state}
+use Rattle.check_sched.proofs.OpeningLaws.{opened_few, opened_hosts, opened_is_state}
 use Rattle.check_sched.proofs.sched.Sched.new.Goals as goal
 
 pub new-requires-clause-few : goal.new-requires-clause-few
@@ -14,10 +14,6 @@ new-requires-clause-hosts c =
     let made = c.in-Ok.ensures in
     let least = opened_hosts c.args.setup (initial_times c.args.setup c.args.start) c.in-Ok.objects.items made.one_each made.items in
     omega (arith, least, c.hosts.ensures.count)
-
-pub new-requires-clause-idle : goal.new-requires-clause-idle
-new-requires-clause-idle c =
-    rw c.hosts.ensures.count (opened_idle c.args.setup (initial_times c.args.setup c.args.start) c.in-Ok.objects.items c.in-Ok.ensures.items)
 
 pub invariant_of-result : goal.invariant_of-result
 invariant_of-result c =

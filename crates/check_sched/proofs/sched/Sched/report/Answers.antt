@@ -5,7 +5,8 @@ use Rattle.check_rules.specs.declared.standing.Standing.{Standing}
 use Rattle.check_rules.specs.declared.state.State as rules
 use Rattle.check_rules.specs.Flapping.{is_flapping, kept_after}
 use Rattle.check_sched.specs.declared.call.Call.TheVariants as call
-use Rattle.check_sched.specs.Scheduling.{Scheduling, ended}
+use Rattle.check_sched.specs.Scheduling.{ended}
+use Rattle.check_saved.specs.Scheduling.{Scheduling}
 use Rattle.check_sched.specs.declared.sched.Sched.TheInside.{Inside}
 use Rattle.check_sched.specs.State.{IsState, IsStandingOf, State, results_at}
 use Rattle.check_sched.specs.Sched.{state_of}

@@ -1,0 +1,3 @@
+pub mod Scheduling
+pub mod Saved
+pub mod SavedViews

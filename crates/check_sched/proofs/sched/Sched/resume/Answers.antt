@@ -1,0 +1,37 @@
+use Rattle.std.proofs.Common.{◌≡◌, ap, subst, sym}
+use Rattle.check_spread.proofs.BoundLemmas.{first_times_below}
+use Rattle.check_sched.specs.Roster.{RosterState}
+use Rattle.check_sched.specs.Saved.{resumed}
+use Rattle.check_sched.specs.State.{IsState, State}
+use Rattle.check_sched.proofs.ResumedLaws.{resumed_is_state}
+use Rattle.check_sched.proofs.sched.Sched.resume.Goals as goal
+
+pub invariant_of-result : goal.invariant_of-result
+invariant_of-result c =
+    let setup = c.args.setup in
+    let saved = c.args.saved.now in
+    let made = c.in-Ok.ensures in
+    let parts = c.in-Ok.parts in
+    let objects = ap (λ (r : RosterState). r.objects) made.roster in
+    let state : State = record {
+      setup = setup;
+      start = c.args.start;
+      objects = parts.roster.objects;
+      standings = parts.standings.items;
+      results = parts.results;
+      runs = c.runs.result;
+    } in
+    let same : resumed setup saved c.args.start ≡ state = λ i. record {
+      setup = setup;
+      start = c.args.start;
+      objects = sym objects i;
+      standings = sym made.standings i;
+      results = sym made.results i;
+      runs = sym c.runs.ensures i;
+    } in
+    record {
+      state = subst IsState same
+          (resumed_is_state setup saved c.args.start made.valid_setup made.saved c.requires (first_times_below setup c.args.start made.valid_setup c.requires));
+      marks = made.marks;
+      hosts = ap (λ (r : RosterState). r.hosts) made.roster;
+    }

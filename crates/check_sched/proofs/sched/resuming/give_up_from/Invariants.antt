@@ -1,0 +1,9 @@
+use Rattle.std.proofs.Common.{◌≡◌, ◌≤◌}
+use Rattle.check_sched.proofs.GivenUpLaws.{freed_below}
+use Rattle.check_sched.proofs.sched.resuming.give_up_from.Given as goal
+
+abbrev pub invariant-loop-number : goal.invariant-loop-number
+invariant-loop-number l = record {
+  given : l.objects.items ≡ freed_below l.number l.from l.now l.fn.objects.items;
+  above : l.from ≤ l.number;
+}

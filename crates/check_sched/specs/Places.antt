@@ -1,0 +1,11 @@
+-- Where in what was saved each object of a setup is.
+use Rattle.std.specs.Prelude.{ℕ, ◌≡◌, ◌<◌, List, length, find, bytes_eq, Option, None, option_and_then, slice_get}
+use Rattle.std.specs.List.{slice_index_or}
+use Rattle.check_objects.specs.Configuration.{Configuration, name_of, object_count}
+use Rattle.check_saved.specs.Saved.{SavedObject}
+
+-- Of each object of the setup by number, the place of what is found under its name among some of what was saved.
+pub record ArePlaces (setup : Configuration) (objects some : List SavedObject) (places : List (Option ℕ)) : Type 0 where
+  pub one_each : length places ≡ object_count setup
+  pub found : (number : ℕ) → number < object_count setup
+      → option_and_then (slice_get objects) (slice_index_or places number None) ≡ find (λ o. bytes_eq (name_of setup number) o.name) some

@@ -1,0 +1,55 @@
+//! Where in what was saved each object of a setup is.
+
+ghost use Rattle.std.specs.Prelude.{◌≡◌, ◌<◌, IfOk, None, length, option_map, replicate};
+ghost use Rattle.check_objects.specs.Configuration.{Configuration, name_of, object_count};
+ghost use Rattle.check_saved.specs.Saved.{saved_named};
+ghost use Rattle.check_sched.specs.Places.{ArePlaces};
+
+use check_objects::Setup;
+use check_saved::{Saved, SavedObject};
+use std::alloc::{AllocError, Global};
+
+/// Of each object of the setup by number, the place of what was saved under its name, if anything was.
+pub(crate) fn places(
+    alloc: Global,
+    setup: &Setup,
+    saved: &Saved,
+) -> Result<Vec<Option<usize>>, AllocError>
+    ensures { IfOk result (λ places. ArePlaces setup.now saved.now.objects saved.now.objects places.items) }
+{
+    let objects = saved.objects();
+    let mut places = no_places(alloc, setup.len())?;
+    for place in (0..objects.len()).rev() {
+        let object = &objects[place];
+        if let Some(number) = setup.number(&object.name) {
+            places[number as usize] = Some(place);
+        }
+    }
+    Ok(places)
+}
+
+/// No place of any of so many objects.
+fn no_places(alloc: Global, count: usize) -> Result<Vec<Option<usize>>, AllocError>
+    ensures { IfOk result (λ places. places.items ≡ replicate count None) }
+{
+    let mut places = Vec::with_capacity(alloc, count)?;
+    for _number in 0..count {
+        places.push(None)?;
+    }
+    Ok(places)
+}
+
+/// What was saved of the object with this number, if anything was.
+pub(crate) fn kept<'a>(
+    saved: &'a Saved,
+    places: &[Option<usize>],
+    number: u32,
+) -> Option<&'a SavedObject>
+    requires there { number < length places.now }
+    ensures { (setup : Configuration) → ArePlaces setup saved.now.objects saved.now.objects places.now
+        → number < object_count setup
+        → option_map (λ o. o.now) result ≡ saved_named saved.now (name_of setup number) }
+{
+    let place = places[number as usize]?;
+    saved.objects().get(place)
+}

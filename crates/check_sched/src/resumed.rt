@@ -1,0 +1,135 @@
+//! What becomes of each object of a setup when a scheduler goes on from what was saved: kept, where its
+//! name was saved, else new.
+
+ghost use Rattle.std.specs.Prelude.{◌≡◌, ◌≤◌, option_map};
+ghost use Rattle.check_objects.specs.Configuration.{IsSetup};
+ghost use Rattle.check_sched.specs.Saved.{earlier_time, is_same_switch, keeps_time, scheduling_kept, scheduling_of, soft_kept, standing_kept, standing_of};
+
+use crate::object_state::ObjectState;
+use crate::report::milliseconds;
+use check_objects::{MAX_INTERVAL, Object, Setup};
+use check_rules::{Kind, Standing, pending};
+use check_saved::SavedObject;
+
+/// The scheduling of an object to which the spread gives this first time. A new one begins as at an
+/// opening.
+pub(crate) fn scheduling(
+    setup: &Setup,
+    object: &Object,
+    first: Option<u64>,
+    kept: Option<&SavedObject>,
+) -> ObjectState
+    requires valid_setup { IsSetup setup.now }
+    requires interval { object.now.check_interval ≤ MAX_INTERVAL }
+    ensures { result ≡ scheduling_of setup.now first object.now (option_map (λ o. o.now) kept.entry) }
+{
+    match kept {
+        Some(saved) => scheduling_kept(setup, object, first, saved),
+        None => ObjectState::opening(first, object.enabled),
+    }
+}
+
+/// The scheduling of an object that is kept. Its switch stays as an operator set it where both setups
+/// say the same of the object, and is as the setup says where they differ.
+fn scheduling_kept(
+    setup: &Setup,
+    object: &Object,
+    first: Option<u64>,
+    saved: &SavedObject,
+) -> ObjectState
+    requires valid_setup { IsSetup setup.now }
+    requires interval { object.now.check_interval ≤ MAX_INTERVAL }
+    ensures { result ≡ scheduling_kept setup.now first object.now saved.now }
+{
+    let next = if keeps_time(setup, object, saved) {
+        saved.next
+    } else {
+        earlier_time(saved.next, first)
+    };
+    let enabled = if is_same_switch(object.enabled, saved.setup_enabled) {
+        saved.enabled
+    } else {
+        object.enabled
+    };
+    ObjectState::saved(next, saved.run, enabled, saved.forced)
+}
+
+/// Whether the next time stays as it was saved: the check interval and the setup's switch are as they
+/// were, or a check is out, or the next one is forced.
+fn keeps_time(setup: &Setup, object: &Object, saved: &SavedObject) -> bool
+    requires valid_setup { IsSetup setup.now }
+    requires interval { object.now.check_interval ≤ MAX_INTERVAL }
+    ensures { result ≡ keeps_time setup.now object.now saved.now }
+{
+    if saved.run.is_some() || saved.forced {
+        return true;
+    }
+    milliseconds(setup, object.check_interval) == saved.interval
+        && is_same_switch(object.enabled, saved.setup_enabled)
+}
+
+/// Whether two switches stand alike.
+fn is_same_switch(one: bool, other: bool) -> bool
+    ensures { result ≡ is_same_switch one other }
+{
+    one == other
+}
+
+/// The earlier of two times; either by itself where the other is none.
+fn earlier_time(one: Option<u64>, other: Option<u64>) -> Option<u64>
+    ensures { result ≡ earlier_time one other }
+{
+    match (one, other) {
+        (Some(time), Some(later)) => Some(time.min(later)),
+        (Some(time), None) => Some(time),
+        (None, _) => other,
+    }
+}
+
+/// The standing of an object, a host or a service: that of a new one is pending.
+pub(crate) fn standing(host: bool, object: &Object, kept: Option<&SavedObject>) -> Standing
+    requires { 1 ≤ object.now.max_check_attempts }
+    ensures { result ≡ standing_of host object.now (option_map (λ o. o.now) kept.entry) }
+{
+    match kept {
+        Some(saved) => standing_kept(saved.standing, object.max_check_attempts),
+        None => pending(host),
+    }
+}
+
+/// The standing of an object that is kept and has this maximum of attempts now: a hard problem stands at
+/// the maximum, and OK and UP keep their attempt up to it.
+fn standing_kept(was: Standing, max: u8) -> Standing
+    requires { 1 ≤ max }
+    ensures { result ≡ standing_kept max was }
+{
+    if was.is_soft_problem() {
+        return soft_kept(was, max);
+    }
+    let attempt = if was.state.is_problem() {
+        max
+    } else {
+        was.attempt.min(max)
+    };
+    Standing { attempt, ..was }
+}
+
+/// A soft problem that is kept and has this maximum of attempts now: it stays soft below the maximum,
+/// and is hard where that is 1.
+fn soft_kept(was: Standing, max: u8) -> Standing
+    requires { 1 ≤ max }
+    ensures { result ≡ soft_kept max was }
+{
+    if max == 1 {
+        return Standing {
+            kind: Kind::Hard,
+            attempt: 1,
+            last_hard: was.state,
+            ..was
+        };
+    }
+    Standing {
+        attempt: was.attempt.min(max - 1),
+        ..was
+    }
+}

@@ -1,0 +1,219 @@
+//! A scheduler that goes on from what was saved of another.
+
+ghost use Rattle.std.specs.Prelude.{◌≡◌, ◌≤◌, ◌++◌, IfErr, IfOk, IfSome, OnOk, drop, length, map, option_map, take};
+ghost use Rattle.check_objects.specs.Configuration.{IsSetup, host_count, object_count};
+ghost use Rattle.check_saved.specs.Saved.{IsSaved};
+ghost use Rattle.check_spread.specs.Spread.{initial_times};
+ghost use Rattle.check_sched.specs.Places.{ArePlaces};
+ghost use Rattle.check_sched.specs.Saved.{given_up, objects_kept, objects_resumed, results_of, results_resumed, resumed, standings_resumed, within_limit};
+
+use super::Sched;
+use crate::object_state::ObjectState;
+use crate::places::{kept, places};
+use crate::results::{Results, Ring};
+use crate::resumed::{scheduling, standing};
+use crate::roster::{Roster, running_from};
+use check_objects::Setup;
+use check_rules::{KEPT_RESULTS, Standing};
+use check_saved::{Saved, SavedObject};
+use check_spread::{LAST_MOMENT, initial_times};
+use std::alloc::{AllocError, Global};
+
+/// What a scheduler has beside its setup and its counts.
+#[derive(Drop)]
+struct Parts {
+    marks: Vec<bool>,
+    results: Results,
+    standings: Vec<Standing>,
+    roster: Roster,
+}
+
+impl Sched {
+    /// A scheduler that goes on from what was saved of another, over this setup, which may be another
+    /// one too, with `start`, in milliseconds, as the moment at which scheduling starts. An object whose
+    /// full name was saved is kept, and any other begins as at an opening from `start` on; what the setup
+    /// doesn't have is dropped. (Our own profile; Nagios does the like by its retention files at a
+    /// restart and a reload.)
+    ///
+    /// Of a kept object the results, the check that is out, whether the next check is forced, state, last
+    /// hard state, flapping and whether it was ever checked are as saved. By the maximum of attempts that
+    /// it has now, a hard problem stands at the maximum, a soft one stays soft below it, or is hard where
+    /// that is 1, and OK and UP keep their attempt up to it. Whether it is enabled is as saved where both
+    /// setups say the same of it, and else as this one says. The next time is as saved where the check
+    /// interval and the setup's switch are as they were, or a check is out, or the next one is forced;
+    /// else it is the earlier of the saved one and the first time that the spread from `start` on gives.
+    /// Where more services are out than the option `max_concurrent_checks` allows, the runs of all
+    /// services are given up at `start`. The numbers of runs go on from those that were handed out.
+    ///
+    /// Over the same setup it is as if the scheduler had never been put down, except for the start, by
+    /// which no call goes ([`resumed_over_the_same`](crate::laws::resumed_over_the_same)).
+    ///
+    /// An Err means out of memory, and hands the setup back as it was.
+    pub fn resume(alloc: Global, setup: Setup, saved: &Saved, start: u64) -> Result<Sched, Setup>
+        requires { start ≤ LAST_MOMENT }
+        ensures ok { IfOk result (λ scheduler. scheduler ≡ resumed setup saved.now start) }
+        ensures valid_setup { OnOk result (IsSetup setup) }
+        ensures err { IfErr result (λ handed_back. handed_back ≡ setup) }
+    {
+        let Ok(parts) = resumed_parts(alloc, &setup, saved, start) else {
+            return Err(setup);
+        };
+        let Parts {
+            marks,
+            results,
+            standings,
+            roster,
+        } = parts;
+        Ok(Sched {
+            setup,
+            start,
+            roster,
+            standings,
+            results,
+            runs: saved.runs(),
+            marks,
+        })
+    }
+}
+
+/// What a scheduler has beside its setup and its counts, when it goes on from what was saved.
+fn resumed_parts(
+    alloc: Global,
+    setup: &Setup,
+    saved: &Saved,
+    start: u64,
+) -> Result<Parts, AllocError>
+    requires { start ≤ LAST_MOMENT }
+    ensures valid_setup { OnOk result (IsSetup setup.now) }
+    ensures saved { OnOk result (IsSaved saved.now) }
+    ensures roster { IfOk result (λ parts. parts.roster ≡ record {
+      hosts = host_count setup.now;
+      objects = objects_resumed setup.now saved.now start;
+    }) }
+    ensures standings { IfOk result (λ parts. parts.standings.items ≡ standings_resumed setup.now saved.now) }
+    ensures results { IfOk result (λ parts. parts.results ≡ results_resumed setup.now saved.now) }
+    ensures marks { IfOk result (λ parts. length parts.marks.items ≡ object_count setup.now) }
+{
+    // for the proof: what is true of everything that is saved
+    saved.is_saved();
+    let places = places(alloc, setup, saved)?;
+    let objects = resumed_objects(alloc, setup, saved, &places, start)?;
+    Ok(Parts {
+        marks: vec![in alloc; false; setup.len()]?,
+        results: resumed_results(alloc, setup, saved, &places)?,
+        standings: resumed_standings(alloc, setup, saved, &places)?,
+        roster: Roster::new(alloc, setup.hosts(), objects)?,
+    })
+}
+
+/// The scheduling of each object, by number, within the limit of services.
+fn resumed_objects(
+    alloc: Global,
+    setup: &Setup,
+    saved: &Saved,
+    places: &[Option<usize>],
+    start: u64,
+) -> Result<Vec<ObjectState>, AllocError>
+    requires moment { start ≤ LAST_MOMENT }
+    requires places { ArePlaces setup.now saved.now.objects saved.now.objects places.now }
+    ensures { IfOk result (λ objects. objects.items ≡ objects_resumed setup.now saved.now start) }
+{
+    let times = initial_times(alloc, setup, start)?;
+    let mut objects = kept_objects(alloc, setup, saved, places, &times)?;
+    keep_limit(setup, &mut objects, start);
+    Ok(objects)
+}
+
+/// The scheduling of each object, by number, kept or new, where the spread gives these first times.
+fn kept_objects(
+    alloc: Global,
+    setup: &Setup,
+    saved: &Saved,
+    places: &[Option<usize>],
+    times: &[Option<u64>],
+) -> Result<Vec<ObjectState>, AllocError>
+    requires each { length times.now ≡ object_count setup.now }
+    requires places { ArePlaces setup.now saved.now.objects saved.now.objects places.now }
+    ensures { IfOk result (λ objects. objects.items ≡ objects_kept setup.now saved.now times.now) }
+{
+    let mut objects = Vec::with_capacity(alloc, setup.len())?;
+    for (number, first) in times.iter().enumerate() {
+        let kept = kept(saved, places, number as u32);
+        let object = setup.object(number as u32);
+        objects.push(scheduling(setup, object, *first, kept))?;
+    }
+    Ok(objects)
+}
+
+/// Gives up the runs of all services at this moment, where more are out than the limit allows.
+fn keep_limit(setup: &Setup, objects: &mut Vec<ObjectState>, now: u64)
+    requires { host_count setup.now ≤ length objects.old.items }
+    ensures { objects.new.items ≡ within_limit setup.now now objects.old.items }
+{
+    let limit = setup.options().max_concurrent_checks;
+    if limit == 0 || running_from(objects, setup.hosts()) as u64 <= limit {
+        return;
+    }
+    give_up_from(objects, setup.hosts(), now);
+}
+
+/// Gives up the runs of the objects with the numbers from `from` on, at this moment.
+fn give_up_from(objects: &mut Vec<ObjectState>, from: usize, now: u64)
+    requires { from ≤ length objects.old.items }
+    ensures { objects.new.items ≡ take from objects.old.items ++ map (given_up now) (drop from objects.old.items) }
+{
+    for number in from..objects.len() {
+        objects[number].give_up(now);
+    }
+}
+
+/// What is known of each object, by number.
+fn resumed_standings(
+    alloc: Global,
+    setup: &Setup,
+    saved: &Saved,
+    places: &[Option<usize>],
+) -> Result<Vec<Standing>, AllocError>
+    requires { ArePlaces setup.now saved.now.objects saved.now.objects places.now }
+    ensures { IfOk result (λ standings. standings.items ≡ standings_resumed setup.now saved.now) }
+{
+    let count = setup.len();
+    let mut standings = Vec::with_capacity(alloc, count)?;
+    for index in 0..count {
+        let kept = kept(saved, places, index as u32);
+        let object = setup.object(index as u32);
+        standings.push(standing(index < setup.hosts(), object, kept))?;
+    }
+    Ok(standings)
+}
+
+/// The results that are kept of each object, by number.
+fn resumed_results(
+    alloc: Global,
+    setup: &Setup,
+    saved: &Saved,
+    places: &[Option<usize>],
+) -> Result<Results, AllocError>
+    requires saved { IsSaved saved.now }
+    requires places { ArePlaces setup.now saved.now.objects saved.now.objects places.now }
+    ensures { IfOk result (λ results. results ≡ results_resumed setup.now saved.now) }
+{
+    let count = setup.len();
+    let mut rings = Vec::with_capacity(alloc, count)?;
+    for number in 0..count {
+        let kept = kept(saved, places, number as u32);
+        rings.push(resumed_ring(alloc, kept)?)?;
+    }
+    Ok(Results::of(rings))
+}
+
+/// The results that are kept of an object: those that were saved, or none of a new one.
+fn resumed_ring(alloc: Global, kept: Option<&SavedObject>) -> Result<Ring, AllocError>
+    requires { IfSome (option_map (λ o. o.now) kept) (λ o. length o.results ≤ KEPT_RESULTS) }
+    ensures { IfOk result (λ ring. ring ≡ results_of (option_map (λ o. o.now) kept.entry)) }
+{
+    match kept {
+        Some(saved) => Ring::of(alloc, &saved.results),
+        None => Ring::empty(alloc),
+    }
+}
