@@ -6,6 +6,20 @@
 //!
 //! The modules: `saved` has what is saved of a scheduler and of each object.
 
+mod draft;
+mod fault;
+mod lawful;
+mod letters;
+mod limits;
+mod members;
+mod name;
+mod reading;
 mod saved;
+mod text;
+mod tree;
+mod verification;
+mod words;
 
+pub use fault::SavedFault;
+pub use limits::MAX_SAVED_BYTES;
 pub use saved::{Saved, SavedObject, SavedRun};
