@@ -1,4 +1,6 @@
+pub mod InverseLemmas
 pub mod NameLemmas
+pub mod PlainLemmas
 pub mod RepeatLemmas
 pub mod RangeLemmas
 pub mod SavedLemmas

@@ -1,5 +1,5 @@
 -- A name with no semicolon, and one that a semicolon parts.
-use Rattle.std.proofs.Common.{◌≡◌, ℕ, suc, ◌+◌, ◌<◌, ◌&&◌, ◌==◌, not, Bool, true, false, cond, List, [], ◌∷◌, length, refl, arith}
+use Rattle.std.proofs.Common.{◌≡◌, suc, ◌+◌, ◌<◌, ◌&&◌, Bool, true, false, cond, List, [], ◌∷◌, length, refl, arith}
 use Rattle.std.specs.List.{list_all, prefix_len}
 
 all_by : {A : Type 0} (p : A → Bool) (x : A) (xs : List A) (b : Bool) → (prefix_len p xs ≡ length xs → list_all p xs ≡ true)

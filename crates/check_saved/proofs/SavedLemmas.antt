@@ -1,16 +1,20 @@
 -- What passes the tests is something that a scheduler can go on from.
-use Rattle.std.proofs.Common.{◌≡◌, ◌⊎◌, inl, inr, ℕ, zero, suc, ◌+◌, ◌^◌, ◌<◌, ◌≤◌, ◌==◌, ◌&&◌, ◌||◌, bytes_eq, not, Bool, true, false, cond, List, [], ◌∷◌, ◌++◌, map, length, get_or}
-use Rattle.std.proofs.Common.{eq-eqb, Option, Some, None, option_map, Result, Ok, Err, refl, sym, ap, ◌∙◌, arith}
-use Rattle.std.specs.Prelude.{nat_lt, nat_le, slice_get}
-use Rattle.std.specs.List.{after_first, before_first, list_all, list_any, position, position_or_len, prefix_len}
-use Rattle.std.proofs.lemmas.Bool.{and_parts, cases_eq, cases_lt, eqb-true, leb-true}
+use Rattle.std.proofs.Common.{◌≡◌, inl, inr, ℕ, zero, suc, ◌+◌, ◌^◌, ◌<◌, ◌≤◌, ◌==◌, ◌&&◌, ◌||◌, bytes_eq, not, Bool, true, false, cond, List, [], ◌∷◌, ◌++◌, map, length, get_or}
+use Rattle.std.proofs.Common.{eq-eqb, Option, Some, None, option_map, subst, Result, Ok, Err, refl, sym, ap, ◌∙◌, arith}
+use Rattle.std.specs.Prelude.{nat_lt, nat_le, ok_or, slice_get}
+use Rattle.serde_json.specs.Data.{Data}
+use Rattle.check_documents.specs.Tree.{tree_of}
+use Rattle.check_saved.specs.Reading.{draft_of, in_this_format}
+use Rattle.check_saved.specs.Text.{saved_of_text, saved_of_tree}
+use Rattle.std.specs.List.{after_first, before_first, list_all, list_any, position, position_or_len}
+use Rattle.std.proofs.lemmas.Bool.{and_parts, cases_lt, eqb-true, leb-true}
 use Rattle.std.proofs.lemmas.Bool.Decides.{nat_tests}
 use Rattle.std.proofs.lemmas.List.Folds.{list_any-append}
 use Rattle.std.proofs.lemmas.List.Sums.{passes_at_first, prefix_len-le-length, split_at_first}
 use Rattle.std.proofs.lemmas.Slice.Eq.{bytes_eq-Decides}
 use Rattle.check_drafts.specs.Agreement.{◌>>=◌}
 use Rattle.check_drafts.specs.Keys.{first_repeat}
-use Rattle.check_drafts.specs.Name.{full_name, is_host_name, is_name}
+use Rattle.check_drafts.specs.Name.{is_host_name, is_name}
 use Rattle.check_drafts.proofs.RefusalLemmas.{all_by_position}
 use Rattle.check_drafts.proofs.RepeatLemmas.{first_repeat_is, repeat_after}
 use Rattle.check_rules.specs.declared.standing.Kind.{Kind}
@@ -26,7 +30,7 @@ use Rattle.check_saved.specs.declared.fault.SavedFault.TheVariants as faults
 use Rattle.check_saved.specs.Saved.{IsFullName, IsSaved, IsSavedObject, Saved, SavedObject}
 use Rattle.check_saved.specs.SavedFault.{refused_at}
 use Rattle.check_saved.specs.Scheduling.{OpenRun, is_in_time, is_timed_if_forced}
-use Rattle.check_saved.specs.Verification.{can_be, can_have_results, can_stand, distinct_names, earlier_place, few_objects, good_names, good_ranges, is_as_pending, is_attempt, is_full_name, is_hard, is_in_range, is_numbered, is_same_run, is_semicolon, lawful_objects, run_number, tests_of_draft}
+use Rattle.check_saved.specs.Verification.{can_be, can_have_results, can_stand, distinct_names, earlier_place, few_objects, good_names, is_as_pending, is_attempt, is_full_name, is_hard, is_in_range, is_numbered, is_same_run, is_semicolon, lawful_objects, run_number, tests_of_draft, verified}
 use Rattle.check_saved.proofs.NameLemmas.{all_by_prefix}
 
 -- ---- nothing was refused
@@ -284,3 +288,32 @@ saved_by saved tested lawful =
           (mapped_at run_number objects other p f) (same_number (run_number o) (run_number p) run is also)
           (same_number (run_number p) (run_number o) run also is);
     }
+
+-- ---- what is read
+
+next : {A B E : Type 0} (r : Result A E) (f : A → Result B E) (b : B) (P : Type 0) → ((a : A) → r ≡ Ok a → f a ≡ Ok b → P) → (r >>= f) ≡ Ok b → P
+next (Ok a) f b P h e = h a refl e
+next (Err x) f b P h e = cc
+
+verified_by : (draft saved : Saved) → verified draft ≡ Ok saved → IsSaved saved
+verified_by draft saved e =
+    let tested = first_ok (tests_of_draft draft) (λ _. lawful_objects draft.runs draft.objects >>= λ _. Ok draft) saved e in
+    let more = rest_ok (tests_of_draft draft) (λ _. lawful_objects draft.runs draft.objects >>= λ _. Ok draft) saved e in
+    let lawful = first_ok (lawful_objects draft.runs draft.objects) (λ _. Ok draft) saved more in
+    let last = rest_ok (lawful_objects draft.runs draft.objects) (λ _. Ok draft) saved more in
+    let same : draft ≡ saved = cc in
+    subst IsSaved same (saved_by draft tested lawful)
+
+tree_by : (tree : Data) (saved : Saved) → saved_of_tree tree ≡ Ok saved → IsSaved saved
+tree_by tree saved e =
+    next (in_this_format tree) (λ _. draft_of tree >>= verified) saved (IsSaved saved) (λ u f more.
+    next (draft_of tree) verified saved (IsSaved saved) (λ draft d last. verified_by draft saved last) more) e
+
+short_by : (b : Bool) (r : Result Saved SavedFault) (saved : Saved) → cond b (Err faults.TooLong) r ≡ Ok saved → r ≡ Ok saved
+short_by true r saved e = cc
+short_by false r saved e = e
+
+pub read_by : (text : List ℕ) (saved : Saved) → saved_of_text text ≡ Ok saved → IsSaved saved
+read_by text saved e =
+    let short = short_by (nat_lt 16777216 (length text)) (ok_or (tree_of text) faults.NotJson >>= saved_of_tree) saved e in
+    next (ok_or (tree_of text) faults.NotJson) saved_of_tree saved (IsSaved saved) (λ tree t more. tree_by tree saved more) short

@@ -1,15 +1,12 @@
 -- The text that was written is read as what was saved.
-use Rattle.std.proofs.Common.{◌≡◌, ℕ, ◌≤◌, Bool, true, false, ◌&&◌, List, length, Ok, refl, ap, ◌∙◌, arith}
+use Rattle.std.proofs.Common.{◌≡◌, ℕ, ◌≤◌, false, List, length, Ok, refl, ap, ◌∙◌, arith}
 use Rattle.std.specs.Prelude.{nat_lt, IsUtf8, Some}
-use Rattle.std.specs.List.{list_all}
 use Rattle.std.proofs.lemmas.Bool.Decides.{nat_tests}
 use Rattle.serde_json.specs.Read.{read}
 use Rattle.check_documents.proofs.TreeLemmas.{tree_some}
 use Rattle.check_drafts.specs.Agreement.{◌>>=◌}
-use Rattle.check_drafts.specs.Name.{is_host_name}
-use Rattle.check_rules.specs.State.{is_of_sort}
 use Rattle.check_saved.specs.declared.fault.SavedFault.TheVariants as faults
-use Rattle.check_saved.specs.Reading.{draft_of, in_this_format}
+use Rattle.check_saved.specs.Reading.{draft_of}
 use Rattle.check_saved.specs.Saved.{IsSaved, IsSavedObject, Saved, SavedObject}
 use Rattle.check_saved.specs.Text.{saved_of_text, saved_of_tree}
 use Rattle.check_saved.specs.Tree.{saved_tree}
@@ -17,7 +14,7 @@ use Rattle.check_saved.specs.Verification.{verified}
 use Rattle.check_saved.proofs.TreeLemmas.{AreSorted, draft_back, format_back}
 use Rattle.check_saved.proofs.VerifiedLemmas.{verified_is}
 use Rattle.std.specs.Prelude.{slice_get}
-use Rattle.std.proofs.Common.{zero, suc, [], ◌∷◌}
+use Rattle.std.proofs.Common.{suc, [], ◌∷◌}
 
 sorted : (runs : ℕ) (objects : List SavedObject) → ((place : ℕ) (o : SavedObject) → slice_get objects place ≡ Some o → IsSavedObject runs o) → AreSorted objects
 sorted runs [] each = tt

@@ -1,13 +1,11 @@
 -- The tree of what is saved: it has no floats, nests a few levels deep, and says what was saved.
-use Rattle.std.proofs.Common.{◌≡◌, ℕ, suc, ◌+◌, ◌≤◌, ◌&&◌, ◌||◌, Bool, true, false, cond, List, [], ◌∷◌, map, Option, Some, None, Result, Ok, Err, refl, sym, ap, ◌∙◌, arith}
-use Rattle.std.specs.Prelude.{codes, max, ok_or}
+use Rattle.std.proofs.Common.{◌≡◌, ℕ, ◌+◌, ◌≤◌, ◌||◌, Bool, true, false, cond, List, [], ◌∷◌, Option, Some, None, Ok, refl, ap, arith}
+use Rattle.std.specs.Prelude.{max}
 use Rattle.std.specs.List.{list_all}
 use Rattle.std.proofs.lemmas.Bool.{and_parts}
-use Rattle.serde_json.specs.Data.{Data, Items, depth, items_depth}
-use Rattle.serde_json.specs.View.{items_of}
+use Rattle.serde_json.specs.Data.{depth, items_depth}
 use Rattle.serde_json.specs.Written.{has_float, items_have_float}
 use Rattle.check_documents.specs.Tree.{◌>=>◌}
-use Rattle.check_drafts.specs.Agreement.{◌>>=◌}
 use Rattle.check_drafts.specs.Name.{is_host_name}
 use Rattle.check_rules.specs.declared.standing.Kind.{Kind}
 use Rattle.check_rules.specs.declared.standing.Kind.TheVariants as kind
@@ -15,7 +13,6 @@ use Rattle.check_rules.specs.declared.standing.Standing.{Standing}
 use Rattle.check_rules.specs.declared.state.State as rules
 use Rattle.check_rules.specs.declared.state.State.TheVariants as state
 use Rattle.check_rules.specs.State.{is_of_sort}
-use Rattle.check_saved.specs.declared.fault.SavedFault.TheVariants as faults
 use Rattle.check_saved.specs.Reading.{draft_of, in_this_format, letters_in, object_of, objects_from, run_of, scheduling_of, standing_of, time_of}
 use Rattle.check_saved.specs.Saved.{Saved, SavedObject}
 use Rattle.check_saved.specs.Scheduling.{OpenRun, Scheduling}

@@ -1,28 +1,23 @@
 -- What a scheduler can go on from passes the tests.
-use Rattle.std.proofs.Common.{◌≡◌, inl, inr, ℕ, zero, suc, ◌+◌, ◌^◌, ◌<◌, ◌≤◌, ◌==◌, ◌&&◌, ◌||◌, bytes_eq, not, Bool, true, false, cond, List, [], ◌∷◌, ◌++◌, map, length, take, drop}
-use Rattle.std.proofs.Common.{eq-eqb, Option, Some, None, option_map, Result, Ok, Err, refl, sym, ap, ◌∙◌, subst, arith}
+use Rattle.std.proofs.Common.{◌≡◌, inl, inr, ℕ, zero, suc, ◌+◌, ◌^◌, ◌≤◌, ◌==◌, ◌&&◌, ◌||◌, bytes_eq, not, Bool, true, false, cond, List, [], ◌∷◌, ◌++◌, map, length, take, drop}
+use Rattle.std.proofs.Common.{Option, Some, None, option_map, Ok, refl, sym, ap, ◌∙◌, arith}
 use Rattle.std.specs.Prelude.{nat_lt, nat_le, slice_get}
 use Rattle.std.specs.List.{after_first, before_first, list_all, list_any, position, position_or_len, prefix_len}
-use Rattle.std.proofs.lemmas.Bool.{and_parts, cases_eq, cases_lt, eqb-true, leb-true}
+use Rattle.std.proofs.lemmas.Bool.{and_parts, eqb-true}
 use Rattle.std.proofs.lemmas.Bool.Decides.{nat_tests}
 use Rattle.std.proofs.lemmas.List.Folds.{list_any-append}
 use Rattle.std.proofs.lemmas.Slice.Eq.{bytes_eq-Decides}
-use Rattle.check_drafts.specs.Agreement.{◌>>=◌}
 use Rattle.check_drafts.specs.Keys.{first_repeat}
-use Rattle.check_drafts.specs.Name.{full_name, is_host_name, is_name, is_name_byte}
+use Rattle.check_drafts.specs.Name.{is_host_name, is_name, is_name_byte}
 use Rattle.check_drafts.proofs.RepeatLemmas.{first_repeat_is, repeat_after}
 use Rattle.check_rules.specs.declared.standing.Standing.{Standing}
 use Rattle.check_rules.specs.declared.state.State as rules
-use Rattle.check_rules.specs.declared.state.State.TheVariants as state
 use Rattle.check_rules.specs.Flapping.{AreResultsFor}
-use Rattle.check_rules.specs.Standing.{IsStandingFor, is_lawful, pending_standing}
-use Rattle.check_rules.specs.State.{is_host_state, is_of_sort, is_problem}
-use Rattle.check_saved.specs.declared.fault.SavedFault.{SavedFault}
-use Rattle.check_saved.specs.declared.fault.SavedFault.TheVariants as faults
+use Rattle.check_rules.specs.Standing.{IsStandingFor, pending_standing}
+use Rattle.check_rules.specs.State.{is_host_state, is_of_sort}
 use Rattle.check_saved.specs.Saved.{IsFullName, IsSaved, IsSavedObject, Saved, SavedObject}
-use Rattle.check_saved.specs.SavedFault.{refused_at}
-use Rattle.check_saved.specs.Scheduling.{OpenRun, is_in_time, is_timed_if_forced}
-use Rattle.check_saved.specs.Verification.{can_be, can_have_results, can_stand, distinct_names, earlier_place, few_objects, good_names, good_ranges, is_as_pending, is_attempt, is_full_name, is_in_range, is_numbered, is_same_run, is_semicolon, lawful_objects, run_number, tests_of_draft, verified}
+use Rattle.check_saved.specs.Scheduling.{OpenRun}
+use Rattle.check_saved.specs.Verification.{can_be, can_have_results, can_stand, is_as_pending, is_attempt, is_full_name, is_in_range, is_numbered, is_same_run, is_semicolon, run_number, verified}
 use Rattle.check_saved.proofs.RangeLemmas.{attempt_by}
 
 -- ---- each of a list

@@ -9,3 +9,4 @@ pub mod Reading
 pub mod DraftViews
 pub mod Verification
 pub mod Text
+pub mod Written

@@ -5,7 +5,6 @@ use Rattle.serde_json.specs.Find.{get, as_bool, as_null, as_str, as_array}
 use Rattle.check_documents.specs.Tree.{has_only, whole_number, ◌>=>◌}
 use Rattle.check_drafts.specs.Agreement.{◌>>=◌}
 use Rattle.check_drafts.specs.Name.{is_host_name}
-use Rattle.check_rules.specs.declared.standing.Kind.{Kind}
 use Rattle.check_rules.specs.declared.standing.Standing.{Standing}
 use Rattle.check_rules.specs.declared.state.State as rules
 use Rattle.check_saved.specs.declared.fault.SavedFault.{SavedFault}

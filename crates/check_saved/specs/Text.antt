@@ -1,5 +1,5 @@
 -- The text of a saved state, and what a text is read as.
-use Rattle.std.specs.Prelude.{ℕ, List, length, Result, Ok, Err, ok_or, nat_lt, if◌then◌else◌}
+use Rattle.std.specs.Prelude.{ℕ, List, length, Result, Err, ok_or, nat_lt, if◌then◌else◌}
 use Rattle.serde_json.specs.Data.{Data}
 use Rattle.serde_json.specs.Written.{compact_text}
 use Rattle.check_documents.specs.Tree.{tree_of}

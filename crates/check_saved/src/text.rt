@@ -13,7 +13,7 @@ use serde_json::Value;
 use std::alloc::{AllocError, Global};
 
 impl Saved {
-    ghost use Rattle.std.specs.Prelude.{◌≡◌, ◌≤◌, IfOk, Ok, length};
+    ghost use Rattle.std.specs.Prelude.{◌≡◌, ◌<◌, ◌≤◌, Err, IfOk, Ok, length};
     ghost use Rattle.check_line.specs.Line.{HasNoFeed};
     ghost use Rattle.check_saved.specs.SavedFault.{Gives};
     ghost use Rattle.check_saved.specs.Text.{saved_of_text, saved_text};
@@ -28,6 +28,7 @@ impl Saved {
         ensures fits { IfOk result (λ text. length text.items ≤ 16777216) }
         ensures reads_back { IfOk result (λ text. saved_of_text text.items ≡ Ok self.now) }
     {
+        // By what is true of it, its text is short enough to be read.
         self.is_saved();
         let tree = saved_value(alloc, self)?;
         let text = tree.to_vec(alloc)?;
@@ -38,7 +39,8 @@ impl Saved {
     ///
     /// `Memory` may come in place of any other answer but `TooLong`.
     pub fn read(alloc: Global, text: &[u8]) -> Result<Saved, SavedFault>
-        ensures { Gives (λ saved. saved) result (saved_of_text text.now) }
+        ensures exact { Gives (λ saved. saved) result (saved_of_text text.now) }
+        ensures too_long { 16777216 < length text.now → result ≡ Err SavedFault.TooLong }
     {
         if text.len() > MAX_SAVED_BYTES {
             return Err(SavedFault::TooLong);

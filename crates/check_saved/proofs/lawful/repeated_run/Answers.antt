@@ -1,4 +1,4 @@
-use Rattle.std.proofs.Common.{rules, refl, sym, ap, ◌∙◌, map}
+use Rattle.std.proofs.Common.{refl, sym, ◌∙◌, map}
 use Rattle.check_drafts.proofs.RepeatLemmas.{first_repeat_is}
 use Rattle.check_saved.proofs.RepeatLemmas.{run_here, run_later, run_none}
 use Rattle.check_saved.specs.Verification.{is_same_run, run_number}

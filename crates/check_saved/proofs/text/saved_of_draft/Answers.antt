@@ -1,4 +1,4 @@
-use Rattle.std.proofs.Common.{◌≡◌, ap, sym, ◌∙◌}
+use Rattle.std.proofs.Common.{ap, sym, ◌∙◌}
 use Rattle.check_saved.specs.Saved.{Saved}
 use Rattle.check_saved.specs.Verification.{lawful_objects, tests_of_draft}
 use Rattle.check_saved.proofs.SavedLemmas.{saved_by}

@@ -1,4 +1,4 @@
-use Rattle.std.proofs.Common.{rules, sym, ap, ◌∙◌, bytes_eq, map}
+use Rattle.std.proofs.Common.{rules, ap, ◌∙◌, bytes_eq, map}
 use Rattle.check_drafts.proofs.RepeatLemmas.{first_repeat_is}
 use Rattle.check_saved.proofs.RepeatLemmas.{name_here, name_later}
 use Rattle.check_saved.specs.declared.fault.SavedFault.TheVariants as faults
