@@ -1,5 +1,5 @@
 -- The members of an object's tree as they are put one after another.
-use Rattle.std.specs.Prelude.{◌^◌, Bool, codes, nat_lt}
+use Rattle.std.specs.Prelude.{◌^◌, ⊤, Bool, codes, nat_lt}
 use Rattle.serde_json.specs.Data.{boolean, string, Members, put}
 use Rattle.check_rules.specs.declared.standing.Standing.{Standing}
 use Rattle.check_saved.specs.Saved.{SavedObject}
@@ -32,6 +32,11 @@ setup_members o ms =
     put (codes "enabled_in_setup") (boolean o.setup_enabled) (
     put (codes "max_check_attempts") (number_tree o.max_attempts) (
     put (codes "check_interval") (number_tree o.interval) ms))
+
+-- what opens all of them
+unfoldable pub members_put : ⊤
+unfolding state_members standing_members scheduling_members setup_members
+members_put = tt
 
 -- whether an object's check interval is a number of 64 bits
 abbrev pub is_narrow : SavedObject → Bool

@@ -1,5 +1,6 @@
 -- What the tree of a saved state says, before its names and numbers are verified. A tree that is not of this shape is refused.
-use Rattle.std.specs.Prelude.{ℕ, ◌+◌, ◌==◌, Bool, false, not, List, [], ◌∷◌, Option, Some, None, is_some, option_and_then, Result, Ok, Err, ok_or, codes, if◌then◌else◌}
+use Rattle.std.specs.Prelude.{ℕ, ◌+◌, ◌==◌, Bool, false, not, List, [], ◌∷◌, Option}
+use Rattle.std.specs.Prelude.{Some, None, is_some, option_and_then, Result, Ok, Err, ok_or, codes, if◌then◌else◌}
 use Rattle.serde_json.specs.Data.{Data, Items, no_items, item}
 use Rattle.serde_json.specs.Find.{get, as_bool, as_null, as_str, as_array}
 use Rattle.check_documents.specs.Tree.{has_only, whole_number, ◌>=>◌}

@@ -26,9 +26,23 @@ impl Model for StandingDraft {
 
     ghost Value = { rules.Standing };
 
-    ghost view = { λ s. record { checked = s.checked; state = s.state; kind = s.kind; attempt = s.attempt; last_hard = s.last_hard; flapping = s.flapping } };
+    ghost view = { λ s. record {
+      checked = s.checked;
+      state = s.state;
+      kind = s.kind;
+      attempt = s.attempt;
+      last_hard = s.last_hard;
+      flapping = s.flapping;
+    } };
 
-    ghost inverse = { λ s. record { checked = s.checked; state = s.state; kind = s.kind; attempt = s.attempt; last_hard = s.last_hard; flapping = s.flapping } };
+    ghost inverse = { λ s. record {
+      checked = s.checked;
+      state = s.state;
+      kind = s.kind;
+      attempt = s.attempt;
+      last_hard = s.last_hard;
+      flapping = s.flapping;
+    } };
 }
 
 /// What is said of an object's scheduling.

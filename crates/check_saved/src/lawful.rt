@@ -5,7 +5,8 @@ ghost use Rattle.check_drafts.specs.Keys.{first_repeat};
 ghost use Rattle.check_rules.specs.State.{is_of_sort};
 ghost use Rattle.check_saved.specs.SavedFault.{Gives};
 ghost use Rattle.check_saved.specs.Scheduling.{is_timed};
-ghost use Rattle.check_saved.specs.Verification.{can_be, can_have_results, can_stand, earlier_place, is_as_pending, is_numbered, is_same_run, lawful_objects, run_number};
+ghost use Rattle.check_saved.specs.Verification.{can_be, can_have_results, can_stand, earlier_place, is_as_pending};
+ghost use Rattle.check_saved.specs.Verification.{is_numbered, is_same_run, lawful_objects, run_number};
 
 use crate::fault::SavedFault;
 use crate::name::is_host_name;

@@ -1,7 +1,8 @@
 //! Reading what a saved state says from its tree. Here every fault of shape is found, and no other.
 ghost use Rattle.std.specs.Prelude.{◌≡◌, option_map};
 ghost use Rattle.serde_json.specs.View.{items_view, view};
-ghost use Rattle.check_saved.specs.Reading.{draft_of, in_this_format, letters_in, object_of, objects_from, open_run_of, run_of, scheduling_of, standing_of, time_of};
+ghost use Rattle.check_saved.specs.Reading.{draft_of, in_this_format, letters_in, object_of, objects_from};
+ghost use Rattle.check_saved.specs.Reading.{open_run_of, run_of, scheduling_of, standing_of, time_of};
 ghost use Rattle.check_saved.specs.SavedFault.{Gives};
 
 use crate::draft::{ObjectDraft, SavedDraft, SchedulingDraft, StandingDraft};

@@ -32,7 +32,7 @@ fn object_values(alloc: Global, objects: &[SavedObject]) -> Result<Vec<Value>, A
     Ok(trees)
 }
 
-#[tactic(auto, unfolding(crate::specs::Members::state_members, crate::specs::Members::standing_members, crate::specs::Members::scheduling_members, crate::specs::Members::setup_members))]
+#[tactic(auto, unfolding(crate::specs::Members::members_put))]
 fn object_value(alloc: Global, object: &SavedObject) -> Result<Value, AllocError>
     ensures tree { IfOk result (λ tree. view tree ≡ object_tree object.now) }
     ensures narrow { OnOk result (is_narrow object.now ≡ true) }

@@ -3,7 +3,8 @@
 ghost use Rattle.std.specs.Prelude.{◌≡◌, ◌≤◌, All, IfNone, IsTrue, OnOk, bytes_eq, length, map, not, position};
 ghost use Rattle.check_saved.specs.SavedFault.{Gives};
 ghost use Rattle.check_saved.specs.Scheduling.{is_in_time, is_moment, is_time};
-ghost use Rattle.check_saved.specs.Verification.{HasFewAttempts, distinct_names, few_objects, good_names, good_ranges, is_attempt, is_full_name, is_in_range, tests_of_draft};
+ghost use Rattle.check_saved.specs.Verification.{HasFewAttempts, distinct_names, few_objects, good_names, good_ranges};
+ghost use Rattle.check_saved.specs.Verification.{is_attempt, is_full_name, is_in_range, tests_of_draft};
 
 use crate::draft::{ObjectDraft, SavedDraft, SchedulingDraft};
 use crate::fault::SavedFault;
