@@ -1,3 +1,12 @@
 pub mod Scheduling
 pub mod Saved
 pub mod SavedViews
+pub mod Words
+pub mod Tree
+pub mod Members
+pub mod SavedFault
+pub mod Reading
+pub mod DraftViews
+pub mod Verification
+pub mod Text
+pub mod Written

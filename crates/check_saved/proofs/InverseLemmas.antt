@@ -1,0 +1,183 @@
+-- The text of what is saved is read as what is saved.
+use Rattle.std.proofs.Common.{◌≡◌, ℕ, suc, ◌^◌, ◌<◌, ◌≤◌, Bool, true, false, List, [], ◌∷◌, length, Option, Some, None, option_map, IsUtf8, Ok, refl, arith}
+use Rattle.std.specs.Prelude.{codes, nat_lt, slice_get}
+use Rattle.std.specs.List.{list_all}
+use Rattle.std.proofs.lemmas.Bool.{and_parts, leb-true}
+use Rattle.std.proofs.lemmas.Bool.Decides.{nat_tests}
+use Rattle.json.proofs.Printed.Utf8.{IsUtf8-are_ascii, are_ascii}
+use Rattle.check_rules.specs.declared.standing.Kind.{Kind}
+use Rattle.check_rules.specs.declared.standing.Kind.TheVariants as kind
+use Rattle.check_rules.specs.declared.state.State as rules
+use Rattle.check_rules.specs.declared.state.State.TheVariants as state
+use Rattle.check_saved.specs.Members.{is_narrow}
+use Rattle.check_saved.specs.Saved.{IsSaved, IsSavedObject, Saved, SavedObject}
+use Rattle.check_saved.specs.Scheduling.{OpenRun, is_moment, is_time}
+use Rattle.check_saved.specs.Text.{saved_of_text, saved_text}
+use Rattle.check_saved.specs.Tree.{object_tree, objects_tree, run_tree, saved_tree, time_tree}
+use Rattle.check_saved.specs.Words.{flapping_word, kind_word, letters_of, result_letter, state_word}
+use Rattle.check_saved.specs.Written.{IsWritable, IsWritableObject}
+use Rattle.check_saved.proofs.PlainLemmas.{ArePlain, IsPlain, read_compact, text_is_utf8}
+use Rattle.check_saved.proofs.RangeLemmas.{attempt_by}
+use Rattle.check_saved.proofs.SizeLemmas.{text_fits}
+use Rattle.check_saved.proofs.TextLemmas.{text_back}
+use Rattle.check_saved.proofs.TreeLemmas.{saved_depth}
+
+word : (s : rules.State) → IsUtf8 (state_word s)
+word state.Ok = IsUtf8-are_ascii (codes "OK") refl
+word state.Warning = IsUtf8-are_ascii (codes "WARNING") refl
+word state.Critical = IsUtf8-are_ascii (codes "CRITICAL") refl
+word state.Unknown = IsUtf8-are_ascii (codes "UNKNOWN") refl
+word state.Up = IsUtf8-are_ascii (codes "UP") refl
+word state.Down = IsUtf8-are_ascii (codes "DOWN") refl
+word state.Unreachable = IsUtf8-are_ascii (codes "UNREACHABLE") refl
+
+kind_is : (k : Kind) → IsUtf8 (kind_word k)
+kind_is kind.Soft = IsUtf8-are_ascii (codes "SOFT") refl
+kind_is kind.Hard = IsUtf8-are_ascii (codes "HARD") refl
+
+flapping_is : (b : Bool) → IsUtf8 (flapping_word b)
+flapping_is true = IsUtf8-are_ascii (codes "FLAPPING") refl
+flapping_is false = IsUtf8-are_ascii (codes "STEADY") refl
+
+letter_is : (s : rules.State) → nat_lt (result_letter s) 128 ≡ true
+letter_is state.Ok = refl
+letter_is state.Warning = refl
+letter_is state.Critical = refl
+letter_is state.Unknown = refl
+letter_is state.Up = refl
+letter_is state.Down = refl
+letter_is state.Unreachable = refl
+
+letters_ascii : (results : List rules.State) → are_ascii (letters_of results) ≡ true
+letters_ascii [] = refl
+letters_ascii (s ∷ ss) = rw (letter_is s) (letters_ascii ss)
+
+time_plain : (time : Option ℕ) → is_time time ≡ true → IsPlain (time_tree time)
+time_plain None e = tt
+time_plain (Some time) e = let most : time ≤ 2 ^ 61 = leb-true time (2 ^ 61) e in omega arith
+
+run_plain : (runs : ℕ) (run : Option OpenRun) → runs ≤ 2 ^ 60 → is_moment run ≡ true
+    → ((n : ℕ) → option_map (λ r. r.number) run ≡ Some n → (1 ≤ n) × (n ≤ runs)) → IsPlain (run_tree run)
+run_plain runs None few e numbered = tt
+run_plain runs (Some r) few e numbered =
+    let most : r.start ≤ 2 ^ 60 = leb-true r.start (2 ^ 60) e in
+    let number = numbered r.number refl in
+    let n : r.number < 2 ^ 64 = omega arith in
+    let s : r.start < 2 ^ 64 = omega arith in
+    ((IsUtf8-are_ascii (codes "number") refl, n, (IsUtf8-are_ascii (codes "start") refl, s, tt)), refl)
+
+object_plain : (runs : ℕ) (o : SavedObject) → runs ≤ 2 ^ 60 → IsSavedObject runs o → IsWritableObject o → IsPlain (object_tree o)
+object_plain runs o few saved writable =
+    let times = and_parts (is_time o.scheduling.next) (is_moment o.scheduling.run) saved.in_time in
+    let attempt = attempt_by o.standing o.max_attempts saved.standing.lawful saved.some_attempts saved.few_attempts in
+    let most = saved.few_attempts in
+    let a : o.standing.attempt < 2 ^ 64 = omega arith in
+    let m : o.max_attempts < 2 ^ 64 = omega arith in (
+      (
+        IsUtf8-are_ascii (codes "attempt") refl,
+        a,
+        (
+          IsUtf8-are_ascii (codes "check_interval") refl,
+          writable.interval,
+          (
+            IsUtf8-are_ascii (codes "checked") refl,
+            tt,
+            (
+              IsUtf8-are_ascii (codes "enabled") refl,
+              tt,
+              (
+                IsUtf8-are_ascii (codes "enabled_in_setup") refl,
+                tt,
+                (
+                  IsUtf8-are_ascii (codes "flapping") refl,
+                  flapping_is o.standing.flapping,
+                  (
+                    IsUtf8-are_ascii (codes "forced") refl,
+                    tt,
+                    (
+                      IsUtf8-are_ascii (codes "kind") refl,
+                      kind_is o.standing.kind,
+                      (
+                        IsUtf8-are_ascii (codes "last_hard_state") refl,
+                        word o.standing.last_hard,
+                        (
+                          IsUtf8-are_ascii (codes "max_check_attempts") refl,
+                          m,
+                          (
+                            IsUtf8-are_ascii (codes "name") refl,
+                            writable.name,
+                            (
+                              IsUtf8-are_ascii (codes "next_check") refl,
+                              time_plain o.scheduling.next times.0,
+                              (
+                                IsUtf8-are_ascii (codes "results") refl,
+                                IsUtf8-are_ascii (letters_of o.results) (letters_ascii o.results),
+                                (
+                                  IsUtf8-are_ascii (codes "run") refl,
+                                  run_plain runs o.scheduling.run few times.1 saved.numbered,
+                                  (IsUtf8-are_ascii (codes "state") refl, word o.standing.state, tt),
+                                ),
+                              ),
+                            ),
+                          ),
+                        ),
+                      ),
+                    ),
+                  ),
+                ),
+              ),
+            ),
+          ),
+        ),
+      ),
+      refl,
+    )
+
+objects_plain : (runs : ℕ) (objects : List SavedObject) → runs ≤ 2 ^ 60
+    → ((place : ℕ) (o : SavedObject) → slice_get objects place ≡ Some o → IsSavedObject runs o)
+    → ((place : ℕ) (o : SavedObject) → slice_get objects place ≡ Some o → IsWritableObject o) → ArePlain (objects_tree objects)
+objects_plain runs [] few each writable = tt
+objects_plain runs (o ∷ os) few each writable = (
+  object_plain runs o few (each 0 o refl) (writable 0 o refl),
+  objects_plain runs os few (λ place x is. each (suc place) x is) (λ place x is. writable (suc place) x is),
+)
+
+saved_plain : (saved : Saved) → IsSaved saved → IsWritable saved → IsPlain (saved_tree saved)
+saved_plain saved is writable =
+    let start = is.start in
+    let runs = is.runs in
+    let s : saved.start < 2 ^ 64 = omega arith in
+    let r : saved.runs < 2 ^ 64 = omega arith in
+    let one : 1 < 2 ^ 64 = omega arith in (
+      (
+        IsUtf8-are_ascii (codes "format") refl,
+        one,
+        (
+          IsUtf8-are_ascii (codes "objects") refl,
+          objects_plain saved.runs saved.objects is.runs is.each writable.each,
+          (
+            IsUtf8-are_ascii (codes "runs") refl,
+            r,
+            (IsUtf8-are_ascii (codes "start") refl, s, tt),
+          ),
+        ),
+      ),
+      refl,
+    )
+
+narrow : (objects : List SavedObject) → ((place : ℕ) (o : SavedObject) → slice_get objects place ≡ Some o → IsWritableObject o)
+    → list_all is_narrow objects ≡ true
+narrow [] writable = refl
+narrow (o ∷ os) writable =
+    let small = (writable 0 o refl).interval in
+    let one : is_narrow o ≡ true = grind (arith, nat_tests, small) in
+    rw one (narrow os (λ place x is. writable (suc place) x is))
+
+pub fits : (saved : Saved) → IsSaved saved → IsWritable saved → length (saved_text saved) ≤ 16777216
+fits saved is writable = text_fits saved is (narrow saved.objects writable.each)
+
+pub inverse : (saved : Saved) → IsSaved saved → IsWritable saved → saved_of_text (saved_text saved) ≡ Ok saved
+inverse saved is writable =
+    let plain = saved_plain saved is writable in
+    text_back saved (saved_text saved) is (fits saved is writable) (text_is_utf8 (saved_tree saved) plain)
+    (read_compact (saved_tree saved) plain (saved_depth saved))

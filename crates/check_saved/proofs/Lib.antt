@@ -1,0 +1,10 @@
+pub mod InverseLemmas
+pub mod NameLemmas
+pub mod PlainLemmas
+pub mod RepeatLemmas
+pub mod RangeLemmas
+pub mod SavedLemmas
+pub mod SizeLemmas
+pub mod TextLemmas
+pub mod TreeLemmas
+pub mod VerifiedLemmas

@@ -1,0 +1,9 @@
+use Rattle.std.proofs.Common.{◌≡◌, drop}
+use Rattle.serde_json.specs.View.{items_view}
+use Rattle.check_drafts.specs.Agreement.{with_front}
+use Rattle.check_saved.specs.Reading.{objects_from}
+use Rattle.check_saved.proofs.reading.read_objects.Given as goal
+
+abbrev pub invariant-loop-index : goal.invariant-loop-index
+invariant-loop-index l =
+    objects_from 0 (items_view l.values) ≡ with_front l.objects.items (objects_from l.index (items_view (drop l.index l.values)))

@@ -1,0 +1,9 @@
+use Rattle.std.proofs.Common.{◌≡◌, map, drop, bytes_eq}
+use Rattle.check_drafts.specs.Keys.{first_repeat}
+use Rattle.check_drafts.proofs.RepeatLemmas.{repeat_after}
+use Rattle.check_saved.proofs.verification.verify_distinct.Given as goal
+
+abbrev pub invariant-loop-index : goal.invariant-loop-index
+invariant-loop-index l =
+    first_repeat bytes_eq (map (λ o. o.name) l.objects)
+    ≡ repeat_after bytes_eq (map (λ n. n.now) l.names.keys) l.index (map (λ o. o.name) (drop l.index l.objects))

@@ -1,0 +1,16 @@
+-- What a saved state says, as contracts see it: a record of the same, of which nothing needs to hold.
+use Rattle.check_drafts.specs.Name.{is_host_name}
+use Rattle.check_saved.specs.declared.draft.ObjectDraft.TheInside as one
+use Rattle.check_saved.specs.Saved.{SavedObject}
+use Rattle.check_saved.specs.Words.{results_of_letters}
+
+abbrev pub object_draft : one.Inside → SavedObject
+object_draft d = record {
+  name = d.name.now;
+  standing = d.standing;
+  results = results_of_letters (is_host_name d.name.now) d.letters.now;
+  scheduling = d.scheduling;
+  interval = d.interval;
+  max_attempts = d.max_attempts;
+  setup_enabled = d.setup_enabled;
+}

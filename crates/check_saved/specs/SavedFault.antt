@@ -1,0 +1,19 @@
+-- Refusals of a saved state, and how a function of the code agrees with what the definitions say of them.
+use Rattle.std.specs.Prelude.{ℕ, Option, Some, None, Result, Ok, Err}
+use Rattle.check_drafts.specs.Agreement as agreement
+use Rattle.check_saved.specs.declared.fault.SavedFault.{SavedFault}
+use Rattle.check_saved.specs.declared.fault.SavedFault.TheVariants as faults
+
+-- a refusal at the index that is found, or none
+abbrev pub refused_at : (ℕ → SavedFault) → Option ℕ → Result (Unit {0}) SavedFault
+refused_at fault None = Ok tt
+refused_at fault (Some i) = Err (fault i)
+
+-- the refusal that an error of the code is: each is one, but that the code is out of memory
+abbrev pub refusal : SavedFault → Option SavedFault
+refusal faults.Memory = None
+refusal e = Some e
+
+-- what the code returned, seen by view, is what is defined, unless memory ran out
+abbrev pub Gives : {X Y : Type 0} → (X → Y) → Result X SavedFault → Result Y SavedFault → Type 0
+Gives view result expected = agreement.Gives refusal view result expected

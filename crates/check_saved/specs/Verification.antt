@@ -1,0 +1,129 @@
+-- Verifying what a saved state says, once it is in the right shape: one test after another, each over the whole of it.
+use Rattle.std.specs.Prelude.{ℕ, ◌^◌, ◌<◌, ◌==◌, ◌&&◌, ◌||◌, Bool, true, false, not, List, length, map, position, min, Option, Some, None, option_map}
+use Rattle.std.specs.Prelude.{Result, Ok, Err, bytes_eq, nat_le, nat_lt, if◌then◌else◌}
+use Rattle.std.specs.List.{after_first, before_first, list_all}
+use Rattle.check_drafts.specs.Agreement.{◌>>=◌}
+use Rattle.check_drafts.specs.Keys.{first_repeat}
+use Rattle.check_drafts.specs.Name.{is_host_name, is_name}
+use Rattle.check_rules.specs.declared.standing.Kind.{Kind}
+use Rattle.check_rules.specs.declared.standing.Kind.TheVariants as kind
+use Rattle.check_rules.specs.declared.standing.Standing.{Standing}
+use Rattle.check_rules.specs.declared.state.State as rules
+use Rattle.check_rules.specs.Standing.{is_lawful}
+use Rattle.check_rules.specs.State.{is_of_sort, is_problem}
+use Rattle.check_saved.specs.declared.fault.SavedFault.{SavedFault}
+use Rattle.check_saved.specs.declared.fault.SavedFault.TheVariants as faults
+use Rattle.check_saved.specs.Saved.{Saved, SavedObject}
+use Rattle.check_saved.specs.SavedFault.{refused_at}
+use Rattle.check_saved.specs.Scheduling.{OpenRun, is_in_time, is_timed_if_forced}
+
+-- ---- how many
+
+-- at most 4,096 objects
+abbrev pub few_objects : List SavedObject → Result (Unit {0}) SavedFault
+few_objects objects = if nat_lt 4096 (length objects) then Err faults.TooMany else Ok tt
+
+-- ---- names
+
+-- the semicolon that parts a host's name from a description
+abbrev pub is_semicolon : ℕ → Bool
+is_semicolon b = b == 59
+
+-- a host's name, or a host's name and a description around the first semicolon
+abbrev pub is_full_name : List ℕ → Bool
+is_full_name name =
+    if is_host_name name then is_name name else (is_name (before_first is_semicolon name) && is_name (after_first is_semicolon name))
+
+-- every object has a full name; else the first that hasn't
+abbrev pub good_names : List SavedObject → Result (Unit {0}) SavedFault
+good_names objects = refused_at faults.BadName (position (λ o. not (is_full_name o.name)) objects)
+
+-- every name stands once; else the first object whose name stood before
+abbrev pub distinct_names : List SavedObject → Result (Unit {0}) SavedFault
+distinct_names objects = refused_at faults.Duplicate (first_repeat bytes_eq (map (λ o. o.name) objects))
+
+-- ---- limits of numbers
+
+-- the number of an attempt, or of the most of them, is 1 to 255
+abbrev pub is_attempt : ℕ → Bool
+is_attempt n = nat_le 1 n && nat_le n 255
+
+-- an object's attempts and times are within their limits
+abbrev pub is_in_range : SavedObject → Bool
+is_in_range o = is_attempt o.standing.attempt && is_attempt o.max_attempts && is_in_time o.scheduling
+
+-- the attempts fit a byte
+pub record HasFewAttempts (o : SavedObject) : Type 0 where
+  pub attempt : o.standing.attempt < 256
+  pub max_attempts : o.max_attempts < 256
+
+-- The start, and how many runs were handed out, are at most 2^60, and the numbers of every object are within their limits; else the first
+-- object of which one isn't.
+abbrev pub good_ranges : Saved → Result (Unit {0}) SavedFault
+good_ranges saved =
+    if nat_lt (2 ^ 60) saved.start || nat_lt (2 ^ 60) saved.runs then Err (faults.Range None)
+    else refused_at (λ i. faults.Range (Some i)) (position (λ o. not (is_in_range o)) saved.objects)
+
+-- ---- what an object can have
+
+abbrev pub is_hard : Kind → Bool
+is_hard kind.Soft = false
+is_hard kind.Hard = true
+
+-- whether a standing is that of an object that was never checked, but for the sort of its states
+abbrev pub is_as_pending : Standing → Bool
+is_as_pending s = not (is_problem s.state) && is_hard s.kind && s.attempt == 1 && not (is_problem s.last_hard) && not s.flapping
+
+-- An object, a host or a service, with this maximum of attempts can have this standing: it is lawful for that maximum, its states are of
+-- its sort, and until it is checked it is pending.
+abbrev pub can_stand : Bool → ℕ → Standing → Bool
+can_stand host max s = is_lawful s max && is_of_sort host s.state && is_of_sort host s.last_hard && (s.checked || is_as_pending s)
+
+-- an object, a host or a service, can have these results: at most 21, each a state of its sort
+abbrev pub can_have_results : Bool → List rules.State → Bool
+can_have_results host results = nat_le (length results) 21 && list_all (is_of_sort host) results
+
+-- a run that is out, if one is, is one of so many that were handed out
+abbrev pub is_numbered : ℕ → Option OpenRun → Bool
+is_numbered runs None = true
+is_numbered runs (Some run) = nat_le 1 run.number && nat_le run.number runs
+
+-- whether an object can be as it is, of a scheduler that handed out so many runs
+abbrev pub can_be : ℕ → SavedObject → Bool
+can_be runs o =
+    can_stand (is_host_name o.name) o.max_attempts o.standing && can_have_results (is_host_name o.name) o.results
+    && is_numbered runs o.scheduling.run && is_timed_if_forced o.scheduling
+
+-- the number of the run that is out, if one is
+abbrev pub run_number : SavedObject → Option ℕ
+run_number o = option_map (λ r. r.number) o.scheduling.run
+
+-- whether two objects are out under one number
+abbrev pub is_same_run : Option ℕ → Option ℕ → Bool
+is_same_run (Some one) (Some other) = one == other
+is_same_run (Some one) None = false
+is_same_run None other = false
+
+-- the earlier of two places; either by itself where the other is none
+abbrev pub earlier_place : Option ℕ → Option ℕ → Option ℕ
+earlier_place None other = other
+earlier_place (Some place) None = Some place
+earlier_place (Some place) (Some other) = Some (min place other)
+
+-- every object can be as it is, and no two are out under one number; else the first that can't be, or that is out under the number of an earlier one
+abbrev pub lawful_objects : ℕ → List SavedObject → Result (Unit {0}) SavedFault
+lawful_objects runs objects =
+    refused_at faults.Unlawful (earlier_place (position (λ o. not (can_be runs o)) objects) (first_repeat is_same_run (map run_number objects)))
+
+-- ---- all of it
+
+-- the tests but for what an object can have
+abbrev pub tests_of_draft : Saved → Result (Unit {0}) SavedFault
+tests_of_draft saved =
+    few_objects saved.objects >>= λ _.
+    (good_names saved.objects >>= λ _.
+    (distinct_names saved.objects >>= λ _.
+    good_ranges saved))
+
+abbrev pub verified : Saved → Result Saved SavedFault
+verified saved = tests_of_draft saved >>= λ _. (lawful_objects saved.runs saved.objects >>= λ _. Ok saved)

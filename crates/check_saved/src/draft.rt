@@ -1,0 +1,136 @@
+//! What a saved state says, once its members have the right names and kinds. Nothing in it is
+//! verified.
+ghost use Rattle.std.specs.Prelude.{◌≡◌, ◌≤◌, IfOk};
+
+use crate::letters::results_of;
+use crate::name::is_host_name;
+use crate::saved::{SavedObject, SavedRun};
+use check_rules::{Kind, Standing, State};
+use std::alloc::{AllocError, Global};
+use std::marker::Model;
+
+/// What is said of an object's standing. Contracts see it as a standing, whose attempt may be any
+/// number.
+#[derive(Clone, Copy)]
+pub(crate) struct StandingDraft {
+    pub(crate) checked: bool,
+    pub(crate) state: State,
+    pub(crate) kind: Kind,
+    pub(crate) attempt: u64,
+    pub(crate) last_hard: State,
+    pub(crate) flapping: bool,
+}
+
+impl Model for StandingDraft {
+    ghost use Rattle.check_rules.specs.declared.standing.Standing as rules;
+
+    ghost Value = { rules.Standing };
+
+    ghost view = { λ s. record {
+      checked = s.checked;
+      state = s.state;
+      kind = s.kind;
+      attempt = s.attempt;
+      last_hard = s.last_hard;
+      flapping = s.flapping;
+    } };
+
+    ghost inverse = { λ s. record {
+      checked = s.checked;
+      state = s.state;
+      kind = s.kind;
+      attempt = s.attempt;
+      last_hard = s.last_hard;
+      flapping = s.flapping;
+    } };
+}
+
+/// What is said of an object's scheduling.
+#[derive(Clone, Copy)]
+pub(crate) struct SchedulingDraft {
+    pub(crate) next: Option<u64>,
+    pub(crate) run: Option<SavedRun>,
+    pub(crate) enabled: bool,
+    pub(crate) forced: bool,
+}
+
+impl Model for SchedulingDraft {
+    ghost use Rattle.check_saved.specs.Scheduling as spec;
+
+    ghost Value = { spec.Scheduling };
+
+    ghost view = { λ s. record { next = s.next; run = s.run; enabled = s.enabled; forced = s.forced } };
+
+    ghost inverse = { λ s. record { next = s.next; run = s.run; enabled = s.enabled; forced = s.forced } };
+}
+
+/// What is said of one object. Contracts see it as what is saved of an object, whose numbers may be
+/// any.
+#[derive(Drop)]
+pub(crate) struct ObjectDraft<'v> {
+    pub(crate) name: &'v str,
+    pub(crate) standing: StandingDraft,
+    /// The letters of its results.
+    pub(crate) letters: &'v str,
+    pub(crate) scheduling: SchedulingDraft,
+    pub(crate) interval: u64,
+    pub(crate) max_attempts: u64,
+    pub(crate) setup_enabled: bool,
+}
+
+impl<'v> Model for ObjectDraft<'v> {
+    ghost use Rattle.check_saved.specs.Saved as spec;
+    ghost use Rattle.check_saved.specs.DraftViews.{object_draft};
+
+    ghost Value = { spec.SavedObject };
+
+    ghost view = { object_draft };
+}
+
+/// All that is said. Contracts see it as what is saved, of which nothing needs to hold.
+#[derive(Drop)]
+pub(crate) struct SavedDraft<'v> {
+    pub(crate) start: u64,
+    pub(crate) runs: u64,
+    pub(crate) objects: Vec<ObjectDraft<'v>>,
+}
+
+impl<'v> Model for SavedDraft<'v> {
+    ghost use Rattle.check_saved.specs.Saved as spec;
+
+    ghost Value = { spec.Saved };
+
+    ghost view = { λ d. record { start = d.start; runs = d.runs; objects = d.objects.items } };
+}
+
+impl<'v> ObjectDraft<'v> {
+    ghost use Rattle.check_saved.specs.Verification.{HasFewAttempts};
+
+    /// What is saved of the object, whose attempts are within their limits.
+    pub(crate) fn kept(&self, alloc: Global) -> Result<SavedObject, AllocError>
+        requires { HasFewAttempts self.now }
+        ensures { IfOk result (λ object. object ≡ self.now) }
+    {
+        let standing = self.standing;
+        let scheduling = self.scheduling;
+        Ok(SavedObject {
+            name: String::from_str(alloc, self.name)?,
+            standing: Standing {
+                checked: standing.checked,
+                state: standing.state,
+                kind: standing.kind,
+                attempt: standing.attempt as u8,
+                last_hard: standing.last_hard,
+                flapping: standing.flapping,
+            },
+            results: results_of(alloc, is_host_name(self.name), self.letters)?,
+            next: scheduling.next,
+            run: scheduling.run,
+            enabled: scheduling.enabled,
+            forced: scheduling.forced,
+            interval: self.interval,
+            max_attempts: self.max_attempts as u8,
+            setup_enabled: self.setup_enabled,
+        })
+    }
+}

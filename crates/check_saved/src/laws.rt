@@ -1,0 +1,32 @@
+//! Laws of the definitions, each the contract of a function without parameters and code.
+
+ghost use Rattle.std.specs.Prelude.{◌≡◌, ◌≤◌, ℕ, List, Ok, length};
+ghost use Rattle.check_saved.specs.declared.limits.TheConstants.{MAX_SAVED_BYTES};
+ghost use Rattle.check_saved.specs.Saved.{IsSaved, Saved};
+ghost use Rattle.check_saved.specs.Text.{saved_of_text, saved_text};
+ghost use Rattle.check_saved.specs.Verification.{verified};
+ghost use Rattle.check_saved.specs.Written.{IsWritable};
+
+/// The most bytes that the text of a saved state has, as a number. (Our own profile.)
+pub fn limit_of_a_text()
+    ensures { MAX_SAVED_BYTES ≡ 16777216 }
+{}
+
+/// Whatever a text is read as is something that a scheduler can go on from (`lawful`), and nothing
+/// that a scheduler can go on from fails a test (`tests`).
+pub fn what_is_read_is_what_can_be_saved()
+    ensures lawful { (text : List ℕ) → (saved : Saved) → saved_of_text text ≡ Ok saved → IsSaved saved }
+    ensures tests { (saved : Saved) → IsSaved saved → verified saved ≡ Ok saved }
+{}
+
+/// The text of what is saved is within the limit of a text (`fits`) and is read as the same
+/// (`inverse`); so whatever a text says, what is written of it says the same (`again`). Each name is UTF-8 and each interval a number of 64 bits, as in every
+/// [`Saved`](crate::Saved).
+pub fn what_is_written_is_read()
+    ensures fits { (saved : Saved) → IsSaved saved → IsWritable saved
+        → length (saved_text saved) ≤ 16777216 }
+    ensures inverse { (saved : Saved) → IsSaved saved → IsWritable saved
+        → saved_of_text (saved_text saved) ≡ Ok saved }
+    ensures again { (text : List ℕ) → (saved : Saved) → saved_of_text text ≡ Ok saved
+        → IsWritable saved → saved_of_text (saved_text saved) ≡ Ok saved }
+{}

@@ -1,0 +1,176 @@
+//! Reading what a saved state says from its tree. Here every fault of shape is found, and no other.
+ghost use Rattle.std.specs.Prelude.{◌≡◌, option_map};
+ghost use Rattle.serde_json.specs.View.{items_view, view};
+ghost use Rattle.check_saved.specs.Reading.{draft_of, in_this_format, letters_in, object_of, objects_from};
+ghost use Rattle.check_saved.specs.Reading.{open_run_of, run_of, scheduling_of, standing_of, time_of};
+ghost use Rattle.check_saved.specs.SavedFault.{Gives};
+
+use crate::draft::{ObjectDraft, SavedDraft, SchedulingDraft, StandingDraft};
+use crate::fault::SavedFault;
+use crate::letters::are_letters;
+use crate::members::{has_only, number_in, state_in, switch_in, text_in};
+use crate::saved::SavedRun;
+use crate::words::{flapping_of_word, kind_of_word};
+use serde_json::Value;
+use std::alloc::Global;
+
+/// The members of a saved state.
+const DOCUMENT_MEMBERS: [&str; 4] = ["format", "start", "runs", "objects"];
+
+/// The members of an object in it.
+const OBJECT_MEMBERS: [&str; 15] = [
+    "name",
+    "state",
+    "kind",
+    "attempt",
+    "last_hard_state",
+    "checked",
+    "flapping",
+    "results",
+    "next_check",
+    "run",
+    "enabled",
+    "forced",
+    "check_interval",
+    "max_check_attempts",
+    "enabled_in_setup",
+];
+
+/// The members of a run that is out.
+const RUN_MEMBERS: [&str; 2] = ["number", "start"];
+
+/// Whether the format is this one, as far as there is a number of it.
+pub(crate) fn verify_format(tree: &Value) -> Result<(), SavedFault>
+    ensures { Gives (λ u. u) result (in_this_format (view tree.now)) }
+{
+    match number_in(tree, "format") {
+        Some(1) | None => Ok(()),
+        Some(_) => Err(SavedFault::Version),
+    }
+}
+
+/// What a tree says, or its first fault of shape: one of the document itself, then of its objects.
+#[tactic(auto, unfolding(crate::specs::Reading::draft_of))]
+pub(crate) fn read_draft<'v>(alloc: Global, tree: &'v Value) -> Result<SavedDraft<'v>, SavedFault>
+    ensures { Gives (λ draft. draft) result (draft_of (view tree.now)) }
+{
+    if !has_only(tree, &DOCUMENT_MEMBERS) {
+        return Err(SavedFault::Shape(None));
+    }
+    number_in(tree, "format").ok_or(SavedFault::Shape(None))?;
+    let start = number_in(tree, "start").ok_or(SavedFault::Shape(None))?;
+    let runs = number_in(tree, "runs").ok_or(SavedFault::Shape(None))?;
+    let values = tree
+        .get("objects")
+        .and_then(Value::as_array)
+        .ok_or(SavedFault::Shape(None))?;
+    let objects = read_objects(alloc, values)?;
+    Ok(SavedDraft {
+        start,
+        runs,
+        objects,
+    })
+}
+
+fn read_objects<'v>(alloc: Global, values: &'v [Value]) -> Result<Vec<ObjectDraft<'v>>, SavedFault>
+    ensures { Gives (λ drafts. drafts.items) result (objects_from 0 (items_view values.now)) }
+{
+    let mut objects = Vec::new(alloc);
+    for (index, value) in values.iter().enumerate() {
+        let object = read_object(value).ok_or(SavedFault::Shape(Some(index)))?;
+        objects.push(object)?;
+    }
+    Ok(objects)
+}
+
+#[tactic(auto, unfolding(crate::specs::Reading::object_of))]
+fn read_object<'v>(value: &'v Value) -> Option<ObjectDraft<'v>>
+    ensures { result ≡ object_of (view value.now) }
+{
+    if !has_only(value, &OBJECT_MEMBERS) {
+        return None;
+    }
+    let name = text_in(value, "name")?;
+    let standing = read_standing(value)?;
+    let letters = read_letters(value)?;
+    let scheduling = read_scheduling(value)?;
+    Some(ObjectDraft {
+        name,
+        standing,
+        letters,
+        scheduling,
+        interval: number_in(value, "check_interval")?,
+        max_attempts: number_in(value, "max_check_attempts")?,
+        setup_enabled: switch_in(value, "enabled_in_setup")?,
+    })
+}
+
+#[tactic(auto, unfolding(crate::specs::Reading::standing_of))]
+fn read_standing(value: &Value) -> Option<StandingDraft>
+    ensures { result ≡ standing_of (view value.now) }
+{
+    Some(StandingDraft {
+        checked: switch_in(value, "checked")?,
+        state: state_in(value, "state")?,
+        kind: kind_of_word(text_in(value, "kind")?)?,
+        attempt: number_in(value, "attempt")?,
+        last_hard: state_in(value, "last_hard_state")?,
+        flapping: flapping_of_word(text_in(value, "flapping")?)?,
+    })
+}
+
+/// The letters of results, if a text has no others.
+fn read_letters<'v>(value: &'v Value) -> Option<&'v str>
+    ensures { option_map (λ letters. letters.now) result ≡ letters_in (view value.now) }
+{
+    let letters = text_in(value, "results")?;
+    if are_letters(letters) {
+        Some(letters)
+    } else {
+        None
+    }
+}
+
+#[tactic(auto, unfolding(crate::specs::Reading::scheduling_of))]
+fn read_scheduling(value: &Value) -> Option<SchedulingDraft>
+    ensures { result ≡ scheduling_of (view value.now) }
+{
+    Some(SchedulingDraft {
+        next: read_time(value.get("next_check")?)?,
+        run: read_run(value.get("run")?)?,
+        enabled: switch_in(value, "enabled")?,
+        forced: switch_in(value, "forced")?,
+    })
+}
+
+/// A time, or null for none.
+fn read_time(value: &Value) -> Option<Option<u64>>
+    ensures { result ≡ time_of (view value.now) }
+{
+    if value.is_null() {
+        return Some(None);
+    }
+    Some(Some(value.as_u64()?))
+}
+
+/// A run that is out, or null for none.
+fn read_run(value: &Value) -> Option<Option<SavedRun>>
+    ensures { result ≡ run_of (view value.now) }
+{
+    if value.is_null() {
+        return Some(None);
+    }
+    Some(Some(read_open_run(value)?))
+}
+
+fn read_open_run(value: &Value) -> Option<SavedRun>
+    ensures { result ≡ open_run_of (view value.now) }
+{
+    if !has_only(value, &RUN_MEMBERS) {
+        return None;
+    }
+    Some(SavedRun {
+        number: number_in(value, "number")?,
+        start: number_in(value, "start")?,
+    })
+}

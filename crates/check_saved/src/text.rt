@@ -1,0 +1,99 @@
+//! What is saved as one line of JSON, and back.
+use crate::draft::{ObjectDraft, SavedDraft};
+use crate::fault::SavedFault;
+use crate::lawful::verify_lawful;
+use crate::limits::MAX_SAVED_BYTES;
+use crate::reading::{read_draft, verify_format};
+use crate::saved::{Saved, SavedObject};
+use crate::tree::saved_value;
+use crate::verification::verify_draft;
+use check_documents::read_tree;
+use check_drafts::LoadError;
+use serde_json::Value;
+use std::alloc::{AllocError, Global};
+
+impl Saved {
+    ghost use Rattle.std.specs.Prelude.{◌≡◌, ◌<◌, ◌≤◌, Err, IfOk, Ok, length};
+    ghost use Rattle.check_line.specs.Line.{HasNoFeed};
+    ghost use Rattle.check_saved.specs.SavedFault.{Gives};
+    ghost use Rattle.check_saved.specs.Text.{saved_of_text, saved_text};
+
+    /// Writes what is saved in JSON's compact form, without a line feed in it or at its end. What is
+    /// written is read to the same.
+    ///
+    /// An error where memory can't be had; nothing else is wrong with what is saved.
+    pub fn write(&self, alloc: Global) -> Result<Vec<u8>, AllocError>
+        ensures text { IfOk result (λ text. text.items ≡ saved_text self.now) }
+        ensures one_line { IfOk result (λ text. HasNoFeed text.items) }
+        ensures fits { IfOk result (λ text. length text.items ≤ 16777216) }
+        ensures reads_back { IfOk result (λ text. saved_of_text text.items ≡ Ok self.now) }
+    {
+        // By what is true of it, its text is short enough to be read.
+        self.is_saved();
+        let tree = saved_value(alloc, self)?;
+        let text = tree.to_vec(alloc)?;
+        Ok(text)
+    }
+
+    /// Reads what is saved from a text, whose members may stand in any order, or its first refusal.
+    ///
+    /// `Memory` may come in place of any other answer but `TooLong`.
+    pub fn read(alloc: Global, text: &[u8]) -> Result<Saved, SavedFault>
+        ensures exact { Gives (λ saved. saved) result (saved_of_text text.now) }
+        ensures too_long { 16777216 < length text.now → result ≡ Err SavedFault.TooLong }
+    {
+        if text.len() > MAX_SAVED_BYTES {
+            return Err(SavedFault::TooLong);
+        }
+        let tree = tree_of(alloc, text)?;
+        read_saved(alloc, &tree)
+    }
+}
+
+ghost use Rattle.std.specs.Prelude.{◌≡◌, All, IfOk, ok_or};
+ghost use Rattle.serde_json.specs.View.{view};
+ghost use Rattle.check_documents.specs.Tree.{tree_of};
+ghost use Rattle.check_saved.specs.SavedFault.{Gives};
+ghost use Rattle.check_saved.specs.Text.{saved_of_tree};
+ghost use Rattle.check_saved.specs.Verification.{HasFewAttempts, verified};
+
+/// The tree of a text.
+fn tree_of(alloc: Global, text: &[u8]) -> Result<Value, SavedFault>
+    ensures { Gives view result (ok_or (tree_of text.now) SavedFault.NotJson) }
+{
+    match read_tree(alloc, text) {
+        Ok(tree) => Ok(tree),
+        Err(LoadError::Memory) => Err(SavedFault::Memory),
+        Err(_) => Err(SavedFault::NotJson),
+    }
+}
+
+/// What is saved by a tree.
+fn read_saved(alloc: Global, tree: &Value) -> Result<Saved, SavedFault>
+    ensures { Gives (λ saved. saved) result (saved_of_tree (view tree.now)) }
+{
+    verify_format(tree)?;
+    let draft = read_draft(alloc, tree)?;
+    saved_of_draft(alloc, &draft)
+}
+
+fn saved_of_draft(alloc: Global, draft: &SavedDraft<'_>) -> Result<Saved, SavedFault>
+    ensures { Gives (λ saved. saved) result (verified draft.now) }
+{
+    verify_draft(alloc, draft)?;
+    let objects = objects_of(alloc, &draft.objects)?;
+    verify_lawful(alloc, draft.runs, &objects)?;
+    Ok(Saved::of(draft.start, draft.runs, objects))
+}
+
+/// What is saved of each object.
+fn objects_of(alloc: Global, drafts: &[ObjectDraft<'_>]) -> Result<Vec<SavedObject>, AllocError>
+    requires { All HasFewAttempts drafts.now }
+    ensures { IfOk result (λ objects. objects.items ≡ drafts.now) }
+{
+    let mut objects = Vec::with_capacity(alloc, drafts.len())?;
+    for draft in drafts {
+        objects.push(draft.kept(alloc)?)?;
+    }
+    Ok(objects)
+}

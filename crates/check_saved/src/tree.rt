@@ -1,0 +1,164 @@
+//! The tree of a saved state, as `serde_json` writes it.
+ghost use Rattle.std.specs.Prelude.{◌≡◌, IfOk, OnOk, map, true};
+ghost use Rattle.std.specs.List.{list_all};
+ghost use Rattle.serde_json.specs.View.{members_view, view};
+ghost use Rattle.check_saved.specs.Members.{is_narrow, scheduling_members, setup_members, standing_members, state_members};
+ghost use Rattle.check_saved.specs.Tree.{object_tree, run_tree, saved_tree};
+
+use crate::letters::letters_of;
+use crate::saved::{Saved, SavedObject, SavedRun};
+use crate::words::{flapping_word, kind_word, state_word};
+use check_rules::Standing;
+use serde_json::{Map, Value, json, put};
+use std::alloc::{AllocError, Global};
+
+/// The tree of all that is saved.
+pub(crate) fn saved_value(alloc: Global, saved: &Saved) -> Result<Value, AllocError>
+    ensures tree { IfOk result (λ tree. view tree ≡ saved_tree saved.now) }
+    ensures narrow { OnOk result (list_all is_narrow saved.now.objects ≡ true) }
+{
+    let objects = object_values(alloc, saved.objects())?;
+    json!(in alloc; {"format": 1u64, "start": saved.start(), "runs": saved.runs(), "objects": objects})
+}
+
+fn object_values(alloc: Global, objects: &[SavedObject]) -> Result<Vec<Value>, AllocError>
+    ensures trees { IfOk result (λ trees. map view trees.items ≡ map object_tree objects.now) }
+    ensures narrow { OnOk result (list_all is_narrow objects.now ≡ true) }
+{
+    let mut trees = Vec::with_capacity(alloc, objects.len())?;
+    for object in objects {
+        trees.push(object_value(alloc, object)?)?;
+    }
+    Ok(trees)
+}
+
+#[tactic(auto, unfolding(crate::specs::Members::members_put))]
+fn object_value(alloc: Global, object: &SavedObject) -> Result<Value, AllocError>
+    ensures tree { IfOk result (λ tree. view tree ≡ object_tree object.now) }
+    ensures narrow { OnOk result (is_narrow object.now ≡ true) }
+{
+    let mut members = Map::new(alloc);
+    put_standing(&mut members, alloc, object.standing)?;
+    put_scheduling(&mut members, alloc, object)?;
+    put_setup(&mut members, alloc, object)?;
+    put(
+        &mut members,
+        alloc,
+        "name",
+        Value::try_from_str(alloc, object.name.as_str())?,
+    )?;
+    put(
+        &mut members,
+        alloc,
+        "results",
+        Value::String(letters_of(alloc, &object.results)?),
+    )?;
+    Ok(Value::Object(members))
+}
+
+/// Puts the members that say how an object stands.
+#[tactic(auto, unfolding(crate::specs::Members::standing_members))]
+fn put_standing(
+    members: &mut Map<String, Value>,
+    alloc: Global,
+    standing: Standing,
+) -> Result<(), AllocError>
+    ensures { OnOk result (members_view members.new.entries
+        ≡ standing_members standing (members_view members.old.entries)) }
+{
+    put_states(members, alloc, standing)?;
+    put(members, alloc, "attempt", Value::from(standing.attempt))?;
+    put(members, alloc, "checked", Value::Bool(standing.checked))?;
+    put(
+        members,
+        alloc,
+        "flapping",
+        Value::try_from_str(alloc, flapping_word(standing.flapping))?,
+    )
+}
+
+/// Puts the members that name an object's states.
+#[tactic(auto, unfolding(crate::specs::Members::state_members))]
+fn put_states(
+    members: &mut Map<String, Value>,
+    alloc: Global,
+    standing: Standing,
+) -> Result<(), AllocError>
+    ensures { OnOk result (members_view members.new.entries
+        ≡ state_members standing (members_view members.old.entries)) }
+{
+    put(
+        members,
+        alloc,
+        "state",
+        Value::try_from_str(alloc, state_word(standing.state))?,
+    )?;
+    put(
+        members,
+        alloc,
+        "last_hard_state",
+        Value::try_from_str(alloc, state_word(standing.last_hard))?,
+    )?;
+    put(
+        members,
+        alloc,
+        "kind",
+        Value::try_from_str(alloc, kind_word(standing.kind))?,
+    )
+}
+
+/// Puts the members that say when an object is checked.
+#[tactic(auto, unfolding(crate::specs::Members::scheduling_members))]
+fn put_scheduling(
+    members: &mut Map<String, Value>,
+    alloc: Global,
+    object: &SavedObject,
+) -> Result<(), AllocError>
+    ensures { OnOk result (members_view members.new.entries
+        ≡ scheduling_members object.now.scheduling (members_view members.old.entries)) }
+{
+    put(members, alloc, "next_check", Value::from(object.next))?;
+    put(members, alloc, "run", run_value(alloc, object.run)?)?;
+    put(members, alloc, "enabled", Value::Bool(object.enabled))?;
+    put(members, alloc, "forced", Value::Bool(object.forced))
+}
+
+/// Puts the members that say what its setup says of an object.
+#[tactic(auto, unfolding(crate::specs::Members::setup_members))]
+fn put_setup(
+    members: &mut Map<String, Value>,
+    alloc: Global,
+    object: &SavedObject,
+) -> Result<(), AllocError>
+    ensures members { OnOk result (members_view members.new.entries
+        ≡ setup_members object.now (members_view members.old.entries)) }
+    ensures narrow { OnOk result (is_narrow object.now ≡ true) }
+{
+    put(
+        members,
+        alloc,
+        "check_interval",
+        Value::from(object.interval),
+    )?;
+    put(
+        members,
+        alloc,
+        "max_check_attempts",
+        Value::from(object.max_attempts),
+    )?;
+    put(
+        members,
+        alloc,
+        "enabled_in_setup",
+        Value::Bool(object.setup_enabled),
+    )
+}
+
+fn run_value(alloc: Global, run: Option<SavedRun>) -> Result<Value, AllocError>
+    ensures { IfOk result (λ tree. view tree ≡ run_tree run) }
+{
+    match run {
+        Some(run) => json!(in alloc; {"number": run.number, "start": run.start}),
+        None => Ok(Value::Null),
+    }
+}

@@ -1,0 +1,127 @@
+//! Verifying what a saved state says: counts, names, repeats, limits. Each test covers all of it
+//! before the next begins, and reports the first object with a fault.
+ghost use Rattle.std.specs.Prelude.{◌≡◌, ◌≤◌, All, IfNone, IsTrue, OnOk, bytes_eq, length, map, not, position};
+ghost use Rattle.check_saved.specs.SavedFault.{Gives};
+ghost use Rattle.check_saved.specs.Scheduling.{is_in_time, is_moment, is_time};
+ghost use Rattle.check_saved.specs.Verification.{HasFewAttempts, distinct_names, few_objects, good_names, good_ranges};
+ghost use Rattle.check_saved.specs.Verification.{is_attempt, is_full_name, is_in_range, tests_of_draft};
+
+use crate::draft::{ObjectDraft, SavedDraft, SchedulingDraft};
+use crate::fault::SavedFault;
+use crate::limits::{LAST_MOMENT, LAST_TIME, MAX_RUNS};
+use crate::name::is_full_name;
+use crate::saved::SavedRun;
+use check_drafts::{MAX_ATTEMPTS, MAX_OBJECTS};
+use indexmap::IndexSet;
+use std::alloc::Global;
+
+/// Whether what is said has few objects, each with a name of its own, and numbers within their
+/// limits, or the first fault.
+pub(crate) fn verify_draft(alloc: Global, draft: &SavedDraft<'_>) -> Result<(), SavedFault>
+    ensures exact { Gives (λ u. u) result (tests_of_draft draft.now) }
+    ensures few { OnOk result (All HasFewAttempts draft.now.objects) }
+{
+    verify_count(&draft.objects)?;
+    verify_names(&draft.objects)?;
+    verify_distinct(alloc, &draft.objects)?;
+    verify_ranges(draft)
+}
+
+fn verify_count(objects: &[ObjectDraft<'_>]) -> Result<(), SavedFault>
+    ensures { Gives (λ u. u) result (few_objects objects.now) }
+{
+    if objects.len() > MAX_OBJECTS {
+        return Err(SavedFault::TooMany);
+    }
+    Ok(())
+}
+
+// ---- names
+
+fn verify_names(objects: &[ObjectDraft<'_>]) -> Result<(), SavedFault>
+    ensures { Gives (λ u. u) result (good_names objects.now) }
+{
+    match bad_name(objects) {
+        Some(index) => Err(SavedFault::BadName(index)),
+        None => Ok(()),
+    }
+}
+
+fn bad_name(objects: &[ObjectDraft<'_>]) -> Option<usize>
+    ensures { result ≡ position (λ o. not (is_full_name o.name)) objects.now }
+{
+    objects.iter().position(|object| !is_full_name(object.name))
+}
+
+fn verify_distinct(alloc: Global, objects: &[ObjectDraft<'_>]) -> Result<(), SavedFault>
+    ensures { Gives (λ u. u) result (distinct_names objects.now) }
+{
+    let mut names = IndexSet::with_capacity(alloc, objects.len())?;
+    for (index, object) in objects.iter().enumerate() {
+        if !names.insert(object.name)? {
+            return Err(SavedFault::Duplicate(index));
+        }
+    }
+    Ok(())
+}
+
+// ---- limits
+
+fn verify_ranges(draft: &SavedDraft<'_>) -> Result<(), SavedFault>
+    ensures exact { Gives (λ u. u) result (good_ranges draft.now) }
+    ensures few { OnOk result (All HasFewAttempts draft.now.objects) }
+{
+    if draft.start > LAST_MOMENT || draft.runs > MAX_RUNS {
+        return Err(SavedFault::Range(None));
+    }
+    match out_of_range(&draft.objects) {
+        Some(index) => Err(SavedFault::Range(Some(index))),
+        None => Ok(()),
+    }
+}
+
+fn out_of_range(objects: &[ObjectDraft<'_>]) -> Option<usize>
+    ensures place { result ≡ position (λ o. not (is_in_range o)) objects.now }
+    ensures few { IfNone result (All HasFewAttempts objects.now) }
+{
+    objects.iter().position(|object| !is_in_range(object))
+}
+
+fn is_in_range(object: &ObjectDraft<'_>) -> bool
+    ensures test { result ≡ is_in_range object.now }
+    ensures few { IsTrue result → HasFewAttempts object.now }
+{
+    is_attempt(object.standing.attempt)
+        && is_attempt(object.max_attempts)
+        && is_in_time(object.scheduling)
+}
+
+fn is_attempt(number: u64) -> bool
+    ensures { result ≡ is_attempt number }
+{
+    1 <= number && number <= MAX_ATTEMPTS
+}
+
+fn is_in_time(scheduling: SchedulingDraft) -> bool
+    ensures { result ≡ is_in_time scheduling }
+{
+    is_time(scheduling.next) && is_moment(scheduling.run)
+}
+
+fn is_time(time: Option<u64>) -> bool
+    ensures { result ≡ is_time time }
+{
+    match time {
+        Some(time) => time <= LAST_TIME,
+        None => true,
+    }
+}
+
+fn is_moment(run: Option<SavedRun>) -> bool
+    ensures { result ≡ is_moment run }
+{
+    match run {
+        Some(run) => run.start <= LAST_MOMENT,
+        None => true,
+    }
+}
