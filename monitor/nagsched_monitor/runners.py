@@ -149,3 +149,5 @@ class RunnerProcesses:
             except subprocess.TimeoutExpired:
                 process.process.kill()
                 process.process.wait(timeout=10)
+            assert process.process.stdout is not None
+            process.process.stdout.close()

@@ -83,29 +83,40 @@ class Store:
     """The database of one monitor. A second one of the same site is refused."""
 
     def __init__(self, folder: pathlib.Path) -> None:
-        self._lock = os.open(folder / "monitor.lock", os.O_RDWR | os.O_CREAT | os.O_CLOEXEC, 0o600)
-        try:
-            fcntl.flock(self._lock, fcntl.LOCK_EX | fcntl.LOCK_NB)
-        except BlockingIOError:
-            os.close(self._lock)
-            raise MonitorFault(f"another monitor runs on {folder}") from None
         self.path = folder / "monitor.db"
-        os.close(os.open(self.path, os.O_RDWR | os.O_CREAT | os.O_CLOEXEC, 0o600))
+        self._lock: Optional[int] = locked(folder)
         try:
-            self._database = sqlite3.connect(self.path, isolation_level=None, timeout=5)
-            for setting in ("journal_mode=WAL", "synchronous=FULL", "wal_autocheckpoint=1000"):
-                self._database.execute(f"PRAGMA {setting}")
-            for table, members in TABLES.items():
-                self._database.execute(f"CREATE TABLE IF NOT EXISTS {table} (id INTEGER PRIMARY KEY, {members}, checksum TEXT)")
+            self._database = self._opened()
             self._verify()
         except sqlite3.Error as error:
+            self.close()
             raise MonitorFault(f"{self.path}: {error}") from None
+        except DamagedRow:
+            self.close()
+            raise
         self.last_call = max(self._greatest("calls"), self._greatest("generations", "last_call"))
         self.last_change = self._greatest("changes")
 
+    def _opened(self) -> sqlite3.Connection:
+        """The database, for its owner only, with a table for everything."""
+        os.close(os.open(self.path, os.O_RDWR | os.O_CREAT | os.O_CLOEXEC, 0o600))
+        database = sqlite3.connect(self.path, isolation_level=None, timeout=5)
+        try:
+            for setting in ("journal_mode=WAL", "synchronous=FULL", "wal_autocheckpoint=1000"):
+                database.execute(f"PRAGMA {setting}")
+            for table, members in TABLES.items():
+                database.execute(f"CREATE TABLE IF NOT EXISTS {table} (id INTEGER PRIMARY KEY, {members}, checksum TEXT)")
+        except sqlite3.Error:
+            database.close()
+            raise
+        return database
+
     def close(self) -> None:
-        self._database.close()
-        os.close(self._lock)
+        if self._lock is not None:
+            if hasattr(self, "_database"):
+                self._database.close()
+            os.close(self._lock)
+            self._lock = None
 
     # ---- reading
 
@@ -176,6 +187,17 @@ class Store:
 
     def delete(self, table: str, condition: str, *cells: Cell) -> None:
         self._database.execute(f"DELETE FROM {table} WHERE {condition}", cells)
+
+
+def locked(folder: pathlib.Path) -> int:
+    """The lock of a site, which one monitor holds."""
+    lock = os.open(folder / "monitor.lock", os.O_RDWR | os.O_CREAT | os.O_CLOEXEC, 0o600)
+    try:
+        fcntl.flock(lock, fcntl.LOCK_EX | fcntl.LOCK_NB)
+    except BlockingIOError:
+        os.close(lock)
+        raise MonitorFault(f"another monitor runs on {folder}") from None
+    return lock
 
 
 def checksum_of(table: str, number: int, cells: Sequence[Cell]) -> str:
