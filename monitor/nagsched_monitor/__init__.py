@@ -15,6 +15,9 @@ Modules, lowest first:
     spreading    the times of checks that are overdue
     changes      what is printed of a change, and the command that is run for it
     scheduling   calls made and kept, over all parts of a site
+    sooner       checks at other times than their own, and the rhythm behind them
+    passive      passive results, and objects of which no result came in time
+    verdict      what the end of a plugin counts as
     engine       one turn of the monitor: results in, checks out
     requests     what can be asked of a monitor that runs
     control      the socket through which it is asked
