@@ -69,6 +69,7 @@ class Engine:
         except ConversationEnded as error:
             self._log(f"{error}; it is started anew")
             self._jobs.clear()
+            self._results.clear()
             self.scheduling.reopen()
             self._last_turn = None
             return now
@@ -150,32 +151,34 @@ class Engine:
         time = on_time(due)
         if time is not None:
             self.latest_start = max(self.latest_start, self._clock.moment() - time)
-        if watched.command is None:
-            self._results.append(Finished(Job(taken.name, taken.run, (), 0), "exited", UNKNOWN, "it has no command"))
-            return
-        job = Job(taken.name, taken.run, watched.command.words, watched.command.limit)
+        words, limit = ((), 0.0) if watched.command is None else (watched.command.words, watched.command.limit)
+        job = Job(taken.name, taken.run, words, limit)
         self._jobs[taken.name, taken.run] = job
-        self._runners.start(job)
+        if watched.command is None:
+            self._results.append(Finished(job, "exited", UNKNOWN, "it has no command"))
+        else:
+            self._runners.start(job)
 
     # ---- results
 
     def _report(self) -> None:
         """Reports the results that have come, and gives up what is lost. What can't be kept stays here."""
         while self._results:
-            events = [event for event in self._results if event.job.name in self.scheduling.known.objects]
+            events = [event for event in self._results if self._is_awaited(event)]
             before = {event.job.name: self.scheduling.known.objects[event.job.name].standing for event in events}
             answers = self.scheduling.make([self._ended(event) for event in events])
-            self._say_what_is_dropped()
+            for event in self._results:
+                if not self._is_awaited(event):
+                    self._jobs.pop((event.job.name, event.job.run), None)
+                    self._log(f"{event.job.name}: the result of run {event.job.run} is dropped: it was given up, or the object isn't part of the site any more")
             self._results.clear()
             for event, answer in zip(events, answers):
                 self._jobs.pop((event.job.name, event.job.run), None)
                 self._reported(event.job, answer, before[event.job.name])
 
-    def _say_what_is_dropped(self) -> None:
-        for event in self._results:
-            if event.job.name not in self.scheduling.known.objects:
-                self._jobs.pop((event.job.name, event.job.run), None)
-                self._log(f"{event.job.name} isn't part of the site any more: the result of run {event.job.run} is dropped")
+    def _is_awaited(self, event: Event) -> bool:
+        """Whether a check still runs, and its object is part of the site."""
+        return (event.job.name, event.job.run) in self._jobs and event.job.name in self.scheduling.known.objects
 
     def _ended(self, event: Event) -> Tuple[Call, Optional[str]]:
         """The call by which a check ends, and the plugin's words. A check whose runner ended is given up, and at last UNKNOWN."""
