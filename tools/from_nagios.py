@@ -94,13 +94,16 @@ class LeftOut:
 def lines_of(path):
     """The lines of a file that say something, each with its place."""
     try:
-        text = path.read_text(encoding="utf-8")
-    except (OSError, UnicodeDecodeError) as error:
+        lines = path.read_bytes().split(b"\n")
+    except OSError as error:
         raise CannotTakeOver(f"{path}: {error}") from None
-    for number, line in enumerate(text.split("\n"), 1):
-        line = line.strip()
-        if line and line[0] not in "#;":
-            yield f"{path}:{number}", line
+    for number, line in enumerate(lines, 1):
+        try:
+            text = line.decode("utf-8").strip()
+        except UnicodeDecodeError as error:
+            raise CannotTakeOver(f"{path}:{number}: {error}") from None
+        if text and text[0] not in "#;":
+            yield f"{path}:{number}", text
 
 
 def read_options(path):
