@@ -119,7 +119,8 @@ class Engine:
 
     def _see_to_freshness(self, now: int) -> None:
         """Has the command run of each object of which no result came within its freshness."""
-        for known in self.scheduling.known.objects.values():
+        for name in self.site.with_freshness:
+            known = self.scheduling.known.objects[name]
             if is_stale(known, self._opened, now) and self._is_in_period(known.watched):
                 self._log(f"{known.name}: no result for {(known.watched.freshness or 0) / 1000:g} seconds; its command is run")
                 self._sooner.want(Reschedule(known.name, now, True))

@@ -77,6 +77,8 @@ class Site:
     # The hosts that have a host as their parent, by its name.
     children: Mapping[str, Sequence[str]]
     zone: Optional[datetime.tzinfo]
+    # The objects whose results have to be fresh.
+    with_freshness: Sequence[str]
 
 
 def read_site(folder: pathlib.Path, program: str) -> Site:
@@ -96,7 +98,8 @@ def read_site(folder: pathlib.Path, program: str) -> Site:
         only, freshness = passive.get(name, (False, None))
         objects[name] = replace(watched, command=commands.get(name), period=period_of.get(name), passive_only=only, freshness=freshness)
         test_command(objects[name])
-    return Site(folder, setups, objects, periods, options, children_of(objects), zone)
+    with_freshness = [name for name, watched in objects.items() if watched.freshness is not None]
+    return Site(folder, setups, objects, periods, options, children_of(objects), zone, with_freshness)
 
 
 # ---- setups
