@@ -56,6 +56,8 @@ IN_THE_GATE = {
     "examples/monitor.py setup.json commands.json": ".ci/monitor.py",
     "monitor/nagsched-monitor": ".ci/monitor.py",
     "monitor/nagsched-monitor office": ".ci/monitor.py",
+    'monitor/nagsched-monitor --on-change "examples/mail_change.py monitor@example.org oncall@example.org" office': ".ci/monitor.py",
+    'monitor/nagsched-monitor --on-change "examples/alert_change.py http://localhost:9093" office': ".ci/monitor.py",
     "tools/from_nagios.py --site office /etc/nagios4/nagios.cfg /var/lib/nagios4/objects.precache": ".ci/monitor.py",
     "docs/map.py": "docs/check.py",
     "docs/commands.py": "docs/check.py",

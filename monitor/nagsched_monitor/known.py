@@ -96,8 +96,9 @@ class AllKnown:
         for it in json.loads(state)["objects"]:
             known = self.objects.get(it["name"])
             if known is not None:
-                known.on, known.forced, known.next = it["enabled"], it["forced"], it["next_check"]
-                known.run = None if it["run"] is None else it["run"]["number"]
+                known.on, known.forced, known.next = it["enabled"], it["forced"], it.get("next_check")
+                run = it.get("run")
+                known.run = None if run is None else run["number"]
                 known.standing = None
                 self._set_due(known)
 

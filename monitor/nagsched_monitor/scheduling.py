@@ -1,4 +1,6 @@
 """The schedulers of a site, one a part: each call is kept before it is made, and what the answers say is known."""
+import itertools
+import time
 from typing import Callable, Dict, List, Optional, Sequence, Tuple
 
 from . import changes
@@ -10,9 +12,9 @@ from .known import AllKnown
 from .site import Site
 from .store import BeginGeneration, Generation, KeepCalls, KeepChange, KeptChange, Store, Write
 
-# Calls that are made again at a time, and how often it is said how many are left.
+# Calls that are made again at a time, and how often it is said how many are left, in seconds.
 AT_ONCE = 4_096
-SAY_EVERY = 200_000
+SAY_EVERY = 1.0
 
 # A call, and the words of the plugin that it reports.
 Asked = Tuple[Call, Optional[str]]
@@ -63,21 +65,18 @@ class Scheduling:
         self._conversations[part] = self._conversation(generation)
         if generation.saved is not None:
             self.known.read_saved(generation.saved)
-        calls, numbers, made = [], [], 0
-        for kept in self._store.calls_since(part, generation.last_call):
-            calls.append((read_call(kept.line), kept.words))
-            numbers.append(kept.id)
-            if len(calls) == AT_ONCE:
-                made += self._make_again(part, calls, numbers)
-                calls, numbers = [], []
-                if made % SAY_EVERY < AT_ONCE:
-                    self._log(f"part {part + 1}: {made} kept calls are made again")
-        self._make_again(part, calls, numbers)
+        left, said = self._store.count_calls(part, generation.last_call), time.monotonic()
+        kept = self._store.calls_since(part, generation.last_call)
+        while some := list(itertools.islice(kept, AT_ONCE)):
+            self._make_again(part, [(read_call(each.line), each.words) for each in some], [each.id for each in some])
+            left -= len(some)
+            if time.monotonic() - said > SAY_EVERY:
+                said = time.monotonic()
+                self._log(f"part {part + 1}: kept calls are made again, {left} are left")
 
-    def _make_again(self, part: int, calls: Sequence[Asked], numbers: Sequence[int]) -> int:
+    def _make_again(self, part: int, calls: Sequence[Asked], numbers: Sequence[int]) -> None:
         for (call, words), number, answer in zip(calls, numbers, self._conversations[part].ask([call for call, _ in calls])):
             self._hear(call, words, answer, number)
-        return len(calls)
 
     def _carry_over(self, generation: Generation, setup: bytes) -> None:
         """Goes on over another setup, from the state in which the old one is."""

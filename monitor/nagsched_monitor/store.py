@@ -144,6 +144,11 @@ class Store:
         rows = self._database.execute("SELECT id, part, line, words FROM calls WHERE part = ? AND id > ? ORDER BY id", (part, number))
         return (KeptCall(*row) for row in rows)
 
+    def count_calls(self, part: int, number: int) -> int:
+        """How many calls of a part there are behind the call with this number."""
+        (count,) = self._database.execute("SELECT count(*) FROM calls WHERE part = ? AND id > ?", (part, number)).fetchone()
+        return int(count)
+
     def last_moment(self) -> int:
         """The greatest moment that a scheduler was handed."""
         moments = [0, *(generation.start for generation in self.generations().values())]

@@ -3,12 +3,13 @@ import json
 import os
 import pathlib
 import random
+import shutil
 import signal
 import sqlite3
 import subprocess
 import sys
 import time
-from typing import Any, Dict, List
+from typing import Any, Dict, List, Optional
 
 from .simulated import PROGRAM, SiteTest
 
@@ -17,8 +18,9 @@ KILLS = 10
 
 
 class Running(SiteTest):
-    def begin(self, *words: str) -> "subprocess.Popen[str]":
-        running = subprocess.Popen([sys.executable, str(MONITOR), "--program", PROGRAM, *words, str(self.folder)], stdout=subprocess.PIPE, text=True)
+    def begin(self, *words: str, environment: Optional[Dict[str, str]] = None) -> "subprocess.Popen[str]":
+        command = [sys.executable, str(MONITOR), "--program", PROGRAM, *words, str(self.folder)]
+        running = subprocess.Popen(command, stdout=subprocess.PIPE, text=True, env=environment)
         self.addCleanup(self.end, running)
         self.await_socket(running)
         return running
@@ -83,6 +85,23 @@ class Running(SiteTest):
         refused = [answer for answer in answers if answer.startswith("refused")]
         self.assertEqual(refused, [])
         self.assertEqual(len(told), 20)
+
+    def test_a_slow_sync(self) -> None:
+        """A disk whose sync takes 10 milliseconds: what comes meanwhile is kept together, and nothing is lost."""
+        compiler = shutil.which("cc")
+        if compiler is None:
+            self.skipTest("there is no C compiler")
+        shim = self.folder / "slow_sync.so"
+        subprocess.run([compiler, "-shared", "-fPIC", "-o", str(shim), str(pathlib.Path(__file__).parent / "slow_sync.c"), "-ldl"], check=True)
+        self.write_site(self.objects(50), [])
+        running = self.begin(environment={**os.environ, "LD_PRELOAD": str(shim)})
+        time.sleep(4)
+        self.end(running, signal.SIGKILL)
+        with sqlite3.connect(self.folder / "monitor.db") as database:
+            answers = self.answers(self.calls(database))
+        reported = [answer for answer in answers if answer.startswith("standing ")]
+        self.assertGreater(len(reported), 100)
+        self.assertFalse([answer for answer in answers if answer.startswith("refused")])
 
     def test_a_plugin_that_leaves_a_child(self) -> None:
         self.write_site(self.objects(1), [])
