@@ -1,72 +1,76 @@
 #!/usr/bin/env python3
-"""Holds examples/monitor.py to its word: it is killed at five random moments, and loses nothing.
+"""Holds the monitor to its word, and the loop of examples/monitor.py to its own.
 
     .ci/monitor.py PROGRAM
 
-Three objects with plugins that are small commands. After each kill the monitor is started again on the same journal; at the
-end its last answers are those of one `run` over the whole journal, and no run is taken twice.
+The tests of monitor/ run over the built program: simulated days, and processes that are killed, asked and reloaded. A site is made of Nagios's own files,
+and is one that the monitor accepts. The loop prints the change of a small site.
 """
 import json
+import os
 import pathlib
-import random
 import re
-import shlex
-import signal
 import subprocess
 import sys
 import tempfile
-import time
+import unittest
 
 TOP = pathlib.Path(__file__).resolve().parent.parent
 SETUP = {
     "options": {"interval_length": 1, "host_inter_check_delay_method": "n", "service_inter_check_delay_method": "n"},
-    "hosts": [{"name": name, "check_interval": 1, "max_check_attempts": 2} for name in ("gateway", "web")],
-    "services": [{"host": "web", "description": "http", "check_interval": 1, "max_check_attempts": 3}],
+    "hosts": [{"name": "gateway", "check_interval": 1, "max_check_attempts": 2}],
+    "services": [{"host": "gateway", "description": "web page", "check_interval": 1, "max_check_attempts": 3}],
 }
-COMMANDS = {"*": "sleep 0.05", "web;http": "sh -c 'echo $0 answers 2; exit 2' $HOST$"}
-SECONDS, KILLS = 2.0, 5
+COMMANDS = {"gateway": "true", "gateway;web page": "exit 2"}
+PLUGIN = "#!/bin/sh\nexit 0\n"
 
 
-def monitor(program, work, seconds):
-    """A monitor on the journal, whose scheduler's answers are kept."""
-    command = [sys.executable, TOP / "examples/monitor.py", work / "setup.json", work / "commands.json"]
-    return subprocess.Popen([*command, "--journal", work / "journal", "--seconds", str(seconds), "--program", program],
-                            stdout=subprocess.PIPE, text=True)
+def loop(program):
+    """The lines of the loop, over two seconds."""
+    with tempfile.TemporaryDirectory() as folder:
+        setup, commands = pathlib.Path(folder, "setup.json"), pathlib.Path(folder, "commands.json")
+        setup.write_text(json.dumps(SETUP, indent=1))
+        commands.write_text(json.dumps(COMMANDS))
+        ran = subprocess.run([sys.executable, TOP / "examples/monitor.py", setup, commands, "2.5", program], stdout=subprocess.PIPE, text=True, timeout=60)
+    return [line.split(" ", 1)[1] for line in ran.stdout.splitlines()]
+
+
+def site(program):
+    """What the monitor prints of the site that Nagios's own files become, with plugins in place of those that the files name."""
+    with tempfile.TemporaryDirectory() as folder:
+        work = pathlib.Path(folder)
+        text = (TOP / "conformance/nagios/objects.precache").read_text()
+        for plugin in sorted(set(re.findall(r"command_line\t(?:\$USER1\$/)?([\w./-]+)", text))):
+            path = work / pathlib.Path(plugin).name
+            path.write_text(PLUGIN)
+            path.chmod(0o755)
+        (work / "resource.cfg").write_text(f"$USER1$={work}\n")
+        (work / "objects").write_text(re.sub(r"command_line\t(?!\$USER1\$)[\w./-]*/", "command_line\t$USER1$/", text))
+        made = subprocess.run([sys.executable, TOP / "tools/from_nagios.py", "--site", work / "site", "--resource", work / "resource.cfg",
+                               TOP / "conformance/nagios/nagios.cfg", work / "objects"], capture_output=True, text=True)
+        tested = subprocess.run([sys.executable, TOP / "monitor/nagsched-monitor", "--program", program, work / "site", "test"], capture_output=True, text=True)
+        return made.returncode, tested.stdout, tested.stderr
 
 
 def main():
-    work = pathlib.Path(tempfile.mkdtemp())
-    (work / "setup.json").write_text(json.dumps(SETUP, indent=1))
-    (work / "commands.json").write_text(json.dumps(COMMANDS))
-    program = shlex.quote(str(pathlib.Path(sys.argv[1]).resolve()))
-    kept = work / "kept"
-    kept.write_text(f"#!/bin/sh\n{program} \"$@\" | tee {shlex.quote(str(work / 'answers'))}\n")
-    kept.chmod(0o755)
-    chance = random.Random(7)
-    for _ in range(KILLS):
-        running = monitor(kept, work, 60)
-        time.sleep(chance.uniform(0.1, SECONDS / KILLS))
-        running.send_signal(signal.SIGKILL)
-        running.communicate()
-    told, _ = monitor(kept, work, SECONDS).communicate(timeout=60)
-
-    first, *calls = (work / "journal").read_bytes().splitlines(keepends=True)
-    start, _, setup = first.partition(b" ")
-    ran = subprocess.run([sys.argv[1], "run", "--start", start], input=setup + b"".join(calls), capture_output=True)
-    answers = (work / "answers").read_bytes()
-    runs = re.findall(rb"^taken (\d+) ", answers, re.MULTILINE)
-    faults = []
-    if ran.returncode != 0 or ran.stdout != answers:
-        faults.append("its answers are not those of one run over its journal")
-    if len(set(runs)) != len(runs) or not runs:
-        faults.append("a run was taken twice, or none was")
-    if not re.search(r"^web;http is|web;http is CRITICAL|\d+ checks made; the latest began \d+ ms behind its time; \d+ still out$", told, re.MULTILINE):
-        faults.append(f"it told {told!r}")
-    for fault in faults:
-        print(f"monitor: {fault}")
-    print(f"monitor: killed {KILLS} times, {len(calls)} calls, {len(runs)} runs")
-    print(f"monitor: {0 if faults else 1} passed, {len(faults)} failed")
-    return 1 if faults else 0
+    program = str(pathlib.Path(sys.argv[1]).resolve())
+    os.environ["NAGSCHED"] = program
+    sys.path.insert(0, str(TOP / "monitor"))
+    tests = unittest.defaultTestLoader.discover(str(TOP / "monitor/tests"), top_level_dir=str(TOP / "monitor"))
+    result = unittest.TextTestRunner(stream=sys.stdout, verbosity=0).run(tests)
+    wrong = len(result.failures) + len(result.errors)
+    passed = result.testsRun - wrong
+    for what, wanted, came in (
+        ("the loop", ["gateway;web page is CRITICAL SOFT 1"], [line for line in loop(program) if "SOFT 1" in line]),
+        ("a site of Nagios's files", (0, "15 objects, 1 parts\n", ""), site(program)),
+    ):
+        if came == wanted:
+            passed += 1
+        else:
+            wrong += 1
+            print(f"monitor: {what}: wanted {wanted!r}, came {came!r}")
+    print(f"monitor: {passed} passed, {wrong} failed")
+    return 1 if wrong or not passed else 0
 
 
 if __name__ == "__main__":

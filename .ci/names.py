@@ -19,6 +19,8 @@ NAME = re.compile(r"[A-Za-z_][A-Za-z0-9_]*(::[A-Za-z_][A-Za-z0-9_]*)*(<[A-Z]>)?(
 FILE = re.compile(r"[\w./-]*\w\.\w+")
 # Names of the kit's and of Nagios's, which stand in no file of ours.
 OF_OTHERS = {"Backoff::snooze", "Shared::exchange", "std::sync::atomic::raw", "test_checks.c"}
+# The files of a site, which stand in its folder.
+OF_A_SITE = {"setup.json", "commands.json", "periods.json", "passive.json", "monitor.json", "part-1.json", "part-2.json"}
 
 
 def files():
@@ -44,7 +46,7 @@ def told(page):
 
 def missing(name, all_files, words):
     """Whether this looks like a name, and isn't there."""
-    if name in OF_OTHERS:
+    if name in OF_OTHERS or name in OF_A_SITE:
         return False
     if name.endswith(ENDINGS) and FILE.fullmatch(name):
         return not any(str(file).endswith("/" + name.removeprefix("./")) for file in [*all_files, *PAGES])

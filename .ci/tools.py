@@ -80,6 +80,47 @@ LINES = {
 }
 
 
+PERIODS = """define timeperiod {
+	timeperiod_name	always
+	alias	Each time
+	sunday	00:00-24:00
+	monday	00:00-24:00
+	tuesday	00:00-24:00
+	wednesday	00:00-24:00
+	thursday	00:00-24:00
+	friday	00:00-24:00
+	saturday	00:00-24:00
+	}
+define timeperiod {
+	timeperiod_name	free
+	alias	Holidays
+	2026-12-24 - 2026-12-26	00:00-24:00
+	january 1	00:00-24:00
+	december 31 - january 2	12:00-24:00
+	day -1	20:00-24:00
+	day 1 - 3	20:00-24:00
+	monday 1 may	00:00-24:00
+	friday -1	18:00-24:00
+	2026-01-01 / 3	00:00-24:00
+	}
+define timeperiod {
+	timeperiod_name	work
+	alias	Work
+	exclude	free
+	monday	08:00-12:00,13:00-17:00
+	}
+"""
+# Of each service of a site: members beside its name, and what becomes of it in which file.
+SITE = {
+    "plain": {"check_command": "plain!1%!2", "check_period": "always"},
+    "piped": {"check_command": "piped", "check_period": "work", "is_volatile": "1"},
+    "trap": {"active_checks_enabled": "0", "check_interval": "5"},
+    "backup": {"active_checks_enabled": "0", "check_command": "dollars", "check_freshness": "1", "freshness_threshold": "90"},
+    "nightly": {"check_command": "dollars", "check_freshness": "1", "freshness_threshold": "0", "check_interval": "5", "parents": "h,plain"},
+    "lost": {"check_command": "nothing"},
+}
+
+
 def from_nagios(*words):
     ran = subprocess.run([sys.executable, TOP / "tools/from_nagios.py", *words], capture_output=True, text=True)
     return ran.returncode, ran.stdout, ran.stderr
@@ -182,6 +223,37 @@ def command_lines(work):
     yield "a resource file that isn't there", (status, made) == (1, "") and "missing.cfg" in told
 
 
+def site(work):
+    """The folder of a site: commands with and without a shell, periods that objects go by, passive objects, the monitor's options."""
+    services = "".join("define service {\n\thost_name\th\n\tservice_description\t%s\n\tmax_check_attempts\t3\n%s\t}\n"
+                       % (name, "".join(f"\t{member}\t{value}\n" for member, value in members.items())) for name, members in SITE.items())
+    (work / "site.precache").write_text(COMMANDS + PERIODS + services)
+    (work / "site.cfg").write_text("max_concurrent_checks=40\nservice_check_timeout=20\nhost_check_timeout=7\ncached_host_check_horizon=9\ninterval_length=60\n")
+    (work / "resource.cfg").write_text("$USER1$=/plugins\n")
+    status, _, told = from_nagios("--site", work / "site", "--resource", work / "resource.cfg", work / "site.cfg", work / "site.precache")
+    files = {path.stem: json.loads(path.read_text()) for path in (work / "site").iterdir()} if status == 0 else {}
+    yield "the files of a site", sorted(files) == ["commands", "monitor", "passive", "periods", "setup"]
+    commands = files["commands"]
+    yield "its limits", (commands["h"]["limit"], commands["h;plain"]["limit"]) == (7, 20)
+    yield "its shells", (commands["h;piped"].get("shell"), commands["h;plain"].get("shell")) == (True, None)
+    yield "its options", files["monitor"] == {"slots": 40, "cached_host_check_horizon": 9, "service_check_timeout_state": "c"}
+    yield "that its scheduler has no limit", files["setup"]["options"]["max_concurrent_checks"] == 0
+    yield "its passive objects", files["passive"] == {"h;trap": {"only": True}, "h;backup": {"only": True, "freshness": 90}, "h;nightly": {"freshness": 315}}
+    yield "its objects' periods", files["periods"]["objects"] == {"h;piped": "work"} and sorted(files["periods"]["periods"]) == ["free", "work"]
+    dates = files["periods"]["periods"]["free"]["dates"]
+    yield "dates", [(it.get("first"), it.get("month"), it.get("day"), it.get("weekday"), it.get("nth")) for it in dates] == [
+        ("2026-12-24", None, None, None, None), (None, 1, 1, None, None), (None, 12, 31, None, None), (None, 1, 1, None, None), (None, 1, 2, None, None),
+        (None, None, -1, None, None), (None, None, 1, None, None), (None, None, 2, None, None), (None, None, 3, None, None), (None, 5, None, "monday", 1),
+        (None, None, None, "friday", -1)]
+    yield "what is left out, by name", all(f"left out: {line}" in told for line in (
+        "parents of services (1)", "is_volatile (1)", "dates of the period free: 2026-01-01 / 3 00:00-24:00 (1)")) and told.count("h;piped") == 2
+    off = {it["description"] for it in files["setup"]["services"] if it.get("enabled") is False}
+    yield "what has no command", off == {"trap", "backup", "lost"} and "h;lost: no command nothing" in told and "h;trap" not in told
+    (work / "latin.precache").write_bytes(b"define host {\n\thost_name\th\n\talias\tB\xfcro\n\tmax_check_attempts\t3\n\t}\n")
+    status, _, told = from_nagios("--site", work / "latin", work / "site.cfg", work / "latin.precache")
+    yield "an alias that is no UTF-8", status == 1 and "latin.precache:3" in told and not (work / "latin").exists()
+
+
 def pictures():
     drawn = [subprocess.run([sys.executable, TOP / "tools/timeline.py", TOP / f"examples/{name}.txt", TOP / f"examples/{name}.out"],
                             capture_output=True, text=True).stdout for name in ("office", "drill")]
@@ -193,7 +265,7 @@ def main():
     program = str(pathlib.Path(sys.argv[1]).resolve())
     with tempfile.TemporaryDirectory() as folder:
         work = pathlib.Path(folder)
-        told = [*office(program), *large(program, work), *template(work), *command_lines(work), *pictures()]
+        told = [*office(program), *large(program, work), *template(work), *command_lines(work), *site(work), *pictures()]
     wrong = [what for what, is_so in told if not is_so]
     for what in wrong:
         print(f"tools: {what}: otherwise than wanted")

@@ -53,7 +53,12 @@ IN_THE_GATE = {
     "tools/from_nagios.py /etc/nagios4/nagios.cfg /var/lib/nagios4/objects.precache > setup.json": ".ci/tools.py",
     "examples/embed.py": ".ci/c_library.py",
     "examples/monitor.py": ".ci/monitor.py",
-    "examples/monitor.py setup.json commands.json --workers 8 --journal office.journal": ".ci/monitor.py",
+    "examples/monitor.py setup.json commands.json": ".ci/monitor.py",
+    "monitor/nagsched-monitor": ".ci/monitor.py",
+    "monitor/nagsched-monitor office": ".ci/monitor.py",
+    'monitor/nagsched-monitor --on-change "examples/mail_change.py monitor@example.org oncall@example.org" office': ".ci/monitor.py",
+    'monitor/nagsched-monitor --on-change "examples/alert_change.py http://localhost:9093" office': ".ci/monitor.py",
+    "tools/from_nagios.py --site office /etc/nagios4/nagios.cfg /var/lib/nagios4/objects.precache": ".ci/monitor.py",
     "docs/map.py": "docs/check.py",
     "docs/commands.py": "docs/check.py",
 }

@@ -2,6 +2,7 @@
 """Makes a setup of a configuration of Nagios Core 4.
 
     tools/from_nagios.py [--parts DIRECTORY] [--commands FILE] nagios.cfg objects.precache > setup.json
+    tools/from_nagios.py --site DIRECTORY nagios.cfg objects.precache
 
 The second file is what Nagios makes of its object files, with templates, groups and inheritance written out:
 `nagios4 -vp nagios.cfg` writes it where `precached_object_file` says, and a running Nagios keeps the same as its
@@ -15,6 +16,10 @@ With --commands the command line of each object goes into FILE, by its full name
 are written out, and a line that needs a shell is given to one. The file is for its owner only, since command lines may hold
 passwords. An object that has no such line is named on standard error; it is disabled in the setup, so that nothing stands
 as checked that isn't.
+
+With --site DIRECTORY gets the files of a site, as nagsched-monitor reads them: the setup, or few of them, the command lines, time
+periods, passive objects and the monitor's options. The limit of concurrent checks is the monitor's then, over all parts. What is left
+out is named with the objects that it matters to: a few of them, or with --all each.
 """
 import argparse
 import collections
@@ -26,9 +31,14 @@ import pathlib
 import sys
 
 import nagios_commands
+import nagios_periods
+import nagios_site
 
 MOST_OBJECTS, MOST_LINKS, MOST_UNITS = 4_096, 16_384, 525_600
 MINUTES, MILLISECONDS = 525_600, 86_400_000
+EMPTY = {"hosts": [], "services": [], "service_dependencies": [], "host_dependencies": []}
+# How many objects are named of each kind that is left out.
+FEW = 5
 
 
 class CannotTakeOver(Exception):
@@ -48,19 +58,34 @@ class Value(str):
 
 
 class LeftOut:
-    """What has no counterpart here, by kind: how often it was met, and what that means."""
+    """What has no counterpart here, by kind: how often it was met, what that means, and for which objects."""
+
+    # The kinds that change which checks are made and what counts as a problem, the worst first.
+    WORST = ("parents of services", "is_volatile", "flap thresholds of an object", "initial_state", "event_handler", "dependency_period")
 
     def __init__(self):
         self.kinds = collections.Counter()
         self.meanings = {}
+        self.names = collections.defaultdict(list)
+        # The time periods that include each time: an object that has one loses nothing.
+        self.always = set()
 
-    def add(self, kind, meaning):
+    def add(self, kind, meaning, name=None):
         self.kinds[kind] += 1
         self.meanings[kind] = meaning
+        if name is not None:
+            self.names[kind].append(name)
 
-    def tell(self):
-        for kind, count in sorted(self.kinds.items()):
-            print(f"left out: {kind} ({count}): {self.meanings[kind]}", file=sys.stderr)
+    def tell(self, without=(), named=0):
+        """Names each kind that isn't one of these, the worst first, with so many of its objects."""
+        for kind in sorted(self.kinds, key=lambda kind: (self.WORST.index(kind) if kind in self.WORST else len(self.WORST), kind)):
+            if kind not in without:
+                print(f"left out: {kind} ({self.kinds[kind]}): {self.meanings[kind]}{self.some(kind, named)}", file=sys.stderr)
+
+    def some(self, kind, named):
+        names = list(dict.fromkeys(self.names[kind]))
+        more = f" and {len(names) - named} more" if len(names) > named else ""
+        return f": {', '.join(names[:named])}{more}" if named and names else ""
 
 
 # ---- reading
@@ -69,13 +94,16 @@ class LeftOut:
 def lines_of(path):
     """The lines of a file that say something, each with its place."""
     try:
-        text = path.read_text(encoding="utf-8")
-    except (OSError, UnicodeDecodeError) as error:
+        lines = path.read_bytes().split(b"\n")
+    except OSError as error:
         raise CannotTakeOver(f"{path}: {error}") from None
-    for number, line in enumerate(text.split("\n"), 1):
-        line = line.strip()
-        if line and line[0] not in "#;":
-            yield f"{path}:{number}", line
+    for number, line in enumerate(lines, 1):
+        try:
+            text = line.decode("utf-8").strip()
+        except UnicodeDecodeError as error:
+            raise CannotTakeOver(f"{path}:{number}: {error}") from None
+        if text and text[0] not in "#;":
+            yield f"{path}:{number}", text
 
 
 def read_options(path):
@@ -179,6 +207,11 @@ TELLING = {
     "execute_service_checks": ("1", "services are checked all the same"),
     "execute_host_checks": ("1", "hosts are checked all the same"),
     "auto_reschedule_checks": ("0", "no check is moved to even out the load"),
+    "host_down_disable_service_checks": ("0", "services of a host that is down are checked all the same"),
+    "service_skip_check_dependency_status": ("-1", "a check that a dependency holds back is put off, and its state stays"),
+    "service_skip_check_parent_status": ("-1", "services have no parents"),
+    "service_skip_check_host_down_status": ("-1", "services of a host that is down are checked all the same"),
+    "host_skip_check_dependency_status": ("-1", "a check that a dependency holds back is put off, and its state stays"),
 }
 
 
@@ -209,18 +242,19 @@ MEMBERS = {
     "is_volatile": (("0",), "is_volatile", "a problem that comes again is no new one"),
     "obsess": (("0", "1"), "", ""),
     "parallelize_check": (("1",), "parallelize_check 0", "its check runs beside others"),
+    "event_handler": ((), "event_handler", "no event handler is run"),
 }
 OTHER = ("other members of hosts and services", "names, addresses, contacts, notifications, events and what is shown")
 
 
-def tell_members(members, left_out):
+def tell_members(members, left_out, of):
     for name, value in members.items():
         if name in ("use", "register", "name"):
             value.refuse("a template; let Nagios write them out: nagios4 -vp nagios.cfg")
         if name in MEMBERS:
             neutral, kind, meaning = MEMBERS[name]
-            if value not in neutral:
-                left_out.add(kind, meaning)
+            if value not in neutral and not (name == "check_period" and value in left_out.always):
+                left_out.add(kind, meaning, of)
         elif name not in TAKEN:
             left_out.add(*OTHER)
 
@@ -232,9 +266,9 @@ def name_of(value):
     return str(value)
 
 
-def timing(members, place, left_out):
+def timing(members, place, left_out, of):
     """What hosts and services have alike; intervals are still those of Nagios."""
-    tell_members(members, left_out)
+    tell_members(members, left_out, of)
     attempts = required(members, "max_check_attempts", place)
     taken = {
         "check_interval": members.get("check_interval", Value("5", place)),
@@ -243,7 +277,7 @@ def timing(members, place, left_out):
     }
     if not switch(members.get("active_checks_enabled", Value("1", place))):
         taken["enabled"] = False
-        left_out.add("objects without active checks", "switched off here; a passive result has no way in")
+        left_out.add("objects without active checks", "switched off here; a passive result has no way in", of)
     return taken
 
 
@@ -252,13 +286,15 @@ def host_of(members, place, left_out):
     parents = [parent.strip() for parent in members.get("parents", "").split(",") if parent.strip()]
     if parents:
         host["parents"] = parents
-    return host | timing(members, place, left_out)
+    return host | timing(members, place, left_out, host["name"])
 
 
 def service_of(members, place, left_out):
     host = required(members, "host_name", place)
     description = name_of(required(members, "service_description", place))
-    return {"host": str(host), "description": description} | timing(members, place, left_out)
+    if members.get("parents"):
+        left_out.add("parents of services", "a service is checked whatever the services are that it names as parents", f"{host};{description}")
+    return {"host": str(host), "description": description} | timing(members, place, left_out, f"{host};{description}")
 
 
 # ---- dependencies
@@ -274,8 +310,8 @@ def dependency_of(members, place, service, left_out):
     """A dependency of execution; none where it is one of notifications alone."""
     letters = "owucpn" if service else "odupn"
     criteria = members.get("execution_failure_options", members.get("execution_failure_criteria"))
-    if "dependency_period" in members:
-        left_out.add("dependency_period", "a dependency holds at any time")
+    if "dependency_period" in members and members["dependency_period"] not in left_out.always:
+        left_out.add("dependency_period", "a dependency holds at any time", end_of(members, place, "dependent_", service))
     if any(name.startswith("notification_failure") for name in members):
         left_out.add("dependencies of notifications", "no notifications are sent")
     if criteria is None:
@@ -312,6 +348,7 @@ NOTHING_HERE = {
 def documents_of(options, objects, left_out):
     """One setup of all: its options, and each object and dependency in the order of the file."""
     setup = {"options": options_of(options, left_out), "hosts": [], "services": [], "service_dependencies": [], "host_dependencies": []}
+    left_out.always = nagios_periods.always(objects)
     for kind, place, members in objects:
         if kind == "host":
             setup["hosts"].append(host_of(members, place, left_out))
@@ -402,17 +439,16 @@ def parts_of(setup):
     """Few setups: each piece, the largest first, into the first with room."""
     parts = []
     for piece in pieces_of(setup):
-        empty = {"hosts": [], "services": [], "service_dependencies": [], "host_dependencies": []}
-        if not has_room(empty, piece):
+        if not has_room(EMPTY, piece):
             objects, dependencies, parents = sizes(piece)
             raise CannotTakeOver(
                 f"the piece with host {piece['hosts'][0]['name']} is too large for one setup: {objects} objects, "
                 f"{dependencies} dependencies, {parents} parents (at most {MOST_OBJECTS}, {MOST_LINKS}, {MOST_LINKS})")
         part = next((part for part in parts if has_room(part, piece)), None)
         if part is None:
-            part = empty
+            part = {kind: [] for kind in EMPTY}
             parts.append(part)
-        for kind in empty:
+        for kind in EMPTY:
             part[kind].extend(piece[kind])
     return [{"options": setup["options"]} | part for part in parts]
 
@@ -420,14 +456,29 @@ def parts_of(setup):
 # ---- command lines
 
 
-def take_commands(words, options, objects, setup):
-    """Writes the command line of each object, and disables those that have none."""
+def macros_of_file(words, options):
+    """The macros of the resource file, where there is one."""
     path = nagios_commands.resource_file(options, words.options, words.resource)
     try:
-        resource = nagios_commands.read_resource(lines_of(path)) if path is not None else {}
+        return nagios_commands.read_resource(lines_of(path)) if path is not None else {}
     except nagios_commands.NoCommand as error:
         raise CannotTakeOver(str(error)) from None
+
+
+def take_commands(words, options, objects, setup):
+    """Writes the command line of each object, and disables those that have none."""
+    resource = macros_of_file(words, options)
     lines, without = nagios_commands.commands_of(objects, resource)
+    disable(setup, without)
+    file = os.open(words.commands, os.O_WRONLY | os.O_CREAT | os.O_TRUNC, 0o600)
+    os.fchmod(file, 0o600)
+    with open(file, "w", encoding="utf-8") as commands:
+        json.dump({name: nagios_commands.without_shell(*line) for name, line in lines.items()}, commands, ensure_ascii=False, indent=1)
+        commands.write("\n")
+
+
+def disable(setup, without):
+    """Disables the objects that have no command line, and says why they have none."""
     for host in setup["hosts"]:
         if host["name"] in without:
             host["enabled"] = False
@@ -436,11 +487,31 @@ def take_commands(words, options, objects, setup):
             service["enabled"] = False
     for why in without.values():
         print(f"without a command, and disabled: {why}", file=sys.stderr)
-    file = os.open(words.commands, os.O_WRONLY | os.O_CREAT | os.O_TRUNC, 0o600)
-    os.fchmod(file, 0o600)
-    with open(file, "w", encoding="utf-8") as commands:
-        json.dump(lines, commands, ensure_ascii=False, indent=1)
-        commands.write("\n")
+
+
+# ---- a whole site
+
+
+def take_site(words, options, objects, setup, left_out):
+    """Writes the files of a site, and says what is left out."""
+    unit = setup["options"]["interval_length"]
+    interval_of = {it["name"]: it["check_interval"] * unit for it in setup["hosts"]}
+    interval_of |= {f"{it['host']};{it['description']}": it["check_interval"] * unit for it in setup["services"]}
+    commands, without = nagios_site.commands_of(options, objects, macros_of_file(words, options))
+    passive = nagios_site.passive_of(options, objects, interval_of)
+    disable(setup, {name: why for name, why in without.items() if not passive.get(name, {}).get("only") or "freshness" in passive[name]})
+    for name in without:
+        passive.get(name, {}).pop("freshness", None)
+    periods, unsaid = nagios_site.periods_of(objects)
+    setup["options"]["max_concurrent_checks"] = 0
+    setups = [setup] if has_room(EMPTY, setup) else parts_of(setup)
+    files = {"commands": commands, "periods": periods, "passive": passive, "monitor": nagios_site.monitor_of(options)}
+    nagios_site.write_site(words.site, setups, files)
+    for dates, names in sorted(unsaid.items()):
+        for name in names:
+            left_out.add(f"dates of the period {dates}", "a site's periods can't say them", name)
+    left_out.tell(nagios_site.DONE, len(setup["hosts"]) + len(setup["services"]) if words.all else FEW)
+    print(f"{len(interval_of)} objects, {len(commands)} commands, {len(setups)} parts", file=sys.stderr)
 
 
 def written(setup):
@@ -451,6 +522,8 @@ def main():
     arguments = argparse.ArgumentParser(description=__doc__, formatter_class=argparse.RawDescriptionHelpFormatter)
     arguments.add_argument("--parts", metavar="DIRECTORY", type=pathlib.Path, help="write few setups into this folder")
     arguments.add_argument("--commands", metavar="FILE", type=pathlib.Path, help="write the command line of each object into this file")
+    arguments.add_argument("--site", metavar="DIRECTORY", type=pathlib.Path, help="write the files of a site into this folder")
+    arguments.add_argument("--all", action="store_true", help="with --site: name every object that something is left out for")
     arguments.add_argument("--resource", metavar="FILE", type=pathlib.Path, help="the resource file, if not the one that nagios.cfg names")
     arguments.add_argument("options", metavar="nagios.cfg", type=pathlib.Path)
     arguments.add_argument("objects", metavar="objects.precache", type=pathlib.Path)
@@ -459,9 +532,12 @@ def main():
     try:
         options, objects = read_options(words.options), read_objects(words.objects)
         setup = documents_of(options, objects, left_out)
+        if words.site is not None:
+            take_site(words, options, objects, setup, left_out)
+            return 0
         if words.commands is not None:
             take_commands(words, options, objects, setup)
-        if words.parts is None and not has_room({"hosts": [], "services": [], "service_dependencies": [], "host_dependencies": []}, setup):
+        if words.parts is None and not has_room(EMPTY, setup):
             raise CannotTakeOver("more than one setup can have ({} objects, {} dependencies, {} parents): --parts makes several".format(*sizes(setup)))
         parts = [] if words.parts is None else parts_of(setup)
     except CannotTakeOver as error:

@@ -66,7 +66,7 @@ def arguments_of(check_command):
 
 
 def line_of(check_command, commands, macros):
-    """The command line of one object."""
+    """The command line of one object, and whether a shell has to run it."""
     name, arguments = arguments_of(check_command)
     if name not in commands:
         raise NoCommand(f"no command {name}")
@@ -76,16 +76,19 @@ def line_of(check_command, commands, macros):
 
 
 def runnable(line):
-    """A line that can be split into words: one that needs a shell is given to one."""
+    """A line that can be split into words, and whether it needs a shell."""
     try:
         words = shlex.split(line)
     except ValueError as error:
         raise NoCommand(f"its command line can't be split into words: {error}") from None
     if not words:
         raise NoCommand("its command line is empty")
-    if FOR_A_SHELL.search(QUOTED.sub("", line)) or "=" in line.split(" ", 1)[0]:
-        return shlex.join(["/bin/sh", "-c", line])
-    return line
+    return line, bool(FOR_A_SHELL.search(QUOTED.sub("", line))) or "=" in line.split(" ", 1)[0]
+
+
+def without_shell(line, needs_shell):
+    """The line as one that no shell has to run: one that needs a shell begins with it."""
+    return shlex.join(["/bin/sh", "-c", line]) if needs_shell else line
 
 
 def resource_file(options, beside, named):
@@ -99,7 +102,7 @@ def resource_file(options, beside, named):
 
 
 def commands_of(objects, resource):
-    """The command line of each host and service by its full name, and why others have none, by name."""
+    """The command line of each host and service by its full name, each with whether a shell has to run it; and why others have none, by name."""
     commands = {members["command_name"]: str(members["command_line"]) for kind, _, members in objects if kind == "command"}
     hosts = {members["host_name"]: members for kind, _, members in objects if kind == "host"}
     lines, without = {}, {}

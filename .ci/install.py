@@ -1,0 +1,78 @@
+#!/usr/bin/env python3
+"""Installs into a folder what was built, and runs it from there.
+
+    .ci/install.py PROGRAM
+
+The program answers, the monitor reads a site, the manual pages are shown without a warning where `mandoc` or `groff` is there, the completions can be read, and
+every word of the help of the program stands on its manual page.
+"""
+import json
+import pathlib
+import re
+import shutil
+import subprocess
+import sys
+import tempfile
+
+TOP = pathlib.Path(__file__).resolve().parent.parent
+SETUP = {"hosts": [{"name": "gateway", "max_check_attempts": 3}]}
+SHOWN = {"mandoc": ["mandoc", "-Tlint", "-Wwarning"], "groff": ["groff", "-ww", "-man", "-Tutf8", "-z"]}
+
+
+def output(*words, **how):
+    ran = subprocess.run([str(word) for word in words], stdout=subprocess.PIPE, stderr=subprocess.STDOUT, text=True, check=False, **how)
+    return ran.stdout, ran.returncode
+
+
+def warnings_of(page):
+    """What each program that shows manual pages complains of."""
+    return "".join(output(*words, page)[0] for name, words in SHOWN.items() if shutil.which(name))
+
+
+def words_of_help(program):
+    """Subcommands and options, as the help of the program and its subcommands has them."""
+    told = output(program, "--help")[0]
+    commands = re.findall(r"^  ([a-z]+)  ", told[told.index("Commands:"):], re.MULTILINE) if "Commands:" in told else []
+    options = {option for command in commands if command != "help" for option in re.findall(r"--[a-z]+", output(program, command, "--help")[0].split("Options:")[-1])}
+    return sorted({*commands} | options)
+
+
+def installed(program, prefix, work):
+    manual = {page.name: page for page in (prefix / "share/man").rglob("nagsched*")}
+    yield "the program", output(prefix / "bin/nagsched", "run", input=json.dumps(SETUP) + '\n["take",0]\n'), ("taken 1 gateway\n", 0)
+    (work / "site").mkdir()
+    (work / "site/setup.json").write_text(json.dumps(SETUP))
+    (work / "site/commands.json").write_text(json.dumps({"gateway": {"line": "true"}}))
+    tested = output(prefix / "bin/nagsched-monitor", "--program", prefix / "bin/nagsched", work / "site", "test")
+    yield "the monitor", tested, ("1 objects, 1 parts\n", 0)
+    yield "from Nagios", output(prefix / "bin/nagsched-from-nagios", "--help")[1], 0
+    yield "the manual pages", sorted(manual), ["nagsched-monitor.1", "nagsched.1", "nagsched.5"]
+    for name, page in sorted(manual.items()):
+        yield f"warnings of {name}", warnings_of(page), ""
+    page = manual["nagsched.1"].read_text().replace("\\-", "-")
+    yield "words of the help that nagsched.1 lacks", [word for word in words_of_help(program) if not re.search(rf"{word}\b", page)], []
+    yield "the completion for bash", output("bash", "-n", prefix / "share/bash-completion/completions/nagsched"), ("", 0)
+    yield "the unit", f"ExecStart={prefix}/bin/nagsched-monitor" in (prefix / "lib/systemd/system/nagsched-monitor@.service").read_text(), True
+
+
+def main():
+    passed, wrong = 0, 0
+    with tempfile.TemporaryDirectory() as folder:
+        work = pathlib.Path(folder)
+        told, status = output("bash", TOP / "tools/install.sh", "--without-library", work / "prefix")
+        rows = [("installing", (told, status), ("", 0))] if status else installed(sys.argv[1], work / "prefix", work)
+        for what, came, wanted in rows:
+            if came == wanted:
+                passed += 1
+            else:
+                wrong += 1
+                print(f"install: {what}: wanted {wanted!r}, came {came!r}")
+    for name in SHOWN:
+        if not shutil.which(name):
+            print(f"install: passed over what {name} says of the manual pages, which isn't here")
+    print(f"install: {passed} passed, {wrong} failed")
+    return 1 if wrong or not passed else 0
+
+
+if __name__ == "__main__":
+    sys.exit(main())

@@ -1,0 +1,178 @@
+#!/usr/bin/env python3
+"""The monitor beside Nagios 4: checks a second, how late they start, processor time, memory.
+
+    bench/monitor.py PROGRAM [RATE..]      by hand; wants cc, and Debian's package nagios4-core, which it fetches and unpacks into a temporary folder
+
+For each rate (18, 200, 800 and 2,000 checks due a second) both run the same services for SECONDS, one after the other: each service every ten seconds, with a
+plugin in C that ends at once. Latency is how late a check starts, in milliseconds: of Nagios as its status file has it, of the monitor by the calls that it
+kept. Processor time is that of all processes but plugins, in milliseconds a check.
+"""
+import json
+import os
+import pathlib
+import signal
+import sqlite3
+import statistics
+import subprocess
+import sys
+import tempfile
+import time
+
+TOP = pathlib.Path(__file__).resolve().parent.parent
+SECONDS, INTERVAL = 40, 10
+RATES = (18, 200, 800, 2000)
+MOST_IN_A_PART = 4000
+PLUGIN = r"""
+#include <fcntl.h>
+#include <stdio.h>
+#include <unistd.h>
+int main(int count, char **words) {
+    int file = open(words[1], O_WRONLY | O_APPEND | O_CREAT, 0644);
+    (void)!write(file, ".", 1);
+    puts("fine");
+    return 0;
+}
+"""
+
+
+def names_of(rate):
+    return [f"s{number:05}" for number in range(rate * INTERVAL)]
+
+
+def processes_below(process):
+    """A process and all that it began, but for plugins."""
+    found, left = [], [process]
+    while left:
+        each = left.pop()
+        try:
+            children = pathlib.Path(f"/proc/{each}/task/{each}/children").read_text().split()
+            name = pathlib.Path(f"/proc/{each}/comm").read_text().strip()
+        except OSError:
+            continue
+        if name != "plugin":
+            found.append(each)
+            left += map(int, children)
+    return found
+
+
+def usage(process):
+    """Processor seconds and resident megabytes of all processes but plugins."""
+    ticks = pages = 0
+    for each in processes_below(process):
+        try:
+            fields = pathlib.Path(f"/proc/{each}/stat").read_text().rpartition(")")[2].split()
+        except OSError:
+            continue
+        ticks += int(fields[11]) + int(fields[12])
+        pages += int(fields[21])
+    return ticks / os.sysconf("SC_CLK_TCK"), pages * os.sysconf("SC_PAGE_SIZE") / 1e6
+
+
+def watched(command, count, status):
+    """Runs a command for so long: checks, processor seconds and megabytes over the second half, and the text of its status file at the end."""
+    running = subprocess.Popen([str(word) for word in command], stdout=subprocess.DEVNULL, stderr=subprocess.DEVNULL)
+    time.sleep(SECONDS / 2)
+    before, made, begin = usage(running.pid), count.stat().st_size, time.monotonic()
+    time.sleep(SECONDS / 2)
+    after, all_made, seconds = usage(running.pid), count.stat().st_size, time.monotonic() - begin
+    text = status.read_text() if status.exists() else ""
+    running.send_signal(signal.SIGTERM)
+    running.wait(timeout=60)
+    checks = all_made - made
+    return (checks / seconds, (after[0] - before[0]) * 1000 / max(checks, 1), after[1]), text
+
+
+def percentiles(late):
+    ordered = sorted(late) or [0]
+    return statistics.median(ordered), ordered[len(ordered) * 95 // 100]
+
+
+# ---- Nagios
+
+
+def nagios(work, binary, plugin, rate):
+    folder = work / f"nagios-{rate}"
+    (folder / "spool").mkdir(parents=True)
+    options = {
+        "log_file": folder / "log", "cfg_file": folder / "objects.cfg", "object_cache_file": folder / "cache", "status_file": folder / "status",
+        "temp_file": folder / "tmp", "temp_path": folder, "check_result_path": folder / "spool", "lock_file": folder / "pid", "command_file": folder / "cmd", "query_socket": folder / "query",
+        "interval_length": 1, "max_service_check_spread": 1, "status_update_interval": 5, "execute_host_checks": 0, "check_for_updates": 0,
+        "nagios_user": "root", "nagios_group": "root", "log_initial_states": 0, "use_syslog": 0, "enable_notifications": 0, "check_external_commands": 0,
+    }
+    (folder / "nagios.cfg").write_text("".join(f"{name}={value}\n" for name, value in options.items()))
+    always = "".join(f" {day} 00:00-24:00\n" for day in ("sunday", "monday", "tuesday", "wednesday", "thursday", "friday", "saturday"))
+    objects = [f"define timeperiod {{\n timeperiod_name always\n alias always\n{always}}}\n", f"define command {{\n command_name c\n command_line {plugin} {folder}/count\n}}\n",
+               "define command {\n command_name n\n command_line /bin/true\n}\n",
+               "define contact {\n contact_name nobody\n host_notifications_enabled 0\n service_notifications_enabled 0\n host_notification_commands n\n"
+               " service_notification_commands n\n host_notification_period always\n service_notification_period always\n}\n",
+               "define host {\n host_name h\n address h\n max_check_attempts 3\n check_period always\n notifications_enabled 0\n}\n"]
+    for name in names_of(rate):
+        objects.append(f"define service {{\n host_name h\n service_description {name}\n check_command c\n max_check_attempts 3\n check_interval {INTERVAL}\n"
+                       f" retry_interval {INTERVAL}\n check_period always\n notifications_enabled 0\n}}\n")
+    (folder / "objects.cfg").write_text("".join(objects))
+    (folder / "count").touch()
+    figures, text = watched([binary, folder / "nagios.cfg"], folder / "count", folder / "status")
+    late = [float(line.partition("=")[2]) * 1000 for line in text.splitlines() if line.strip().startswith("check_latency=")]
+    return figures, percentiles(late)
+
+
+# ---- the monitor
+
+
+def monitor(work, program, plugin, rate):
+    folder = work / f"monitor-{rate}"
+    folder.mkdir()
+    names = names_of(rate)
+    parts = [names[first : first + MOST_IN_A_PART] for first in range(0, len(names), MOST_IN_A_PART)]
+    commands = {}
+    for number, part in enumerate(parts, 1):
+        host = {"name": f"h{number}", "check_interval": 0, "max_check_attempts": 3}
+        services = [{"host": f"h{number}", "description": name, "check_interval": INTERVAL, "max_check_attempts": 3} for name in part]
+        setup = {"options": {"interval_length": 1, "max_service_check_spread": 1}, "hosts": [host], "services": services}
+        (folder / f"part-{number}.json").write_text(json.dumps(setup))
+        commands |= {name: {"line": f"{plugin} {folder}/count"} for name in [f"h{number}", *(f"h{number};{name}" for name in part)]}
+    (folder / "commands.json").write_text(json.dumps(commands))
+    (folder / "monitor.json").write_text(json.dumps({"slots": 500}))
+    (folder / "count").touch()
+    figures, _ = watched([sys.executable, TOP / "monitor/nagsched-monitor", "--program", program, folder], folder / "count", folder / "none")
+    return figures, percentiles(late_of(folder, program))
+
+
+def late_of(folder, program):
+    """How late each check started, by the calls that were kept."""
+    late = []
+    with sqlite3.connect(folder / "monitor.db") as database:
+        for part, setup, start, saved in database.execute("SELECT part, setup, start, saved FROM generations"):
+            calls = [line for (line,) in database.execute("SELECT line FROM calls WHERE part = ? ORDER BY id", (part,))]
+            given = "\n".join([setup.decode(), *([] if saved is None else [saved.decode()]), *calls]) + "\n"
+            words = [program, "run", *([] if saved is None else ["--resume"]), "--start", str(start)]
+            answers = subprocess.run(words, input=given, stdout=subprocess.PIPE, text=True, check=True).stdout.splitlines()
+            due = {}
+            for call, answer in zip(calls, answers):
+                words_of = answer.split(" ")
+                if words_of[0] == "standing":
+                    due[json.loads(call)[1]] = words_of[6]
+                elif words_of[0] == "taken":
+                    name = answer.split(" ", 2)[2]
+                    if due.get(name, "none") != "none":
+                        late.append(json.loads(call)[1] - int(due[name]))
+    return late
+
+
+def main(program, *rates):
+    with tempfile.TemporaryDirectory() as holder:
+        work = pathlib.Path(holder)
+        (work / "plugin.c").write_text(PLUGIN)
+        plugin = work / "plugin"
+        subprocess.run(["cc", "-O2", "-static", "-o", plugin, work / "plugin.c"], check=True)
+        subprocess.run(["apt-get", "download", "nagios4-core"], cwd=work, check=True, stdout=subprocess.DEVNULL, stderr=subprocess.DEVNULL)
+        subprocess.run(["dpkg", "-x", next(work.glob("nagios4-core*.deb")), work / "nagios"], check=True)
+        print(f"{'due a second':>14} {'':10} {'checks a second':>16} {'median ms':>10} {'95th ms':>8} {'CPU ms a check':>15} {'MB':>6}")
+        for rate in [int(rate) for rate in rates] or RATES:
+            for who, ran in (("Nagios", lambda: nagios(work, work / "nagios/usr/sbin/nagios4", plugin, rate)), ("monitor", lambda: monitor(work, program, plugin, rate))):
+                (a_second, cost, megabytes), (median, late) = ran()
+                print(f"{rate:>14} {who:10} {a_second:>16.1f} {median:>10.1f} {late:>8.1f} {cost:>15.2f} {megabytes:>6.0f}", flush=True)
+
+
+if __name__ == "__main__":
+    main(str(pathlib.Path(sys.argv[1]).resolve()), *sys.argv[2:])

@@ -1,0 +1,25 @@
+"""A site's monitor: it runs the plugins of hosts and services, and lets `nagsched live` decide which is due and what each result means.
+
+Modules, lowest first:
+
+    faults       why the monitor can't begin, or refuses a request
+    clock        moments that no clock that is set can stop or hurry
+    periods      the times of the week at which an object is checked
+    site         the files of a site, read and tested
+    calls        the calls of the scheduler, and its answers
+    conversation one `nagsched live`, asked by a pipe
+    store        the database: calls, states, changes, switches, results that wait
+    known        what the answers say of each object
+    plugins      one runner process: it runs the jobs that it reads
+    runners      the runner processes of a monitor
+    spreading    the times of checks that are overdue
+    changes      what is printed of a change, and the command that is run for it
+    scheduling   calls made and kept, over all parts of a site
+    sooner       checks at other times than their own, and the rhythm behind them
+    passive      passive results, and objects of which no result came in time
+    verdict      what the end of a plugin counts as
+    engine       one turn of the monitor: results in, checks out
+    requests     what can be asked of a monitor that runs
+    control      the socket through which it is asked
+    main         the words, and the loop
+"""

@@ -1,0 +1,169 @@
+"""The calls that are made of the scheduler, each a line of JSON, and its answers, each a line of words."""
+import json
+from dataclasses import dataclass
+from typing import Optional, Union
+
+
+@dataclass(frozen=True)
+class Take:
+    now: int
+
+    def line(self) -> str:
+        return f'["take",{self.now}]'
+
+
+@dataclass(frozen=True)
+class Report:
+    name: str
+    run: int
+    code: int
+
+    def line(self) -> str:
+        return f'["report",{quoted(self.name)},{self.run},{self.code}]'
+
+
+@dataclass(frozen=True)
+class Abandon:
+    name: str
+    run: int
+    now: int
+
+    def line(self) -> str:
+        return f'["abandon",{quoted(self.name)},{self.run},{self.now}]'
+
+
+@dataclass(frozen=True)
+class Reschedule:
+    name: str
+    time: int
+    forced: bool
+
+    def line(self) -> str:
+        return f'["reschedule",{quoted(self.name)},{self.time},{switch(self.forced)}]'
+
+
+@dataclass(frozen=True)
+class Enable:
+    name: str
+    on: bool
+
+    def line(self) -> str:
+        return f'["enable",{quoted(self.name)},{switch(self.on)}]'
+
+
+@dataclass(frozen=True)
+class Status:
+    name: str
+
+    def line(self) -> str:
+        return f'["status",{quoted(self.name)}]'
+
+
+Call = Union[Take, Report, Abandon, Reschedule, Enable, Status]
+
+
+def quoted(name: str) -> str:
+    return json.dumps(name, ensure_ascii=False)
+
+
+def switch(on: bool) -> str:
+    return "true" if on else "false"
+
+
+def read_call(line: str) -> Call:
+    """The call of a line that was kept."""
+    word, *members = json.loads(line)
+    kinds = {"take": Take, "report": Report, "abandon": Abandon, "reschedule": Reschedule, "enable": Enable, "status": Status}
+    call: Call = kinds[word](*members)
+    return call
+
+
+# ---- answers
+
+
+@dataclass(frozen=True)
+class Taken:
+    run: int
+    name: str
+
+
+@dataclass(frozen=True)
+class PutOff:
+    next: Optional[int]
+    name: str
+
+
+@dataclass(frozen=True)
+class Idle:
+    next: Optional[int]
+
+
+@dataclass(frozen=True)
+class AtLimit:
+    pass
+
+
+@dataclass(frozen=True)
+class Standing:
+    state: str
+    kind: str
+    attempt: int
+    changed: bool
+    flapping: bool
+    next: Optional[int]
+    name: str
+
+    def is_problem(self) -> bool:
+        return self.state not in ("PENDING", "OK", "UP")
+
+    def is_soft_problem(self) -> bool:
+        return self.is_problem() and self.kind == "SOFT"
+
+
+@dataclass(frozen=True)
+class Freed:
+    next: int
+    name: str
+
+
+@dataclass(frozen=True)
+class Done:
+    name: str
+
+
+@dataclass(frozen=True)
+class Refused:
+    """The call was refused, and changed nothing: its result comes too late, say."""
+
+    why: str
+
+
+Answer = Union[Taken, PutOff, Idle, AtLimit, Standing, Freed, Done, Refused]
+
+
+def time_of(word: str) -> Optional[int]:
+    return None if word == "none" else int(word)
+
+
+def read_answer(line: str) -> Optional[Answer]:
+    """What an answer says; None where it is none of the answers to a call."""
+    word, _, rest = line.partition(" ")
+    first, _, name = rest.partition(" ")
+    if word == "taken":
+        return Taken(int(first), name)
+    if word == "standing":
+        state, kind, attempt, changed, flapping, time, name = rest.split(" ", 6)
+        return Standing(state, kind, int(attempt), changed == "yes", flapping == "FLAPPING", time_of(time), name)
+    if word == "putoff":
+        return PutOff(time_of(first), name)
+    if word == "idle":
+        return Idle(time_of(rest))
+    if word == "atlimit":
+        return AtLimit()
+    if word == "freed":
+        return Freed(int(first), name)
+    if word == "done":
+        return Done(rest)
+    if word == "refused" and first.startswith("C"):
+        return Refused(rest)
+    return None

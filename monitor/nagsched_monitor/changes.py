@@ -1,0 +1,150 @@
+"""Changes of state: the line that is printed of each, and the command that is run for it."""
+import datetime
+import json
+import os
+import signal
+import subprocess
+import tempfile
+import time
+from dataclasses import dataclass
+from typing import IO, Callable, List, Optional, Sequence, Tuple
+
+from .calls import Standing
+from .faults import NotStored
+from .store import DropDocument, KeptChange, Store
+
+# How long the command may take, in seconds, how often it is tried, and how long it is waited between two tries.
+LIMIT = 30.0
+TRIES = 10
+PAUSE = 5.0
+
+
+def is_change(before: Optional[Standing], now: Standing) -> bool:
+    """Whether there is something to print: another state, a problem that became hard, flapping that begins or ends."""
+    if before is None or before.state == "PENDING":
+        return now.is_problem() or now.flapping
+    hard_now = now.is_problem() and now.kind == "HARD" and before.kind == "SOFT"
+    return before.state != now.state or hard_now or before.flapping != now.flapping
+
+
+def is_important(before: Optional[Standing], now: Standing) -> bool:
+    """Whether the command is run for a change: hard ones and flapping. A recovery counts where the problem was hard."""
+    was_hard = before is None or before.kind == "HARD"
+    flapping_changed = (before is not None and before.flapping) != now.flapping
+    return now.kind == "HARD" and (now.is_problem() or was_hard) or flapping_changed
+
+
+def line_of(change: KeptChange, zone: Optional[datetime.tzinfo]) -> str:
+    """A change as a line of the log, with date and zone."""
+    when = datetime.datetime.fromtimestamp(change.time, zone).astimezone(zone).isoformat(sep=" ", timespec="seconds")
+    flapping = " FLAPPING" if change.flapping else ""
+    return f"{when} {change.name} is {change.state} {change.kind} {change.attempt}{flapping}: {change.words}"
+
+
+def document_of(change: KeptChange, before: Optional[Standing]) -> str:
+    """A change as the JSON object that the command reads."""
+    members = {
+        "time": change.time,
+        "name": change.name,
+        "state": change.state,
+        "kind": change.kind,
+        "attempt": change.attempt,
+        "flapping": change.flapping,
+        "was": None if before is None else before.state,
+        "was_flapping": before is not None and before.flapping,
+        "output": change.words,
+    }
+    return json.dumps(members, ensure_ascii=False)
+
+
+@dataclass
+class Try:
+    """The command as it runs for one document."""
+
+    document: int
+    process: "subprocess.Popen[bytes]"
+    deadline: float
+
+
+class Notifier:
+    """Runs the command for changes, one after another in their order. A document that the command doesn't take is tried again, and at last given up."""
+
+    def __init__(self, command: Optional[str], store: Store, log: Callable[[str], None], clock: Callable[[], float] = time.monotonic) -> None:
+        self._command, self._store, self._log, self._clock = command, store, log, clock
+        self._running: Optional[Try] = None
+        self._failed = 0
+        self._not_before = 0.0
+
+    def is_wanted(self) -> bool:
+        return self._command is not None
+
+    def is_busy(self) -> bool:
+        """Whether there is something to come back for soon."""
+        return self._running is not None
+
+    def work(self) -> None:
+        """Sees to the command that runs, and begins the next."""
+        if self._command is None:
+            return
+        if self._running is not None:
+            self._see_to(self._running)
+        if self._running is None and self._clock() >= self._not_before:
+            waiting = self._store.outbox()
+            if waiting:
+                self._begin(*waiting[0])
+
+    def _begin(self, number: int, document: str) -> None:
+        given = file_with(document.encode() + b"\n")
+        with given:
+            process = subprocess.Popen(["/bin/sh", "-c", str(self._command)], stdin=given, start_new_session=True)
+        self._running = Try(number, process, self._clock() + LIMIT)
+
+    def _see_to(self, running: Try) -> None:
+        status = running.process.poll()
+        if status is None and self._clock() < running.deadline:
+            return
+        if status is None:
+            os.killpg(running.process.pid, signal.SIGKILL)
+            running.process.wait(timeout=5)
+        self._running = None
+        if status == 0:
+            self._drop(running.document)
+            return
+        self._failed += 1
+        self._not_before = self._clock() + PAUSE
+        why = f"took longer than {LIMIT:g} seconds" if status is None else f"ended with {status}"
+        if self._failed < TRIES:
+            self._log(f"the command for changes {why}; it is tried again")
+        else:
+            self._log(f"the command for changes {why} {TRIES} times; this change is given up: {dict(self._store.outbox()).get(running.document)}")
+            self._drop(running.document)
+
+    def _drop(self, number: int) -> None:
+        try:
+            self._store.write(DropDocument(number))
+            self._failed = 0
+        except NotStored as error:
+            self._not_before = self._clock() + PAUSE
+            self._log(str(error))
+
+    def close(self) -> None:
+        """Waits for the command that runs; its document is kept where it fails."""
+        if self._running is not None:
+            try:
+                self._running.process.wait(timeout=LIMIT)
+            except subprocess.TimeoutExpired:
+                os.killpg(self._running.process.pid, signal.SIGKILL)
+            self._see_to(self._running)
+
+
+def file_with(data: bytes) -> IO[bytes]:
+    """A file without a name that has these bytes, at its beginning."""
+    file = tempfile.TemporaryFile()
+    file.write(data)
+    file.seek(0)
+    return file
+
+
+def standing_problems(standings: Sequence[Tuple[str, Standing]]) -> List[str]:
+    """A line for each problem that stands when the monitor starts."""
+    return [f"{name} is {standing.state} {standing.kind} {standing.attempt}" for name, standing in standings if standing.is_problem()]

@@ -1,0 +1,34 @@
+"""Moments, which the scheduler goes by, and the wall clock, which people go by."""
+import time
+from typing import Protocol
+
+MILLISECOND = 1_000_000
+
+
+class Clock(Protocol):
+    """What the monitor asks of a clock."""
+
+    def moment(self) -> int:
+        """Milliseconds, which never go back."""
+
+    def wall(self) -> float:
+        """Seconds since 1970 by the wall clock."""
+
+
+class SystemClock:
+    """The machine's clock. Moments begin at the wall clock, or at the last moment that was kept where that is greater, and go on by the time since
+    the machine was started, also while it sleeps. So no clock that is set stops checks or hurries them."""
+
+    def __init__(self, last_kept: int = 0) -> None:
+        self._since_boot = self._boot_time()
+        self._first = max(time.time_ns() // MILLISECOND, last_kept)
+
+    @staticmethod
+    def _boot_time() -> int:
+        return time.clock_gettime_ns(time.CLOCK_BOOTTIME) // MILLISECOND
+
+    def moment(self) -> int:
+        return self._first + self._boot_time() - self._since_boot
+
+    def wall(self) -> float:
+        return time.time()

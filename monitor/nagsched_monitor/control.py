@@ -1,0 +1,103 @@
+"""The socket in the folder of a site, through which its monitor is asked: one line of JSON there, one back."""
+import os
+import pathlib
+import socket
+from typing import Callable, Dict, Tuple
+
+from .faults import MonitorFault
+
+NAME = "monitor.socket"
+LONGEST_LINE = 262_144
+READ_BYTES = 65_536
+
+
+class Control:
+    """The socket of a monitor. The caller waits for its files to be readable, and calls `read` then."""
+
+    def __init__(self, folder: pathlib.Path, answer: Callable[[bytes], bytes], watch: Callable[[int], None], unwatch: Callable[[int], None]) -> None:
+        self._answer, self._watch, self._unwatch = answer, watch, unwatch
+        self._path = folder / NAME
+        self._path.unlink(missing_ok=True)
+        self._socket = socket.socket(socket.AF_UNIX, socket.SOCK_STREAM)
+        mask = os.umask(0o177)
+        try:
+            self._socket.bind(short_path(self._path))
+        except OSError as error:
+            raise MonitorFault(f"{self._path}: {error.strerror or error}") from None
+        finally:
+            os.umask(mask)
+        self._socket.listen(16)
+        self._socket.setblocking(False)
+        self._asking: Dict[int, Tuple[socket.socket, bytes]] = {}
+        watch(self._socket.fileno())
+
+    def owns(self, file: int) -> bool:
+        return file == self._socket.fileno() or file in self._asking
+
+    def read(self, file: int) -> None:
+        """Takes a new connection, or reads a request and answers it."""
+        if file == self._socket.fileno():
+            connection, _ = self._socket.accept()
+            connection.settimeout(1)
+            self._asking[connection.fileno()] = connection, b""
+            self._watch(connection.fileno())
+            return
+        connection, unread = self._asking[file]
+        try:
+            data = connection.recv(READ_BYTES)
+        except OSError:
+            data = b""
+        line, feed, rest = (unread + data).partition(b"\n")
+        if feed:
+            self._send(file, connection, self._answer(line))
+            if file in self._asking:
+                self._asking[file] = connection, rest
+        elif not data:
+            self._forget(file)
+        elif len(line) > LONGEST_LINE:
+            self._send(file, connection, b'{"error": "the line is too long"}\n')
+            self._forget(file)
+        else:
+            self._asking[file] = connection, line
+
+    def _send(self, file: int, connection: socket.socket, answer: bytes) -> None:
+        try:
+            connection.sendall(answer)
+        except OSError:
+            self._forget(file)  # whoever asked reads no more
+
+    def _forget(self, file: int) -> None:
+        if file in self._asking:
+            connection, _ = self._asking.pop(file)
+            self._unwatch(file)
+            connection.close()
+
+    def close(self) -> None:
+        for file in list(self._asking):
+            self._forget(file)
+        self._unwatch(self._socket.fileno())
+        self._socket.close()
+        self._path.unlink(missing_ok=True)
+
+
+def short_path(path: pathlib.Path) -> str:
+    """The path of a socket, whose length is limited: below the current folder where it lies there."""
+    return os.path.relpath(path) if len(os.path.relpath(path)) < len(str(path)) else str(path)
+
+
+def ask(folder: pathlib.Path, request: bytes, seconds: float = 30) -> bytes:
+    """The answer of the monitor of a folder."""
+    with socket.socket(socket.AF_UNIX, socket.SOCK_STREAM) as connection:
+        connection.settimeout(seconds)
+        try:
+            connection.connect(short_path(folder / NAME))
+            connection.sendall(request + b"\n")
+            answer = b""
+            while not answer.endswith(b"\n"):
+                data = connection.recv(READ_BYTES)
+                if not data:
+                    break
+                answer += data
+        except OSError as error:
+            raise MonitorFault(f"no monitor of {folder} answers: {error.strerror or error}") from None
+    return answer

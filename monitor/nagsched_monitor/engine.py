@@ -1,0 +1,244 @@
+"""The monitor's core: one turn after another it reports what plugins gave, makes what was asked for, and takes what is due.
+
+Clock, runners and database are its parameters, so that a day can be simulated in seconds.
+"""
+import collections
+from typing import Callable, Counter, Deque, Dict, List, Mapping, Optional, Set, Tuple
+
+from .calls import Abandon, Answer, Call, Enable, PutOff, Refused, Report, Reschedule, Standing, Taken
+from .clock import Clock
+from .faults import ConversationEnded, NotStored
+from .known import Known
+from .passive import Passive, is_stale
+from .runners import Event, Finished, Job, Runners
+from .scheduling import Scheduling
+from .site import Site, Watched
+from .sooner import Sooner, on_time
+from .store import KeptResult, Store
+from .verdict import verdict
+
+# A pause is more than so many milliseconds between two turns.
+PAUSE = 10_000
+# The longest that is waited for the next turn, and how long where nothing can be stored.
+LONGEST_WAIT = 1_000
+# How often a check whose runner ended is begun anew, and what it counts as then.
+MOST_LOST = 2
+UNKNOWN = 3
+# The state is saved behind so many calls, or so many milliseconds.
+SAVE_CALLS = 50_000
+SAVE_AFTER = 300_000
+
+
+class Engine:
+    """A site as it is monitored."""
+
+    def __init__(self, site: Site, scheduling: Scheduling, runners: Runners, store: Store, clock: Clock, log: Callable[[str], None]) -> None:
+        self.site, self.scheduling, self.store = site, scheduling, store
+        self._runners, self._clock, self._log = runners, clock, log
+        self._sooner = Sooner(site, scheduling, clock)
+        self._passive = Passive(scheduling, self._sooner, lambda taken: self._start(taken, None), self._reported, store.waiting())
+        self._results: Deque[Event] = collections.deque()
+        self._jobs: Dict[Tuple[str, int], Job] = {}
+        self._lost: Counter[str] = collections.Counter()
+        self._operator = dict(store.switches())
+        self._periods: Mapping[str, bool] = {}
+        self._last_turn: Optional[int] = None
+        self._minute: Optional[int] = None
+        self._opened = clock.moment()
+        self._last_save = (self._opened, store.last_call)
+        self._is_stuck = False
+        self._can_save = True
+        self.made = self.latest_start = 0
+
+    # ---- a turn
+
+    def turn(self) -> int:
+        """Does all that there is to do now, and returns the moment at which it wants its next turn at the latest."""
+        now = self._clock.moment()
+        self._results.extend(self._runners.events())
+        try:
+            self._turn(now)
+            if self._is_stuck:
+                self._log("the database takes writes again")
+            self._is_stuck = False
+        except NotStored as error:
+            if not self._is_stuck:
+                self._log(f"no call is made until it can be stored: {error}")
+            self._is_stuck = True
+            return now + LONGEST_WAIT
+        except ConversationEnded as error:
+            self._log(f"{error}; it is started anew")
+            self._jobs.clear()
+            self._results.clear()
+            self.scheduling.reopen()
+            self._last_turn = None
+            return now
+        first = self.scheduling.known.first()
+        return now + LONGEST_WAIT if first is None else min(first, now + LONGEST_WAIT)
+
+    def _turn(self, now: int) -> None:
+        begun = self._follow_periods()
+        self._report()
+        self._sooner.make()
+        self._passive.deliver()
+        self._see_to_freshness(now)
+        if self._last_turn is None or now - self._last_turn > PAUSE:
+            begun = list(self.scheduling.known.objects.values())
+        self._last_turn = now
+        self._sooner.spread(begun, now)
+        self._take(now)
+        self.scheduling.flush()
+        if now - self._last_save[0] >= SAVE_AFTER or self.store.last_call - self._last_save[1] >= SAVE_CALLS:
+            self.save()
+
+    # ---- switches and periods
+
+    def _is_wanted_on(self, watched: Watched) -> bool:
+        """Whether the active checks of an object are to be on: the operator's switch and its period both say so."""
+        on = self._operator.get(watched.name, watched.enabled) and not watched.passive_only
+        return on and self._is_in_period(watched)
+
+    def _is_in_period(self, watched: Watched) -> bool:
+        return watched.period is None or self._periods.get(watched.period, True)
+
+    def _follow_periods(self) -> List[Known]:
+        """Switches objects by their periods, once a minute; returns those whose checks are on from now on."""
+        wall = self._clock.wall()
+        minute = int(wall // 60)
+        if minute == self._minute:
+            return []
+        self._periods = self.site.periods.active(wall)
+        begun = self._switch(list(self.scheduling.known.objects.values()))
+        self._minute = minute
+        return begun
+
+    def _switch(self, objects: List[Known]) -> List[Known]:
+        changed = [known for known in objects if known.on != self._is_wanted_on(known.watched)]
+        self.scheduling.make([(Enable(known.name, not known.on), None) for known in changed])
+        return [known for known in changed if known.on]
+
+    def _see_to_freshness(self, now: int) -> None:
+        """Has the command run of each object of which no result came within its freshness."""
+        for name in self.site.with_freshness:
+            known = self.scheduling.known.objects[name]
+            if is_stale(known, self._opened, now) and self._is_in_period(known.watched):
+                self._log(f"{known.name}: no result for {(known.watched.freshness or 0) / 1000:g} seconds; its command is run")
+                self._sooner.want(Reschedule(known.name, now, True))
+        self._sooner.make()
+
+    # ---- takes
+
+    def _take(self, now: int) -> None:
+        """Takes what is due, as far as there are free slots."""
+        for part in range(len(self.site.setups)):
+            while True:
+                due = self.scheduling.known.due(part, now)
+                count = min(len(due), self.site.options.slots - self.out())
+                if count <= 0 or not self._take_some(part, count):
+                    break
+
+    def _take_some(self, part: int, count: int) -> bool:
+        """Takes so many checks of a part; False where there was none to take."""
+        before = {name: self.scheduling.known.objects[name].next for name in self.scheduling.known.due(part, self._clock.moment())}
+        answers = self.scheduling.take(part, count)
+        for answer in answers:
+            if isinstance(answer, Taken):
+                self._start(answer, before.get(answer.name))
+        return any(isinstance(answer, (Taken, PutOff)) for answer in answers)
+
+    def _start(self, taken: Taken, due: Optional[int]) -> None:
+        """Runs the plugin of a check that was taken."""
+        watched = self.scheduling.known.objects[taken.name].watched
+        time = on_time(due)
+        if time is not None:
+            self.latest_start = max(self.latest_start, self._clock.moment() - time)
+        words, limit = ((), 0.0) if watched.command is None else (watched.command.words, watched.command.limit)
+        job = Job(taken.name, taken.run, words, limit)
+        self._jobs[taken.name, taken.run] = job
+        if watched.command is None:
+            self._results.append(Finished(job, "exited", UNKNOWN, "it has no command"))
+        else:
+            self._runners.start(job)
+
+    # ---- results
+
+    def _report(self) -> None:
+        """Reports the results that have come, and gives up what is lost. What can't be kept stays here."""
+        while self._results:
+            events = [event for event in self._results if self._is_awaited(event)]
+            before = {event.job.name: self.scheduling.known.objects[event.job.name].standing for event in events}
+            answers = self.scheduling.make([self._ended(event) for event in events])
+            for event in self._results:
+                if not self._is_awaited(event):
+                    self._jobs.pop((event.job.name, event.job.run), None)
+                    self._log(f"{event.job.name}: the result of run {event.job.run} is dropped: it was given up, or the object isn't part of the site any more")
+            self._results.clear()
+            for event, answer in zip(events, answers):
+                self._jobs.pop((event.job.name, event.job.run), None)
+                self._reported(event.job, answer, before[event.job.name])
+
+    def _is_awaited(self, event: Event) -> bool:
+        """Whether a check still runs, and its object is part of the site."""
+        return (event.job.name, event.job.run) in self._jobs and event.job.name in self.scheduling.known.objects
+
+    def _ended(self, event: Event) -> Tuple[Call, Optional[str]]:
+        """The call by which a check ends, and the plugin's words. A check whose runner ended is given up, and at last UNKNOWN."""
+        job = event.job
+        if isinstance(event, Finished):
+            self._lost.pop(job.name, None)
+            code, words = verdict(event, self.site.objects[job.name].is_host(), self.site.options.timeout_code)
+            return Report(job.name, job.run, code), words
+        self._lost[job.name] += 1
+        if self._lost[job.name] > MOST_LOST:
+            return Report(job.name, job.run, UNKNOWN), f"its runner ended {self._lost[job.name]} times"
+        return Abandon(job.name, job.run, self._clock.moment()), None
+
+    def _reported(self, job: Job, answer: Answer, before: Optional[Standing]) -> None:
+        """What follows from a result."""
+        if isinstance(answer, Refused):
+            self._log(f"{job.name}: the result of run {job.run} came too late ({answer.why})")
+        if not isinstance(answer, Standing):
+            return
+        self.made += 1
+        known = self.scheduling.known.objects[job.name]
+        known.last_result = self._clock.moment()
+        self._sooner.set_again(known, answer)
+        self._sooner.look_at_hosts(known, answer, before)
+
+    # ---- what can be asked for
+
+    def out(self) -> int:
+        """How many plugins run."""
+        return len(self._jobs)
+
+    def busy(self) -> Set[str]:
+        """The objects whose plugins run."""
+        return {name for name, _ in self._jobs}
+
+    def save(self) -> bool:
+        """Saves the state, where the program can."""
+        self._last_save = (self._clock.moment(), self.store.last_call)
+        if self._can_save:
+            self._can_save = self.scheduling.save()
+        return self._can_save
+
+    def set_switch(self, name: str, on: bool) -> None:
+        """An operator's switch, which was stored."""
+        self._operator[name] = on
+        self._sooner.spread(self._switch([self.scheduling.known.objects[name]]), self._clock.moment())
+
+    def reschedule(self, name: str, time: int, forced: bool) -> None:
+        """Sets the next check of an object, as an operator asked."""
+        self._sooner.forget(name)
+        self.scheduling.make([(Reschedule(name, time, forced), None)])
+
+    def expect(self, result: KeptResult) -> None:
+        """A passive result, which was stored."""
+        self._passive.expect(result)
+
+    def reload(self, site: Site) -> None:
+        """Goes on with another site; what runs goes on. A site that can't be taken over changes nothing."""
+        self.scheduling.reload(site)
+        self.site = site
+        self._sooner.become(site)
+        self._minute = self._last_turn = None

@@ -1,0 +1,137 @@
+"""What the answers of the scheduler say of each object, and which are due."""
+import heapq
+import json
+from dataclasses import dataclass, field, replace
+from typing import Dict, List, Mapping, Optional, Set, Tuple
+
+from .calls import Abandon, Answer, Call, Done, Enable, Freed, PutOff, Refused, Report, Reschedule, Standing, Taken
+from .site import Watched
+
+
+@dataclass
+class Known:
+    """What is known of an object."""
+
+    watched: Watched
+    # Whether the scheduler has its checks on, and the rest as the scheduler has it.
+    on: bool
+    next: Optional[int] = None
+    run: Optional[int] = None
+    forced: bool = False
+    standing: Optional[Standing] = None
+    # The moment of its last result, and the words that came with it.
+    last_result: Optional[int] = None
+    words: str = ""
+
+    @property
+    def name(self) -> str:
+        return self.watched.name
+
+    def waits_until(self) -> Optional[int]:
+        """The time for which it waits; None while it is out, off, or has none."""
+        return self.next if self.run is None and (self.on or self.forced) else None
+
+    def is_problem(self) -> bool:
+        return self.standing is not None and self.standing.is_problem()
+
+
+@dataclass
+class Due:
+    """The objects of a part by the times for which they wait."""
+
+    _times: Dict[str, int] = field(default_factory=dict)
+    _heap: List[Tuple[int, str]] = field(default_factory=list)
+    _due: Set[str] = field(default_factory=set)
+
+    def set(self, name: str, time: Optional[int]) -> None:
+        """Sets the time for which an object waits, or that it waits for none."""
+        if time is not None and self._times.get(name) == time:
+            return
+        self._due.discard(name)
+        if time is None:
+            self._times.pop(name, None)
+        else:
+            self._times[name] = time
+            heapq.heappush(self._heap, (time, name))
+
+    def now(self, moment: int) -> Set[str]:
+        """The objects whose time has come."""
+        while self._heap and self._heap[0][0] <= moment:
+            time, name = heapq.heappop(self._heap)
+            if self._times.get(name) == time:
+                self._due.add(name)
+        return self._due
+
+    def first(self) -> Optional[int]:
+        """The least time that lies behind the last moment that was asked for."""
+        while self._heap and self._times.get(self._heap[0][1]) != self._heap[0][0]:
+            heapq.heappop(self._heap)
+        return self._heap[0][0] if self._heap else None
+
+
+class AllKnown:
+    """What is known of all objects of a site."""
+
+    def __init__(self) -> None:
+        self.objects: Dict[str, Known] = {}
+        self._due: Dict[int, Due] = {}
+
+    def add(self, watched: Watched, on: bool) -> None:
+        self.objects[watched.name] = Known(watched, on)
+        self._due.setdefault(watched.part, Due())
+
+    def become(self, objects: Mapping[str, Watched]) -> None:
+        """Takes another site over: of an object that stays what is known stays."""
+        before, self.objects, self._due = self.objects, {}, {}
+        for watched in objects.values():
+            self.add(watched, watched.enabled)
+            if watched.name in before:
+                kept = before[watched.name]
+                on = kept.on if kept.watched.enabled == watched.enabled else watched.enabled
+                self.objects[watched.name] = replace(kept, watched=watched, on=on)
+            self._set_due(self.objects[watched.name])
+
+    def read_saved(self, state: bytes) -> None:
+        """Takes in the state of a scheduler, as it was saved."""
+        for it in json.loads(state)["objects"]:
+            known = self.objects.get(it["name"])
+            if known is not None:
+                known.on, known.forced, known.next = it["enabled"], it["forced"], it.get("next_check")
+                run = it.get("run")
+                known.run = None if run is None else run["number"]
+                known.standing = None
+                self._set_due(known)
+
+    def _set_due(self, known: Known) -> None:
+        self._due[known.watched.part].set(known.name, known.waits_until())
+
+    def due(self, part: int, moment: int) -> Set[str]:
+        return self._due[part].now(moment) if part in self._due else set()
+
+    def first(self) -> Optional[int]:
+        """The least time for which an object waits that isn't due yet."""
+        times = [time for time in (due.first() for due in self._due.values()) if time is not None]
+        return min(times) if times else None
+
+    def hear(self, call: Call, answer: Answer) -> Optional[Known]:
+        """Takes in what an answer says; returns the object that it speaks of, if it is one of these."""
+        name = answer.name if isinstance(answer, (Taken, PutOff)) else getattr(call, "name", None)
+        known = self.objects.get(name) if name is not None else None
+        if known is None or isinstance(answer, Refused):
+            return known
+        if isinstance(answer, Taken):
+            known.run, known.next, known.forced = answer.run, None, False
+        elif isinstance(answer, PutOff):
+            known.next = answer.next
+        elif isinstance(answer, Standing):
+            known.standing, known.next = answer, answer.next
+            if isinstance(call, Report):
+                known.run = None
+        elif isinstance(answer, Freed) and isinstance(call, Abandon):
+            known.run, known.next = None, answer.next
+        elif isinstance(answer, Done) and isinstance(call, Reschedule):
+            known.next, known.forced = call.time, call.forced
+        elif isinstance(answer, Done) and isinstance(call, Enable):
+            known.on = call.on
+        self._set_due(known)
+        return known

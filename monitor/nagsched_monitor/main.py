@@ -1,0 +1,205 @@
+"""The words of `nagsched-monitor`, and the loop of a monitor."""
+import argparse
+import json
+import os
+import pathlib
+import selectors
+import signal
+import socket
+import sys
+from typing import Any, Dict, List, Optional, Set
+
+from . import changes, control
+from .changes import Notifier
+from .clock import Clock, SystemClock
+from .engine import Engine
+from .faults import MonitorFault
+from .requests import Requests
+from .runners import RunnerProcesses
+from .scheduling import Scheduling
+from .site import Site, read_site
+from .store import DropChangesBefore, Store
+
+DAY = 86_400
+BUSY_WAIT = 100
+
+
+class Monitor:
+    """A monitor of one site, while it runs."""
+
+    def __init__(self, folder: pathlib.Path, program: str, command: Optional[str]) -> None:
+        self._folder, self._program = folder, program
+        self._selector = selectors.DefaultSelector()
+        self._watched: Set[int] = set()
+        self._is_ended = self._is_reload_wanted = False
+        self.site = read_site(folder, program)
+        self.store = Store(folder)
+        self.clock: Clock = SystemClock(self.store.last_moment())
+        self._notifier = Notifier(command, self.store, self.log)
+        self.scheduling = self._opened(self.site)
+        self.runners = RunnerProcesses(os.cpu_count() or 1, self.log, self._watch, self._unwatch)
+        self.engine = Engine(self.site, self.scheduling, self.runners, self.store, self.clock, self.log)
+        self.requests = Requests(self.engine, self.clock, self.reload, self.stop)
+        self.control = control.Control(folder, self.requests.answer, self._watch, self._unwatch)
+        self._dropped_at = 0.0
+
+    def log(self, line: str) -> None:
+        print(line, flush=True)
+
+    def _opened(self, site: Site) -> Scheduling:
+        scheduling = Scheduling(self._program, site, self.store, self.clock, self.log, self._notifier.is_wanted())
+        scheduling.open()
+        return scheduling
+
+    # ---- the loop
+
+    def work(self) -> None:
+        """Works until it is asked to stop."""
+        self._take_signals()
+        for line in changes.standing_problems([(known.name, known.standing) for known in self.scheduling.known.objects.values() if known.standing]):
+            self.log(f"at the start {line}")
+        while not self._is_ended:
+            wanted = self.engine.turn()
+            for change in self.scheduling.changed():
+                self.log(changes.line_of(change, self.site.zone))
+            self._notifier.work()
+            self._drop_old_changes()
+            if self._is_reload_wanted:
+                self._is_reload_wanted = False
+                self._reload_by_signal()
+            wait = max(0, wanted - self.clock.moment())
+            self._wait(min(wait, BUSY_WAIT) if self._notifier.is_busy() else wait)
+
+    def _wait(self, milliseconds: int) -> None:
+        for key, _ in self._selector.select(milliseconds / 1000):
+            if key.data is not None:
+                key.data.recv(4096)  # a signal came
+            elif self.control.owns(key.fd):
+                self.control.read(key.fd)
+            elif key.fd in self._watched:
+                self.runners.read(key.fd)
+
+    def _watch(self, file: int) -> None:
+        self._watched.add(file)
+        self._selector.register(file, selectors.EVENT_READ)
+
+    def _unwatch(self, file: int) -> None:
+        self._watched.discard(file)
+        self._selector.unregister(file)
+
+    def _take_signals(self) -> None:
+        there, back = socket.socketpair()
+        there.setblocking(False)
+        back.setblocking(False)
+        signal.set_wakeup_fd(back.fileno(), warn_on_full_buffer=False)
+        self._signals = (there, back)
+        self._selector.register(there, selectors.EVENT_READ, there)
+        for number in (signal.SIGINT, signal.SIGTERM):
+            signal.signal(number, lambda *_: self.stop())
+        signal.signal(signal.SIGHUP, lambda *_: setattr(self, "_is_reload_wanted", True))
+
+    def _drop_old_changes(self) -> None:
+        if self.clock.wall() - self._dropped_at > DAY / 24:
+            self._dropped_at = self.clock.wall()
+            self.store.write(DropChangesBefore(self.clock.wall() - self.site.options.keep_days * DAY))
+
+    # ---- what it can be asked
+
+    def stop(self) -> None:
+        self._is_ended = True
+
+    def reload(self) -> Dict[str, Any]:
+        """Reads the site anew, and goes on with it; where it is bad the old one goes on."""
+        site = read_site(self._folder, self._program)
+        before = self.scheduling.known.objects
+        self.engine.reload(site)
+        self.site = site
+        new, dropped = sorted(set(site.objects) - set(before)), sorted(set(before) - set(site.objects))
+        for word, names in (("new", new), ("dropped", dropped)):
+            for name in names:
+                self.log(f"{word}: {name}")
+        return {"done": "reload", "new": new, "dropped": dropped}
+
+    def _reload_by_signal(self) -> None:
+        try:
+            self.reload()
+        except MonitorFault as fault:
+            self.log(f"the site isn't taken over: {fault}")
+
+    def close(self) -> None:
+        """Ends: plugins that run are killed, and their checks given up at the next start."""
+        self.control.close()
+        self.runners.close()
+        self._notifier.close()
+        self.engine.save()
+        self.scheduling.close()
+        self.store.close()
+
+
+# ---- words
+
+
+def words_of(given: Optional[List[str]]) -> argparse.Namespace:
+    parser = argparse.ArgumentParser(prog="nagsched-monitor", description="Monitors a site: it runs plugins, and nagsched decides which is due.")
+    parser.add_argument("folder", metavar="DIR", type=pathlib.Path, help="the folder of the site")
+    parser.add_argument("--program", default="nagsched", metavar="PATH", help="the program nagsched")
+    parser.add_argument("--on-change", metavar="COMMAND", help="run this for each hard change, with a JSON object on its standard input")
+    words = parser.add_subparsers(dest="word", metavar="WORD", help="without a word it runs the monitor; else it asks the one that runs")
+    status = words.add_parser("status", help="prints how objects stand")
+    status.add_argument("pattern", nargs="?", default="*")
+    reschedule = words.add_parser("reschedule", help="sets the next check of an object")
+    reschedule.add_argument("name")
+    reschedule.add_argument("--at", type=float, metavar="T", help="seconds since 1970; now without it")
+    reschedule.add_argument("--force", action="store_true", help="also where it is switched off or held back")
+    for word, what in (("enable", "on"), ("disable", "off")):
+        words.add_parser(word, help=f"switches an object's checks {what}").add_argument("name")
+    result = words.add_parser("result", help="gives a passive result")
+    result.add_argument("name")
+    result.add_argument("code", type=int)
+    result.add_argument("output", nargs="?", default="")
+    for word, what in (("test", "reads the site and tests it"), ("reload", "reads the site anew"), ("save", "saves the state"), ("stop", "ends the monitor")):
+        words.add_parser(word, help=what)
+    return parser.parse_args(given)
+
+
+def request_of(words: argparse.Namespace) -> Dict[str, Any]:
+    """The request that the words ask for."""
+    members = {"pattern": ("status",), "name": ("reschedule", "enable", "disable", "result"), "at": ("reschedule",), "force": ("reschedule",)}
+    members |= {"code": ("result",), "output": ("result",)}
+    asked = {member: getattr(words, member) for member, of in members.items() if words.word in of}
+    return {"do": words.word, **{member: value for member, value in asked.items() if value is not None}}
+
+
+def printed(answer: Dict[str, Any]) -> str:
+    """An answer in words."""
+    if "objects" not in answer:
+        return "\n".join([f"{answer['done']}: {answer.get('name', 'done')}", *(f"{word}: {name}" for word in ("new", "dropped") for name in answer.get(word, ()))])
+    lines = []
+    for it in answer["objects"]:
+        marks = "".join(word for word, there in ((" FLAPPING", it["flapping"]), (" out", it["out"]), (" off", not it["on"])) if there)
+        lines.append(f"{it['state']} {it['kind']} {it['attempt']}{marks} {it['name']}: {it['output']}")
+    return "\n".join(lines)
+
+
+def main(given: Optional[List[str]] = None) -> int:
+    words = words_of(given)
+    try:
+        if words.word == "test":
+            site = read_site(words.folder, words.program)
+            print(f"{len(site.objects)} objects, {len(site.setups)} parts")
+            return 0
+        if words.word is not None:
+            answer = json.loads(control.ask(words.folder, json.dumps(request_of(words)).encode()) or b'{"error": "the monitor ended"}')
+            if "error" in answer:
+                raise MonitorFault(answer["error"])
+            print(printed(answer))
+            return 0
+        monitor = Monitor(words.folder, words.program, words.on_change)
+    except MonitorFault as fault:
+        print(f"nagsched-monitor: {fault}", file=sys.stderr)
+        return 1
+    try:
+        monitor.work()
+    finally:
+        monitor.close()
+    return 0

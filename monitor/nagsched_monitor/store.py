@@ -1,0 +1,312 @@
+"""The database of a site: one SQLite file, which is all that the monitor keeps.
+
+    generations   of each part the setup that its scheduler was opened over, the start, and the state from which it went on, if it was saved
+    calls         the calls that were made since, with the words of the plugin where one reported; each is kept before it is made
+    switches      whether an operator has an object's checks on
+    passive       results that came through the socket and weren't reported yet
+    changes       changes of state, by the number of the call that made them
+    outbox        changes that the command for changes hasn't taken yet
+
+Each row has a checksum over its table and its members, so that a row that was changed since is found.
+"""
+import fcntl
+import hashlib
+import json
+import os
+import pathlib
+import sqlite3
+from dataclasses import dataclass
+from typing import Dict, Iterator, List, Optional, Sequence, Tuple, Union
+
+from .calls import Abandon, Take, read_call
+from .faults import DamagedRow, MonitorFault, NotStored
+
+Cell = Union[int, float, str, bytes, None]
+
+TABLES: Dict[str, str] = {
+    "generations": "part INTEGER, setup BLOB, start INTEGER, saved BLOB, last_call INTEGER",
+    "calls": "part INTEGER, line TEXT, words TEXT",
+    "switches": "name TEXT UNIQUE, is_on INTEGER",
+    "passive": "name TEXT, code INTEGER, words TEXT",
+    "changes": "time REAL, name TEXT, state TEXT, kind TEXT, attempt INTEGER, flapping INTEGER, words TEXT",
+    "outbox": "document TEXT",
+}
+
+
+@dataclass(frozen=True)
+class Generation:
+    """How the scheduler of a part was opened last."""
+
+    part: int
+    setup: bytes
+    start: int
+    saved: Optional[bytes]
+    # The number of the last call that the saved state has in it.
+    last_call: int
+
+
+@dataclass(frozen=True)
+class KeptCall:
+    """A call that was kept: its number, part and line, and the words of the plugin that it reports."""
+
+    id: int
+    part: int
+    line: str
+    words: Optional[str]
+
+
+@dataclass(frozen=True)
+class KeptResult:
+    """A passive result that waits."""
+
+    id: int
+    name: str
+    code: int
+    words: str
+
+
+@dataclass(frozen=True)
+class KeptChange:
+    """A change of state: the number of its call, and what the object is since."""
+
+    id: int
+    time: float
+    name: str
+    state: str
+    kind: str
+    attempt: int
+    flapping: bool
+    words: str
+
+
+class Store:
+    """The database of one monitor. A second one of the same site is refused."""
+
+    def __init__(self, folder: pathlib.Path) -> None:
+        self.path = folder / "monitor.db"
+        self._lock: Optional[int] = locked(folder)
+        try:
+            self._database = self._opened()
+            self._verify()
+        except sqlite3.Error as error:
+            self.close()
+            raise MonitorFault(f"{self.path}: {error}") from None
+        except DamagedRow:
+            self.close()
+            raise
+        self.last_call = max(self._greatest("calls"), self._greatest("generations", "last_call"))
+        self.last_change = self._greatest("changes")
+
+    def _opened(self) -> sqlite3.Connection:
+        """The database, for its owner only, with a table for everything."""
+        os.close(os.open(self.path, os.O_RDWR | os.O_CREAT | os.O_CLOEXEC, 0o600))
+        database = sqlite3.connect(self.path, isolation_level=None, timeout=5)
+        try:
+            for setting in ("journal_mode=WAL", "synchronous=FULL", "wal_autocheckpoint=1000"):
+                database.execute(f"PRAGMA {setting}")
+            for table, members in TABLES.items():
+                database.execute(f"CREATE TABLE IF NOT EXISTS {table} (id INTEGER PRIMARY KEY, {members}, checksum TEXT)")
+        except sqlite3.Error:
+            database.close()
+            raise
+        return database
+
+    def close(self) -> None:
+        if self._lock is not None:
+            if hasattr(self, "_database"):
+                self._database.close()
+            os.close(self._lock)
+            self._lock = None
+
+    # ---- reading
+
+    def _verify(self) -> None:
+        """Tests each row's checksum, and that no call is missing between two."""
+        for table in TABLES:
+            for number, *cells, checksum in self._database.execute(f"SELECT * FROM {table} ORDER BY id"):
+                if checksum != checksum_of(table, number, cells):
+                    raise DamagedRow(f"{self.path}: row {number} of {table} was changed since it was written")
+        first, last, count = self._database.execute("SELECT min(id), max(id), count(*) FROM calls").fetchone()
+        if count and last - first + 1 != count:
+            raise DamagedRow(f"{self.path}: {last - first + 1 - count} rows of calls are missing")
+
+    def _greatest(self, table: str, member: str = "id") -> int:
+        (greatest,) = self._database.execute(f"SELECT max({member}) FROM {table}").fetchone()
+        return int(greatest or 0)
+
+    def generations(self) -> Dict[int, Generation]:
+        """The last generation of each part."""
+        rows = self._database.execute("SELECT part, setup, start, saved, last_call FROM generations ORDER BY id")
+        return {row[0]: Generation(*row) for row in rows}
+
+    def calls_since(self, part: int, number: int) -> Iterator[KeptCall]:
+        """The calls of a part behind the call with this number."""
+        rows = self._database.execute("SELECT id, part, line, words FROM calls WHERE part = ? AND id > ? ORDER BY id", (part, number))
+        return (KeptCall(*row) for row in rows)
+
+    def count_calls(self, part: int, number: int) -> int:
+        """How many calls of a part there are behind the call with this number."""
+        (count,) = self._database.execute("SELECT count(*) FROM calls WHERE part = ? AND id > ?", (part, number)).fetchone()
+        return int(count)
+
+    def last_moment(self) -> int:
+        """The greatest moment that a scheduler was handed."""
+        moments = [0, *(generation.start for generation in self.generations().values())]
+        for (line,) in self._database.execute("SELECT line FROM calls ORDER BY id DESC"):
+            call = read_call(line)
+            if isinstance(call, (Take, Abandon)):
+                moments.append(call.now)
+                break
+        return max(moments)
+
+    def switches(self) -> Dict[str, bool]:
+        return {name: bool(on) for name, on in self._database.execute("SELECT name, is_on FROM switches")}
+
+    def waiting(self) -> List[KeptResult]:
+        return [KeptResult(*row) for row in self._database.execute("SELECT id, name, code, words FROM passive ORDER BY id")]
+
+    def outbox(self) -> List[Tuple[int, str]]:
+        return list(self._database.execute("SELECT id, document FROM outbox ORDER BY id"))
+
+    # ---- writing
+
+    def write(self, *writes: "Write") -> None:
+        """Writes all of these or nothing, and syncs it. `NotStored` where the disk is full or the file can't be written."""
+        last_call, last_change = self.last_call, self.last_change
+        try:
+            self._database.execute("BEGIN IMMEDIATE")
+            for write in writes:
+                write.carry_out(self)
+            self._database.execute("COMMIT")
+        except sqlite3.Error as error:
+            self.last_call, self.last_change = last_call, last_change
+            if self._database.in_transaction:
+                self._database.execute("ROLLBACK")
+            raise NotStored(f"{self.path}: {error}") from None
+
+    def insert(self, table: str, number: Optional[int], cells: Sequence[Cell]) -> None:
+        """Writes a row; without a number it has the next one."""
+        number = self._greatest(table) + 1 if number is None else number
+        marks = ",".join("?" * (len(cells) + 2))
+        self._database.execute(f"INSERT OR REPLACE INTO {table} VALUES ({marks})", (number, *cells, checksum_of(table, number, cells)))
+
+    def delete(self, table: str, condition: str, *cells: Cell) -> None:
+        self._database.execute(f"DELETE FROM {table} WHERE {condition}", cells)
+
+
+def locked(folder: pathlib.Path) -> int:
+    """The lock of a site, which one monitor holds."""
+    lock = os.open(folder / "monitor.lock", os.O_RDWR | os.O_CREAT | os.O_CLOEXEC, 0o600)
+    try:
+        fcntl.flock(lock, fcntl.LOCK_EX | fcntl.LOCK_NB)
+    except BlockingIOError:
+        os.close(lock)
+        raise MonitorFault(f"another monitor runs on {folder}") from None
+    return lock
+
+
+def checksum_of(table: str, number: int, cells: Sequence[Cell]) -> str:
+    texts = [cell.hex() if isinstance(cell, bytes) else cell for cell in cells]
+    return hashlib.blake2b(json.dumps([table, number, *texts]).encode(), digest_size=8).hexdigest()
+
+
+# ---- what can be written
+
+
+class Write:
+    """Something that is written together with others, or not at all."""
+
+    def carry_out(self, store: Store) -> None:
+        raise NotImplementedError
+
+
+@dataclass(frozen=True)
+class KeepCalls(Write):
+    """Calls that are about to be made: the part, the line and the plugin's words of each."""
+
+    calls: Sequence[Tuple[int, str, Optional[str]]]
+
+    def carry_out(self, store: Store) -> None:
+        for cells in self.calls:
+            store.last_call += 1
+            store.insert("calls", store.last_call, cells)
+
+
+@dataclass(frozen=True)
+class BeginGeneration(Write):
+    """A scheduler that is opened: what came before of its part isn't needed any more."""
+
+    generation: Generation
+
+    def carry_out(self, store: Store) -> None:
+        made = self.generation
+        store.delete("generations", "part = ?", made.part)
+        store.delete("calls", "part = ? AND id <= ?", made.part, made.last_call)
+        store.insert("generations", None, (made.part, made.setup, made.start, made.saved, made.last_call))
+
+
+@dataclass(frozen=True)
+class SetSwitch(Write):
+    name: str
+    on: bool
+
+    def carry_out(self, store: Store) -> None:
+        store.delete("switches", "name = ?", self.name)
+        store.insert("switches", None, (self.name, int(self.on)))
+
+
+@dataclass(frozen=True)
+class KeepResult(Write):
+    """A passive result that came."""
+
+    name: str
+    code: int
+    words: str
+
+    def carry_out(self, store: Store) -> None:
+        store.insert("passive", None, (self.name, self.code, self.words))
+
+
+@dataclass(frozen=True)
+class DropResult(Write):
+    """A passive result that is reported with this."""
+
+    id: int
+
+    def carry_out(self, store: Store) -> None:
+        store.delete("passive", "id = ?", self.id)
+
+
+@dataclass(frozen=True)
+class KeepChange(Write):
+    """A change of state, and the document for the command that is run for it, if it is run for this one."""
+
+    change: KeptChange
+    document: Optional[str]
+
+    def carry_out(self, store: Store) -> None:
+        made = self.change
+        store.insert("changes", made.id, (made.time, made.name, made.state, made.kind, made.attempt, int(made.flapping), made.words))
+        store.last_change = max(store.last_change, made.id)
+        if self.document is not None:
+            store.insert("outbox", None, (self.document,))
+
+
+@dataclass(frozen=True)
+class DropDocument(Write):
+    """A document that was taken, or is given up."""
+
+    id: int
+
+    def carry_out(self, store: Store) -> None:
+        store.delete("outbox", "id = ?", self.id)
+
+
+@dataclass(frozen=True)
+class DropChangesBefore(Write):
+    """Changes before a time of the wall clock aren't kept any more; the last one stays, since its number is looked at."""
+
+    time: float
+
+    def carry_out(self, store: Store) -> None:
+        store.delete("changes", "time < ? AND id < (SELECT max(id) FROM changes)", self.time)

@@ -1,0 +1,138 @@
+"""A simulated site: a clock that is set by hand, and plugins that are functions. The schedulers and the database are real."""
+import heapq
+import json
+import os
+import pathlib
+import tempfile
+import unittest
+from dataclasses import dataclass, field
+from typing import Any, Callable, Dict, List, Optional, Tuple
+
+from nagsched_monitor.engine import Engine
+from nagsched_monitor.runners import Event, Finished, Job
+from nagsched_monitor.scheduling import Scheduling
+from nagsched_monitor.site import Site, read_site
+from nagsched_monitor.store import KeptChange, Store
+
+PROGRAM = os.environ.get("NAGSCHED", "nagsched")
+# 2026-11-27 08:00:00, in UTC.
+BEGIN = 1_795_766_400_000
+
+# What a plugin does at a moment: how many milliseconds it takes, its exit code and its output.
+Plugin = Callable[[str, int], Tuple[int, int, str]]
+
+
+@dataclass
+class SimulatedClock:
+    now: int = BEGIN
+    # By how much the wall clock is set otherwise.
+    wall_is_off: float = 0.0
+
+    def moment(self) -> int:
+        return self.now
+
+    def wall(self) -> float:
+        return self.now / 1000 + self.wall_is_off
+
+
+@dataclass
+class SimulatedRunners:
+    """Runs no process: each job ends when the clock comes to its end."""
+
+    clock: SimulatedClock
+    plugin: Plugin
+    started: List[Tuple[int, Job]] = field(default_factory=list)
+    _ends: List[Tuple[int, int, Finished]] = field(default_factory=list)
+
+    def start(self, job: Job) -> None:
+        took, code, output = self.plugin(job.name, self.clock.now)
+        self.started.append((self.clock.now, job))
+        heapq.heappush(self._ends, (self.clock.now + took, len(self.started), Finished(job, "exited", code, output)))
+
+    def events(self) -> List[Event]:
+        events: List[Event] = []
+        while self._ends and self._ends[0][0] <= self.clock.now:
+            events.append(heapq.heappop(self._ends)[2])
+        return events
+
+    def first(self) -> Optional[int]:
+        return self._ends[0][0] if self._ends else None
+
+
+class SimulatedMonitor:
+    """A monitor whose day takes seconds."""
+
+    def __init__(self, folder: pathlib.Path, plugin: Plugin, clock: Optional[SimulatedClock] = None) -> None:
+        self.folder = folder
+        self.site: Site = read_site(folder, PROGRAM)
+        self.store = Store(folder)
+        self.store._database.execute("PRAGMA synchronous=OFF")
+        self.clock = clock or SimulatedClock()
+        self.lines: List[str] = []
+        self.changes: List[Tuple[int, KeptChange]] = []
+        self.scheduling = Scheduling(PROGRAM, self.site, self.store, self.clock, self.lines.append, True)
+        self.scheduling.open()
+        self.runners = SimulatedRunners(self.clock, plugin)
+        self.engine = Engine(self.site, self.scheduling, self.runners, self.store, self.clock, self.lines.append)
+
+    def run(self, seconds: float) -> None:
+        """Goes on for so long."""
+        end = self.clock.now + round(seconds * 1000)
+        while self.clock.now < end:
+            wanted = self.engine.turn()
+            self.changes += [(self.clock.now, change) for change in self.scheduling.changed()]
+            ends = self.runners.first()
+            wanted = wanted if ends is None else min(wanted, ends)
+            self.clock.now = min(end, max(wanted, self.clock.now + 1))
+
+    def pause(self, seconds: float) -> None:
+        """Nothing runs for so long, as where a machine sleeps."""
+        self.clock.now += round(seconds * 1000)
+
+    def starts(self) -> Dict[str, List[int]]:
+        """When each object's plugin was started, in milliseconds from the beginning."""
+        starts: Dict[str, List[int]] = {}
+        for moment, job in self.runners.started:
+            starts.setdefault(job.name, []).append(moment - BEGIN)
+        return starts
+
+    def checks_a_second(self) -> List[int]:
+        counts = [0] * ((self.clock.now - BEGIN) // 1000 + 1)
+        for moment, _ in self.runners.started:
+            counts[(moment - BEGIN) // 1000] += 1
+        return counts
+
+    def close(self) -> None:
+        self.scheduling.close()
+        self.store.close()
+
+
+class SiteTest(unittest.TestCase):
+    """A test with a folder for a site."""
+
+    def setUp(self) -> None:
+        holder = tempfile.TemporaryDirectory()
+        self.addCleanup(holder.cleanup)
+        self.folder = pathlib.Path(holder.name)
+
+    def write(self, name: str, document: Any) -> None:
+        (self.folder / name).write_text(document if isinstance(document, str) else json.dumps(document))
+
+    def write_site(self, hosts: List[Any], services: List[Any], options: Optional[Dict[str, Any]] = None, **files: Any) -> None:
+        """A site of these hosts and services, whose commands are `true`, and of other files by their names."""
+        options = {"interval_length": 1, "host_inter_check_delay_method": "n", "service_inter_check_delay_method": "n", **(options or {})}
+        self.write("setup.json", {"options": options, "hosts": hosts, "services": services})
+        names = [host["name"] for host in hosts] + [f"{it['host']};{it['description']}" for it in services]
+        self.write("commands.json", {name: {"line": "true"} for name in names})
+        for name, document in files.items():
+            self.write(f"{name}.json", document)
+
+    def monitor(self, plugin: Plugin, clock: Optional[SimulatedClock] = None) -> SimulatedMonitor:
+        monitor = SimulatedMonitor(self.folder, plugin, clock)
+        self.addCleanup(monitor.close)
+        return monitor
+
+
+def fine(name: str, moment: int) -> Tuple[int, int, str]:
+    """A plugin that finds nothing wrong, in 10 milliseconds."""
+    return 10, 0, "fine"

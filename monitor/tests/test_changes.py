@@ -1,0 +1,87 @@
+"""What is printed of a change, and the command that is run for it."""
+import datetime
+import json
+import time
+from typing import List, Optional
+
+from nagsched_monitor.calls import Standing
+from nagsched_monitor.changes import TRIES, Notifier, document_of, is_change, is_important, line_of
+from nagsched_monitor.store import KeepChange, KeptChange, Store
+
+from .simulated import SiteTest
+
+
+def standing(state: str, kind: str = "HARD", attempt: int = 1, flapping: bool = False) -> Standing:
+    return Standing(state, kind, attempt, False, flapping, None, "web")
+
+
+class Changes(SiteTest):
+    def test_which_are_printed_and_which_count(self) -> None:
+        rows = (
+            (standing("PENDING"), standing("UP"), False, False),
+            (standing("PENDING"), standing("DOWN", "SOFT"), True, False),
+            (standing("UP"), standing("UP"), False, False),
+            (standing("UP"), standing("DOWN", "SOFT"), True, False),
+            (standing("DOWN", "SOFT"), standing("DOWN", "SOFT", 2), False, False),
+            (standing("DOWN", "SOFT", 2), standing("DOWN", "HARD", 3), True, True),
+            (standing("DOWN", "HARD", 3), standing("UNREACHABLE", "HARD", 3), True, True),
+            (standing("DOWN", "HARD", 3), standing("UP"), True, True),
+            (standing("DOWN", "SOFT", 2), standing("UP", "SOFT", 3), True, False),
+            (standing("UP"), standing("UP", flapping=True), True, True),
+            (standing("UP", flapping=True), standing("UP"), True, True),
+        )
+        for before, now, printed, counts in rows:
+            self.assertEqual((is_change(before, now), is_change(before, now) and is_important(before, now)), (printed, counts), (before, now))
+
+    def test_the_line(self) -> None:
+        change = KeptChange(1, 1_795_766_400.0, "web;http", "CRITICAL", "HARD", 3, True, "no answer")
+        self.assertEqual(line_of(change, datetime.timezone.utc), "2026-11-27 08:00:00+00:00 web;http is CRITICAL HARD 3 FLAPPING: no answer")
+
+
+class Command(SiteTest):
+    def setUp(self) -> None:
+        super().setUp()
+        self.store = Store(self.folder)
+        self.addCleanup(self.store.close)
+        self.lines: List[str] = []
+        self.passed = 0.0
+
+    def keep(self, count: int) -> None:
+        for number in range(1, count + 1):
+            change = KeptChange(number, float(number), f"h{number}", "DOWN", "HARD", 3, False, 'a "word"')
+            self.store.write(KeepChange(change, document_of(change, None)))
+
+    def worked(self, command: Optional[str], seconds: float = 5) -> None:
+        """Works until nothing waits, on a clock that goes on by itself between two tries."""
+        notifier = Notifier(command, self.store, self.lines.append, lambda: time.monotonic() + self.passed)
+        end = time.monotonic() + seconds
+        while self.store.outbox() and time.monotonic() < end:
+            notifier.work()
+            self.passed += 0 if notifier.is_busy() else 10
+            time.sleep(0.005)
+        notifier.close()
+
+    def test_each_once_and_in_order(self) -> None:
+        self.keep(5)
+        self.worked(f"cat >> {self.folder}/taken")
+        taken = [json.loads(line) for line in (self.folder / "taken").read_text().splitlines()]
+        self.assertEqual([it["name"] for it in taken], ["h1", "h2", "h3", "h4", "h5"])
+        self.assertEqual((taken[0]["output"], taken[0]["was"], taken[0]["state"]), ('a "word"', None, "DOWN"))
+
+    def test_one_that_fails_is_tried_again(self) -> None:
+        self.keep(2)
+        self.worked(f"cat >> {self.folder}/taken; test -e {self.folder}/ok || {{ touch {self.folder}/ok; exit 1; }}")
+        names = [json.loads(line)["name"] for line in (self.folder / "taken").read_text().splitlines()]
+        self.assertEqual(names, ["h1", "h1", "h2"])
+
+    def test_one_that_always_fails_is_given_up_by_name(self) -> None:
+        self.keep(1)
+        self.worked("exit 3", 20)
+        self.assertEqual(len(self.lines), TRIES)
+        self.assertIn("h1", self.lines[-1])
+        self.assertEqual(self.store.outbox(), [])
+
+    def test_no_command(self) -> None:
+        self.keep(1)
+        self.worked(None, 0.2)
+        self.assertEqual(len(self.store.outbox()), 1)

@@ -1,0 +1,266 @@
+"""Days of a monitor, simulated: pauses, outages, periods, passive results, a full disk, a scheduler that ends."""
+import collections
+import os
+import signal
+from typing import Any, Dict, List, Set, Tuple
+
+from nagsched_monitor.faults import NotStored
+from nagsched_monitor.runners import Lost
+from nagsched_monitor.store import KeepResult
+
+from .simulated import BEGIN, SimulatedClock, SimulatedMonitor, SiteTest, fine
+
+
+def host(name: str, **members: Any) -> Dict[str, Any]:
+    return {"name": name, "check_interval": 60, "retry_interval": 10, "max_check_attempts": 3, **members}
+
+
+def service(on: str, description: str, **members: Any) -> Dict[str, Any]:
+    return {"host": on, "description": description, "check_interval": 60, "retry_interval": 10, "max_check_attempts": 3, **members}
+
+
+class Pauses(SiteTest):
+    def test_an_even_schedule_stays_even(self) -> None:
+        """6,000 objects each minute, 100 a second: after a pause of 30 seconds what is overdue is made within 15, and then all is as before."""
+        options = {"interval_length": 1, "max_service_check_spread": 1, "max_host_check_spread": 1}
+        names = []
+        for part in (1, 2):
+            services = [service(f"h{part}", f"s{number:04}") for number in range(2999)]
+            self.write(f"part-{part}.json", {"options": options, "hosts": [host(f"h{part}")], "services": services})
+            names += [f"h{part}", *(f"h{part};{it['description']}" for it in services)]
+        self.write("commands.json", {name: {"line": "true"} for name in names})
+        self.write("monitor.json", {"slots": 500})
+        monitor = self.monitor(fine)
+        monitor.run(60)
+        monitor.pause(30)
+        monitor.run(90)
+        counts = monitor.checks_a_second()
+        self.assertEqual({count for count in counts[5:60]}, {100})
+        self.assertEqual(counts[60:90], [0] * 30)
+        self.assertEqual({count for count in counts[91:104]}, {300})
+        self.assertEqual({count for count in counts[110:179]}, {100})
+
+    def test_a_wall_clock_that_goes_back(self) -> None:
+        self.write_site([host("web")], [])
+        clock = SimulatedClock()
+        monitor = self.monitor(fine, clock)
+        monitor.run(120)
+        clock.wall_is_off = -3600
+        monitor.run(120)
+        starts = monitor.starts()["web"]
+        self.assertEqual([later - earlier for earlier, later in zip(starts, starts[1:])], [60_000] * (len(starts) - 1))
+        self.assertGreaterEqual(len(starts), 4)
+
+
+class Outages(SiteTest):
+    def outage(self, intervals: Tuple[int, int]) -> Tuple[SimulatedMonitor, int, int]:
+        """A gateway, 50 hosts behind it and ten services on each: the gateway fails after ten minutes, for ten minutes."""
+        check, retry = intervals
+        hosts = [host("gateway", check_interval=check, retry_interval=retry)]
+        hosts += [host(f"h{number:02}", check_interval=check, retry_interval=retry, parents=["gateway"]) for number in range(50)]
+        services = [service(f"h{number:02}", f"s{each}", check_interval=check, retry_interval=retry) for number in range(50) for each in range(10)]
+        self.write_site(hosts, services, {"service_inter_check_delay_method": "s", "host_inter_check_delay_method": "s",
+                                          "max_service_check_spread": 5, "max_host_check_spread": 5}, monitor={"slots": 500})
+        down, up = BEGIN + 600_000, BEGIN + 1_200_000
+
+        def plugin(name: str, moment: int) -> Tuple[int, int, str]:
+            return (500, 2, "no answer") if down <= moment < up else (50, 0, "fine")
+
+        return self.monitor(plugin), down, up
+
+    def test_no_service_is_hard_while_its_host_stands_as_up(self) -> None:
+        monitor, down, up = self.outage((300, 60))
+        monitor.run(1500)
+        state: Dict[str, str] = {}
+        hard_since: Dict[str, int] = {}
+        longest = 0
+        for moment, change in monitor.changes:
+            state[change.name] = change.state
+            if ";" in change.name and change.kind == "HARD" and change.state == "CRITICAL":
+                if state.get(change.name.partition(";")[0], "UP") == "UP":
+                    hard_since[change.name] = moment
+            if ";" not in change.name and change.state != "UP":
+                for name in [name for name in hard_since if name.startswith(f"{change.name};")]:
+                    longest = max(longest, moment - hard_since.pop(name))
+        self.assertEqual(hard_since, {})
+        self.assertLessEqual(longest, 1_000)
+        states = {known.name: known.standing.state for known in monitor.scheduling.known.objects.values() if known.standing is not None}
+        self.assertEqual(collections.Counter(states.values()), {"UP": 51, "OK": 500})
+
+    def test_children_are_looked_at_when_the_parent_is_back(self) -> None:
+        monitor, _, up = self.outage((300, 60))
+        monitor.run(1800)
+        back = {change.name: moment for moment, change in monitor.changes if change.state == "UP" and moment >= up}
+        self.assertEqual(len(back), 51)
+        self.assertLessEqual(max(back.values()) - back["gateway"], 5_000)
+
+    def test_the_rhythm_of_a_host_stays(self) -> None:
+        """A host that is asked for on account of a service is checked at its own times as before."""
+        self.write_site([host("web", check_interval=300)], [service("web", "http", check_interval=70, max_check_attempts=1)])
+        monitor = self.monitor(lambda name, moment: (10, 2 if ";" in name else 0, ""))
+        monitor.run(1300)
+        starts = monitor.starts()["web"]
+        self.assertEqual([start for start in starts if start % 300_000 == 0], [0, 300_000, 600_000, 900_000, 1_200_000])
+        self.assertGreater(len(starts), 10)
+
+    def test_no_host_is_asked_for_within_the_horizon(self) -> None:
+        self.write_site([host("web", check_interval=5)], [service("web", "http", check_interval=7, max_check_attempts=1)])
+        monitor = self.monitor(lambda name, moment: (10, 2 if ";" in name else 0, ""))
+        monitor.run(100)
+        self.assertEqual(monitor.starts()["web"], list(range(0, 100_000, 5_000)))
+
+
+class Periods(SiteTest):
+    def test_an_object_is_checked_in_its_period(self) -> None:
+        day = {name: ["08:10-08:20", "08:30-08:40"] for name in ("monday", "tuesday", "wednesday", "thursday", "friday")}
+        self.write_site([host("web")], [service("web", "http")], periods={"periods": {"p": {"weekdays": day}}, "objects": {"web;http": "p"}}, monitor={"zone": "UTC"})
+        monitor = self.monitor(fine)
+        monitor.run(3600)
+        minutes = {start // 60_000 for start in monitor.starts()["web;http"]}
+        self.assertEqual(minutes, {*range(10, 20), *range(30, 40)})
+        self.assertEqual(len(monitor.starts()["web"]), 60)
+
+    def test_an_operator_stands_above_the_period(self) -> None:
+        self.write_site([host("web")], [])
+        monitor = self.monitor(fine)
+        monitor.run(100)
+        monitor.engine.set_switch("web", False)
+        monitor.run(300)
+        self.assertEqual(len(monitor.starts()["web"]), 2)
+        monitor.engine.set_switch("web", True)
+        monitor.run(100)
+        self.assertEqual(monitor.starts()["web"][2:], [400_000, 420_000, 480_000])
+
+
+class PassiveResults(SiteTest):
+    def give(self, monitor: SimulatedMonitor, name: str, code: int, words: str) -> None:
+        monitor.store.write(KeepResult(name, code, words))
+        monitor.engine.expect(monitor.store.waiting()[-1])
+
+    def site(self) -> SimulatedMonitor:
+        trap = service("web", "trap", enabled=False, max_check_attempts=2, check_interval=0)
+        self.write_site([host("web")], [trap, service("web", "http")], passive={"web;trap": {"only": True}})
+        return self.monitor(lambda name, moment: (2_000, 0, "fine"))
+
+    def test_results_go_in_order(self) -> None:
+        monitor = self.site()
+        monitor.run(30)
+        for code, words in ((2, "one"), (2, "two"), (0, "three")):
+            self.give(monitor, "web;trap", code, words)
+        monitor.run(1)
+        told = [(change.state, change.kind, change.words) for _, change in monitor.changes if change.name == "web;trap"]
+        self.assertEqual(told, [("CRITICAL", "SOFT", "one"), ("CRITICAL", "HARD", "two"), ("OK", "HARD", "three")])
+        self.assertNotIn("web;trap", monitor.starts())
+        self.assertEqual(monitor.store.waiting(), [])
+
+    def test_one_that_comes_while_the_object_is_out_waits(self) -> None:
+        monitor = self.site()
+        monitor.run(1)
+        self.assertIn("web;http", monitor.engine.busy())
+        self.give(monitor, "web;http", 1, "slow")
+        monitor.run(0.5)
+        self.assertEqual(len(monitor.store.waiting()), 1)
+        monitor.run(2)
+        self.assertEqual(monitor.store.waiting(), [])
+        self.assertEqual([change.words for _, change in monitor.changes if change.name == "web;http"], ["slow"])
+
+    def test_the_next_check_stays_where_it_was(self) -> None:
+        monitor = self.site()
+        monitor.run(30)
+        self.give(monitor, "web;http", 0, "by hand")
+        monitor.run(60)
+        self.assertEqual(monitor.starts()["web;http"], [0, 60_000])
+
+    def test_one_that_waited_over_a_restart_is_reported(self) -> None:
+        monitor = self.site()
+        monitor.run(30)
+        self.give(monitor, "web;trap", 2, "late")
+        monitor.close()
+        after = self.monitor(fine, monitor.clock)
+        after.run(1)
+        self.assertEqual([change.words for _, change in after.changes], ["late"])
+
+    def test_freshness(self) -> None:
+        trap = service("web", "trap", enabled=False, check_interval=0)
+        self.write_site([host("web")], [trap], passive={"web;trap": {"only": True, "freshness": 90}})
+        monitor = self.monitor(lambda name, moment: (10, 3 if "trap" in name else 0, "stale"))
+        monitor.run(60)
+        self.give(monitor, "web;trap", 0, "fresh")
+        monitor.run(240)
+        first, second = monitor.starts()["web;trap"]
+        self.assertTrue(150_000 <= first <= 151_000 and 90_000 <= second - first <= 92_000, (first, second))
+
+
+class Faults(SiteTest):
+    def test_a_full_disk(self) -> None:
+        """No call is made while nothing can be stored; plugins that run are waited for, and then all goes on."""
+        self.write_site([host("web"), host("db")], [])
+        monitor = self.monitor(lambda name, moment: (5_000, 0, "fine"))
+        monitor.run(1)
+        full = monitor.store.write
+
+        def refuse(*writes: Any) -> None:
+            raise NotStored("database or disk is full")
+
+        setattr(monitor.store, "write", refuse)
+        monitor.run(300)
+        self.assertEqual(len(monitor.runners.started), 2)
+        self.assertEqual([line for line in monitor.lines if "full" in line], ["no call is made until it can be stored: database or disk is full"])
+        setattr(monitor.store, "write", full)
+        monitor.run(200)
+        self.assertIn("the database takes writes again", monitor.lines)
+        self.assertEqual({name: len(starts) for name, starts in monitor.starts().items()}, {"web": 5, "db": 5})
+        self.assertFalse([line for line in monitor.lines if "too late" in line])
+
+    def test_a_scheduler_that_ends(self) -> None:
+        self.write_site([host("web")], [service("web", "http")])
+        monitor = self.monitor(fine)
+        monitor.run(100)
+        os.kill(monitor.scheduling.process_ids()[0], signal.SIGKILL)
+        monitor.run(200)
+        self.assertEqual(len(monitor.starts()["web"]), 5)
+        runs = [job.run for _, job in monitor.runners.started]
+        self.assertEqual(len(runs), len(set(runs)))
+
+    def test_runners_that_end(self) -> None:
+        """A check whose runner ended is given up and made again; the third time it is UNKNOWN."""
+        self.write_site([host("web")], [service("web", "http", max_check_attempts=1)])
+        monitor = self.monitor(fine)
+        lost: Set[int] = set()
+        events = monitor.runners.events
+
+        def losing() -> List[Any]:
+            told = events()
+            lost.update(event.job.run for event in told if event.job.name == "web;http")
+            return [Lost(event.job) if event.job.name == "web;http" else event for event in told]
+
+        setattr(monitor.runners, "events", losing)
+        monitor.run(5)
+        self.assertEqual(len(monitor.starts()["web;http"]), 3)
+        self.assertEqual([(change.state, change.words) for _, change in monitor.changes], [("UNKNOWN", "its runner ended 3 times")])
+
+    def test_a_restart_makes_the_calls_again(self) -> None:
+        self.write_site([host("web", max_check_attempts=5)], [service("web", "http")])
+        monitor = self.monitor(lambda name, moment: (10, 2, "bad"))
+        monitor.run(35)
+        before = [known.standing for known in monitor.scheduling.known.objects.values()]
+        monitor.close()
+        after = self.monitor(fine, monitor.clock)
+        self.assertEqual([known.standing for known in after.scheduling.known.objects.values()], before)
+        self.assertEqual(after.changes, [])
+        after.run(60)
+        self.assertEqual({change.state for _, change in after.changes}, {"UP", "OK"})
+
+    def test_another_setup_is_taken_over_or_refused_by_name(self) -> None:
+        self.write_site([host("web", max_check_attempts=5)], [])
+        monitor = self.monitor(lambda name, moment: (10, 2, "bad"))
+        monitor.run(35)
+        monitor.close()
+        self.write_site([host("web", max_check_attempts=5), host("db")], [])
+        try:
+            after = self.monitor(fine, monitor.clock)
+        except Exception as fault:
+            self.assertIn("another setup", str(fault))
+            return
+        standing = after.scheduling.known.objects["web"].standing
+        self.assertEqual(standing is not None and standing.state, "DOWN")

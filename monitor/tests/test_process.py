@@ -1,0 +1,157 @@
+"""The monitor as a process: killed at random moments it loses nothing; asked, reloaded, and out of room."""
+import json
+import os
+import pathlib
+import random
+import shutil
+import signal
+import sqlite3
+import subprocess
+import sys
+import time
+from typing import Any, Dict, List, Optional
+
+from .simulated import PROGRAM, SiteTest
+
+MONITOR = pathlib.Path(__file__).resolve().parent.parent / "nagsched-monitor"
+KILLS = 10
+
+
+class Running(SiteTest):
+    def begin(self, *words: str, environment: Optional[Dict[str, str]] = None) -> "subprocess.Popen[str]":
+        command = [sys.executable, str(MONITOR), "--program", PROGRAM, *words, str(self.folder)]
+        running = subprocess.Popen(command, stdout=subprocess.PIPE, text=True, env=environment)
+        self.addCleanup(self.end, running)
+        self.await_socket(running)
+        return running
+
+    def end(self, running: "subprocess.Popen[str]", number: int = signal.SIGTERM) -> str:
+        if running.poll() is None:
+            running.send_signal(number)
+        output, _ = running.communicate(timeout=30) if running.stdout is not None and not running.stdout.closed else ("", None)
+        return output
+
+    def await_socket(self, running: "subprocess.Popen[str]") -> None:
+        for _ in range(400):
+            if self.ask("status", "no such object").returncode == 0 or running.poll() is not None:
+                return
+            time.sleep(0.02)
+
+    def ask(self, *words: str) -> "subprocess.CompletedProcess[str]":
+        return subprocess.run([sys.executable, str(MONITOR), str(self.folder), *words], capture_output=True, text=True, check=False)
+
+    def children_of(self, process: int) -> List[int]:
+        told = subprocess.run(["ps", "-o", "pid=", "--ppid", str(process)], stdout=subprocess.PIPE, text=True, check=False).stdout
+        return [int(each) for each in told.split()]
+
+    def objects(self, count: int, **members: Any) -> List[Dict[str, Any]]:
+        return [{"name": f"h{number:02}", "check_interval": 1, "max_check_attempts": 2, **members} for number in range(count)]
+
+    def calls(self, database: sqlite3.Connection) -> List[str]:
+        return [line for (line,) in database.execute("SELECT line FROM calls ORDER BY id")]
+
+    def answers(self, calls: List[str]) -> List[str]:
+        """What one run answers to the calls that were kept."""
+        with sqlite3.connect(self.folder / "monitor.db") as database:
+            setup, start = database.execute("SELECT setup, start FROM generations").fetchone()
+        given = setup + b"\n" + "".join(f"{call}\n" for call in calls).encode()
+        ran = subprocess.run([PROGRAM, "run", "--start", str(start)], input=given, stdout=subprocess.PIPE, text=False, check=True)
+        lines: List[str] = ran.stdout.decode().splitlines()
+        return lines
+
+    def test_killed_at_random_moments(self) -> None:
+        """Whichever of its processes is killed: no run is taken twice, and each result that was reported is kept."""
+        self.write_site(self.objects(20), [])
+        self.write("commands.json", {f"h{number:02}": {"line": f"sleep 0.0{number % 5}; exit $(({number} % 3))", "shell": True} for number in range(20)})
+        chance = random.Random(7)
+        for kill in range(KILLS):
+            running = self.begin()
+            time.sleep(chance.uniform(0.05, 0.6))
+            victims = [running.pid, *self.children_of(running.pid)]
+            os.kill(victims[kill % len(victims)], signal.SIGKILL)
+            time.sleep(0.2)
+            self.end(running, signal.SIGKILL)
+        running = self.begin()
+        time.sleep(1.5)
+        told = self.ask("status").stdout.splitlines()
+        self.end(running, signal.SIGKILL)
+        with sqlite3.connect(self.folder / "monitor.db") as database:
+            kept = self.calls(database)
+        answers = self.answers(kept)
+        self.assertEqual(len(answers), len(kept))
+        runs = [answer.split(" ")[1] for answer in answers if answer.startswith("taken ")]
+        self.assertGreater(len(runs), 40)
+        self.assertEqual(len(runs), len(set(runs)))
+        refused = [answer for answer in answers if answer.startswith("refused")]
+        self.assertEqual(refused, [])
+        self.assertEqual(len(told), 20)
+
+    def test_a_slow_sync(self) -> None:
+        """A disk whose sync takes 10 milliseconds: what comes meanwhile is kept together, and nothing is lost."""
+        compiler = shutil.which("cc")
+        if compiler is None:
+            self.skipTest("there is no C compiler")
+        shim = self.folder / "slow_sync.so"
+        subprocess.run([compiler, "-shared", "-fPIC", "-o", str(shim), str(pathlib.Path(__file__).parent / "slow_sync.c"), "-ldl"], check=True)
+        self.write_site(self.objects(50), [])
+        running = self.begin(environment={**os.environ, "LD_PRELOAD": str(shim)})
+        time.sleep(4)
+        self.end(running, signal.SIGKILL)
+        with sqlite3.connect(self.folder / "monitor.db") as database:
+            answers = self.answers(self.calls(database))
+        reported = [answer for answer in answers if answer.startswith("standing ")]
+        self.assertGreater(len(reported), 100)
+        self.assertFalse([answer for answer in answers if answer.startswith("refused")])
+
+    def test_a_plugin_that_leaves_a_child(self) -> None:
+        self.write_site(self.objects(1), [])
+        self.write("commands.json", {"h00": {"line": "echo fine; sleep 20 & exit 0", "shell": True}})
+        running = self.begin()
+        time.sleep(1.5)
+        self.assertEqual(self.ask("status").stdout, "UP HARD 1 h00: fine\n")
+        self.end(running)
+
+    def test_words(self) -> None:
+        self.write_site(self.objects(2), [{"host": "h00", "description": "trap", "max_check_attempts": 1, "enabled": False}])
+        self.write("commands.json", {"h00": {"line": "echo up"}, "h01": {"line": "echo up"}})
+        self.write("passive.json", {"h00;trap": {"only": True}})
+        running = self.begin("--on-change", f"cat >> {self.folder}/changes")
+        time.sleep(0.5)
+        self.assertEqual(self.ask("result", "h00;trap", "2", "door open").stdout, "result: h00;trap\n")
+        self.assertEqual(self.ask("disable", "h01").stdout, "disable: h01\n")
+        wrong = self.ask("enable", "h02")
+        self.assertEqual((wrong.returncode, wrong.stderr), (1, "nagsched-monitor: there is no object 'h02'\n"))
+        time.sleep(0.5)
+        self.assertIn("CRITICAL HARD 1 off h00;trap: door open", self.ask("status", "*trap").stdout)
+        second = subprocess.run([sys.executable, str(MONITOR), "--program", PROGRAM, str(self.folder)], capture_output=True, text=True, check=False)
+        self.assertEqual(second.returncode, 1)
+        self.assertIn("another monitor", second.stderr)
+        self.assertEqual(self.ask("stop").stdout, "stop: done\n")
+        output = self.end(running)
+        self.assertRegex(output, r"\d\d:\d\d:\d\d[+-]\d\d:\d\d h00;trap is CRITICAL HARD 1: door open")
+        self.assertEqual(json.loads((self.folder / "changes").read_text())["name"], "h00;trap")
+        self.assertEqual(running.returncode, 0)
+        self.assertEqual(self.ask("status").returncode, 1)
+
+    def test_reload(self) -> None:
+        """Ten checks run while the site is read anew: each is reported. A bad site is refused with its line, and the old goes on."""
+        self.write_site(self.objects(10), [])
+        self.write("commands.json", {f"h{number:02}": {"line": "sleep 1; echo slow", "shell": True} for number in range(10)})
+        running = self.begin()
+        time.sleep(0.5)
+        self.write("commands.json", {f"h{number:02}": {"line": "echo 'quick", "shell": False} for number in range(10)})
+        refused = self.ask("reload")
+        self.assertEqual(refused.returncode, 1)
+        self.assertIn("commands.json: h00: its line can't be split", refused.stderr)
+        self.write("commands.json", {f"h{number:02}": {"line": "echo quick"} for number in range(10)})
+        self.assertEqual(self.ask("reload").stdout, "reload: done\n")
+        time.sleep(3)
+        self.assertEqual(self.ask("status").stdout.splitlines(), [f"UP HARD 1 h{number:02}: quick" for number in range(10)])
+        running.send_signal(signal.SIGHUP)
+        output = self.end(running)
+        self.assertNotIn("too late", output)
+
+    def test_no_site(self) -> None:
+        told = subprocess.run([sys.executable, str(MONITOR), str(self.folder), "test"], capture_output=True, text=True, check=False)
+        self.assertEqual(told.returncode, 1)
+        self.assertTrue(told.stderr.startswith("nagsched-monitor: ") and told.stderr.count("\n") == 1, told.stderr)

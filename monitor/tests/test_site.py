@@ -1,0 +1,115 @@
+"""Each file of a site, and each way in which it can be wrong."""
+import json
+
+from nagsched_monitor.faults import SiteFault
+from nagsched_monitor.site import read_site
+
+from .simulated import PROGRAM, SiteTest
+
+HOST = {"name": "web", "max_check_attempts": 3}
+TRAP = {"host": "web", "description": "trap", "max_check_attempts": 1, "enabled": False}
+
+
+class SiteFiles(SiteTest):
+    def refused(self, *words: str) -> None:
+        """The site is refused, by a line that has all of these."""
+        with self.assertRaises(SiteFault) as caught:
+            read_site(self.folder, PROGRAM)
+        for word in words:
+            self.assertIn(word, str(caught.exception))
+        self.assertNotIn("\n", str(caught.exception))
+
+    def test_a_good_one(self) -> None:
+        self.write_site([HOST, {"name": "db", "parents": ["web"], "max_check_attempts": 1}], [TRAP], passive={"web;trap": {"only": True, "freshness": 90}})
+        site = read_site(self.folder, PROGRAM)
+        self.assertEqual(sorted(site.objects), ["db", "web", "web;trap"])
+        self.assertEqual(site.children, {"web": ["db"]})
+        self.assertEqual((site.objects["web;trap"].host, site.objects["web;trap"].freshness), ("web", 90_000))
+        self.assertEqual((site.objects["db"].check_interval, site.options.slots), (5_000, 64))
+
+    def test_no_setup(self) -> None:
+        self.refused("setup.json")
+
+    def test_a_refused_setup(self) -> None:
+        self.write_site([{"name": "web", "max_check_attempts": 0}], [])
+        self.refused("setup.json", "L8 Range", "max_check_attempts")
+
+    def test_setup_and_parts(self) -> None:
+        self.write_site([HOST], [])
+        self.write("part-1.json", {})
+        self.refused("setup.json", "part-1.json")
+
+    def test_an_object_in_two_parts(self) -> None:
+        for part in (1, 2):
+            self.write(f"part-{part}.json", {"hosts": [HOST]})
+        self.write("commands.json", {"web": {"line": "true"}})
+        self.refused("part-2.json", "web")
+
+    def test_commands(self) -> None:
+        self.write_site([HOST], [])
+        wrong = {
+            "{": ("commands.json", "line 1"),
+            "[]": ("commands.json", "object"),
+            json.dumps({"web": {"line": "echo 'one"}}): ("web", "split"),
+            json.dumps({"web": {"line": ""}}): ("web", "empty"),
+            json.dumps({"web": {"line": "/no/such/plugin -H web"}}): ("web", "/no/such/plugin"),
+            json.dumps({"web": {"line": "echo (", "shell": True}}): ("web", "yntax"),
+            json.dumps({"web": {"line": 7}}): ("web", "text"),
+            json.dumps({"web": {"line": "true", "limit": 0}}): ("web", "limit"),
+            json.dumps({"web": {"line": "true", "limt": 1}}): ("web", "limt"),
+            json.dumps({"web": {"line": "true"}, "wbe": {"line": "true"}}): ("wbe", "no such object"),
+            "{}": ("web", "no command"),
+        }
+        for text, words in wrong.items():
+            with self.subTest(text):
+                self.write("commands.json", text)
+                self.refused(*words)
+
+    def test_no_commands_file(self) -> None:
+        self.write("setup.json", {"hosts": [HOST]})
+        self.refused("commands.json")
+
+    def test_an_object_that_is_never_checked_needs_no_command(self) -> None:
+        self.write_site([HOST], [TRAP], commands={"web": {"line": "true"}}, passive={"web;trap": {"only": True}})
+        self.assertIsNone(read_site(self.folder, PROGRAM).objects["web;trap"].command)
+        self.write("passive.json", {"web;trap": {"only": True, "freshness": 5}})
+        self.refused("web;trap", "freshness")
+
+    def test_passive(self) -> None:
+        self.write_site([HOST], [TRAP])
+        for document, word in (
+            ({"x": {}}, "no such object"), ({"web": []}, "object"), ({"web": {"only": 1}}, "only"), ({"web": {"freshness": -1}}, "freshness"), ({"web": {"f": 1}}, "'f'"),
+        ):
+            with self.subTest(word):
+                self.write("passive.json", document)
+                self.refused("passive.json", word)
+
+    def test_options(self) -> None:
+        self.write_site([HOST], [])
+        for document, word in (
+            ({"slots": 0}, "slots"), ({"slots": True}, "slots"), ({"slotz": 1}, "slotz"), ({"keep_days": -1}, "keep_days"),
+            ({"service_check_timeout_state": "x"}, "'x'"), ({"zone": "Nowhere/Town"}, "Nowhere/Town"),
+        ):
+            with self.subTest(word):
+                self.write("monitor.json", document)
+                self.refused("monitor.json", word)
+
+    def test_periods(self) -> None:
+        self.write_site([HOST], [])
+        day = {"monday": ["09:00-17:00"]}
+        for document, words in (
+            ({"periods": {"p": {"weekdays": {"moonday": []}}}}, ("p", "monday to sunday")),
+            ({"periods": {"p": {"weekdays": {"monday": ["9-17"]}}}}, ("p", "monday", "'9-17'")),
+            ({"periods": {"p": {"weekdays": {"monday": ["17:00-09:00"]}}}}, ("p", "'17:00-09:00'")),
+            ({"periods": {"p": {"exclude": ["q"]}}}, ("p", "q")),
+            ({"periods": {"p": {"exclude": ["q"]}, "q": {"exclude": ["p"]}}}, ("p", "itself")),
+            ({"periods": {"p": {"dates": [{"day": 0, "times": []}]}}}, ("p", "date 0")),
+            ({"periods": {"p": {"dates": [{"first": "2026-13-01", "last": "2026-13-01", "times": []}]}}}, ("p", "2026-13-01")),
+            ({"periods": {"p": {"dates": [{"month": 1, "times": []}]}}}, ("p", "date 0")),
+            ({"periods": {"p": {"weekdays": day}}, "objects": {"web": "q"}}, ("web", "'q'")),
+            ({"periods": {"p": {"weekdays": day}}, "objects": {"x": "p"}}, ("x", "no such object")),
+            ({"period": {}}, ("'period'",)),
+        ):
+            with self.subTest(words):
+                self.write("periods.json", document)
+                self.refused("periods.json", *words)

@@ -1,0 +1,92 @@
+"""The database: what was changed is found, what can't be written changes nothing."""
+import sqlite3
+
+from nagsched_monitor.faults import DamagedRow, MonitorFault, NotStored
+from nagsched_monitor.store import (
+    BeginGeneration, DropChangesBefore, Generation, KeepCalls, KeepChange, KeepResult, KeptChange, SetSwitch, Store, TABLES,
+)
+
+from .simulated import SiteTest
+
+CHANGE = KeptChange(2, 1000.5, "web", "DOWN", "HARD", 3, False, "no answer")
+
+
+class Database(SiteTest):
+    def filled(self) -> Store:
+        """A database with a row in each table."""
+        store = Store(self.folder)
+        self.addCleanup(store.close)
+        store.write(
+            BeginGeneration(Generation(0, b"{}", 7, b'{"format":1}', 0)),
+            KeepCalls([(0, '["take",8]', None), (0, '["report","web",1,2]', "no answer")]),
+            SetSwitch("web", False),
+            KeepResult("web", 1, "slow"),
+            KeepChange(CHANGE, '{"name":"web"}'),
+        )
+        return store
+
+    def test_what_was_written_is_read(self) -> None:
+        self.filled().close()
+        store = Store(self.folder)
+        self.addCleanup(store.close)
+        self.assertEqual([call.line for call in store.calls_since(0, 0)], ['["take",8]', '["report","web",1,2]'])
+        self.assertEqual((store.switches(), [result.words for result in store.waiting()]), ({"web": False}, ["slow"]))
+        self.assertEqual((store.generations()[0].saved, store.last_call, store.last_change, store.last_moment()), (b'{"format":1}', 2, 2, 8))
+        self.assertEqual(store.outbox(), [(1, '{"name":"web"}')])
+
+    def test_a_changed_byte_in_each_table(self) -> None:
+        self.filled().close()
+        for table, members in TABLES.items():
+            for member in ["checksum", *(each.split()[0] for each in members.split(", "))]:
+                with self.subTest(f"{table}.{member}"), sqlite3.connect(self.folder / "monitor.db") as database:
+                    (before,) = database.execute(f"SELECT {member} FROM {table} ORDER BY id LIMIT 1").fetchone()
+                    after = 9 if isinstance(before, (int, float)) else b"x" if isinstance(before, bytes) else "x"
+                    database.execute(f"UPDATE {table} SET {member} = ? WHERE id = (SELECT min(id) FROM {table})", (after,))
+                    database.commit()
+                    with self.assertRaises(DamagedRow) as caught:
+                        Store(self.folder)
+                    self.assertRegex(str(caught.exception), rf"row \d+ of {table} ")
+                    database.execute(f"UPDATE {table} SET {member} = ? WHERE id = (SELECT min(id) FROM {table})", (before,))
+                    database.commit()
+        Store(self.folder).close()
+
+    def test_a_call_that_is_gone(self) -> None:
+        store = self.filled()
+        store.write(KeepCalls([(0, '["take",9]', None)]))
+        store.close()
+        with sqlite3.connect(self.folder / "monitor.db") as database:
+            database.execute("DELETE FROM calls WHERE id = 2")
+        with self.assertRaisesRegex(DamagedRow, "1 rows of calls are missing"):
+            Store(self.folder)
+
+    def test_another_monitor(self) -> None:
+        self.filled()
+        with self.assertRaisesRegex(MonitorFault, "another monitor"):
+            Store(self.folder)
+
+    def test_no_database(self) -> None:
+        (self.folder / "monitor.db").write_text("this is no database " * 100)
+        with self.assertRaises(MonitorFault):
+            Store(self.folder)
+
+    def test_a_full_disk_changes_nothing(self) -> None:
+        store = self.filled()
+        (pages,) = store._database.execute("PRAGMA page_count").fetchone()
+        store._database.execute(f"PRAGMA max_page_count = {pages}")
+        with self.assertRaises(NotStored):
+            store.write(SetSwitch("db", True), KeepCalls([(0, '["take",%d]' % number, None) for number in range(2000)]))
+        self.assertEqual((store.last_call, store.switches()), (2, {"web": False}))
+        store._database.execute("PRAGMA max_page_count = 100000")
+        store.write(KeepCalls([(0, '["take",10]', None)]))
+        self.assertEqual([call.id for call in store.calls_since(0, 0)], [1, 2, 3])
+
+    def test_a_saved_state_lets_go_of_the_calls_before(self) -> None:
+        store = self.filled()
+        store.write(BeginGeneration(Generation(0, b"{}", 7, b"{}", 2)), KeepCalls([(0, '["take",11]', None)]))
+        self.assertEqual([call.line for call in store.calls_since(0, 2)], ['["take",11]'])
+        self.assertEqual(len(list(store.calls_since(0, 0))), 1)
+
+    def test_old_changes_go(self) -> None:
+        store = self.filled()
+        store.write(KeepChange(KeptChange(3, 2000.0, "web", "UP", "HARD", 1, False, ""), None), DropChangesBefore(1500.0))
+        self.assertEqual(store._database.execute("SELECT id FROM changes").fetchall(), [(3,)])

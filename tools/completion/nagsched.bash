@@ -1,0 +1,17 @@
+# Completion of the words of nagsched and nagsched-monitor, for bash.
+_nagsched() {
+    local word=${COMP_WORDS[COMP_CWORD]} subcommand=${COMP_WORDS[1]:-}
+    local -A options=([run]="--start --help" [live]="--start --help" [check]="--start --line --help" [drill]="--start --workers --room --help")
+    if [ "$COMP_CWORD" -eq 1 ]; then
+        mapfile -t COMPREPLY < <(compgen -W "${!options[*]} help --help" -- "$word")
+    else
+        mapfile -t COMPREPLY < <(compgen -W "${options[$subcommand]:-}" -- "$word")
+    fi
+}
+_nagsched_monitor() {
+    local word=${COMP_WORDS[COMP_CWORD]}
+    mapfile -t COMPREPLY < <(compgen -W "test status reschedule enable disable result reload save stop --program --on-change --help" -- "$word"
+        compgen -d -- "$word")
+}
+complete -F _nagsched nagsched
+complete -F _nagsched_monitor nagsched-monitor

@@ -1,0 +1,62 @@
+#!/usr/bin/env bash
+# Installs what was built: the program, the C library, the Python module, the monitor, manual pages, the unit of systemd, completions.
+#   tools/install.sh [PREFIX]     /usr/local where no folder is named; DESTDIR is put before it
+# It builds and proves nothing. What wasn't built is named, with the command that builds it, and then nothing is installed.
+# --without-library leaves the C library and the Python module out.
+set -eu -o pipefail
+top=$(cd "$(dirname "$0")/.." && pwd)
+library=yes
+if [ "${1:-}" = --without-library ]; then
+    library=
+    shift
+fi
+prefix=${1:-/usr/local}
+case $prefix in /*) ;; *) prefix=$PWD/$prefix ;; esac
+root=${DESTDIR:-}$prefix
+program=$top/crates/nagsched/out/nagsched
+built=${NAGSCHED_BUILT:-$top/out/c}
+
+missing=
+[ -x "$program" ] || { echo "install: nagsched isn't built: (cd crates/nagsched && rt run < ../../examples/office.txt)" >&2; missing=yes; }
+[ -z "$library" ] || [ -e "$built/lib/libnagsched.so" ] || { echo "install: the C library isn't built: tools/build_c.sh" >&2; missing=yes; }
+[ -z "$missing" ] || exit 1
+
+# Copies a file to a place below the root: MODE FILE PLACE.
+place() { install -D -m "$1" "$2" "$root/$3"; }
+
+place 755 "$program" bin/nagsched
+for module in "$top"/monitor/nagsched_monitor/*.py; do
+    place 644 "$module" "lib/nagsched/nagsched_monitor/$(basename "$module")"
+done
+place 755 "$top/monitor/nagsched-monitor" lib/nagsched/nagsched-monitor
+ln -sf ../lib/nagsched/nagsched-monitor "$root/bin/nagsched-monitor"
+for script in from_nagios nagios_commands nagios_periods nagios_site; do
+    place 644 "$top/tools/$script.py" "lib/nagsched/$script.py"
+done
+chmod 755 "$root/lib/nagsched/from_nagios.py"
+ln -sf ../lib/nagsched/from_nagios.py "$root/bin/nagsched-from-nagios"
+unit=$(mktemp)
+manual=$(mktemp -d)
+trap 'rm -rf "$unit" "$manual"' EXIT
+sed "s#/usr/local/bin#$prefix/bin#g" "$top/monitor/nagsched-monitor@.service" > "$unit"
+place 644 "$unit" lib/systemd/system/nagsched-monitor@.service
+python3 "$top/tools/manual.py" "$manual"
+for page in "$manual"/*; do
+    place 644 "$page" "share/man/man${page##*.}/$(basename "$page")"
+done
+place 644 "$top/tools/completion/nagsched.bash" share/bash-completion/completions/nagsched
+ln -sf nagsched "$root/share/bash-completion/completions/nagsched-monitor"
+place 644 "$top/tools/completion/_nagsched" share/zsh/site-functions/_nagsched
+for page in README.md CHANGELOG.md docs/FORMATS.md docs/MONITOR.md docs/OPERATING.md docs/setup.schema.json; do
+    place 644 "$top/$page" "share/doc/nagsched/$(basename "$page")"
+done
+[ -n "$library" ] || exit 0
+place 644 "$built/include/nagsched.h" include/nagsched.h
+place 644 "$built/lib/libnagsched.a" lib/libnagsched.a
+for library in "$built"/lib/libnagsched.so.*; do
+    place 755 "$library" "lib/$(basename "$library")"
+    ln -sf "$(basename "$library")" "$root/lib/libnagsched.so"
+done
+sed "s#^prefix=.*#prefix=$prefix#" "$built/lib/pkgconfig/nagsched.pc" > "$unit"
+place 644 "$unit" lib/pkgconfig/nagsched.pc
+place 644 "$top/bindings/python/nagsched.py" lib/python3/dist-packages/nagsched.py

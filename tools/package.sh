@@ -1,0 +1,53 @@
+#!/usr/bin/env bash
+# Makes Debian packages of what was built: nagsched, libnagsched1, libnagsched-dev, python3-nagsched, nagsched-monitor.
+#   tools/package.sh [DIRECTORY]     out/packages where no folder is named
+# It builds and proves nothing: tools/install.sh lays down what is there, and says which command to run where something isn't. Wants dpkg-deb.
+set -eu -o pipefail
+top=$(cd "$(dirname "$0")/.." && pwd)
+mkdir -p "${1:-$top/out/packages}"
+packages=$(cd "${1:-$top/out/packages}" && pwd)
+version=$(cat "$top/VERSION")
+surface=$(sed -n 's/^#define NAGSCHED_VERSION \([0-9]*\)u$/\1/p' "$top/include/nagsched.h")
+work=$(mktemp -d)
+trap 'rm -rf "$work"' EXIT
+DESTDIR=$work/all "$top/tools/install.sh" /usr
+all=$work/all/usr
+glibc=$(objdump -T "$all/bin/nagsched" "$all/lib/libnagsched.so" | grep -o 'GLIBC_[0-9.]*' | sort -V | tail -n 1 | cut -d_ -f2)
+
+# Makes a package: NAME ARCHITECTURE SECTION DEPENDS SUMMARY FILE.. Each file is moved out of the whole.
+package() {
+    local name=$1 architecture=$2 section=$3 depends=$4 summary=$5 file folder=$work/$1
+    shift 5
+    for file in "$@"; do
+        mkdir -p "$folder/usr/$(dirname "$file")"
+        mv "$all/$file" "$folder/usr/$(dirname "$file")/"
+    done
+    mkdir -p "$folder/usr/share/doc/$name" "$folder/DEBIAN"
+    cp "$top/CHANGELOG.md" "$folder/usr/share/doc/$name/"
+    find "$folder/usr/share/man" -name '*.[15]' -exec gzip -9n {} + 2> /dev/null || true
+    cat > "$folder/DEBIAN/control" <<END
+Package: $name
+Version: $version
+Architecture: $architecture
+Maintainer: Luksmeiro <nagsched@luksmeiro.example>
+Section: $section
+Priority: optional
+Depends: $depends
+Installed-Size: $(du -sk --apparent-size "$folder/usr" | cut -f1)
+Description: $summary
+ nagsched decides which host or service check is due, and what each result
+ means, by the rules of Nagios Core 4. Its code is proved.
+END
+    (cd "$folder" && find usr -type f -exec md5sum {} + | sort -k2 > DEBIAN/md5sums)
+    dpkg-deb --root-owner-group --build "$folder" "$packages/${name}_${version}_${architecture}.deb" > /dev/null
+    echo "$packages/${name}_${version}_${architecture}.deb"
+}
+
+package libnagsched1 amd64 libs "libc6 (>= $glibc)" "scheduler of active checks, the library" "lib/libnagsched.so.$surface"
+package libnagsched-dev amd64 libdevel "libnagsched1 (= $version)" "scheduler of active checks, for programs in C" \
+    lib/libnagsched.so lib/libnagsched.a include/nagsched.h lib/pkgconfig/nagsched.pc
+package python3-nagsched all python "python3 (>= 3.9), libnagsched1 (= $version)" "scheduler of active checks, for Python" lib/python3/dist-packages/nagsched.py
+package nagsched-monitor all net "python3 (>= 3.9), nagsched (= $version)" "monitor of a site's hosts and services" \
+    bin/nagsched-monitor bin/nagsched-from-nagios lib/nagsched lib/systemd share/man/man1/nagsched-monitor.1 \
+    share/bash-completion/completions/nagsched-monitor share/doc/nagsched/MONITOR.md
+package nagsched amd64 net "libc6 (>= $glibc)" "scheduler of active checks, the program" bin/nagsched share
