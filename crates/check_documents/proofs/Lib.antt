@@ -3,3 +3,4 @@ pub mod CriteriaLemmas
 pub mod FaultLemmas
 pub mod ReadingLaws
 pub mod ShapeLaws
+pub mod ReadLemmas

@@ -49,15 +49,15 @@ none_of_cond : {A : Type 0} (b : Bool) (x : A) (o : Option A) → is_none (cond 
 none_of_cond true x o = refl
 none_of_cond false x o = refl
 
-no_find : {A : Type 0} (p : A → Bool) (xs : List A) → is_none (find p xs) ≡ list_all (λ x. not (p x)) xs
+pub no_find : {A : Type 0} (p : A → Bool) (xs : List A) → is_none (find p xs) ≡ list_all (λ x. not (p x)) xs
 no_find p [] = refl
 no_find p (x ∷ xs) = none_of_cond (p x) x (find p xs) ∙ ap (λ b. not (p x) && b) (no_find p xs)
 
-none_of_first : {A : Type 0} (o other : Option A) → is_none (first_of o other) ≡ (is_none o && is_none other)
+pub none_of_first : {A : Type 0} (o other : Option A) → is_none (first_of o other) ≡ (is_none o && is_none other)
 none_of_first None other = refl
 none_of_first (Some x) other = refl
 
-none_mapped : {A B : Type 0} (f : A → B) (o : Option A) → is_none (option_map f o) ≡ is_none o
+pub none_mapped : {A B : Type 0} (f : A → B) (o : Option A) → is_none (option_map f o) ≡ is_none o
 none_mapped f None = refl
 none_mapped f (Some x) = refl
 
@@ -150,7 +150,7 @@ step : {A B : Type 0} (o : Option A) (f : A → Option B) (c : Bool) {rest : Boo
 step None f c same = refl
 step (Some x) f c same = same x
 
-and_true : (b : Bool) → (b && true) ≡ b
+pub and_true : (b : Bool) → (b && true) ≡ b
 and_true true = refl
 and_true false = refl
 

@@ -23,7 +23,7 @@ use Rattle.check_documents.proofs.ReadingLaws.{dependency_by_table, document_by_
 -- ---- what was refused
 
 -- a refusal of one thing after another is of the first or of what follows it
-refused_in : {A B E : Type 0} (r : Result A E) (f : A → Result B E) (z : E) (Goal : Type 0) → (r ≡ Err z → Goal) → ((x : A) → f x ≡ Err z → Goal)
+pub refused_in : {A B E : Type 0} (r : Result A E) (f : A → Result B E) (z : E) (Goal : Type 0) → (r ≡ Err z → Goal) → ((x : A) → f x ≡ Err z → Goal)
     → (r >>= f) ≡ Err z → Goal
 refused_in (Ok x) f z Goal here later e = later x e
 refused_in (Err y) f z Goal here later e = here (let same : y ≡ z = cc in ap Err same)
@@ -36,7 +36,7 @@ wrong_by : {A B : Type 0} (o : Option A) (w : Option B) → o ≡ None → is_so
 wrong_by o (Some x) none same = refl
 wrong_by o None none same = let e : false ≡ true = ap is_some (sym none) ∙ same in cc
 
-some_by : {A : Type 0} (o : Option A) → is_none o ≡ false → is_some o ≡ true
+pub some_by : {A : Type 0} (o : Option A) → is_none o ≡ false → is_some o ≡ true
 some_by None e = cc
 some_by (Some x) e = refl
 

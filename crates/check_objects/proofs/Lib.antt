@@ -7,3 +7,5 @@ pub mod NumberedLemmas
 pub mod EndLemmas
 pub mod LinkLemmas
 pub mod ExaminedLemmas
+pub mod StrayLemmas
+pub mod RangeLemmas
