@@ -10,7 +10,7 @@ import subprocess
 import tempfile
 
 TOP = pathlib.Path(__file__).resolve().parent.parent
-SCRIPT = r"(?:(?:tools|bench|\.ci|docs|examples)/\w+\.(?:py|sh)|conformance/check|\.ci/run)"
+SCRIPT = r"(?:(?:tools|bench|\.ci|docs|examples)/\w+\.(?:py|sh)|conformance/check|\.ci/run|monitor/nagsched-monitor)"
 BEGINS = rf"(?:nagsched|crates/nagsched/out/nagsched|nagios4|bash|cc|\(cd|{SCRIPT})"
 LINE = re.compile(rf"^(?: {{4}}|\$ )?({BEGINS}(?: .*)?)$", re.M)
 SPAN = re.compile(rf"`({BEGINS} [^`\n]*|{SCRIPT})`")
@@ -48,10 +48,11 @@ IN_THE_GATE = {
     "tools/build_c.sh --proved [PREFIX]": ".ci/c_library.py",
     "tools/build_c.sh && NAGSCHED_LIBRARY=out/c/lib/libnagsched.so PYTHONPATH=bindings/python examples/embed.py [MINUTES]": ".ci/c_library.py",
     "tools/from_nagios.py": ".ci/tools.py",
-    "tools/from_nagios.py --commands commands.json /etc/nagios4/nagios.cfg /var/lib/nagios4/objects.precache > setup.json": ".ci/tools.py",
     "tools/from_nagios.py --parts": ".ci/tools.py",
     "tools/from_nagios.py /etc/nagios4/nagios.cfg /var/lib/nagios4/objects.precache > setup.json": ".ci/tools.py",
     "examples/embed.py": ".ci/c_library.py",
+    "examples/mail_change.py": ".ci/monitor.py",
+    "examples/alert_change.py": ".ci/monitor.py",
     "examples/monitor.py": ".ci/monitor.py",
     "examples/monitor.py setup.json commands.json": ".ci/monitor.py",
     "monitor/nagsched-monitor": ".ci/monitor.py",

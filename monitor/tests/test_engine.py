@@ -35,10 +35,9 @@ class Pauses(SiteTest):
         monitor.pause(30)
         monitor.run(90)
         counts = monitor.checks_a_second()
-        self.assertEqual({count for count in counts[5:60]}, {100})
-        self.assertEqual(counts[60:90], [0] * 30)
-        self.assertEqual({count for count in counts[91:104]}, {300})
-        self.assertEqual({count for count in counts[110:179]}, {100})
+        for first, last, wanted in ((5, 60, 100), (60, 90, 0), (91, 104, 300), (110, 179, 100)):
+            least, most = min(counts[first:last]), max(counts[first:last])
+            self.assertTrue(wanted - 4 <= least and most <= wanted + 4, (first, last, wanted, least, most))
 
     def test_a_wall_clock_that_goes_back(self) -> None:
         self.write_site([host("web")], [])

@@ -1,6 +1,7 @@
 """Runners: whatever a plugin does, its end is reported, and nothing is waited for without a limit."""
 import json
 import os
+import pathlib
 import select
 import signal
 import subprocess
@@ -12,11 +13,12 @@ from typing import Any, Dict, List
 from nagsched_monitor.runners import MODULE, Finished, Job, Lost, RunnerProcesses
 
 WORDS = [sys.executable, "-m", MODULE]
+HERE = pathlib.Path(__file__).resolve().parent.parent
 
 
 def ran(*jobs: Dict[str, Any]) -> List[Dict[str, Any]]:
     """The results of these jobs, by their numbers."""
-    with subprocess.Popen(WORDS, stdin=subprocess.PIPE, stdout=subprocess.PIPE) as runner:
+    with subprocess.Popen(WORDS, cwd=HERE, stdin=subprocess.PIPE, stdout=subprocess.PIPE) as runner:
         assert runner.stdin is not None and runner.stdout is not None
         runner.stdin.write(b"".join(json.dumps(job).encode() + b"\n" for job in jobs))
         runner.stdin.flush()
@@ -65,7 +67,7 @@ class OneRunner(unittest.TestCase):
         self.assertEqual((result["end"], result["code"]), ("signal", signal.SIGTERM))
 
     def test_its_plugins_end_with_it(self) -> None:
-        with subprocess.Popen(WORDS, stdin=subprocess.PIPE, stdout=subprocess.PIPE) as runner:
+        with subprocess.Popen(WORDS, cwd=HERE, stdin=subprocess.PIPE, stdout=subprocess.PIPE) as runner:
             assert runner.stdin is not None
             runner.stdin.write(json.dumps(shell(1, "exec sleep 4321")).encode() + b"\n")
             runner.stdin.flush()
