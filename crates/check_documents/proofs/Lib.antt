@@ -4,3 +4,4 @@ pub mod FaultLemmas
 pub mod ReadingLaws
 pub mod ShapeLaws
 pub mod ReadLemmas
+pub mod FeedLemmas

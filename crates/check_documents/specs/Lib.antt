@@ -6,3 +6,4 @@ pub mod Criteria
 pub mod Reading
 pub mod Places
 pub mod Faults
+pub mod Feeds

@@ -1,6 +1,5 @@
 -- Of which tree a line is, and why there is none.
-use Rattle.std.specs.Prelude.{◌≡◌, ◌≢◌, ℕ, false, List, Option, Some, None, Result, Ok, Err}
-use Rattle.std.specs.List.{AllByRecursion}
+use Rattle.std.specs.Prelude.{◌≡◌, ℕ, false, List, Option, Some, None, Result, Ok, Err}
 use Rattle.serde_json.specs.Data.{Data}
 use Rattle.serde_json.specs.Written.{has_float}
 use Rattle.check_drafts.specs.declared.error.LoadError.{LoadError}
@@ -23,7 +22,3 @@ IsTold (Some fault) (Err expected) = fault ≡ expected
 
 abbrev pub IsFault : Result Configuration LoadError → LoadError → Type 0
 IsFault setup fault = IsTold (refusal fault) setup
-
--- no byte is a line feed (10)
-abbrev pub HasNoFeed : List ℕ → Type 0
-HasNoFeed line = AllByRecursion (λ b. b ≢ 10) line

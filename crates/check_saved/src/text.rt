@@ -14,7 +14,7 @@ use std::alloc::{AllocError, Global};
 
 impl Saved {
     ghost use Rattle.std.specs.Prelude.{◌≡◌, ◌<◌, ◌≤◌, Err, IfOk, Ok, length};
-    ghost use Rattle.check_line.specs.Line.{HasNoFeed};
+    ghost use Rattle.check_documents.specs.Feeds.{HasNoFeed};
     ghost use Rattle.check_saved.specs.SavedFault.{Gives};
     ghost use Rattle.check_saved.specs.Text.{saved_of_text, saved_text};
 

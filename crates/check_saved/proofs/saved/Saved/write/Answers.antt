@@ -1,7 +1,7 @@
 use Rattle.std.proofs.Common.{◌≤◌, List, ℕ, Some, length, sym, subst, ap, ◌∙◌}
 use Rattle.serde_json.specs.Data.{depth}
 use Rattle.serde_json.specs.Written.{compact_text, has_float}
-use Rattle.check_line.proofs.FeedLemmas.{compact_free}
+use Rattle.check_documents.proofs.FeedLemmas.{compact_free}
 use Rattle.check_saved.proofs.SizeLemmas.{text_fits}
 use Rattle.check_saved.proofs.TextLemmas.{text_back}
 use Rattle.check_saved.proofs.TreeLemmas.{saved_depth, saved_has_none}
