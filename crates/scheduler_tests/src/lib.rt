@@ -7,8 +7,6 @@
 #[cfg(test)]
 mod queue;
 #[cfg(test)]
-mod resuming;
-#[cfg(test)]
 mod rules;
 #[cfg(test)]
 mod scheduler;
