@@ -1,4 +1,0 @@
-pub mod FeedLemmas
-pub mod KeyLemmas
-pub mod LineLemmas
-pub mod NumberLemmas
