@@ -1,5 +1,8 @@
 pub mod Place
 pub mod Agreement
+pub mod Member
+pub mod Members
+pub mod Fault
 pub mod LoadError
 pub mod Name
 pub mod Text

@@ -1,18 +1,24 @@
 //! Execution dependencies: which objects' checks wait for the states of which others.
 
+/// The letters that the criteria of a dependency between services may have.
+pub const SERVICE_LETTERS: [&str; 6] = ["o", "w", "u", "c", "p", "n"];
+
+/// The letters that the criteria of a dependency between hosts may have.
+pub const HOST_LETTERS: [&str; 5] = ["o", "u", "d", "p", "n"];
+
 /// The states of the master in which a dependency fails, one for each letter of the document's
 /// text (manual: Host and Service Dependencies).
 #[derive(Clone, Copy, Debug, Default, PartialEq, Eq)]
 pub struct Criteria {
     /// `o`: OK, or UP for a host.
     pub ok: bool,
-    /// `w`: WARNING, of a service alone.
+    /// `w`: WARNING, only of a service.
     pub warning: bool,
     /// `u`: UNKNOWN, or UNREACHABLE for a host.
     pub unknown: bool,
-    /// `c`: CRITICAL, of a service alone.
+    /// `c`: CRITICAL, only of a service.
     pub critical: bool,
-    /// `d`: DOWN, of a host alone.
+    /// `d`: DOWN, only of a host.
     pub down: bool,
     /// `p`: never checked.
     pub pending: bool,

@@ -1,5 +1,7 @@
 //! Where in a setup document a fault lies.
 
+use crate::members;
+
 /// A part of the setup document.
 #[derive(Clone, Copy, Debug, PartialEq, Eq)]
 pub enum Part {
@@ -15,6 +17,25 @@ pub enum Part {
     ServiceDependencies,
     /// Its member `host_dependencies`.
     HostDependencies,
+}
+
+impl Part {
+    ghost use Rattle.std.specs.Prelude.{◌≡◌};
+    ghost use Rattle.check_drafts.specs.Members.{part_name};
+
+    /// The word for the part: the name of the document's member that it is, or `document`.
+    pub fn name(self) -> &'static str
+        ensures { result.now ≡ part_name self }
+    {
+        match self {
+            Part::Document => "document",
+            Part::Options => members::OPTIONS.name,
+            Part::Hosts => members::HOSTS.name,
+            Part::Services => members::SERVICES.name,
+            Part::ServiceDependencies => members::SERVICE_DEPENDENCIES.name,
+            Part::HostDependencies => members::HOST_DEPENDENCIES.name,
+        }
+    }
 }
 
 /// Where a fault of the document lies.

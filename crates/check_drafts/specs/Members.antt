@@ -1,0 +1,171 @@
+-- The members that each sort of object of a setup document may have.
+use Rattle.std.specs.Prelude.{ℕ, true, false, List, [], ◌∷◌, Option, Some, None, codes}
+use Rattle.check_drafts.specs.declared.member.DefaultValue.{DefaultValue}
+use Rattle.check_drafts.specs.declared.member.DefaultValue.TheVariants as default
+use Rattle.check_drafts.specs.declared.member.Kind.{Kind}
+use Rattle.check_drafts.specs.declared.member.Kind.TheVariants as kind
+use Rattle.check_drafts.specs.declared.place.Part.{Part}
+use Rattle.check_drafts.specs.declared.place.Part.TheVariants as part
+use Rattle.check_drafts.specs.declared.place.Place.{Place}
+use Rattle.check_drafts.specs.Member.{Row}
+
+-- a member that an object without it is refused for
+abbrev pub required : List ℕ → Kind → Row
+required name kind = record { name = name; kind = kind; default = None }
+
+-- a member that has a default
+abbrev pub optional : List ℕ → Kind → DefaultValue → Row
+optional name kind default = record { name = name; kind = kind; default = Some default }
+
+-- ---- the document
+
+abbrev pub options : Row
+options = optional (codes "options") (kind.Part part.Options) default.Empty
+
+abbrev pub hosts : Row
+hosts = optional (codes "hosts") (kind.Part part.Hosts) default.Empty
+
+abbrev pub services : Row
+services = optional (codes "services") (kind.Part part.Services) default.Empty
+
+abbrev pub service_dependencies : Row
+service_dependencies = optional (codes "service_dependencies") (kind.Part part.ServiceDependencies) default.Empty
+
+abbrev pub host_dependencies : Row
+host_dependencies = optional (codes "host_dependencies") (kind.Part part.HostDependencies) default.Empty
+
+abbrev pub document_members : List Row
+document_members = options ∷ hosts ∷ services ∷ service_dependencies ∷ host_dependencies ∷ []
+
+-- ---- the options
+
+-- a second to a day
+abbrev pub interval_length : Row
+interval_length = optional (codes "interval_length") (kind.Number 1 86400) (default.Number 60)
+
+abbrev pub service_inter_check_delay_method : Row
+service_inter_check_delay_method = optional (codes "service_inter_check_delay_method") kind.Delay default.Smart
+
+-- a minute to a year
+abbrev pub max_service_check_spread : Row
+max_service_check_spread = optional (codes "max_service_check_spread") (kind.Number 1 525600) (default.Number 30)
+
+abbrev pub service_interleave_factor : Row
+service_interleave_factor = optional (codes "service_interleave_factor") kind.Factor default.Smart
+
+abbrev pub host_inter_check_delay_method : Row
+host_inter_check_delay_method = optional (codes "host_inter_check_delay_method") kind.Delay default.Smart
+
+abbrev pub max_host_check_spread : Row
+max_host_check_spread = optional (codes "max_host_check_spread") (kind.Number 1 525600) (default.Number 30)
+
+abbrev pub max_concurrent_checks : Row
+max_concurrent_checks = optional (codes "max_concurrent_checks") (kind.Number 0 1000000) (default.Number 0)
+
+abbrev pub soft_state_dependencies : Row
+soft_state_dependencies = optional (codes "soft_state_dependencies") kind.Switch (default.Switch false)
+
+abbrev pub use_aggressive_host_checking : Row
+use_aggressive_host_checking = optional (codes "use_aggressive_host_checking") kind.Switch (default.Switch false)
+
+abbrev pub low_service_flap_threshold : Row
+low_service_flap_threshold = optional (codes "low_service_flap_threshold") (kind.Number 0 100) (default.Number 20)
+
+abbrev pub high_service_flap_threshold : Row
+high_service_flap_threshold = optional (codes "high_service_flap_threshold") (kind.Number 0 100) (default.Number 30)
+
+abbrev pub low_host_flap_threshold : Row
+low_host_flap_threshold = optional (codes "low_host_flap_threshold") (kind.Number 0 100) (default.Number 20)
+
+abbrev pub high_host_flap_threshold : Row
+high_host_flap_threshold = optional (codes "high_host_flap_threshold") (kind.Number 0 100) (default.Number 30)
+
+abbrev pub option_members : List Row
+option_members =
+    interval_length ∷ service_inter_check_delay_method ∷ max_service_check_spread ∷ service_interleave_factor
+    ∷ host_inter_check_delay_method ∷ max_host_check_spread ∷ max_concurrent_checks ∷ soft_state_dependencies ∷ use_aggressive_host_checking
+    ∷ low_service_flap_threshold ∷ high_service_flap_threshold ∷ low_host_flap_threshold ∷ high_host_flap_threshold ∷ []
+
+-- ---- hosts and services
+
+-- the name of a host
+abbrev pub host_name : Row
+host_name = required (codes "name") kind.Text
+
+abbrev pub parents : Row
+parents = optional (codes "parents") kind.Texts default.Empty
+
+-- the host of a service
+abbrev pub service_host : Row
+service_host = required (codes "host") kind.Text
+
+abbrev pub description : Row
+description = required (codes "description") kind.Text
+
+-- at most a year of minutes
+abbrev pub check_interval : Row
+check_interval = optional (codes "check_interval") (kind.Number 0 525600) (default.Number 5)
+
+abbrev pub retry_interval : Row
+retry_interval = optional (codes "retry_interval") (kind.Number 0 525600) (default.Number 1)
+
+abbrev pub max_check_attempts : Row
+max_check_attempts = required (codes "max_check_attempts") (kind.Number 1 255)
+
+abbrev pub enabled : Row
+enabled = optional (codes "enabled") kind.Switch (default.Switch true)
+
+abbrev pub host_members : List Row
+host_members = host_name ∷ parents ∷ check_interval ∷ retry_interval ∷ max_check_attempts ∷ enabled ∷ []
+
+abbrev pub service_members : List Row
+service_members = service_host ∷ description ∷ check_interval ∷ retry_interval ∷ max_check_attempts ∷ enabled ∷ []
+
+-- ---- dependencies
+
+abbrev pub dependent : Row
+dependent = required (codes "dependent") kind.Text
+
+abbrev pub master : Row
+master = required (codes "master") kind.Text
+
+-- the criteria of a dependency, of letters that a service or a host may have
+abbrev pub criteria : Kind → Row
+criteria letters = required (codes "criteria") letters
+
+abbrev pub inherits_parent : Row
+inherits_parent = optional (codes "inherits_parent") kind.Switch (default.Switch false)
+
+-- the members of a dependency whose criteria are of this kind
+abbrev pub dependency_members : Kind → List Row
+dependency_members letters = dependent ∷ master ∷ criteria letters ∷ inherits_parent ∷ []
+
+-- ---- by place
+
+-- the word for a part: the name of the document's member that it is
+abbrev pub part_name : Part → List ℕ
+part_name part.Document = codes "document"
+part_name part.Options = options.name
+part_name part.Hosts = hosts.name
+part_name part.Services = services.name
+part_name part.ServiceDependencies = service_dependencies.name
+part_name part.HostDependencies = host_dependencies.name
+
+-- the members of an item of this part's list
+abbrev pub item_members : Part → List Row
+item_members part.Document = []
+item_members part.Options = []
+item_members part.Hosts = host_members
+item_members part.Services = service_members
+item_members part.ServiceDependencies = dependency_members kind.ServiceLetters
+item_members part.HostDependencies = dependency_members kind.HostLetters
+
+-- the members of an object at a part, at this index of its list where it has one; a list has none
+abbrev pub members_of : Part → Option ℕ → Option (List Row)
+members_of part.Document index = Some document_members
+members_of part.Options index = Some option_members
+members_of p None = None
+members_of p (Some i) = Some (item_members p)
+
+abbrev pub members_at : Place → Option (List Row)
+members_at place = members_of place.part place.index

@@ -1,0 +1,374 @@
+//! The table of the members that each sort of object of a setup document may have (manual: Main
+//! Configuration File Options, Object Definitions; limits and defaults are our own profile where the
+//! manual has none). What reads a document, explains its faults or describes it goes by this table.
+ghost use Rattle.std.specs.Prelude.{◌≡◌, option_map, map};
+ghost use Rattle.check_drafts.specs.Member.{as_row};
+ghost use Rattle.check_drafts.specs.Members.{members_at};
+
+use crate::limits;
+use crate::member::{DefaultValue, Kind, Member};
+use crate::place::{Part, Place};
+
+// ---- the document
+
+/// The options of the setup.
+pub const OPTIONS: Member = Member {
+    name: "options",
+    kind: Kind::Part(Part::Options),
+    default: Some(DefaultValue::Empty),
+    purpose: "how checks are spread, run and judged, for all objects",
+};
+
+/// The hosts.
+pub const HOSTS: Member = Member {
+    name: "hosts",
+    kind: Kind::Part(Part::Hosts),
+    default: Some(DefaultValue::Empty),
+    purpose: "the hosts that are checked, or that services are on",
+};
+
+/// The services.
+pub const SERVICES: Member = Member {
+    name: "services",
+    kind: Kind::Part(Part::Services),
+    default: Some(DefaultValue::Empty),
+    purpose: "the services that are checked",
+};
+
+/// The dependencies between services.
+pub const SERVICE_DEPENDENCIES: Member = Member {
+    name: "service_dependencies",
+    kind: Kind::Part(Part::ServiceDependencies),
+    default: Some(DefaultValue::Empty),
+    purpose: "which services' checks wait for the states of which other services",
+};
+
+/// The dependencies between hosts.
+pub const HOST_DEPENDENCIES: Member = Member {
+    name: "host_dependencies",
+    kind: Kind::Part(Part::HostDependencies),
+    default: Some(DefaultValue::Empty),
+    purpose: "which hosts' checks wait for the states of which other hosts",
+};
+
+/// The members of the document, in the order of [`Part`].
+pub static DOCUMENT_MEMBERS: [Member; 5] = [
+    OPTIONS,
+    HOSTS,
+    SERVICES,
+    SERVICE_DEPENDENCIES,
+    HOST_DEPENDENCIES,
+];
+
+// ---- the options
+
+/// The unit of the intervals.
+pub const INTERVAL_LENGTH: Member = Member {
+    name: "interval_length",
+    kind: Kind::Number {
+        low: 1,
+        high: limits::MAX_INTERVAL_LENGTH,
+    },
+    default: Some(DefaultValue::Number(60)),
+    purpose: "how many seconds a unit of the intervals lasts",
+};
+
+/// How the first checks of services are spread.
+pub const SERVICE_INTER_CHECK_DELAY_METHOD: Member = Member {
+    name: "service_inter_check_delay_method",
+    kind: Kind::Delay,
+    default: Some(DefaultValue::Smart),
+    purpose: "how the first checks of services are spread: not (n), a second apart (d), smart (s), or so many milliseconds apart",
+};
+
+/// How long the first checks of services are spread over.
+pub const MAX_SERVICE_CHECK_SPREAD: Member = Member {
+    name: "max_service_check_spread",
+    kind: Kind::Number {
+        low: 1,
+        high: limits::MAX_SPREAD,
+    },
+    default: Some(DefaultValue::Number(30)),
+    purpose: "within how many minutes the smart method has the first checks of all services due",
+};
+
+/// How the first checks of services are interleaved.
+pub const SERVICE_INTERLEAVE_FACTOR: Member = Member {
+    name: "service_interleave_factor",
+    kind: Kind::Factor,
+    default: Some(DefaultValue::Smart),
+    purpose: "how many places further on the next service stands whose first check is due, or smart (s)",
+};
+
+/// How the first checks of hosts are spread.
+pub const HOST_INTER_CHECK_DELAY_METHOD: Member = Member {
+    name: "host_inter_check_delay_method",
+    kind: Kind::Delay,
+    default: Some(DefaultValue::Smart),
+    purpose: "how the first checks of hosts are spread: not (n), a second apart (d), smart (s), or so many milliseconds apart",
+};
+
+/// How long the first checks of hosts are spread over.
+pub const MAX_HOST_CHECK_SPREAD: Member = Member {
+    name: "max_host_check_spread",
+    kind: Kind::Number {
+        low: 1,
+        high: limits::MAX_SPREAD,
+    },
+    default: Some(DefaultValue::Number(30)),
+    purpose: "within how many minutes the smart method has the first checks of all hosts due",
+};
+
+/// How many service checks may run at a time.
+pub const MAX_CONCURRENT_CHECKS: Member = Member {
+    name: "max_concurrent_checks",
+    kind: Kind::Number {
+        low: 0,
+        high: limits::MAX_CONCURRENT_CHECKS,
+    },
+    default: Some(DefaultValue::Number(0)),
+    purpose: "how many service checks may run at a time; 0 is no limit",
+};
+
+/// Which state of a master dependencies look at.
+pub const SOFT_STATE_DEPENDENCIES: Member = Member {
+    name: "soft_state_dependencies",
+    kind: Kind::Switch,
+    default: Some(DefaultValue::Switch(false)),
+    purpose: "whether dependencies look at the current state of the master in place of its last hard one",
+};
+
+/// How a WARNING of a host's plugin counts.
+pub const USE_AGGRESSIVE_HOST_CHECKING: Member = Member {
+    name: "use_aggressive_host_checking",
+    kind: Kind::Switch,
+    default: Some(DefaultValue::Switch(false)),
+    purpose: "whether a WARNING of a host's plugin counts as a problem",
+};
+
+/// Where a service stops flapping.
+pub const LOW_SERVICE_FLAP_THRESHOLD: Member = Member {
+    name: "low_service_flap_threshold",
+    kind: PERCENT,
+    default: Some(DefaultValue::Number(20)),
+    purpose: "below how many percent of changes a flapping service stops flapping; at most the high threshold",
+};
+
+/// Where a service starts flapping.
+pub const HIGH_SERVICE_FLAP_THRESHOLD: Member = Member {
+    name: "high_service_flap_threshold",
+    kind: PERCENT,
+    default: Some(DefaultValue::Number(30)),
+    purpose: "from how many percent of changes on a service flaps",
+};
+
+/// Where a host stops flapping.
+pub const LOW_HOST_FLAP_THRESHOLD: Member = Member {
+    name: "low_host_flap_threshold",
+    kind: PERCENT,
+    default: Some(DefaultValue::Number(20)),
+    purpose: "below how many percent of changes a flapping host stops flapping; at most the high threshold",
+};
+
+/// Where a host starts flapping.
+pub const HIGH_HOST_FLAP_THRESHOLD: Member = Member {
+    name: "high_host_flap_threshold",
+    kind: PERCENT,
+    default: Some(DefaultValue::Number(30)),
+    purpose: "from how many percent of changes on a host flaps",
+};
+
+const PERCENT: Kind = Kind::Number {
+    low: 0,
+    high: limits::MAX_FLAP_THRESHOLD,
+};
+
+/// The members of the options.
+pub static OPTION_MEMBERS: [Member; 13] = [
+    INTERVAL_LENGTH,
+    SERVICE_INTER_CHECK_DELAY_METHOD,
+    MAX_SERVICE_CHECK_SPREAD,
+    SERVICE_INTERLEAVE_FACTOR,
+    HOST_INTER_CHECK_DELAY_METHOD,
+    MAX_HOST_CHECK_SPREAD,
+    MAX_CONCURRENT_CHECKS,
+    SOFT_STATE_DEPENDENCIES,
+    USE_AGGRESSIVE_HOST_CHECKING,
+    LOW_SERVICE_FLAP_THRESHOLD,
+    HIGH_SERVICE_FLAP_THRESHOLD,
+    LOW_HOST_FLAP_THRESHOLD,
+    HIGH_HOST_FLAP_THRESHOLD,
+];
+
+// ---- hosts and services
+
+/// The name of a host.
+pub const NAME: Member = Member {
+    name: "name",
+    kind: Kind::Text,
+    default: None,
+    purpose: "the host's name: 1 to 255 bytes, no control character and no semicolon",
+};
+
+/// The parents of a host.
+pub const PARENTS: Member = Member {
+    name: "parents",
+    kind: Kind::Texts,
+    default: Some(DefaultValue::Empty),
+    purpose: "the names of the hosts that the host is reached through",
+};
+
+/// The host of a service.
+pub const HOST: Member = Member {
+    name: "host",
+    kind: Kind::Text,
+    default: None,
+    purpose: "the name of the service's host",
+};
+
+/// The description of a service.
+pub const DESCRIPTION: Member = Member {
+    name: "description",
+    kind: Kind::Text,
+    default: None,
+    purpose: "the service's description: 1 to 255 bytes, no control character and no semicolon",
+};
+
+/// From one check to the next.
+pub const CHECK_INTERVAL: Member = Member {
+    name: "check_interval",
+    kind: UNITS,
+    default: Some(DefaultValue::Number(5)),
+    purpose: "from one check to the next, in units of interval_length; 0 means that no check follows by itself",
+};
+
+/// From one check to the next of a soft problem.
+pub const RETRY_INTERVAL: Member = Member {
+    name: "retry_interval",
+    kind: UNITS,
+    default: Some(DefaultValue::Number(1)),
+    purpose: "from one check to the next while the object is a soft problem, in units of interval_length",
+};
+
+/// How many checks find a problem before it is hard.
+pub const MAX_CHECK_ATTEMPTS: Member = Member {
+    name: "max_check_attempts",
+    kind: Kind::Number {
+        low: 1,
+        high: limits::MAX_ATTEMPTS,
+    },
+    default: None,
+    purpose: "how many checks in a row must find a problem before it is hard",
+};
+
+/// Whether checks are scheduled.
+pub const ENABLED: Member = Member {
+    name: "enabled",
+    kind: Kind::Switch,
+    default: Some(DefaultValue::Switch(true)),
+    purpose: "whether the object's checks are scheduled",
+};
+
+const UNITS: Kind = Kind::Number {
+    low: 0,
+    high: limits::MAX_INTERVAL,
+};
+
+/// The members of a host.
+pub static HOST_MEMBERS: [Member; 6] = [
+    NAME,
+    PARENTS,
+    CHECK_INTERVAL,
+    RETRY_INTERVAL,
+    MAX_CHECK_ATTEMPTS,
+    ENABLED,
+];
+
+/// The members of a service.
+pub static SERVICE_MEMBERS: [Member; 6] = [
+    HOST,
+    DESCRIPTION,
+    CHECK_INTERVAL,
+    RETRY_INTERVAL,
+    MAX_CHECK_ATTEMPTS,
+    ENABLED,
+];
+
+// ---- dependencies
+
+/// What depends on the other.
+pub const DEPENDENT: Member = Member {
+    name: "dependent",
+    kind: Kind::Text,
+    default: None,
+    purpose: "the full name of the object that depends on the other: a host's name, or host;description",
+};
+
+/// What is depended on.
+pub const MASTER: Member = Member {
+    name: "master",
+    kind: Kind::Text,
+    default: None,
+    purpose: "the full name of the object that is depended on: a host's name, or host;description",
+};
+
+/// What the criteria of both sorts of dependencies are called.
+pub const CRITERIA: &str = "criteria";
+
+/// In which states of the master a dependency between services fails.
+pub const SERVICE_CRITERIA: Member = Member {
+    name: CRITERIA,
+    kind: Kind::ServiceLetters,
+    default: None,
+    purpose: "the states of the master in which the dependency fails: OK (o), WARNING (w), UNKNOWN (u), CRITICAL (c), pending (p), none (n)",
+};
+
+/// In which states of the master a dependency between hosts fails.
+pub const HOST_CRITERIA: Member = Member {
+    name: CRITERIA,
+    kind: Kind::HostLetters,
+    default: None,
+    purpose: "the states of the master in which the dependency fails: UP (o), UNREACHABLE (u), DOWN (d), pending (p), none (n)",
+};
+
+/// Whether a dependency looks further.
+pub const INHERITS_PARENT: Member = Member {
+    name: "inherits_parent",
+    kind: Kind::Switch,
+    default: Some(DefaultValue::Switch(false)),
+    purpose: "whether the dependency fails too where one of the master's own does",
+};
+
+/// The members of a dependency between services.
+pub static SERVICE_DEPENDENCY_MEMBERS: [Member; 4] = [
+    DEPENDENT,
+    MASTER,
+    SERVICE_CRITERIA,
+    INHERITS_PARENT,
+];
+
+/// The members of a dependency between hosts.
+pub static HOST_DEPENDENCY_MEMBERS: [Member; 4] = [
+    DEPENDENT,
+    MASTER,
+    HOST_CRITERIA,
+    INHERITS_PARENT,
+];
+
+// ---- by place
+
+/// The members that the object at a place may have, each with its name, its kind and its default. None
+/// where a list has to stand there.
+pub fn members_at(place: Place) -> Option<&'static [Member]>
+    ensures { option_map (λ members. map as_row members.now) result ≡ members_at place }
+{
+    match (place.part, place.index) {
+        (Part::Document, _) => Some(&DOCUMENT_MEMBERS),
+        (Part::Options, _) => Some(&OPTION_MEMBERS),
+        (_, None) => None,
+        (Part::Hosts, Some(_)) => Some(&HOST_MEMBERS),
+        (Part::Services, Some(_)) => Some(&SERVICE_MEMBERS),
+        (Part::ServiceDependencies, Some(_)) => Some(&SERVICE_DEPENDENCY_MEMBERS),
+        (Part::HostDependencies, Some(_)) => Some(&HOST_DEPENDENCY_MEMBERS),
+    }
+}
