@@ -13,7 +13,7 @@ use Rattle.json.specs.Word.{head, ends_word, after_digits, after_minus, after_si
 use Rattle.json.specs.Lex.{Lexeme, Class, Mode, Place, begins_colon, class, if_allowed, lex, lex_byte, may_begin, may_close, operator_lexeme, place_token, punctuate, string_token, tokens}
 use Rattle.json.specs.Print.{begins, ends, escape, escape_byte, print, print_from, quoted, separator, token_text}
 use Rattle.json.proofs.Printed.Strings.{escape_byte_plain}
-use Rattle.check_line.specs.Line.{HasNoFeed}
+use Rattle.check_explain.specs.DocumentLine.{HasNoFeed}
 
 abbrev free : List ℕ → Bool
 free [] = true

@@ -5,7 +5,7 @@ use Rattle.std.specs.Char.{encode_utf8}
 use Rattle.std.proofs.lemmas.List.Elements.{All-nil, All-cons, All-append}
 use lib.Dec.{ltb}
 use lib.Utf8.{next}
-use Rattle.check_places.specs.Feeds.{HasNoFeed}
+use Rattle.check_explain.specs.Feeds.{HasNoFeed}
 
 above : (n : ℕ) → 11 ≤ n → n ≢ 10
 above n h = omega (arith, h)

@@ -10,7 +10,7 @@ use Rattle.check_drafts.specs.declared.error.LoadError.{LoadError}
 use Rattle.check_drafts.specs.declared.error.LoadError.TheVariants as errors
 use Rattle.check_drafts.specs.Agreement.{Fails}
 use Rattle.check_documents.specs.Tree.{tree_of}
-use Rattle.check_line.specs.Line.{IsTold}
+use Rattle.check_explain.specs.DocumentLine.{IsTold}
 use Rattle.check_numbers.specs.Configuration.{Configuration}
 use Rattle.check_objects.specs.Setup.{setup_of, setup_of_tree}
 use Rattle.std.specs.Str.{is_utf8}

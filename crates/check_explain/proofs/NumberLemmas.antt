@@ -22,9 +22,9 @@ use Rattle.check_documents.specs.Tree.{tree_of, is_among, only_members, has_only
 use Rattle.check_documents.specs.Reading.{items_from, list_of, check_draft, host_members, host_draft, service_members, service_draft, dependency_members, dependency_draft, service_letters, host_letters, option_members, delay_method, interleave_factor, options_but_thresholds, with_thresholds, options_of, document_members, dependencies_in, drafts_of}
 use Rattle.check_numbers.specs.Configuration.{Configuration}
 use Rattle.check_objects.specs.Setup.{setup_of, setup_of_tree}
-use Rattle.check_line.specs.Numbers.{has_other_number, items_have_other, members_have_other}
-use Rattle.check_line.proofs.KeyLemmas.{IsSorted, AreSorted, HasSorted, OrSorted, found_behind, found_first, sorted_get, tree_is_sorted}
-use Rattle.check_line.proofs.LineLemmas.{setup_by_tree, short_document}
+use Rattle.check_explain.specs.Numbers.{has_other_number, items_have_other, members_have_other}
+use Rattle.check_explain.proofs.KeyLemmas.{IsSorted, AreSorted, HasSorted, OrSorted, found_behind, found_first, sorted_get, tree_is_sorted}
+use Rattle.check_explain.proofs.LineLemmas.{setup_by_tree, short_document}
 
 -- ---- what a reading was made of
 

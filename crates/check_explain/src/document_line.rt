@@ -2,7 +2,7 @@
 
 ghost use Rattle.std.specs.Prelude.{◌≡◌, ◌≤◌, ◌<◌, IfOk, IfErr, IsOk, length};
 ghost use Rattle.check_objects.specs.Setup.{setup_of};
-ghost use Rattle.check_line.specs.Line.{HasNoFeed, IsFault, OfTree};
+ghost use Rattle.check_explain.specs.DocumentLine.{HasNoFeed, IsFault, OfTree};
 ghost use Rattle.json.specs.Lex.{tokens};
 ghost use Rattle.json.specs.Print.{print};
 ghost use Rattle.serde_json.specs.Written.{compact_text};

@@ -6,7 +6,7 @@ ghost use Rattle.serde_json.specs.Written.{has_float};
 ghost use Rattle.check_documents.specs.Tree.{tree_of};
 ghost use Rattle.check_numbers.specs.Configuration.{Configuration};
 ghost use Rattle.check_objects.specs.Setup.{setup_of};
-ghost use Rattle.check_line.specs.Numbers.{has_other_number};
+ghost use Rattle.check_explain.specs.Numbers.{has_other_number};
 
 /// Each number that stands anywhere in a good document is a whole number from 0 to 2^64 - 1
 /// (`whole`). So none is a float (`no_float`), and what [`write_line`](crate::write_line) says of a

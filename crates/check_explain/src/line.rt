@@ -67,7 +67,7 @@ impl Line {
     /// Appends a text, with a space in place of each line feed.
     fn push_flat(&mut self, text: &str) -> Result<(), AllocError> {
         for character in text.chars() {
-            self.push_char(if character == '\n' { ' ' } else { character })?;
+            self.push_char(without_feed(character))?;
         }
         Ok(())
     }
@@ -102,7 +102,7 @@ impl Line {
         ensures text { OnOk result (self.new ≡ self.old ++ cut text.now) }
     {
         let mut left = text.chars();
-        for _ in 0..SHOWN {
+        for shown in 0..SHOWN {
             match left.next() {
                 Some(character) => self.push_escaped(character)?,
                 None => return Ok(()),
@@ -149,4 +149,11 @@ impl Line {
             None => Ok(()),
         }
     }
+}
+
+/// The character, or a space in place of a line feed.
+fn without_feed(character: char) -> char
+    ensures { result ≢ 10 }
+{
+    if character == '\n' { ' ' } else { character }
 }

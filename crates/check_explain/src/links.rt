@@ -1,7 +1,7 @@
 //! The links between the items of one list of a document, by their indexes.
 
-use check_objects::Part;
-use check_places::{items, text_of, texts_of};
+use crate::places::{items, text_of, texts_of};
+use check_drafts::Part;
 use indexmap::IndexSet;
 use serde_json::Value;
 use std::alloc::{AllocError, Global};

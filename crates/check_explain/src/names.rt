@@ -1,28 +1,39 @@
 //! Faults of names: bad ones, repeated ones, and names of what isn't there.
+ghost use Rattle.std.specs.Prelude.{◌≡◌, ◌++◌, OnOk};
+ghost use Rattle.check_explain.specs.Explanation.{misnamed};
 
+use crate::line::Line;
 use crate::no_fault::push_no_fault;
-use check_objects::{MAX_NAME_BYTES, Part, Place};
-use check_places::{Line, items, push_part_and_index, push_place, text_of, texts_of, value_at};
+use crate::places::{items, push_part_and_index, text_of, texts_of};
+use check_drafts::{MAX_NAME_BYTES, Part, Place};
 use serde_json::Value;
 use std::alloc::AllocError;
 
 // ---- bad names
 
-/// Appends what is wrong with the name of the host or the description of the service at a place.
-pub(crate) fn push_bad_name(line: &mut Line, tree: &Value, place: Place) -> Result<(), AllocError> {
-    push_place(line, tree, place)?;
-    let member = match place.part {
-        Part::Services => "description",
-        _ => "name",
-    };
-    match value_at(tree, place).and_then(|item| text_of(item, member)) {
-        Some(name) => push_name_fault(line, member, name),
-        None => push_no_fault(line),
+/// Appends the member whose text is no name: of a service its description.
+pub(crate) fn push_misnamed(line: &mut Line, part: Part) -> Result<(), AllocError>
+    ensures { OnOk result (line.new ≡ line.old ++ misnamed part) }
+{
+    match part {
+        Part::Services => line.push_text("description"),
+        _ => line.push_text("name"),
     }
 }
 
-fn push_name_fault(line: &mut Line, member: &str, name: &str) -> Result<(), AllocError> {
-    line.push_text(member)?;
+/// Appends what is wrong with the name of a host or the description of a service.
+pub(crate) fn push_bad_name(line: &mut Line, item: &Value, part: Part) -> Result<(), AllocError> {
+    let name = match part {
+        Part::Services => text_of(item, "description"),
+        _ => text_of(item, "name"),
+    };
+    match name {
+        Some(name) => push_name_fault(line, name),
+        None => line.push_words(" isn't there"),
+    }
+}
+
+fn push_name_fault(line: &mut Line, name: &str) -> Result<(), AllocError> {
     if name.is_empty() {
         return line.push_words(" is empty; it can have 1 to 255 bytes");
     }
@@ -57,11 +68,10 @@ fn push_bad_byte(line: &mut Line, byte: u8) -> Result<(), AllocError> {
 pub(crate) fn push_duplicate(
     line: &mut Line,
     tree: &Value,
+    item: &Value,
     place: Place,
 ) -> Result<(), AllocError> {
-    push_place(line, tree, place)?;
-    let first = value_at(tree, place).and_then(|item| first_like(tree, item, place.part));
-    match first {
+    match first_like(tree, item, place.part) {
         Some(index) if is_earlier(index, place) => {
             push_part_and_index(line, place.part, Some(index))?;
             line.push_words(repeated(place.part))
@@ -103,18 +113,16 @@ fn are_alike(one: &Value, other: &Value, part: Part) -> bool {
 
 // ---- hosts that aren't there
 
-/// Appends which parent of the host at a place isn't a host, or that the host of the service there
-/// isn't one.
+/// Appends which parent of a host isn't a host, or that the host of a service isn't one.
 pub(crate) fn push_unknown_host(
     line: &mut Line,
     tree: &Value,
-    place: Place,
+    item: &Value,
+    part: Part,
 ) -> Result<(), AllocError> {
-    push_place(line, tree, place)?;
-    let unknown = value_at(tree, place).and_then(|item| unknown_host(tree, item, place.part));
-    match unknown {
+    match unknown_host(tree, item, part) {
         Some(name) => {
-            line.push_words(role(place.part))?;
+            line.push_words(role(part))?;
             line.push_text(name)?;
             line.push_words(" isn't among the hosts")
         }
@@ -174,20 +182,19 @@ fn is_service(tree: &Value, name: &str) -> bool {
 
 // ---- ends that aren't there
 
-/// Appends which end of the dependency at a place isn't there, or is of the other sort.
+/// Appends which end of a dependency isn't there, or is of the other sort.
 pub(crate) fn push_unknown_end(
     line: &mut Line,
     tree: &Value,
-    place: Place,
+    item: &Value,
+    part: Part,
 ) -> Result<(), AllocError> {
-    push_place(line, tree, place)?;
-    let ends = value_at(tree, place).and_then(|item| texts_of(item, "dependent", "master"));
-    match ends {
+    match texts_of(item, "dependent", "master") {
         Some((dependent, master)) => {
-            if !is_end(tree, dependent, place.part) {
-                push_end(line, tree, "dependent ", dependent, place.part)
+            if !is_end(tree, dependent, part) {
+                push_end(line, tree, "dependent ", dependent, part)
             } else {
-                push_end(line, tree, "master ", master, place.part)
+                push_end(line, tree, "master ", master, part)
             }
         }
         None => push_no_fault(line),

@@ -3,9 +3,9 @@ use Rattle.serde_json.specs.View.{view}
 use Rattle.check_documents.proofs.TreeLemmas.{tree_some}
 use Rattle.check_drafts.specs.LoadError.{refusal}
 use Rattle.std.proofs.lemmas.Result.{err_from_is_err_and}
-use Rattle.check_line.proofs.FeedLemmas.{compact_free}
-use Rattle.check_line.proofs.LineLemmas.{no_tree_is_told, setup_by_tree, shallow_tree, short_document}
-use Rattle.check_line.proofs.line.write_line.Goals as goal
+use Rattle.check_explain.proofs.DocumentFeedLemmas.{compact_free}
+use Rattle.check_explain.proofs.LineLemmas.{no_tree_is_told, setup_by_tree, shallow_tree, short_document}
+use Rattle.check_explain.proofs.document_line.write_line.Goals as goal
 
 pub returns-clause-same : goal.returns-clause-same
 returns-clause-same c =

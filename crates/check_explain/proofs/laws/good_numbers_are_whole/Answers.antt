@@ -1,5 +1,5 @@
-use Rattle.check_line.proofs.NumberLemmas.{no_float, whole_numbers}
-use Rattle.check_line.proofs.laws.good_numbers_are_whole.Goals as goal
+use Rattle.check_explain.proofs.NumberLemmas.{no_float, whole_numbers}
+use Rattle.check_explain.proofs.laws.good_numbers_are_whole.Goals as goal
 
 pub returns : goal.returns
 returns c = record {

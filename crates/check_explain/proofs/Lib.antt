@@ -1,0 +1,6 @@
+pub mod FeedLemmas
+pub mod ShownLemmas
+pub mod DocumentFeedLemmas
+pub mod KeyLemmas
+pub mod LineLemmas
+pub mod NumberLemmas

@@ -1,0 +1,136 @@
+-- How the explanation of a refused document begins: with the place of the fault, the name that stands there, and the member or the
+-- name that is at fault.
+use Rattle.std.specs.Prelude.{ℕ, zero, suc, ◌≡◌, List, [], ◌++◌, Option, Some, None, codes, decimal, option_and_then, option_map}
+use Rattle.serde_json.specs.Data.{Data, Members, no_members, member}
+use Rattle.serde_json.specs.Find.{as_object, as_str, at, get}
+use Rattle.check_drafts.specs.declared.place.Place.{Place}
+use Rattle.check_drafts.specs.declared.place.Part.{Part}
+use Rattle.check_drafts.specs.declared.place.Part.TheVariants as part
+use Rattle.check_drafts.specs.Fault as fault
+use Rattle.check_drafts.specs.Fault.{Fault, WrongShape, WrongNumber}
+use Rattle.check_drafts.specs.Members as members
+use Rattle.check_drafts.specs.Members.{part_name}
+use Rattle.check_documents.specs.Tree.{tree_of}
+use Rattle.check_explain.specs.Shown.{cut, shown}
+
+-- ---- what stands at a place
+
+-- what stands at this index of a part's list, or the part as a whole
+abbrev pub value_of : Data → Part → Option ℕ → Option Data
+value_of tree part.Document index = Some tree
+value_of tree p None = get (part_name p) tree
+value_of tree p (Some i) = option_and_then (at i) (get (part_name p) tree)
+
+abbrev pub value_at : Data → Place → Option Data
+value_at tree place = value_of tree place.part place.index
+
+-- the text of a member
+abbrev pub text_in : List ℕ → Data → Option (List ℕ)
+text_in name d = option_and_then as_str (get name d)
+
+abbrev pub both : Option (List ℕ) → Option (List ℕ) → Option (List ℕ × List ℕ)
+both (Some first) (Some second) = Some (first, second)
+both first second = None
+
+-- the texts of two members, where both are there
+abbrev pub texts_in : List ℕ → List ℕ → Data → Option (List ℕ × List ℕ)
+texts_in first second d = both (text_in first d) (text_in second d)
+
+-- ---- the name that stands at a place, as it is shown
+
+abbrev pub service_shown : List ℕ × List ℕ → List ℕ
+service_shown name = codes "\"" ++ (cut name.0 ++ (codes ";" ++ (cut name.1 ++ codes "\"")))
+
+abbrev pub ends_shown : List ℕ × List ℕ → List ℕ
+ends_shown ends = shown ends.0 ++ (codes " on " ++ shown ends.1)
+
+-- of a host its name, of a service its full name, of a dependency both of its ends
+abbrev pub name_shown : Part → Data → Option (List ℕ)
+name_shown part.Document d = None
+name_shown part.Options d = None
+name_shown part.Hosts d = option_map shown (text_in (codes "name") d)
+name_shown part.Services d = option_map service_shown (texts_in (codes "host") (codes "description") d)
+name_shown part.ServiceDependencies d = option_map ends_shown (texts_in (codes "dependent") (codes "master") d)
+name_shown part.HostDependencies d = option_map ends_shown (texts_in (codes "dependent") (codes "master") d)
+
+-- a space and a text, where there is one
+abbrev pub after_space : Option (List ℕ) → List ℕ
+after_space None = []
+after_space (Some text) = codes " " ++ text
+
+-- a part, and the index in its list where there is one
+abbrev pub part_text : Part → Option ℕ → List ℕ
+part_text p index = part_name p ++ after_space (option_map decimal index)
+
+-- a place: its part, its index, the name that stands there, a colon and a space
+abbrev pub place_text : Data → Place → List ℕ
+place_text tree place = part_text place.part place.index ++ (after_space (option_and_then (name_shown place.part) (value_at tree place)) ++ codes ": ")
+
+-- ---- the member at fault
+
+-- the name of the member at this index, by the order of an object's names
+abbrev pub key_at : ℕ → Members → Option (List ℕ)
+key_at n no_members = None
+key_at zero (member k d ms) = Some k
+key_at (suc n) (member k d ms) = key_at n ms
+
+abbrev pub unknown_text : Option (List ℕ) → List ℕ
+unknown_text None = []
+unknown_text (Some name) = codes "a member " ++ shown name
+
+-- in this value
+abbrev pub misshapen : Data → WrongShape → List ℕ
+misshapen d (fault.unknown i) = unknown_text (option_and_then (key_at i) (as_object d))
+misshapen d (fault.missing m) = codes "the member " ++ shown m.name
+misshapen d (fault.misfit m) = shown m.name
+misshapen d w = []
+
+-- of the thresholds the low one
+abbrev pub out_of_range : WrongNumber → List ℕ
+out_of_range (fault.beyond m) = shown m.name
+out_of_range fault.service_thresholds = shown members.low_service_flap_threshold.name
+out_of_range fault.host_thresholds = shown members.low_host_flap_threshold.name
+
+-- the member whose text is no name
+abbrev pub misnamed : Part → List ℕ
+misnamed part.Services = shown members.description.name
+misnamed p = shown members.host_name.name
+
+-- ---- how an explanation begins
+
+abbrev pub place_of : Fault → Option Place
+place_of (fault.shape p w) = Some p
+place_of (fault.bad_name p) = Some p
+place_of (fault.duplicate p) = Some p
+place_of (fault.unknown_host p) = Some p
+place_of (fault.unknown_master p) = Some p
+place_of (fault.range p w) = Some p
+place_of other = None
+
+-- what is at fault in the value at the place
+abbrev pub subject_in : Data → Data → Fault → List ℕ
+subject_in tree d (fault.shape p w) = misshapen d w
+subject_in tree d (fault.range p w) = out_of_range w
+subject_in tree d (fault.bad_name p) = misnamed p.part
+subject_in tree d other = []
+
+abbrev pub subject_by : Data → Fault → Option Data → List ℕ
+subject_by tree f None = []
+subject_by tree f (Some d) = subject_in tree d f
+
+abbrev pub head_by : Data → Fault → Option Place → List ℕ
+head_by tree f None = []
+head_by tree f (Some place) = place_text tree place ++ subject_by tree f (value_at tree place)
+
+-- how the explanation of a fault begins that a document with this tree has: at its place, with the member or the name at fault
+abbrev pub head_of : Data → Fault → List ℕ
+head_of tree f = head_by tree f (place_of f)
+
+-- a text that begins with this one
+pub record Begins (head text : List ℕ) : Type 0 where
+  pub rest : List ℕ
+  pub is : text ≡ head ++ rest
+
+-- the explanation of a fault of a document
+abbrev pub IsOfFault : List ℕ → Fault → List ℕ → Type 0
+IsOfFault document f text = (tree : Data) → tree_of document ≡ Some tree → Begins (head_of tree f) text
