@@ -1,5 +1,5 @@
 -- From bytes to the tree that `serde_json` reads, and what stands in it.
-use Rattle.std.proofs.Common.{◌≡◌, ℕ, Bool, true, false, cond, ◌&&◌, ◌||◌, List, [], ◌∷◌, map, Option, Some, None, Bor, String, Global, string_bytes}
+use Rattle.std.proofs.Common.{◌≡◌, ℕ, Bool, true, false, cond, ◌&&◌, ◌||◌, List, [], ◌∷◌, map, Option, Some, None, String, Global, string_bytes}
 use Rattle.std.proofs.Common.{bytes_eq, refl, sym, ap, ◌∙◌, Ok, Err}
 use Rattle.std.specs.Prelude.{ok_or, is_some, unwrap_or, IsUtf8}
 use Rattle.std.specs.Str.{is_utf8}
@@ -38,16 +38,15 @@ object_by_members (string s) ms e = cc
 object_by_members (array ds) ms e = cc
 object_by_members (object ms') ms e = cc
 
-pub among_known : (names : List (Bor (List ℕ))) (key : List ℕ) → list_any (λ name. bytes_eq name.now key) names ≡ is_among (map (λ name. name.now) names) key
-among_known [] key = refl
-among_known (n ∷ ns) key = ap (λ b. bytes_eq n.now key || b) (among_known ns key)
+pub among_names : {A : Type 0} (name : A → List ℕ) (xs : List A) (key : List ℕ) → list_any (λ x. bytes_eq (name x) key) xs ≡ is_among (map name xs) key
+among_names name [] key = refl
+among_names name (x ∷ xs) key = ap (λ b. bytes_eq (name x) key || b) (among_names name xs key)
 
 -- the keys of the code's map are the members' names
-pub only_known : (names : List (Bor (List ℕ))) (es : List (String Global × Value))
-    → list_all (λ key. list_any (λ name. bytes_eq name.now (string_bytes key)) names) (keys_of es)
-    ≡ only_members (map (λ name. name.now) names) (members_view es)
-only_known names [] = refl
-only_known names (e ∷ es) = rw (among_known names (string_bytes e.0), only_known names es) refl
+pub only_known : {A : Type 0} (name : A → List ℕ) (xs : List A) (es : List (String Global × Value))
+    → list_all (λ key. list_any (λ x. bytes_eq (name x) (string_bytes key)) xs) (keys_of es) ≡ only_members (map name xs) (members_view es)
+only_known name xs [] = refl
+only_known name xs (e ∷ es) = rw (among_names name xs (string_bytes e.0), only_known name xs es) refl
 
 -- ---- texts
 

@@ -4,3 +4,5 @@ pub use Rattle.check_drafts.specs.LoadError
 pub mod Tree
 pub mod Criteria
 pub mod Reading
+pub mod Places
+pub mod Faults

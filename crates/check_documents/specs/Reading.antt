@@ -1,8 +1,8 @@
 -- The drafts of a document, by its tree. A document that is not of this shape is refused.
-use Rattle.std.specs.Prelude.{ℕ, ◌+◌, Bool, true, false, List, [], ◌∷◌, Option, Some, None, option_and_then, Result, Ok, Err, ok_or, codes, bytes_eq}
+use Rattle.std.specs.Prelude.{ℕ, ◌+◌, Bool, true, List, [], ◌∷◌, Option, Some, None, option_and_then, Result, Ok, Err, ok_or, codes, bytes_eq, map}
 use Rattle.std.specs.Prelude.{if◌then◌else◌}
 use Rattle.serde_json.specs.Data.{Data, Items, no_items, item}
-use Rattle.serde_json.specs.Find.{get, as_bool, as_str, as_array}
+use Rattle.serde_json.specs.Find.{get, as_str, as_array}
 use Rattle.check_drafts.specs.declared.draft.CheckDraft.{CheckDraft}
 use Rattle.check_drafts.specs.declared.error.LoadError.{LoadError}
 use Rattle.check_drafts.specs.declared.error.LoadError.TheVariants as errors
@@ -14,11 +14,16 @@ use Rattle.check_drafts.specs.declared.options.InterleaveFactor.TheVariants as f
 use Rattle.check_drafts.specs.declared.place.Place.{Place}
 use Rattle.check_drafts.specs.declared.place.Part.{Part}
 use Rattle.check_drafts.specs.declared.place.Part.TheVariants as part
+use Rattle.check_drafts.specs.declared.member.DefaultValue.{DefaultValue}
+use Rattle.check_drafts.specs.declared.member.DefaultValue.TheVariants as default
+use Rattle.check_drafts.specs.declared.member.Kind.TheVariants as kind
+use Rattle.check_drafts.specs.Member.{Row}
+use Rattle.check_drafts.specs.Members as members
 use Rattle.check_documents.specs.Criteria.{criteria_of}
 use Rattle.check_drafts.specs.Draft.{HostDraft, ServiceDraft, DependencyDraft, Drafts}
 use Rattle.check_drafts.specs.Agreement.{◌>>=◌}
 use Rattle.check_drafts.specs.Place.{the_document, the_options, the_hosts, host_at, the_services, service_at, list_of_part, item_of_part}
-use Rattle.check_documents.specs.Tree.{has_only, whole_number, member_of, member_or, texts_in, ◌>=>◌}
+use Rattle.check_documents.specs.Tree.{has_only, whole_number, member_of, number_in, read_by, switch_in, texts_in, ◌>=>◌}
 
 -- ---- lists
 
@@ -39,35 +44,39 @@ list_of shape whole place (Some d) = do
 
 -- ---- hosts and services
 
--- How an object is checked: its maximum of attempts has to be named. Its check interval is 5 and its retry interval 1 unless it says so, and it is enabled.
+-- the names of members
+abbrev pub names : List Row → List (List ℕ)
+names ms = map (λ m. m.name) ms
+
+-- how an object is checked
 unfoldable pub check_draft : Data → Option CheckDraft
 check_draft d =
-    (member_or whole_number 5 (get (codes "check_interval") d) >=> λ check_interval.
-    (member_or whole_number 1 (get (codes "retry_interval") d) >=> λ retry_interval.
-    (option_and_then whole_number (get (codes "max_check_attempts") d) >=> λ attempts.
-    (member_or as_bool true (get (codes "enabled") d) >=> λ enabled.
+    (number_in members.check_interval (Some d) >=> λ check_interval.
+    (number_in members.retry_interval (Some d) >=> λ retry_interval.
+    (number_in members.max_check_attempts (Some d) >=> λ attempts.
+    (switch_in members.enabled (Some d) >=> λ enabled.
     Some (record { check_interval = check_interval; retry_interval = retry_interval; max_check_attempts = attempts; enabled = enabled })))))
 
 abbrev pub host_members : List (List ℕ)
-host_members = codes "name" ∷ codes "parents" ∷ codes "check_interval" ∷ codes "retry_interval" ∷ codes "max_check_attempts" ∷ codes "enabled" ∷ []
+host_members = names members.host_members
 
 -- A host has a name, and may name its parents.
 unfoldable pub host_draft : Data → Option HostDraft
 host_draft d = if has_only host_members d then
-    (option_and_then as_str (get (codes "name") d) >=> λ name.
-    (texts_in (get (codes "parents") d) >=> λ parents.
+    (option_and_then as_str (get members.host_name.name d) >=> λ name.
+    (texts_in (get members.parents.name d) >=> λ parents.
     (check_draft d >=> λ check.
     Some (record { name = name; parents = parents; check = check }))))
     else None
 
 abbrev pub service_members : List (List ℕ)
-service_members = codes "host" ∷ codes "description" ∷ codes "check_interval" ∷ codes "retry_interval" ∷ codes "max_check_attempts" ∷ codes "enabled" ∷ []
+service_members = names members.service_members
 
 -- A service names its host and has a description.
 unfoldable pub service_draft : Data → Option ServiceDraft
 service_draft d = if has_only service_members d then
-    (option_and_then as_str (get (codes "host") d) >=> λ host.
-    (option_and_then as_str (get (codes "description") d) >=> λ description.
+    (option_and_then as_str (get members.service_host.name d) >=> λ host.
+    (option_and_then as_str (get members.description.name d) >=> λ description.
     (check_draft d >=> λ check.
     Some (record { host = host; description = description; check = check }))))
     else None
@@ -75,16 +84,16 @@ service_draft d = if has_only service_members d then
 -- ---- dependencies
 
 abbrev pub dependency_members : List (List ℕ)
-dependency_members = codes "dependent" ∷ codes "master" ∷ codes "criteria" ∷ codes "inherits_parent" ∷ []
+dependency_members = names (members.dependency_members kind.ServiceLetters)
 
--- A dependency names who depends on whom, and has criteria with these letters. It doesn't inherit unless it says so.
+-- A dependency names who depends on whom, and has criteria with these letters.
 unfoldable pub dependency_draft : List (List ℕ) → Data → Option DependencyDraft
 dependency_draft letters d = if has_only dependency_members d then
-    (option_and_then as_str (get (codes "dependent") d) >=> λ dependent.
-    (option_and_then as_str (get (codes "master") d) >=> λ master.
-    (option_and_then as_str (get (codes "criteria") d) >=> λ text.
+    (option_and_then as_str (get members.dependent.name d) >=> λ dependent.
+    (option_and_then as_str (get members.master.name d) >=> λ master.
+    (option_and_then as_str (get members.criteria_name d) >=> λ text.
     (criteria_of letters text >=> λ criteria.
-    (member_or as_bool false (get (codes "inherits_parent") d) >=> λ inherits.
+    (switch_in members.inherits_parent (Some d) >=> λ inherits.
     Some (record { dependent = dependent; master = master; criteria = criteria; inherits = inherits }))))))
     else None
 
@@ -103,11 +112,7 @@ dependencies_in p letters value = list_of (dependency_draft letters) (list_of_pa
 -- ---- options
 
 abbrev pub option_members : List (List ℕ)
-option_members =
-    codes "interval_length" ∷ codes "service_inter_check_delay_method" ∷ codes "max_service_check_spread" ∷ codes "service_interleave_factor"
-    ∷ codes "host_inter_check_delay_method" ∷ codes "max_host_check_spread"
-    ∷ codes "max_concurrent_checks" ∷ codes "soft_state_dependencies" ∷ codes "use_aggressive_host_checking"
-    ∷ codes "low_service_flap_threshold" ∷ codes "high_service_flap_threshold" ∷ codes "low_host_flap_threshold" ∷ codes "high_host_flap_threshold" ∷ []
+option_members = names members.option_members
 
 -- options that are absent have no unknown member
 abbrev pub has_option_members : Option Data → Bool
@@ -134,18 +139,36 @@ delay_method d = by_text lettered_method (whole_number d >=> λ n. Some (method.
 abbrev pub interleave_factor : Data → Option InterleaveFactor
 interleave_factor d = by_text (λ text. if bytes_eq text (codes "s") then Some factor.Smart else None) (whole_number d >=> λ n. Some (factor.Fixed n)) (as_str d)
 
--- the options, each with its default where it isn't named, and the thresholds of flapping with theirs
+-- the method that holds without a member
+abbrev pub delay_by_default : Option DefaultValue → Option DelayMethod
+delay_by_default (Some default.Smart) = Some method.Smart
+delay_by_default other = None
+
+-- the factor that holds without a member
+abbrev pub factor_by_default : Option DefaultValue → Option InterleaveFactor
+factor_by_default (Some default.Smart) = Some factor.Smart
+factor_by_default other = None
+
+-- the delay of a member of an object that may be absent itself
+abbrev pub delay_in : Row → Option Data → Option DelayMethod
+delay_in m value = read_by delay_method (delay_by_default m.default) (member_of m.name value)
+
+-- the factor of a member of an object that may be absent itself
+abbrev pub factor_in : Row → Option Data → Option InterleaveFactor
+factor_in m value = read_by interleave_factor (factor_by_default m.default) (member_of m.name value)
+
+-- the options, each with its default where it isn't named, but the thresholds of flapping, for which 0 stands
 unfoldable pub options_but_thresholds : Option Data → Option Options
 options_but_thresholds value =
-    member_or whole_number 60 (member_of (codes "interval_length") value) >=> λ interval_length.
-    (member_or delay_method method.Smart (member_of (codes "service_inter_check_delay_method") value) >=> λ service_method.
-    (member_or whole_number 30 (member_of (codes "max_service_check_spread") value) >=> λ service_spread.
-    (member_or interleave_factor factor.Smart (member_of (codes "service_interleave_factor") value) >=> λ interleave.
-    (member_or delay_method method.Smart (member_of (codes "host_inter_check_delay_method") value) >=> λ host_method.
-    (member_or whole_number 30 (member_of (codes "max_host_check_spread") value) >=> λ host_spread.
-    (member_or whole_number 0 (member_of (codes "max_concurrent_checks") value) >=> λ concurrent.
-    (member_or as_bool false (member_of (codes "soft_state_dependencies") value) >=> λ soft.
-    (member_or as_bool false (member_of (codes "use_aggressive_host_checking") value) >=> λ aggressive.
+    number_in members.interval_length value >=> λ interval_length.
+    (delay_in members.service_inter_check_delay_method value >=> λ service_method.
+    (number_in members.max_service_check_spread value >=> λ service_spread.
+    (factor_in members.service_interleave_factor value >=> λ interleave.
+    (delay_in members.host_inter_check_delay_method value >=> λ host_method.
+    (number_in members.max_host_check_spread value >=> λ host_spread.
+    (number_in members.max_concurrent_checks value >=> λ concurrent.
+    (switch_in members.soft_state_dependencies value >=> λ soft.
+    (switch_in members.use_aggressive_host_checking value >=> λ aggressive.
     Some (record {
       interval_length = interval_length;
       service_inter_check_delay_method = service_method;
@@ -156,19 +179,19 @@ options_but_thresholds value =
       max_concurrent_checks = concurrent;
       soft_state_dependencies = soft;
       use_aggressive_host_checking = aggressive;
-      low_service_flap_threshold = 20;
-      high_service_flap_threshold = 30;
-      low_host_flap_threshold = 20;
-      high_host_flap_threshold = 30;
+      low_service_flap_threshold = 0;
+      high_service_flap_threshold = 0;
+      low_host_flap_threshold = 0;
+      high_host_flap_threshold = 0;
     })))))))))
 
--- these options with the thresholds of flapping that are named
+-- these options with the thresholds of flapping, each with its default where it isn't named
 unfoldable pub with_thresholds : Option Data → Options → Option Options
 with_thresholds value options =
-    member_or whole_number options.low_service_flap_threshold (member_of (codes "low_service_flap_threshold") value) >=> λ low_service.
-    (member_or whole_number options.high_service_flap_threshold (member_of (codes "high_service_flap_threshold") value) >=> λ high_service.
-    (member_or whole_number options.low_host_flap_threshold (member_of (codes "low_host_flap_threshold") value) >=> λ low_host.
-    (member_or whole_number options.high_host_flap_threshold (member_of (codes "high_host_flap_threshold") value) >=> λ high_host.
+    number_in members.low_service_flap_threshold value >=> λ low_service.
+    (number_in members.high_service_flap_threshold value >=> λ high_service.
+    (number_in members.low_host_flap_threshold value >=> λ low_host.
+    (number_in members.high_host_flap_threshold value >=> λ high_host.
     Some (record options {
       low_service_flap_threshold = low_service;
       high_service_flap_threshold = high_service;
@@ -183,16 +206,16 @@ options_of value = if has_option_members value then options_but_thresholds value
 -- ---- the document
 
 abbrev pub document_members : List (List ℕ)
-document_members = codes "options" ∷ codes "hosts" ∷ codes "services" ∷ codes "service_dependencies" ∷ codes "host_dependencies" ∷ []
+document_members = names members.document_members
 
 -- The document itself is tested first, then its options, hosts, services, and the dependencies between services and
 -- between hosts.
 unfoldable pub drafts_of : Data → Result Drafts LoadError
 drafts_of d = if has_only document_members d then (do
-  options ← ok_or (options_of (get (codes "options") d)) (errors.Shape the_options)
-  hosts ← list_of host_draft the_hosts host_at (get (codes "hosts") d)
-  services ← list_of service_draft the_services service_at (get (codes "services") d)
-  service_dependencies ← dependencies_in part.ServiceDependencies service_letters (get (codes "service_dependencies") d)
-  host_dependencies ← dependencies_in part.HostDependencies host_letters (get (codes "host_dependencies") d)
+  options ← ok_or (options_of (get members.options.name d)) (errors.Shape the_options)
+  hosts ← list_of host_draft the_hosts host_at (get members.hosts.name d)
+  services ← list_of service_draft the_services service_at (get members.services.name d)
+  service_dependencies ← dependencies_in part.ServiceDependencies service_letters (get members.service_dependencies.name d)
+  host_dependencies ← dependencies_in part.HostDependencies host_letters (get members.host_dependencies.name d)
   Ok (record { options = options; hosts = hosts; services = services; service_dependencies = service_dependencies; host_dependencies = host_dependencies }))
     else Err (errors.Shape the_document)

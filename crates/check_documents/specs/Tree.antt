@@ -3,8 +3,9 @@ use Rattle.std.specs.Prelude.{ℕ, ◌&&◌, Bool, true, false, List, [], ◌∷
 use Rattle.std.specs.List.{list_any}
 use Rattle.std.specs.Str.{is_utf8}
 use Rattle.serde_json.specs.Data.{Data, object, Items, no_items, item, Members, no_members, member}
-use Rattle.serde_json.specs.Find.{get, as_number, as_str, as_u64, as_array}
+use Rattle.serde_json.specs.Find.{get, as_bool, as_number, as_str, as_u64, as_array}
 use Rattle.serde_json.specs.Read.{read}
+use Rattle.check_drafts.specs.Member.{Row, default_number, default_switch}
 
 -- the tree of the bytes, if `serde_json` gives a reading
 unfoldable pub tree_of : List ℕ → Option Data
@@ -33,6 +34,11 @@ abbrev pub member_or : {A : Type 0} → (Data → Option A) → A → Option Dat
 member_or parse default None = Some default
 member_or parse default (Some d) = parse d
 
+-- a member read by parse; where it is absent the default, and no value where there is none
+abbrev pub read_by : {A : Type 0} → (Data → Option A) → Option A → Option Data → Option A
+read_by parse (Some default) value = member_or parse default value
+read_by parse None value = option_and_then parse value
+
 infixl 10 ◌>=>◌
 -- what follows, if there is a value
 abbrev pub ◌>=>◌ : {A B : Type 0} → Option A → (A → Option B) → Option B
@@ -52,3 +58,11 @@ texts_of (item d ds) = as_str d >=> λ t. (texts_of ds >=> λ ts. Some (t ∷ ts
 abbrev pub texts_in : Option Data → Option (List (List ℕ))
 texts_in None = Some []
 texts_in (Some d) = as_array d >=> texts_of
+
+-- the whole number of a member of an object that may be absent itself
+abbrev pub number_in : Row → Option Data → Option ℕ
+number_in m value = read_by whole_number (default_number m) (member_of m.name value)
+
+-- the truth value of a member of an object that may be absent itself
+abbrev pub switch_in : Row → Option Data → Option Bool
+switch_in m value = read_by as_bool (default_switch m) (member_of m.name value)

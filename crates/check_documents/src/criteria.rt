@@ -1,16 +1,10 @@
 //! The criteria of a dependency, by the letters of their text.
 ghost use Rattle.std.specs.Prelude.{◌≡◌, ◌&&◌, ◌||◌, map, bytes_eq};
+ghost use Rattle.std.specs.List.{list_any};
 ghost use Rattle.check_documents.specs.Tree.{is_among};
 ghost use Rattle.check_documents.specs.Criteria.{criteria_of, found_in, with_piece};
 
-use crate::tree::is_known;
 use check_drafts::Criteria;
-
-/// The letters that the criteria of a dependency between services may have.
-pub(crate) const SERVICE_LETTERS: [&str; 6] = ["o", "w", "u", "c", "p", "n"];
-
-/// The letters that the criteria of a dependency between hosts may have.
-pub(crate) const HOST_LETTERS: [&str; 5] = ["o", "u", "d", "p", "n"];
 
 /// What the pieces of a text say, piece by piece.
 #[derive(Clone, Copy)]
@@ -79,7 +73,14 @@ fn with_piece(found: Found, piece: &str, letters: &[&str]) -> Found
 fn are_known(before: bool, piece: &str, letters: &[&str]) -> bool
     ensures { result ≡ (before && is_among (map (λ letter. letter.now) letters.now) piece.now) }
 {
-    before && is_known(piece, letters)
+    before && is_letter(piece, letters)
+}
+
+/// Whether a piece is one of these letters.
+fn is_letter(piece: &str, letters: &[&str]) -> bool
+    ensures { result ≡ list_any (λ letter. bytes_eq letter.now piece.now) letters.now }
+{
+    letters.iter().any(|letter| *letter == piece)
 }
 
 /// Whether a letter was there before, or is this piece.

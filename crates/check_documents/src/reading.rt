@@ -4,67 +4,28 @@ ghost use Rattle.serde_json.specs.View.{view};
 ghost use Rattle.check_drafts.specs.LoadError.{Gives};
 ghost use Rattle.check_drafts.specs.Draft as spec;
 ghost use Rattle.check_drafts.specs.Drafted.{host, service, dependency, drafts_view};
-ghost use Rattle.check_documents.specs.Reading.{host_draft, service_draft, check_draft, dependency_draft, drafts_of, delay_method, interleave_factor, options_of, options_but_thresholds, with_thresholds, has_option_members};
-ghost use Rattle.check_documents.specs.Tree.{member_or};
+ghost use Rattle.check_documents.specs.Reading.{host_draft, service_draft, check_draft, dependency_draft, drafts_of, delay_method, interleave_factor, delay_in, factor_in, delay_by_default, factor_by_default, options_of, options_but_thresholds, with_thresholds, has_option_members};
+ghost use Rattle.check_drafts.specs.Member.{as_row};
 
-use crate::criteria::{HOST_LETTERS, SERVICE_LETTERS, read_criteria};
+use crate::criteria::read_criteria;
 use crate::lists::{Item, read_list};
-use crate::tree::{bool_or, has_only, member, number_or, texts_in};
+use crate::tree::{has_only, member, number_in, switch_in, texts_in};
+use check_drafts::members::{
+    CHECK_INTERVAL, CRITERIA, DEPENDENT, DESCRIPTION, DOCUMENT_MEMBERS, ENABLED,
+    HIGH_HOST_FLAP_THRESHOLD, HIGH_SERVICE_FLAP_THRESHOLD, HOST, HOST_DEPENDENCIES,
+    HOST_INTER_CHECK_DELAY_METHOD, HOST_MEMBERS, HOSTS, INHERITS_PARENT, INTERVAL_LENGTH,
+    LOW_HOST_FLAP_THRESHOLD, LOW_SERVICE_FLAP_THRESHOLD, MASTER, MAX_CHECK_ATTEMPTS,
+    MAX_CONCURRENT_CHECKS, MAX_HOST_CHECK_SPREAD, MAX_SERVICE_CHECK_SPREAD, NAME, OPTION_MEMBERS,
+    OPTIONS, PARENTS, RETRY_INTERVAL, SERVICE_DEPENDENCIES, SERVICE_DEPENDENCY_MEMBERS,
+    SERVICE_INTER_CHECK_DELAY_METHOD, SERVICE_INTERLEAVE_FACTOR, SERVICE_MEMBERS, SERVICES,
+    SOFT_STATE_DEPENDENCIES, USE_AGGRESSIVE_HOST_CHECKING,
+};
 use check_drafts::{
-    CheckDraft, DelayMethod, DependencyDraft, Drafts, HostDraft, InterleaveFactor, LoadError,
-    Options, Part, Place, ServiceDraft,
+    CheckDraft, DefaultValue, DelayMethod, DependencyDraft, Drafts, HOST_LETTERS, HostDraft,
+    InterleaveFactor, LoadError, Member, Options, Part, Place, SERVICE_LETTERS, ServiceDraft,
 };
 use serde_json::Value;
 use std::alloc::Global;
-
-/// The members that a document may have.
-const DOCUMENT_MEMBERS: [&str; 5] = [
-    "options",
-    "hosts",
-    "services",
-    "service_dependencies",
-    "host_dependencies",
-];
-
-/// The members that the options may have.
-const OPTION_MEMBERS: [&str; 13] = [
-    "interval_length",
-    "service_inter_check_delay_method",
-    "max_service_check_spread",
-    "service_interleave_factor",
-    "host_inter_check_delay_method",
-    "max_host_check_spread",
-    "max_concurrent_checks",
-    "soft_state_dependencies",
-    "use_aggressive_host_checking",
-    "low_service_flap_threshold",
-    "high_service_flap_threshold",
-    "low_host_flap_threshold",
-    "high_host_flap_threshold",
-];
-
-/// The members that a host may have.
-const HOST_MEMBERS: [&str; 6] = [
-    "name",
-    "parents",
-    "check_interval",
-    "retry_interval",
-    "max_check_attempts",
-    "enabled",
-];
-
-/// The members that a service may have.
-const SERVICE_MEMBERS: [&str; 6] = [
-    "host",
-    "description",
-    "check_interval",
-    "retry_interval",
-    "max_check_attempts",
-    "enabled",
-];
-
-/// The members that a dependency may have.
-const DEPENDENCY_MEMBERS: [&str; 4] = ["dependent", "master", "criteria", "inherits_parent"];
 
 /// The drafts of a document's tree, or its first fault of shape, in the order of the document's
 /// members in [`Part`]. `Memory` may come in place of either.
@@ -75,18 +36,18 @@ pub fn read_drafts<'v>(alloc: Global, tree: &'v Value) -> Result<Drafts<'v>, Loa
     if !has_only(tree, &DOCUMENT_MEMBERS) {
         return Err(LoadError::Shape(Place::DOCUMENT));
     }
-    let options = read_options(tree.get("options")).ok_or(LoadError::Shape(Place::OPTIONS))?;
-    let hosts = read_list(alloc, tree.get("hosts"), Part::Hosts, &[])?;
-    let services = read_list(alloc, tree.get("services"), Part::Services, &[])?;
+    let options = read_options(tree.get(OPTIONS.name)).ok_or(LoadError::Shape(Place::OPTIONS))?;
+    let hosts = read_list(alloc, tree.get(HOSTS.name), Part::Hosts, &[])?;
+    let services = read_list(alloc, tree.get(SERVICES.name), Part::Services, &[])?;
     let service_dependencies = read_list(
         alloc,
-        tree.get("service_dependencies"),
+        tree.get(SERVICE_DEPENDENCIES.name),
         Part::ServiceDependencies,
         &SERVICE_LETTERS,
     )?;
     let host_dependencies = read_list(
         alloc,
-        tree.get("host_dependencies"),
+        tree.get(HOST_DEPENDENCIES.name),
         Part::HostDependencies,
         &HOST_LETTERS,
     )?;
@@ -109,46 +70,39 @@ fn read_options(value: Option<&Value>) -> Option<Options>
     with_thresholds(value, options_but_thresholds(value)?)
 }
 
-/// The options, each with its default where it isn't named, and the thresholds of flapping with
-/// theirs.
+/// The options, each with its default where it isn't named, but the thresholds of flapping, for which 0
+/// stands.
 #[tactic(auto, unfolding(crate::specs::Reading::options_but_thresholds))]
 fn options_but_thresholds(value: Option<&Value>) -> Option<Options>
     ensures { result ≡ options_but_thresholds (option_map (λ v. view v.now) value.entry) }
 {
-    let service_method = member(value, "service_inter_check_delay_method");
-    let host_method = member(value, "host_inter_check_delay_method");
-    let aggressive = member(value, "use_aggressive_host_checking");
     Some(Options {
-        interval_length: number_or(member(value, "interval_length"), 60)?,
-        service_inter_check_delay_method: delay_method_or_smart(service_method)?,
-        max_service_check_spread: number_or(member(value, "max_service_check_spread"), 30)?,
-        service_interleave_factor: factor_or_smart(member(value, "service_interleave_factor"))?,
-        host_inter_check_delay_method: delay_method_or_smart(host_method)?,
-        max_host_check_spread: number_or(member(value, "max_host_check_spread"), 30)?,
-        max_concurrent_checks: number_or(member(value, "max_concurrent_checks"), 0)?,
-        soft_state_dependencies: bool_or(member(value, "soft_state_dependencies"), false)?,
-        use_aggressive_host_checking: bool_or(aggressive, false)?,
-        low_service_flap_threshold: 20,
-        high_service_flap_threshold: 30,
-        low_host_flap_threshold: 20,
-        high_host_flap_threshold: 30,
+        interval_length: number_in(value, INTERVAL_LENGTH)?,
+        service_inter_check_delay_method: delay_in(value, SERVICE_INTER_CHECK_DELAY_METHOD)?,
+        max_service_check_spread: number_in(value, MAX_SERVICE_CHECK_SPREAD)?,
+        service_interleave_factor: factor_in(value, SERVICE_INTERLEAVE_FACTOR)?,
+        host_inter_check_delay_method: delay_in(value, HOST_INTER_CHECK_DELAY_METHOD)?,
+        max_host_check_spread: number_in(value, MAX_HOST_CHECK_SPREAD)?,
+        max_concurrent_checks: number_in(value, MAX_CONCURRENT_CHECKS)?,
+        soft_state_dependencies: switch_in(value, SOFT_STATE_DEPENDENCIES)?,
+        use_aggressive_host_checking: switch_in(value, USE_AGGRESSIVE_HOST_CHECKING)?,
+        low_service_flap_threshold: 0,
+        high_service_flap_threshold: 0,
+        low_host_flap_threshold: 0,
+        high_host_flap_threshold: 0,
     })
 }
 
-/// These options, with the thresholds of flapping that are named.
+/// These options with the thresholds of flapping, each with its default where it isn't named.
 #[tactic(auto, unfolding(crate::specs::Reading::with_thresholds))]
 fn with_thresholds(value: Option<&Value>, options: Options) -> Option<Options>
     ensures { result ≡ with_thresholds (option_map (λ v. view v.now) value.entry) options }
 {
-    let low_service = member(value, "low_service_flap_threshold");
-    let high_service = member(value, "high_service_flap_threshold");
-    let low_host = member(value, "low_host_flap_threshold");
-    let high_host = member(value, "high_host_flap_threshold");
     Some(Options {
-        low_service_flap_threshold: number_or(low_service, options.low_service_flap_threshold)?,
-        high_service_flap_threshold: number_or(high_service, options.high_service_flap_threshold)?,
-        low_host_flap_threshold: number_or(low_host, options.low_host_flap_threshold)?,
-        high_host_flap_threshold: number_or(high_host, options.high_host_flap_threshold)?,
+        low_service_flap_threshold: number_in(value, LOW_SERVICE_FLAP_THRESHOLD)?,
+        high_service_flap_threshold: number_in(value, HIGH_SERVICE_FLAP_THRESHOLD)?,
+        low_host_flap_threshold: number_in(value, LOW_HOST_FLAP_THRESHOLD)?,
+        high_host_flap_threshold: number_in(value, HIGH_HOST_FLAP_THRESHOLD)?,
         ..options
     })
 }
@@ -162,17 +116,28 @@ fn has_option_members(value: Option<&Value>) -> bool
     }
 }
 
-fn delay_method_or_smart(value: Option<&Value>) -> Option<DelayMethod>
-    ensures { result ≡ member_or delay_method DelayMethod.Smart (option_map (λ v. view v.now) value.entry) }
+/// The delay of a member of an object that may be absent itself. Without the member it is its default,
+/// and there is none where the member is required.
+fn delay_in(object: Option<&Value>, wanted: Member) -> Option<DelayMethod>
+    ensures { result ≡ delay_in (as_row wanted) (option_map (λ v. view v.now) object.entry) }
 {
-    match value {
+    match member(object, wanted.name) {
         Some(value) => delay_method(value),
-        None => Some(DelayMethod::Smart),
+        None => default_delay(wanted),
+    }
+}
+
+fn default_delay(wanted: Member) -> Option<DelayMethod>
+    ensures { result ≡ delay_by_default wanted.default }
+{
+    match wanted.default {
+        Some(DefaultValue::Smart) => Some(DelayMethod::Smart),
+        _ => None,
     }
 }
 
 /// A method by its letter, or a number of milliseconds.
-fn delay_method(value: &Value) -> Option<DelayMethod>
+pub(crate) fn delay_method(value: &Value) -> Option<DelayMethod>
     ensures { result ≡ delay_method (view value.now) }
 {
     match value.as_str() {
@@ -184,17 +149,28 @@ fn delay_method(value: &Value) -> Option<DelayMethod>
     }
 }
 
-fn factor_or_smart(value: Option<&Value>) -> Option<InterleaveFactor>
-    ensures { result ≡ member_or interleave_factor InterleaveFactor.Smart (option_map (λ v. view v.now) value.entry) }
+/// The factor of a member of an object that may be absent itself. Without the member it is its default,
+/// and there is none where the member is required.
+fn factor_in(object: Option<&Value>, wanted: Member) -> Option<InterleaveFactor>
+    ensures { result ≡ factor_in (as_row wanted) (option_map (λ v. view v.now) object.entry) }
 {
-    match value {
+    match member(object, wanted.name) {
         Some(value) => interleave_factor(value),
-        None => Some(InterleaveFactor::Smart),
+        None => default_factor(wanted),
+    }
+}
+
+fn default_factor(wanted: Member) -> Option<InterleaveFactor>
+    ensures { result ≡ factor_by_default wanted.default }
+{
+    match wanted.default {
+        Some(DefaultValue::Smart) => Some(InterleaveFactor::Smart),
+        _ => None,
     }
 }
 
 /// The smart factor by its letter, or a number.
-fn interleave_factor(value: &Value) -> Option<InterleaveFactor>
+pub(crate) fn interleave_factor(value: &Value) -> Option<InterleaveFactor>
     ensures { result ≡ interleave_factor (view value.now) }
 {
     match value.as_str() {
@@ -217,8 +193,8 @@ impl<'v> Item<'v> for HostDraft<'v> {
             return None;
         }
         Some(HostDraft {
-            name: value.get("name").and_then(Value::as_str)?,
-            parents: texts_in(value.get("parents"))?,
+            name: value.get(NAME.name).and_then(Value::as_str)?,
+            parents: texts_in(value.get(PARENTS.name))?,
             check: read_check(value)?,
         })
     }
@@ -237,8 +213,8 @@ impl<'v> Item<'v> for ServiceDraft<'v> {
             return None;
         }
         Some(ServiceDraft {
-            host: value.get("host").and_then(Value::as_str)?,
-            description: value.get("description").and_then(Value::as_str)?,
+            host: value.get(HOST.name).and_then(Value::as_str)?,
+            description: value.get(DESCRIPTION.name).and_then(Value::as_str)?,
             check: read_check(value)?,
         })
     }
@@ -253,15 +229,15 @@ impl<'v> Item<'v> for DependencyDraft<'v> {
 
     #[tactic(auto, unfolding(crate::specs::Reading::dependency_draft))]
     fn read(value: &'v Value, letters: &[&str]) -> Option<DependencyDraft<'v>> {
-        if !has_only(value, &DEPENDENCY_MEMBERS) {
+        if !has_only(value, &SERVICE_DEPENDENCY_MEMBERS) {
             return None;
         }
-        let criteria = value.get("criteria").and_then(Value::as_str);
+        let criteria = value.get(CRITERIA).and_then(Value::as_str);
         Some(DependencyDraft {
-            dependent: value.get("dependent").and_then(Value::as_str)?,
-            master: value.get("master").and_then(Value::as_str)?,
+            dependent: value.get(DEPENDENT.name).and_then(Value::as_str)?,
+            master: value.get(MASTER.name).and_then(Value::as_str)?,
             criteria: read_criteria(criteria?, letters)?,
-            inherits: bool_or(value.get("inherits_parent"), false)?,
+            inherits: switch_in(Some(value), INHERITS_PARENT)?,
         })
     }
 }
@@ -272,9 +248,9 @@ fn read_check(value: &Value) -> Option<CheckDraft>
     ensures { result ≡ check_draft (view value.now) }
 {
     Some(CheckDraft {
-        check_interval: number_or(value.get("check_interval"), 5)?,
-        retry_interval: number_or(value.get("retry_interval"), 1)?,
-        max_check_attempts: value.get("max_check_attempts").and_then(Value::as_u64)?,
-        enabled: bool_or(value.get("enabled"), true)?,
+        check_interval: number_in(Some(value), CHECK_INTERVAL)?,
+        retry_interval: number_in(Some(value), RETRY_INTERVAL)?,
+        max_check_attempts: number_in(Some(value), MAX_CHECK_ATTEMPTS)?,
+        enabled: switch_in(Some(value), ENABLED)?,
     })
 }

@@ -3,12 +3,13 @@ ghost use Rattle.std.specs.Prelude.{◌≡◌, map, option_map, ok_or, is_some, 
 ghost use Rattle.std.specs.List.{list_all, list_any};
 ghost use Rattle.std.specs.BTreeMap.{keys};
 ghost use Rattle.serde_json.specs.View.{view};
-ghost use Rattle.serde_json.specs.Find.{as_bool, as_str};
-ghost use Rattle.check_documents.specs.Tree.{tree_of, has_only, member_of, member_or, texts_in, whole_number};
+ghost use Rattle.serde_json.specs.Find.{as_str};
+ghost use Rattle.check_documents.specs.Tree.{tree_of, has_only, member_of, number_in, switch_in, texts_in};
+ghost use Rattle.check_drafts.specs.Member.{as_row};
 ghost use Rattle.check_drafts.specs.Text.{text};
 ghost use Rattle.check_drafts.specs.LoadError.{Gives};
 
-use check_drafts::LoadError;
+use check_drafts::{LoadError, Member};
 use serde_json::{Map, Value};
 use std::alloc::Global;
 
@@ -28,28 +29,28 @@ pub fn read_tree(alloc: Global, bytes: &[u8]) -> Result<Value, LoadError>
 }
 
 /// Whether the value is an object with no other members than these.
-pub(crate) fn has_only(value: &Value, names: &[&str]) -> bool
-    ensures { result ≡ has_only (map (λ name. name.now) names.now) (view value.now) }
+pub(crate) fn has_only(value: &Value, members: &[Member]) -> bool
+    ensures { result ≡ has_only (map (λ member. member.name.now) members.now) (view value.now) }
 {
     match value.as_object() {
-        Some(members) => are_known(members, names),
+        Some(object) => are_known(object, members),
         None => false,
     }
 }
 
-fn are_known(members: &Map<String, Value>, names: &[&str]) -> bool
+fn are_known(object: &Map<String, Value>, members: &[Member]) -> bool
     ensures { result ≡
-        list_all (λ key. list_any (λ name. bytes_eq name.now (string_bytes key)) names.now)
-        (keys members.now) }
+        list_all (λ key. list_any (λ member. bytes_eq member.name.now (string_bytes key))
+        members.now) (keys object.now) }
 {
-    members.keys().all(|key| is_known(key.as_str(), names))
+    object.keys().all(|key| is_known(key.as_str(), members))
 }
 
-/// Whether the text is one of these.
-pub(crate) fn is_known(key: &str, names: &[&str]) -> bool
-    ensures { result ≡ list_any (λ name. bytes_eq name.now key.now) names.now }
+/// Whether the text is the name of one of these.
+pub(crate) fn is_known(key: &str, members: &[Member]) -> bool
+    ensures { result ≡ list_any (λ member. bytes_eq member.name.now key.now) members.now }
 {
-    names.iter().any(|name| *name == key)
+    members.iter().any(|member| member.name == key)
 }
 
 /// A member of an object that may be absent itself.
@@ -63,23 +64,25 @@ pub(crate) fn member<'v>(value: Option<&'v Value>, name: &str) -> Option<&'v Val
     }
 }
 
-/// A member's whole number, or the default where the member is absent.
-pub(crate) fn number_or(value: Option<&Value>, default: u64) -> Option<u64>
-    ensures { result ≡ member_or whole_number default (option_map (λ v. view v.now) value.entry) }
+/// The whole number of a member of an object that may be absent itself. Without the member it is its
+/// default, and there is none where the member is required.
+pub(crate) fn number_in(object: Option<&Value>, wanted: Member) -> Option<u64>
+    ensures { result ≡ number_in (as_row wanted) (option_map (λ v. view v.now) object.entry) }
 {
-    match value {
+    match member(object, wanted.name) {
         Some(value) => value.as_u64(),
-        None => Some(default),
+        None => wanted.default_number(),
     }
 }
 
-/// A member that is true or false, or the default where it is absent.
-pub(crate) fn bool_or(value: Option<&Value>, default: bool) -> Option<bool>
-    ensures { result ≡ member_or as_bool default (option_map (λ v. view v.now) value.entry) }
+/// The truth value of a member of an object that may be absent itself. Without the member it is its
+/// default, and there is none where the member is required.
+pub(crate) fn switch_in(object: Option<&Value>, wanted: Member) -> Option<bool>
+    ensures { result ≡ switch_in (as_row wanted) (option_map (λ v. view v.now) object.entry) }
 {
-    match value {
+    match member(object, wanted.name) {
         Some(value) => value.as_bool(),
-        None => Some(default),
+        None => wanted.default_switch(),
     }
 }
 
@@ -94,7 +97,7 @@ pub(crate) fn texts_in<'v>(value: Option<&'v Value>) -> Option<&'v [Value]>
     }
 }
 
-fn texts<'v>(value: &'v Value) -> Option<&'v [Value]>
+pub(crate) fn texts<'v>(value: &'v Value) -> Option<&'v [Value]>
     ensures { option_map (λ items. map text items.now) result ≡ texts_in (Some (view value.now)) }
 {
     let items = value.as_array()?;

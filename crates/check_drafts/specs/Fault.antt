@@ -1,5 +1,5 @@
 -- What is wrong with a setup document: the refusal, and besides its place the member or the count that is at fault.
-use Rattle.std.specs.Prelude.{ℕ, Option, Some, None, Result, Ok, Err}
+use Rattle.std.specs.Prelude.{ℕ, Option, Some, None, Result}
 use Rattle.check_drafts.specs.declared.error.LoadError.{LoadError}
 use Rattle.check_drafts.specs.declared.error.LoadError.TheVariants as errors
 use Rattle.check_drafts.specs.declared.fault.Count.{Count}

@@ -129,9 +129,12 @@ dependent = required (codes "dependent") kind.Text
 abbrev pub master : Row
 master = required (codes "master") kind.Text
 
+abbrev pub criteria_name : List ℕ
+criteria_name = codes "criteria"
+
 -- the criteria of a dependency, of letters that a service or a host may have
 abbrev pub criteria : Kind → Row
-criteria letters = required (codes "criteria") letters
+criteria letters = required criteria_name letters
 
 abbrev pub inherits_parent : Row
 inherits_parent = optional (codes "inherits_parent") kind.Switch (default.Switch false)

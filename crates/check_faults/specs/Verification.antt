@@ -13,6 +13,8 @@ use Rattle.check_drafts.specs.declared.options.Options.{Options}
 use Rattle.check_drafts.specs.Agreement.{◌>>=◌}
 use Rattle.check_drafts.specs.LoadError.{refused_at}
 use Rattle.check_drafts.specs.Keys.{first_repeat, names_of, key_of, same_key}
+use Rattle.check_drafts.specs.Member.{Row, is_within_limits}
+use Rattle.check_drafts.specs.Members as members
 use Rattle.check_drafts.specs.Name.{is_name}
 use Rattle.check_drafts.specs.Place.{the_options, host_at, service_at}
 use Rattle.check_drafts.specs.Draft.{HostDraft, ServiceDraft, DependencyDraft, Drafts}
@@ -76,40 +78,47 @@ known_links names drafts =
 
 -- ---- limits
 
--- both intervals are at most 525,600 units, a year of minutes, and the attempts 1 to 255
+-- both intervals and the attempts are within their limits
 abbrev pub is_in_range : CheckDraft → Bool
-is_in_range c = nat_le c.check_interval 525600 && nat_le c.retry_interval 525600 && nat_le 1 c.max_check_attempts && nat_le c.max_check_attempts 255
+is_in_range c =
+    is_within_limits members.check_interval c.check_interval
+    && is_within_limits members.retry_interval c.retry_interval
+    && is_within_limits members.max_check_attempts c.max_check_attempts
 
-abbrev pub is_within : ℕ → ℕ → ℕ → Bool
-is_within low high n = nat_le low n && nat_le n high
+-- a fixed delay is within the limits of its member
+abbrev pub is_delay_in_range : Row → DelayMethod → Bool
+is_delay_in_range m (method.Fixed delay) = is_within_limits m delay
+is_delay_in_range m other = true
 
--- a fixed delay is at most a day of milliseconds
-abbrev pub is_delay_in_range : DelayMethod → Bool
-is_delay_in_range (method.Fixed delay) = nat_le delay 86400000
-is_delay_in_range other = true
+-- a fixed factor is within the limits of its member
+abbrev pub is_factor_in_range : Row → InterleaveFactor → Bool
+is_factor_in_range m factor.Smart = true
+is_factor_in_range m (factor.Fixed n) = is_within_limits m n
 
--- a fixed factor is 1 to 4,096
-abbrev pub is_factor_in_range : InterleaveFactor → Bool
-is_factor_in_range factor.Smart = true
-is_factor_in_range (factor.Fixed n) = is_within 1 4096 n
+-- each number of the options but the thresholds of flapping is within the limits of its member
+abbrev pub are_numbers_in_range : Options → Bool
+are_numbers_in_range o =
+    is_within_limits members.interval_length o.interval_length
+    && is_delay_in_range members.service_inter_check_delay_method o.service_inter_check_delay_method
+    && is_within_limits members.max_service_check_spread o.max_service_check_spread
+    && is_factor_in_range members.service_interleave_factor o.service_interleave_factor
+    && is_delay_in_range members.host_inter_check_delay_method o.host_inter_check_delay_method
+    && is_within_limits members.max_host_check_spread o.max_host_check_spread
+    && is_within_limits members.max_concurrent_checks o.max_concurrent_checks
 
--- both thresholds of flapping are 0 to 100 percent, and the low one isn't above the high one
-abbrev pub are_thresholds_in_range : ℕ → ℕ → Bool
-are_thresholds_in_range low high = nat_le low high && nat_le high 100
+-- a low and a high threshold are within the limits of their members, and the low one isn't above the high one
+abbrev pub are_in_order : Row → Row → ℕ → ℕ → Bool
+are_in_order low high l h = is_within_limits low l && is_within_limits high h && nat_le l h
 
--- A unit of the intervals lasts a second to a day, the first checks are spread over a minute to a year, at most 1,000,000
--- service checks run at a time, and the thresholds of flapping are percents in their order.
+-- the thresholds of flapping are within their limits, and in their order
+abbrev pub are_thresholds_in_range : Options → Bool
+are_thresholds_in_range o =
+    are_in_order members.low_service_flap_threshold members.high_service_flap_threshold o.low_service_flap_threshold o.high_service_flap_threshold
+    && are_in_order members.low_host_flap_threshold members.high_host_flap_threshold o.low_host_flap_threshold o.high_host_flap_threshold
+
+-- Each number of the options is within the limits of its member, and the low thresholds of flapping aren't above the high ones.
 abbrev pub are_options_in_range : Options → Bool
-are_options_in_range o =
-    is_within 1 86400 o.interval_length
-    && is_delay_in_range o.service_inter_check_delay_method
-    && is_within 1 525600 o.max_service_check_spread
-    && is_factor_in_range o.service_interleave_factor
-    && is_delay_in_range o.host_inter_check_delay_method
-    && is_within 1 525600 o.max_host_check_spread
-    && nat_le o.max_concurrent_checks 1000000
-    && are_thresholds_in_range o.low_service_flap_threshold o.high_service_flap_threshold
-    && are_thresholds_in_range o.low_host_flap_threshold o.high_host_flap_threshold
+are_options_in_range o = are_numbers_in_range o && are_thresholds_in_range o
 
 abbrev pub good_options : Options → Result (Unit {0}) LoadError
 good_options options = if are_options_in_range options then Ok tt else Err (errors.Range the_options)

@@ -4,16 +4,23 @@ ghost use Rattle.std.specs.Prelude.{◌≡◌, ◌≤◌, ◌+◌, ◌&&◌, ℕ
 ghost use Rattle.std.specs.List.{list_all};
 ghost use Rattle.check_drafts.specs.LoadError.{Gives};
 ghost use Rattle.check_drafts.specs.Ends.{full_names, has_known_ends, known_dependencies, known_ends, is_known};
-ghost use Rattle.check_faults.specs.Verification.{few_objects, has_few_parents, good_names, good_host_names, good_descriptions, host_names, no_repeated_services, known_parents, known_hosts, few_dependencies, few_items, good_ranges, good_options, good_host_ranges, good_service_ranges, ranges_behind_ends, faultless_behind_names, is_faultless_but_ends, is_in_range, is_within, is_delay_in_range, is_factor_in_range, are_thresholds_in_range, are_options_in_range};
+ghost use Rattle.check_faults.specs.Verification.{few_objects, has_few_parents, good_names, good_host_names, good_descriptions, host_names, no_repeated_services, known_parents, known_hosts, few_dependencies, few_items, good_ranges, good_options, good_host_ranges, good_service_ranges, ranges_behind_ends, faultless_behind_names, is_faultless_but_ends, is_in_range, is_delay_in_range, is_factor_in_range, are_in_order, are_numbers_in_range, are_thresholds_in_range, are_options_in_range};
+ghost use Rattle.check_drafts.specs.Member.{as_row};
 ghost use Rattle.check_drafts.specs.Name.{is_name_byte, is_name};
 ghost use Rattle.check_drafts.specs.Drafted.{host, service, dependency, drafts_view, texts, HasFewAttempts};
 ghost use Rattle.check_drafts.specs.Text.{text};
 
+use check_drafts::members::{
+    CHECK_INTERVAL, HIGH_HOST_FLAP_THRESHOLD, HIGH_SERVICE_FLAP_THRESHOLD,
+    HOST_INTER_CHECK_DELAY_METHOD, INTERVAL_LENGTH, LOW_HOST_FLAP_THRESHOLD,
+    LOW_SERVICE_FLAP_THRESHOLD, MAX_CHECK_ATTEMPTS, MAX_CONCURRENT_CHECKS, MAX_HOST_CHECK_SPREAD,
+    MAX_SERVICE_CHECK_SPREAD, RETRY_INTERVAL, SERVICE_INTER_CHECK_DELAY_METHOD,
+    SERVICE_INTERLEAVE_FACTOR,
+};
 use check_drafts::{
     CheckDraft, DelayMethod, DependencyDraft, Drafts, HostDraft, InterleaveFactor, LoadError,
-    MAX_ATTEMPTS, MAX_CONCURRENT_CHECKS, MAX_DELAY, MAX_DEPENDENCIES, MAX_FACTOR,
-    MAX_FLAP_THRESHOLD, MAX_INTERVAL, MAX_INTERVAL_LENGTH, MAX_NAME_BYTES, MAX_OBJECTS,
-    MAX_PARENTS, MAX_SPREAD, Options, Part, Place, ServiceDraft, full_name, text,
+    MAX_DEPENDENCIES, MAX_NAME_BYTES, MAX_OBJECTS, MAX_PARENTS, Member, Options, Part, Place,
+    ServiceDraft, full_name, text,
 };
 use indexmap::IndexSet;
 use serde_json::Value;
@@ -373,51 +380,66 @@ fn verify_options(options: &Options) -> Result<(), LoadError>
 fn are_options_in_range(options: &Options) -> bool
     ensures { result ≡ are_options_in_range options.now }
 {
-    is_within(options.interval_length, 1, MAX_INTERVAL_LENGTH)
-        && is_delay_in_range(options.service_inter_check_delay_method)
-        && is_within(options.max_service_check_spread, 1, MAX_SPREAD)
-        && is_factor_in_range(options.service_interleave_factor)
-        && is_delay_in_range(options.host_inter_check_delay_method)
-        && is_within(options.max_host_check_spread, 1, MAX_SPREAD)
-        && options.max_concurrent_checks <= MAX_CONCURRENT_CHECKS
-        && are_thresholds_in_range(
-            options.low_service_flap_threshold,
-            options.high_service_flap_threshold,
-        )
-        && are_thresholds_in_range(
-            options.low_host_flap_threshold,
-            options.high_host_flap_threshold,
-        )
+    are_numbers_in_range(options) && are_thresholds_in_range(options)
 }
 
-/// Whether the thresholds of flapping are percents, and the low one isn't above the high one.
-fn are_thresholds_in_range(low: u64, high: u64) -> bool
-    ensures { result ≡ are_thresholds_in_range low high }
+fn are_numbers_in_range(options: &Options) -> bool
+    ensures { result ≡ are_numbers_in_range options.now }
 {
-    low <= high && high <= MAX_FLAP_THRESHOLD
+    INTERVAL_LENGTH.allows(options.interval_length)
+        && is_delay_in_range(
+            SERVICE_INTER_CHECK_DELAY_METHOD,
+            options.service_inter_check_delay_method,
+        )
+        && MAX_SERVICE_CHECK_SPREAD.allows(options.max_service_check_spread)
+        && is_factor_in_range(SERVICE_INTERLEAVE_FACTOR, options.service_interleave_factor)
+        && is_delay_in_range(
+            HOST_INTER_CHECK_DELAY_METHOD,
+            options.host_inter_check_delay_method,
+        )
+        && MAX_HOST_CHECK_SPREAD.allows(options.max_host_check_spread)
+        && MAX_CONCURRENT_CHECKS.allows(options.max_concurrent_checks)
 }
 
-fn is_within(number: u64, low: u64, high: u64) -> bool
-    ensures { result ≡ is_within low high number }
+/// Whether the thresholds of flapping are within their limits, and no low one is above its high one.
+fn are_thresholds_in_range(options: &Options) -> bool
+    ensures { result ≡ are_thresholds_in_range options.now }
 {
-    low <= number && number <= high
+    are_in_order(
+        LOW_SERVICE_FLAP_THRESHOLD,
+        HIGH_SERVICE_FLAP_THRESHOLD,
+        options.low_service_flap_threshold,
+        options.high_service_flap_threshold,
+    ) && are_in_order(
+        LOW_HOST_FLAP_THRESHOLD,
+        HIGH_HOST_FLAP_THRESHOLD,
+        options.low_host_flap_threshold,
+        options.high_host_flap_threshold,
+    )
 }
 
-fn is_delay_in_range(method: DelayMethod) -> bool
-    ensures { result ≡ is_delay_in_range method }
+/// Whether a low and a high threshold are within their limits, and the low one isn't above the other.
+fn are_in_order(low_member: Member, high_member: Member, low: u64, high: u64) -> bool
+    ensures { result ≡ are_in_order (as_row low_member) (as_row high_member) low high }
+{
+    low_member.allows(low) && high_member.allows(high) && low <= high
+}
+
+fn is_delay_in_range(member: Member, method: DelayMethod) -> bool
+    ensures { result ≡ is_delay_in_range (as_row member) method }
 {
     match method {
-        DelayMethod::Fixed(delay) => delay <= MAX_DELAY,
+        DelayMethod::Fixed(delay) => member.allows(delay),
         _ => true,
     }
 }
 
-fn is_factor_in_range(factor: InterleaveFactor) -> bool
-    ensures { result ≡ is_factor_in_range factor }
+fn is_factor_in_range(member: Member, factor: InterleaveFactor) -> bool
+    ensures { result ≡ is_factor_in_range (as_row member) factor }
 {
     match factor {
         InterleaveFactor::Smart => true,
-        InterleaveFactor::Fixed(factor) => is_within(factor, 1, MAX_FACTOR),
+        InterleaveFactor::Fixed(factor) => member.allows(factor),
     }
 }
 
@@ -461,8 +483,7 @@ fn is_in_range(check: CheckDraft) -> bool
     ensures test { result ≡ is_in_range check }
     ensures few { IsTrue result → HasFewAttempts check }
 {
-    check.check_interval <= MAX_INTERVAL
-        && check.retry_interval <= MAX_INTERVAL
-        && 1 <= check.max_check_attempts
-        && check.max_check_attempts <= MAX_ATTEMPTS
+    CHECK_INTERVAL.allows(check.check_interval)
+        && RETRY_INTERVAL.allows(check.retry_interval)
+        && MAX_CHECK_ATTEMPTS.allows(check.max_check_attempts)
 }

@@ -1,0 +1,33 @@
+-- Members and items of a document counted, and the first unknown one.
+use Rattle.std.proofs.Common.{◌≡◌, ℕ, not, List, [], ◌∷◌, map, length, String, Global, string_bytes, refl, sym, ap, ◌∙◌, arith, bytes_eq}
+use Rattle.std.specs.List.{list_any, position}
+use Rattle.std.specs.Map.{keys_of}
+use Rattle.serde_json.specs.View.{items_view, members_view}
+use Rattle.serde_json.specs.declared.value.Value.{Value}
+use Rattle.check_drafts.proofs.ListLemmas.{position-map, position-same}
+use Rattle.check_drafts.specs.declared.member.Member.{Member}
+use Rattle.check_drafts.specs.Member.{as_row}
+use Rattle.check_documents.specs.Reading.{names}
+use Rattle.check_documents.specs.Faults.{first_unknown, item_count, keys_in}
+use Rattle.check_documents.specs.Tree.{is_among}
+use Rattle.check_documents.proofs.TreeLemmas.{among_names}
+
+pub counted : (vs : List Value) → length vs ≡ item_count (items_view vs)
+counted [] = refl
+counted (v ∷ vs) = let e = counted vs in grind (arith, e)
+
+keys_seen : (es : List (String Global × Value)) → keys_in (members_view es) ≡ map string_bytes (keys_of es)
+keys_seen [] = refl
+keys_seen (e ∷ es) = ap (λ ks. string_bytes e.0 ∷ ks) (keys_seen es)
+
+-- the first key of the code's map that none of these has is the first unknown member
+pub unknown_seen : {A : Type 0} (name : A → List ℕ) (xs : List A) (es : List (String Global × Value))
+    → position (λ key. not (list_any (λ x. bytes_eq (name x) (string_bytes key)) xs)) (keys_of es) ≡ first_unknown (map name xs) (members_view es)
+unknown_seen name xs es =
+    position-same _ _ (λ key i. not (among_names name xs (string_bytes key) i)) (keys_of es)
+    ∙ sym (position-map (λ key. not (is_among (map name xs) key)) string_bytes (keys_of es))
+    ∙ ap (position (λ key. not (is_among (map name xs) key))) (sym (keys_seen es))
+
+pub names_seen : (ms : List Member) → map (λ m. m.name.now) ms ≡ names (map as_row ms)
+names_seen [] = refl
+names_seen (m ∷ ms) = ap (λ ns. m.name.now ∷ ns) (names_seen ms)

@@ -1,0 +1,9 @@
+use Rattle.std.proofs.Common.{◌≡◌, drop, find, map}
+use Rattle.serde_json.specs.View.{view}
+use Rattle.check_drafts.specs.Member.{as_row}
+use Rattle.check_documents.specs.Faults.{is_missing}
+use Rattle.check_documents.proofs.shapes.first_missing.Given as goal
+
+abbrev pub invariant-loop-member : goal.invariant-loop-member
+invariant-loop-member l =
+    find (is_missing (view l.object)) (map as_row l.members) ≡ find (is_missing (view l.object)) (map as_row (drop l.member-index l.members))
