@@ -1,11 +1,14 @@
 -- A line stays without a line feed where a character is pushed that is none.
-use Rattle.std.proofs.Common.{◌≡◌, ◌≢◌, ℕ, ◌+◌, ◌/◌, ◌≤◌, Bool, true, false, cond, List, [], ◌∷◌, ◌++◌, subst, sym, arith}
+use Rattle.std.proofs.Common.{◌≡◌, ◌≢◌, ℕ, zero, suc, ◌+◌, ◌/◌, ◌^◌, ◌≤◌, ◌<◌, ◌==◌, Bool, true, false, cond, List, [], ◌∷◌, ◌++◌, map, decimal, refl, ap, ◌∙◌, subst, sym, arith}
+use Rattle.std.proofs.lemmas.Bool.Decides.{nat_tests}
+use Rattle.std.proofs.lemmas.Fmt.{decimal_digit, decimal-digits_of}
+use Rattle.std.specs.Int.Digits.{digits_of}
 use Rattle.std.specs.Prelude.{if◌then◌else◌}
 use Rattle.std.specs.Char.{encode_utf8}
 use Rattle.std.proofs.lemmas.List.Elements.{All-nil, All-cons, All-append}
 use lib.Dec.{ltb}
 use lib.Utf8.{next}
-use Rattle.check_explain.specs.Feeds.{HasNoFeed}
+use Rattle.check_explain.specs.Feeds.{HasNoFeed, has_feed}
 
 above : (n : ℕ) → 11 ≤ n → n ≢ 10
 above n h = omega (arith, h)
@@ -43,3 +46,17 @@ pushed false old c h k = h
 
 pub pushed_to : (b : Bool) (old new : List ℕ) (c : ℕ) → new ≡ (if b then old ++ encode_utf8 c else old) → HasNoFeed old → c ≢ 10 → HasNoFeed new
 pushed_to b old new c e h k = subst HasNoFeed (sym e) (pushed b old c h k)
+
+-- ---- numbers
+
+below_digits : (d : ℕ) → ((48 + d) == 10) ≡ false
+below_digits d = grind (arith, nat_tests)
+
+digits_flat : (ds : List ℕ) → has_feed (map (λ d. 48 + d) ds) ≡ false
+digits_flat [] = refl
+digits_flat (d ∷ ds) = rw (below_digits d, digits_flat ds) refl
+
+-- no digit of a number is a line feed
+pub number_flat : (n : ℕ) → n < 2 ^ 64 → has_feed (decimal n) ≡ false
+number_flat zero h = rw (decimal_digit 0 (omega arith)) refl
+number_flat (suc n) h = ap has_feed (decimal-digits_of (suc n) (omega arith) h) ∙ digits_flat (digits_of 10 (suc n))

@@ -1,6 +1,3 @@
 pub mod FeedLemmas
 pub mod ShownLemmas
-pub mod DocumentFeedLemmas
-pub mod KeyLemmas
-pub mod LineLemmas
-pub mod NumberLemmas
+pub mod HeadLemmas

@@ -1,8 +1,8 @@
 -- How the explanation of a refused document begins: with the place of the fault, the name that stands there, and the member or the
 -- name that is at fault.
-use Rattle.std.specs.Prelude.{ℕ, zero, suc, ◌≡◌, List, [], ◌++◌, Option, Some, None, codes, decimal, option_and_then, option_map}
-use Rattle.serde_json.specs.Data.{Data, Members, no_members, member}
-use Rattle.serde_json.specs.Find.{as_object, as_str, at, get}
+use Rattle.std.specs.Prelude.{ℕ, ◌≡◌, List, [], ◌++◌, Option, Some, None, codes, decimal, option_and_then, option_map, slice_get}
+use Rattle.serde_json.specs.Data.{Data, Members}
+use Rattle.serde_json.specs.Find.{as_object, as_str, get}
 use Rattle.check_drafts.specs.declared.place.Place.{Place}
 use Rattle.check_drafts.specs.declared.place.Part.{Part}
 use Rattle.check_drafts.specs.declared.place.Part.TheVariants as part
@@ -10,19 +10,12 @@ use Rattle.check_drafts.specs.Fault as fault
 use Rattle.check_drafts.specs.Fault.{Fault, WrongShape, WrongNumber}
 use Rattle.check_drafts.specs.Members as members
 use Rattle.check_drafts.specs.Members.{part_name}
+use Rattle.check_documents.specs.Faults.{keys_in}
+use Rattle.check_documents.specs.Places.{value_at}
 use Rattle.check_documents.specs.Tree.{tree_of}
 use Rattle.check_explain.specs.Shown.{cut, shown}
 
--- ---- what stands at a place
-
--- what stands at this index of a part's list, or the part as a whole
-abbrev pub value_of : Data → Part → Option ℕ → Option Data
-value_of tree part.Document index = Some tree
-value_of tree p None = get (part_name p) tree
-value_of tree p (Some i) = option_and_then (at i) (get (part_name p) tree)
-
-abbrev pub value_at : Data → Place → Option Data
-value_at tree place = value_of tree place.part place.index
+-- ---- texts of the document
 
 -- the text of a member
 abbrev pub text_in : List ℕ → Data → Option (List ℕ)
@@ -70,9 +63,7 @@ place_text tree place = part_text place.part place.index ++ (after_space (option
 
 -- the name of the member at this index, by the order of an object's names
 abbrev pub key_at : ℕ → Members → Option (List ℕ)
-key_at n no_members = None
-key_at zero (member k d ms) = Some k
-key_at (suc n) (member k d ms) = key_at n ms
+key_at index ms = slice_get (keys_in ms) index
 
 abbrev pub unknown_text : Option (List ℕ) → List ℕ
 unknown_text None = []
@@ -86,15 +77,15 @@ misshapen d (fault.misfit m) = shown m.name
 misshapen d w = []
 
 -- of the thresholds the low one
-abbrev pub out_of_range : WrongNumber → List ℕ
-out_of_range (fault.beyond m) = shown m.name
-out_of_range fault.service_thresholds = shown members.low_service_flap_threshold.name
-out_of_range fault.host_thresholds = shown members.low_host_flap_threshold.name
+abbrev pub stray_member : WrongNumber → List ℕ
+stray_member (fault.beyond m) = m.name
+stray_member fault.service_thresholds = members.low_service_flap_threshold.name
+stray_member fault.host_thresholds = members.low_host_flap_threshold.name
 
--- the member whose text is no name
-abbrev pub misnamed : Part → List ℕ
-misnamed part.Services = shown members.description.name
-misnamed p = shown members.host_name.name
+-- the member whose text has to be a name
+abbrev pub misnamed_member : Part → List ℕ
+misnamed_member part.Services = members.description.name
+misnamed_member p = members.host_name.name
 
 -- ---- how an explanation begins
 
@@ -110,8 +101,8 @@ place_of other = None
 -- what is at fault in the value at the place
 abbrev pub subject_in : Data → Data → Fault → List ℕ
 subject_in tree d (fault.shape p w) = misshapen d w
-subject_in tree d (fault.range p w) = out_of_range w
-subject_in tree d (fault.bad_name p) = misnamed p.part
+subject_in tree d (fault.range p w) = shown (stray_member w)
+subject_in tree d (fault.bad_name p) = shown (misnamed_member p.part)
 subject_in tree d other = []
 
 abbrev pub subject_by : Data → Fault → Option Data → List ℕ

@@ -1,5 +1,3 @@
 pub mod Feeds
 pub mod Shown
 pub mod Explanation
-pub mod DocumentLine
-pub mod Numbers

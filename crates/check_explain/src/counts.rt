@@ -1,7 +1,7 @@
 //! Counts past their limits.
 
 use crate::line::Line;
-use crate::places::items;
+use check_documents::items;
 use check_drafts::{Count, MAX_DEPENDENCIES, MAX_OBJECTS, MAX_PARENTS, Part};
 use serde_json::Value;
 use std::alloc::AllocError;

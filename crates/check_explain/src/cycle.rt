@@ -3,7 +3,8 @@
 use crate::line::Line;
 use crate::links::{Link, dependencies_of, dependency_links, parent_links};
 use crate::no_fault::push_no_fault;
-use crate::places::{items, push_name};
+use crate::places::push_name;
+use check_documents::items;
 use check_drafts::Part;
 use serde_json::Value;
 use std::alloc::{AllocError, Global};

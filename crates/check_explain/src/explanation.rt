@@ -1,5 +1,5 @@
 //! The explanation of a refusal.
-ghost use Rattle.std.specs.Prelude.{◌≡◌, ◌++◌, ¬◌, IfOk, OnOk, Some, [], string_bytes};
+ghost use Rattle.std.specs.Prelude.{◌≡◌, ◌++◌, IfOk, OnOk, Some, [], string_bytes};
 ghost use Rattle.serde_json.specs.Errors.{IsMemory};
 ghost use Rattle.serde_json.specs.View.{view};
 ghost use Rattle.check_drafts.specs.Fault.{seen};
@@ -10,12 +10,13 @@ use crate::counts::push_count;
 use crate::cycle::{push_dependency_cycle, push_parent_cycle};
 use crate::line::Line;
 use crate::names::{
-    push_bad_name, push_duplicate, push_misnamed, push_unknown_end, push_unknown_host,
+    misnamed_member, push_bad_name, push_duplicate, push_unknown_end, push_unknown_host,
 };
 use crate::no_fault::push_no_fault;
-use crate::places::{push_place, value_at};
-use crate::ranges::{push_out_of_range, push_range};
+use crate::places::push_place;
+use crate::ranges::{push_range, stray_member};
 use crate::shapes::{push_misshapen, push_shape};
+use check_documents::value_at;
 use check_drafts::{Fault, MAX_DOCUMENT_BYTES, Place};
 use serde_json::{Error, Value};
 use std::alloc::{AllocError, Global};
@@ -160,8 +161,8 @@ fn push_subject(
 {
     match fault {
         Fault::Shape(_, shape) => push_misshapen(line, value, shape),
-        Fault::Range(_, range) => push_out_of_range(line, range),
-        Fault::BadName(place) => push_misnamed(line, place.part),
+        Fault::Range(_, range) => line.push_text(stray_member(range)),
+        Fault::BadName(place) => line.push_text(misnamed_member(place.part)),
         _ => Ok(()),
     }
 }

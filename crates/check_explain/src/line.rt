@@ -81,6 +81,7 @@ impl Line {
     }
 
     /// Appends a number in decimal.
+    #[tactic(auto, using(crate::proofs::FeedLemmas::number_flat))]
     pub(crate) fn push_number(&mut self, number: u64) -> Result<(), AllocError>
         ensures text { OnOk result (self.new ≡ self.old ++ decimal number) }
     {
@@ -95,6 +96,15 @@ impl Line {
         self.push_words("\"")?;
         self.push_cut(text)?;
         self.push_words("\"")
+    }
+
+    /// Appends words of ours and a text of the document.
+    pub(crate) fn push_named(&mut self, words: &str, text: &str) -> Result<(), AllocError>
+        ensures text { OnOk result (has_feed words.now ≡ false
+            → self.new ≡ self.old ++ (words.now ++ shown text.now)) }
+    {
+        self.push_words(words)?;
+        self.push_text(text)
     }
 
     /// Appends a text as it stands in a JSON string; behind 80 characters dots stand for the rest.

@@ -1,6 +1,7 @@
 //! The links between the items of one list of a document, by their indexes.
 
-use crate::places::{items, text_of, texts_of};
+use crate::places::{text_of, texts_of};
+use check_documents::items;
 use check_drafts::Part;
 use indexmap::IndexSet;
 use serde_json::Value;

@@ -1,33 +1,30 @@
 //! Faults of names: bad ones, repeated ones, and names of what isn't there.
-ghost use Rattle.std.specs.Prelude.{◌≡◌, ◌++◌, OnOk};
-ghost use Rattle.check_explain.specs.Explanation.{misnamed};
+ghost use Rattle.std.specs.Prelude.{◌≡◌};
+ghost use Rattle.check_explain.specs.Explanation.{misnamed_member};
 
 use crate::line::Line;
 use crate::no_fault::push_no_fault;
-use crate::places::{items, push_part_and_index, text_of, texts_of};
+use crate::places::{push_part_and_index, text_of, texts_of};
+use check_documents::items;
 use check_drafts::{MAX_NAME_BYTES, Part, Place};
 use serde_json::Value;
 use std::alloc::AllocError;
 
 // ---- bad names
 
-/// Appends the member whose text is no name: of a service its description.
-pub(crate) fn push_misnamed(line: &mut Line, part: Part) -> Result<(), AllocError>
-    ensures { OnOk result (line.new ≡ line.old ++ misnamed part) }
+/// The member whose text is a name, or may be none: of a service its description.
+pub(crate) fn misnamed_member(part: Part) -> &'static str
+    ensures { result.now ≡ misnamed_member part }
 {
     match part {
-        Part::Services => line.push_text("description"),
-        _ => line.push_text("name"),
+        Part::Services => "description",
+        _ => "name",
     }
 }
 
 /// Appends what is wrong with the name of a host or the description of a service.
 pub(crate) fn push_bad_name(line: &mut Line, item: &Value, part: Part) -> Result<(), AllocError> {
-    let name = match part {
-        Part::Services => text_of(item, "description"),
-        _ => text_of(item, "name"),
-    };
-    match name {
+    match text_of(item, misnamed_member(part)) {
         Some(name) => push_name_fault(line, name),
         None => line.push_words(" isn't there"),
     }

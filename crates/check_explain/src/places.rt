@@ -1,32 +1,15 @@
-//! The places of a document: what stands there, and how a place is told.
+//! How a place of a document is told: by its part, its index and the name that stands there.
 ghost use Rattle.std.specs.Prelude.{◌≡◌, ◌++◌, OnOk, option_and_then, option_map};
 ghost use Rattle.serde_json.specs.View.{view};
 ghost use Rattle.check_drafts.specs.declared.place.Part.TheVariants as part;
-ghost use Rattle.check_explain.specs.Explanation.{after_space, both, name_shown, part_text, place_text, text_in, texts_in, value_at};
+ghost use Rattle.check_explain.specs.Explanation.{after_space, both, name_shown, part_text, place_text, text_in, texts_in};
+ghost use Rattle.check_documents.specs.Places.{value_at};
 
 use crate::line::Line;
+use check_documents::value_at;
 use check_drafts::{Part, Place};
 use serde_json::Value;
 use std::alloc::AllocError;
-
-/// What stands at a place, or None where the document has no such place.
-pub(crate) fn value_at(tree: &Value, place: Place) -> Option<&Value>
-    ensures { option_map (λ v. view v.now) result ≡ value_at (view tree.now) place }
-{
-    match (place.part, place.index) {
-        (Part::Document, _) => Some(tree),
-        (part, None) => tree.get(part.name()),
-        (part, Some(index)) => tree.get(part.name()).and_then(|list| list.get(index)),
-    }
-}
-
-/// The items of a list of the document. One that is absent or no array has none.
-pub(crate) fn items(tree: &Value, part: Part) -> &[Value] {
-    match tree.get(part.name()).and_then(Value::as_array) {
-        Some(values) => values.as_slice(),
-        None => &[],
-    }
-}
 
 /// The text of a member of an object, or None where it has no such text.
 pub(crate) fn text_of<'v>(item: &'v Value, member: &str) -> Option<&'v str>

@@ -1,7 +1,7 @@
 //! Numbers out of their ranges.
-ghost use Rattle.std.specs.Prelude.{◌≡◌, ◌++◌, OnOk};
+ghost use Rattle.std.specs.Prelude.{◌≡◌};
 ghost use Rattle.check_drafts.specs.Fault.{range_seen};
-ghost use Rattle.check_explain.specs.Explanation.{out_of_range};
+ghost use Rattle.check_explain.specs.Explanation.{stray_member};
 
 use crate::line::Line;
 use check_drafts::members::{
@@ -12,14 +12,14 @@ use check_drafts::{Member, RangeFault};
 use serde_json::Value;
 use std::alloc::AllocError;
 
-/// Appends which member is at fault: of two thresholds the low one.
-pub(crate) fn push_out_of_range(line: &mut Line, fault: RangeFault) -> Result<(), AllocError>
-    ensures { OnOk result (line.new ≡ line.old ++ out_of_range (range_seen fault)) }
+/// The member whose number is out of its range: of two thresholds the low one.
+pub(crate) fn stray_member(fault: RangeFault) -> &'static str
+    ensures { result.now ≡ stray_member (range_seen fault) }
 {
     match fault {
-        RangeFault::Beyond(member) => line.push_text(member.name),
-        RangeFault::ServiceThresholds => line.push_text("low_service_flap_threshold"),
-        RangeFault::HostThresholds => line.push_text("low_host_flap_threshold"),
+        RangeFault::Beyond(member) => member.name,
+        RangeFault::ServiceThresholds => "low_service_flap_threshold",
+        RangeFault::HostThresholds => "low_host_flap_threshold",
     }
 }
 

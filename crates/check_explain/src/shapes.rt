@@ -1,15 +1,15 @@
 //! Faults of shape: a member that is unknown, missing or of the wrong kind.
-ghost use Rattle.std.specs.Prelude.{◌≡◌, ◌++◌, OnOk, codes, option_and_then, option_map};
+ghost use Rattle.std.specs.Prelude.{◌≡◌, ◌++◌, OnOk, option_and_then, option_map, slice_get};
+ghost use Rattle.std.specs.BTreeMap.{keys};
 ghost use Rattle.serde_json.specs.Find.{as_object};
-ghost use Rattle.serde_json.specs.View.{view};
+ghost use Rattle.serde_json.specs.View.{members_view, view};
 ghost use Rattle.check_drafts.specs.Fault.{shape_seen};
 ghost use Rattle.check_explain.specs.Explanation.{key_at, misshapen, unknown_text};
-ghost use Rattle.check_explain.specs.Shown.{shown};
 
 use crate::kinds::{kind_words, push_value};
 use crate::line::Line;
 use check_drafts::{Kind, Member, ShapeFault};
-use serde_json::Value;
+use serde_json::{Map, Value};
 use std::alloc::{AllocError, Global};
 
 /// Appends which member of a value is at fault.
@@ -23,7 +23,7 @@ pub(crate) fn push_misshapen(
     match fault {
         ShapeFault::NotAnArray | ShapeFault::NotAnObject => Ok(()),
         ShapeFault::Unknown(index) => push_unknown(line, key_at(value, index)),
-        ShapeFault::Missing(member) => push_missing(line, member.name),
+        ShapeFault::Missing(member) => line.push_named("the member ", member.name),
         ShapeFault::Misfit(member) => line.push_text(member.name),
     }
 }
@@ -33,28 +33,36 @@ fn key_at(value: &Value, index: usize) -> Option<&str>
     ensures { option_map (λ key. key.now) result
         ≡ option_and_then (key_at index) (as_object (view value.now)) }
 {
-    let object = value.as_object()?;
-    object.keys().nth(index).map(|key| key.as_str())
+    match value.as_object() {
+        Some(object) => key_of(object, index),
+        None => None,
+    }
+}
+
+fn key_of(object: &Map<String, Value>, index: usize) -> Option<&str>
+    ensures { option_map (λ key. key.now) result
+        ≡ key_at index (members_view object.now.entries) }
+{
+    match nth_key(object, index) {
+        Some(key) => Some(key.as_str()),
+        None => None,
+    }
+}
+
+fn nth_key(object: &Map<String, Value>, index: usize) -> Option<&String>
+    ensures { option_map (λ key. key.now) result ≡ slice_get (keys object.now) index }
+{
+    object.keys().nth(index)
 }
 
 fn push_unknown(line: &mut Line, name: Option<&str>) -> Result<(), AllocError>
     ensures { OnOk result (line.new
-        ≡ line.old ++ unknown_text (option_map (λ name. name.now) name)) }
+        ≡ line.old ++ unknown_text (option_map (λ name. name.now) name.entry)) }
 {
     match name {
-        Some(name) => {
-            line.push_words("a member ")?;
-            line.push_text(name)
-        }
+        Some(name) => line.push_named("a member ", name),
         None => Ok(()),
     }
-}
-
-fn push_missing(line: &mut Line, name: &str) -> Result<(), AllocError>
-    ensures { OnOk result (line.new ≡ line.old ++ (codes "the member " ++ shown name.now)) }
-{
-    line.push_words("the member ")?;
-    line.push_text(name)
 }
 
 /// Appends what is wrong with the shape of a value, or with the member of it that is at fault.
