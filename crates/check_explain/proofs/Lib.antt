@@ -1,3 +1,7 @@
 pub mod FeedLemmas
 pub mod ShownLemmas
 pub mod HeadLemmas
+pub mod DocumentFeedLemmas
+pub mod KeyLemmas
+pub mod LineLemmas
+pub mod NumberLemmas

@@ -12,10 +12,10 @@
 
 mod counts;
 mod cycle;
-
+mod document_line;
 mod explanation;
 mod kinds;
-
+pub mod laws;
 mod line;
 mod links;
 mod names;
@@ -24,5 +24,5 @@ mod places;
 mod ranges;
 mod shapes;
 
-
+pub use document_line::write_line;
 pub use explanation::explain;

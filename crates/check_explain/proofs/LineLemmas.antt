@@ -1,0 +1,64 @@
+-- The setup of a text is that of its tree.
+use Rattle.std.proofs.Common.{◌≡◌, ℕ, ◌≤◌, ◌<◌, ◌⊎◌, inl, inr, true, false, cond, Bool, List, length, Option, Some, None, Ok, Err, refl, arith}
+use Rattle.std.specs.Prelude.{nat_lt, ok_or, Result}
+use Rattle.std.proofs.lemmas.Bool.{cases_lt}
+use Rattle.std.proofs.lemmas.Bool.Decides.{nat_tests}
+use Rattle.serde_json.specs.Data.{Data, depth}
+use Rattle.serde_json.specs.Read.{read, max_depth}
+use Rattle.serde_json.proofs.Nesting.{depth-read}
+use Rattle.check_drafts.specs.declared.error.LoadError.{LoadError}
+use Rattle.check_drafts.specs.declared.error.LoadError.TheVariants as errors
+use Rattle.check_drafts.specs.Agreement.{Fails}
+use Rattle.check_documents.specs.Tree.{tree_of}
+use Rattle.check_explain.specs.DocumentLine.{IsTold}
+use Rattle.check_numbers.specs.Configuration.{Configuration}
+use Rattle.check_objects.specs.Setup.{setup_of, setup_of_tree}
+use Rattle.std.specs.Str.{is_utf8}
+
+pub setup_by_tree : (bytes : List ℕ) (d : Data) → length bytes ≤ 16777216 → ok_or (tree_of bytes) errors.NotJson ≡ Ok d
+    → setup_of bytes ≡ setup_of_tree d
+unfolding setup_of
+setup_by_tree bytes d few e = let short : nat_lt 16777216 (length bytes) ≡ false = grind (arith, nat_tests, few) in rw (short, e) refl
+
+short_by : (bytes : List ℕ) (c : Configuration) → (16777216 < length bytes) ⊎ (length bytes ≤ 16777216) → setup_of bytes ≡ Ok c → length bytes ≤ 16777216
+unfolding setup_of
+short_by bytes c (inl h) e =
+    let long : nat_lt 16777216 (length bytes) ≡ true = grind (arith, nat_tests, h) in
+    let no = rw long at e in
+    cc
+short_by bytes c (inr h) e = h
+
+-- a document that is a setup isn't too long
+pub short_document : (bytes : List ℕ) (c : Configuration) → setup_of bytes ≡ Ok c → length bytes ≤ 16777216
+short_document bytes c e = short_by bytes c (cases_lt 16777216 (length bytes)) e
+
+read_by : (b : Bool) (r : Option Data) (d : Data) → ok_or (cond b r None) errors.NotJson ≡ Ok d → r ≡ Some d
+read_by true (Some x) d e = cc
+read_by true None d e = cc
+read_by false r d e = cc
+
+-- the tree of a document nests as deep as `serde_json` reads
+pub shallow_tree : (bytes : List ℕ) (d : Data) → ok_or (tree_of bytes) errors.NotJson ≡ Ok d → depth d ≤ max_depth
+unfolding tree_of
+shallow_tree bytes d e = depth-read bytes d (read_by (is_utf8 bytes) (read bytes) d e)
+
+-- ---- why there is no line
+
+-- a document that is refused is told by its fault
+pub refused_is_told : (r : Option LoadError) (setup : Result Configuration LoadError) → Fails r setup → IsTold r setup
+refused_is_told None setup h = tt
+refused_is_told (Some e) setup h = rw h refl
+
+no_tree : (P : Type 0) (document : List ℕ) (c : Configuration) (e : LoadError) → setup_of document ≡ Ok c → ok_or (tree_of document) errors.NotJson ≡ Err e → P
+unfolding setup_of
+no_tree P document c e good bad =
+    let few = short_document document c good in
+    let short : nat_lt 16777216 (length document) ≡ false = grind (arith, nat_tests, few) in
+    let no = rw (short, bad) at good in
+    cc
+
+-- a good document has a tree, unless memory runs out
+pub no_tree_is_told : (r : Option LoadError) (document : List ℕ) (c : Configuration) → setup_of document ≡ Ok c
+    → Fails r (ok_or (tree_of document) errors.NotJson) → IsTold r (setup_of document)
+no_tree_is_told None document c good h = tt
+no_tree_is_told (Some e) document c good h = no_tree (IsTold (Some e) (setup_of document)) document c e good h

@@ -1,0 +1,29 @@
+-- Of which tree a line is, and why there is none.
+use Rattle.std.specs.Prelude.{◌≡◌, ◌≢◌, ℕ, false, List, Option, Some, None, Result, Ok, Err}
+use Rattle.std.specs.List.{AllByRecursion}
+use Rattle.serde_json.specs.Data.{Data}
+use Rattle.serde_json.specs.Written.{has_float}
+use Rattle.check_drafts.specs.declared.error.LoadError.{LoadError}
+use Rattle.check_drafts.specs.declared.error.LoadError.TheVariants as errors
+use Rattle.check_drafts.specs.LoadError.{refusal}
+use Rattle.check_documents.specs.Tree.{tree_of}
+use Rattle.check_numbers.specs.Configuration.{Configuration}
+
+-- It holds of the document's tree, where no number in it has a point, an exponent or a minus before zero: what a good setup
+-- has are whole numbers.
+abbrev pub OfTree : List ℕ → (Data → Type 0) → Type 0
+OfTree document P = (tree : Data) → tree_of document ≡ Some tree → has_float tree ≡ false → P tree
+
+-- Why there is no line: the fault of a document that is refused, and of a good one that its line is too long. Out of memory
+-- says nothing.
+abbrev pub IsTold : Option LoadError → Result Configuration LoadError → Type 0
+IsTold None setup = Unit {0}
+IsTold (Some fault) (Ok c) = fault ≡ errors.TooLong
+IsTold (Some fault) (Err expected) = fault ≡ expected
+
+abbrev pub IsFault : Result Configuration LoadError → LoadError → Type 0
+IsFault setup fault = IsTold (refusal fault) setup
+
+-- no byte is a line feed (10)
+abbrev pub HasNoFeed : List ℕ → Type 0
+HasNoFeed line = AllByRecursion (λ b. b ≢ 10) line
