@@ -298,10 +298,10 @@ AreThresholdsWhole d = IsWhole (get (codes "low_service_flap_threshold") d) × I
 four_whole : (d : Data) (before o : Options) → with_thresholds (Some d) before ≡ Some o → AreThresholdsWhole d
 unfolding with_thresholds
 four_whole d before o e =
-    linked (member_or whole_number before.low_service_flap_threshold (get (codes "low_service_flap_threshold") d)) _ o (AreThresholdsWhole d) (λ a ha ra.
-    linked (member_or whole_number before.high_service_flap_threshold (get (codes "high_service_flap_threshold") d)) _ o (AreThresholdsWhole d) (λ b hb rb.
-    linked (member_or whole_number before.low_host_flap_threshold (get (codes "low_host_flap_threshold") d)) _ o (AreThresholdsWhole d) (λ c hc rc.
-    linked (member_or whole_number before.high_host_flap_threshold (get (codes "high_host_flap_threshold") d)) _ o (AreThresholdsWhole d) (λ f hf rf. (
+    linked (member_or whole_number 20 (get (codes "low_service_flap_threshold") d)) _ o (AreThresholdsWhole d) (λ a ha ra.
+    linked (member_or whole_number 30 (get (codes "high_service_flap_threshold") d)) _ o (AreThresholdsWhole d) (λ b hb rb.
+    linked (member_or whole_number 20 (get (codes "low_host_flap_threshold") d)) _ o (AreThresholdsWhole d) (λ c hc rc.
+    linked (member_or whole_number 30 (get (codes "high_host_flap_threshold") d)) _ o (AreThresholdsWhole d) (λ f hf rf. (
       or_whole whole_number _ a _ whole_whole ha,
       or_whole whole_number _ b _ whole_whole hb,
       or_whole whole_number _ c _ whole_whole hc,

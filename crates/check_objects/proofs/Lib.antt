@@ -6,3 +6,4 @@ pub mod CountLaws
 pub mod NumberedLemmas
 pub mod EndLemmas
 pub mod LinkLemmas
+pub mod ExaminedLemmas

@@ -1,5 +1,5 @@
 -- What a document without a fault gives: few objects, links to hosts, and full names in two parts.
-use Rattle.std.proofs.Common.{◌≡◌, ℕ, ◌+◌, ◌<◌, ◌≤◌, ◌||◌, Bool, true, false, cond, List, [], ◌∷◌, map, length, Some}
+use Rattle.std.proofs.Common.{◌≡◌, ℕ, ◌+◌, ◌<◌, ◌≤◌, ◌||◌, ◌&&◌, Option, Bool, true, false, cond, List, [], ◌∷◌, map, length, Some}
 use Rattle.std.proofs.Common.{None, bytes_eq, refl, sym, ap, subst, ◌∙◌, Result, Ok, Err, inl, inr, arith}
 use Rattle.std.specs.Prelude.{nat_lt, nat_le, unwrap_or, All}
 use Rattle.std.specs.List.{AllByRecursion, list_any, list_all, position_or_len}
@@ -13,11 +13,16 @@ use Rattle.std.proofs.lemmas.Slice.Eq.{bytes_eq-Decides}
 use Rattle.check_drafts.specs.declared.error.LoadError.{LoadError}
 use Rattle.check_drafts.specs.declared.error.LoadError.TheVariants as errors
 use Rattle.check_drafts.specs.declared.dependency.Dependency.{Dependency}
+use Rattle.check_drafts.specs.declared.draft.CheckDraft.{CheckDraft}
 use Rattle.check_drafts.specs.declared.options.DelayMethod.{DelayMethod}
 use Rattle.check_drafts.specs.declared.options.DelayMethod.TheVariants as method
 use Rattle.check_drafts.specs.declared.options.InterleaveFactor.{InterleaveFactor}
 use Rattle.check_drafts.specs.declared.options.InterleaveFactor.TheVariants as factor
 use Rattle.check_drafts.specs.declared.options.Options.{Options}
+use Rattle.check_drafts.specs.declared.member.DefaultValue.{DefaultValue}
+use Rattle.check_drafts.specs.declared.member.Kind.TheVariants as kind
+use Rattle.check_drafts.specs.Member.{is_within_limits}
+use Rattle.check_drafts.specs.Members as members
 use Rattle.check_drafts.specs.declared.object.Object.{Object}
 use Rattle.check_numbers.specs.Configuration.{Configuration, Host, IsSetup, IsWithin, IsDelayInRange, IsFactorInRange, is_object_in_range, named_host}
 use Rattle.check_numbers.specs.Configuration.{named_service, objects_of, object_count, masters_in, masters_of, parents_by_host, host_count}
@@ -29,7 +34,7 @@ use Rattle.check_drafts.specs.Ends.{full_names, is_known}
 use Rattle.check_faults.specs.Verification.{is_faultless}
 use Rattle.check_drafts.specs.Keys.{names_of, key_of}
 use Rattle.check_faults.specs.Verification.{good_ranges, good_host_ranges, good_options, good_service_ranges}
-use Rattle.check_faults.specs.Verification.{is_in_range, is_within, is_delay_in_range, is_factor_in_range, are_thresholds_in_range, are_options_in_range}
+use Rattle.check_faults.specs.Verification.{is_in_range, is_delay_in_range, is_factor_in_range, are_in_order, are_numbers_in_range, are_thresholds_in_range, are_options_in_range}
 use Rattle.check_drafts.specs.Agreement.{◌>>=◌}
 use Rattle.check_drafts.specs.Place.{host_at, service_at}
 use Rattle.check_numbers.specs.Numbering.{number_in, dependencies_among, numbered_host, numbered_service, hosts_in_order, services_in_order, names_in_order}
@@ -129,18 +134,20 @@ hosted_by (h ∷ hosts) (s ∷ services) k ns n e some = services_hosted ns n e 
 at_most : (n high : ℕ) → nat_le n high ≡ true → n ≤ high
 at_most n high e = grind (arith, nat_tests, e)
 
-within : (low high n : ℕ) → is_within low high n ≡ true → IsWithin low high n
+within : (low high n : ℕ) → (nat_le low n && nat_le n high) ≡ true → IsWithin low high n
 within low high n e = let b = both_true (nat_le low n) (nat_le n high) e in (at_most low n b.0, at_most n high b.1)
 
-delay_in_range : (m : DelayMethod) → is_delay_in_range m ≡ true → IsDelayInRange m
-delay_in_range method.NoDelay e = tt
-delay_in_range method.Dumb e = tt
-delay_in_range method.Smart e = tt
-delay_in_range (method.Fixed delay) e = at_most delay 86400000 e
+delay_in_range : (name : List ℕ) (default : Option DefaultValue) (m : DelayMethod)
+    → is_delay_in_range (record { name = name; kind = kind.Delay; default = default }) m ≡ true → IsDelayInRange m
+delay_in_range name default method.NoDelay e = tt
+delay_in_range name default method.Dumb e = tt
+delay_in_range name default method.Smart e = tt
+delay_in_range name default (method.Fixed delay) e = let w = within 0 86400000 delay e in w.1
 
-factor_in_range : (f : InterleaveFactor) → is_factor_in_range f ≡ true → IsFactorInRange f
-factor_in_range factor.Smart e = tt
-factor_in_range (factor.Fixed n) e = within 1 4096 n e
+factor_in_range : (name : List ℕ) (default : Option DefaultValue) (f : InterleaveFactor)
+    → is_factor_in_range (record { name = name; kind = kind.Factor; default = default }) f ≡ true → IsFactorInRange f
+factor_in_range name default factor.Smart e = tt
+factor_in_range name default (factor.Fixed n) e = within 1 4096 n e
 
 options_by : (b : Bool) (fault : LoadError) (y : Result (Unit {0}) LoadError) → y ≡ Ok tt → cond b (Ok tt) (Err fault) ≡ y → b ≡ true
 options_by true fault y o e = refl
@@ -152,12 +159,13 @@ record AreThresholds (low high : ℕ) : Type 0 where
   percent_high : high ≤ 100
   ordered : low ≤ high
 
-thresholds : (low high : ℕ) → are_thresholds_in_range low high ≡ true → AreThresholds low high
+thresholds : (low high : ℕ) → ((nat_le 0 low && nat_le low 100) && (nat_le 0 high && nat_le high 100) && nat_le low high) ≡ true → AreThresholds low high
 thresholds low high e =
-    let b = both_true (nat_le low high) (nat_le high 100) e in
-    let ordered = at_most low high b.0 in
-    let percent = at_most high 100 b.1 in
-    record { percent_low = omega (arith, ordered, percent); percent_high = percent; ordered = ordered }
+    let b = both_true ((nat_le 0 low && nat_le low 100) && (nat_le 0 high && nat_le high 100)) (nat_le low high) e in
+    let c = both_true (nat_le 0 low && nat_le low 100) (nat_le 0 high && nat_le high 100) b.0 in
+    let l = within 0 100 low c.0 in
+    let h = within 0 100 high c.1 in
+    record { percent_low = l.1; percent_high = h.1; ordered = at_most low high b.1 }
 
 -- the options are within their limits
 record HasOptionsInRange (o : Options) : Type 0 where
@@ -173,24 +181,27 @@ record HasOptionsInRange (o : Options) : Type 0 where
 
 options_in_range : (o : Options) → are_options_in_range o ≡ true → HasOptionsInRange o
 options_in_range o e =
-    let y = both_true _ (are_thresholds_in_range o.low_host_flap_threshold o.high_host_flap_threshold) e in
-    let z = both_true _ (are_thresholds_in_range o.low_service_flap_threshold o.high_service_flap_threshold) y.0 in
-    let a = both_true _ (nat_le o.max_concurrent_checks 1000000) z.0 in
-    let b = both_true _ (is_within 1 525600 o.max_host_check_spread) a.0 in
-    let c = both_true _ (is_delay_in_range o.host_inter_check_delay_method) b.0 in
-    let d = both_true _ (is_factor_in_range o.service_interleave_factor) c.0 in
-    let f = both_true _ (is_within 1 525600 o.max_service_check_spread) d.0 in
-    let g = both_true (is_within 1 86400 o.interval_length) (is_delay_in_range o.service_inter_check_delay_method) f.0 in
+    let both = both_true (are_numbers_in_range o) (are_thresholds_in_range o) e in
+    let a = both_true _ (is_within_limits members.max_concurrent_checks o.max_concurrent_checks) both.0 in
+    let b = both_true _ (is_within_limits members.max_host_check_spread o.max_host_check_spread) a.0 in
+    let c = both_true _ (is_delay_in_range members.host_inter_check_delay_method o.host_inter_check_delay_method) b.0 in
+    let d = both_true _ (is_factor_in_range members.service_interleave_factor o.service_interleave_factor) c.0 in
+    let f = both_true _ (is_within_limits members.max_service_check_spread o.max_service_check_spread) d.0 in
+    let g = both_true (is_within_limits members.interval_length o.interval_length)
+    (is_delay_in_range members.service_inter_check_delay_method o.service_inter_check_delay_method) f.0 in
+    let t = both_true (are_in_order members.low_service_flap_threshold members.high_service_flap_threshold o.low_service_flap_threshold o.high_service_flap_threshold)
+    (are_in_order members.low_host_flap_threshold members.high_host_flap_threshold o.low_host_flap_threshold o.high_host_flap_threshold) both.1 in
+    let concurrent = within 0 1000000 o.max_concurrent_checks a.1 in
     record {
       interval_length = within 1 86400 o.interval_length g.0;
-      service_delay = delay_in_range o.service_inter_check_delay_method g.1;
+      service_delay = delay_in_range members.service_inter_check_delay_method.name members.service_inter_check_delay_method.default o.service_inter_check_delay_method g.1;
       service_spread = within 1 525600 o.max_service_check_spread f.1;
-      service_factor = factor_in_range o.service_interleave_factor d.1;
-      host_delay = delay_in_range o.host_inter_check_delay_method c.1;
+      service_factor = factor_in_range members.service_interleave_factor.name members.service_interleave_factor.default o.service_interleave_factor d.1;
+      host_delay = delay_in_range members.host_inter_check_delay_method.name members.host_inter_check_delay_method.default o.host_inter_check_delay_method c.1;
       host_spread = within 1 525600 o.max_host_check_spread b.1;
-      concurrent_checks = at_most o.max_concurrent_checks 1000000 a.1;
-      service_flap = thresholds o.low_service_flap_threshold o.high_service_flap_threshold z.1;
-      host_flap = thresholds o.low_host_flap_threshold o.high_host_flap_threshold y.1;
+      concurrent_checks = concurrent.1;
+      service_flap = thresholds o.low_service_flap_threshold o.high_service_flap_threshold t.0;
+      host_flap = thresholds o.low_host_flap_threshold o.high_host_flap_threshold t.1;
     }
 
 good_options_in_range : (options : Options) (hosts : List HostDraft) (services : List ServiceDraft) → good_ranges options hosts services ≡ Ok tt
@@ -198,6 +209,22 @@ good_options_in_range : (options : Options) (hosts : List HostDraft) (services :
 good_options_in_range options hosts services e =
     options_in_range options (options_by (are_options_in_range options) _ (Ok tt) refl
     (first_ok (good_options options) (λ _. good_host_ranges hosts >>= λ _. good_service_ranges services) tt e))
+
+no_least : (n : ℕ) → nat_le 0 n ≡ true
+no_least n = grind (arith, nat_tests)
+
+grouped : (a b c : Bool) → (a && (b && c)) ≡ (a && b && c)
+grouped true b c = refl
+grouped false b c = refl
+
+-- the limits of the members that say how an object is checked are those of a setup's objects
+same_limits : (c : CheckDraft) → is_object_in_range (object_of c) ≡ is_in_range c
+same_limits c =
+    rw (no_least c.check_interval, no_least c.retry_interval)
+    (sym (grouped (nat_le c.check_interval 525600 && nat_le c.retry_interval 525600) (nat_le 1 c.max_check_attempts) (nat_le c.max_check_attempts 255)))
+
+all_same : {A : Type 0} (p q : A → Bool) → ((x : A) → p x ≡ q x) → (xs : List A) → list_all p xs ≡ list_all q xs
+all_same p q agree xs = let e : p ≡ q = λ i x. agree x i in ap (λ t. list_all t xs) e
 
 -- and so are the numbers of every object
 pub objects_in_range : (ds : Drafts) → is_faultless ds ≡ Ok tt → good_ranges ds.options ds.hosts ds.services ≡ Ok tt
@@ -212,10 +239,12 @@ objects_in_range ds faults e =
     (rest_ok (good_host_ranges ds.hosts) (λ _. good_service_ranges ds.services) tt after_options)) in
     let ns = names_in_order ds.hosts in
     let hosts_placed = all_moved (λ x. is_object_in_range x.1.0) (map (λ h. (h.name, body_of h)) ds.hosts) (hosts_in_order ds.hosts) (hosts_all ds faults)
-    (list_all-map (λ x. is_object_in_range x.1.0) (λ (h : HostDraft). (h.name, body_of h)) ds.hosts ∙ hosts) in
+    (list_all-map (λ x. is_object_in_range x.1.0) (λ (h : HostDraft). (h.name, body_of h)) ds.hosts
+    ∙ all_same (λ h. is_object_in_range (object_of h.check)) (λ h. is_in_range h.check) (λ h. same_limits h.check) ds.hosts ∙ hosts) in
     let services_placed = all_moved (λ x. is_object_in_range x.1) (map (λ s. (key_of s, object_of s.check)) ds.services) (services_in_order ds.services)
     (services_all ds faults)
-    (list_all-map (λ x. is_object_in_range x.1) (λ (s : ServiceDraft). (key_of s, object_of s.check)) ds.services ∙ services) in
+    (list_all-map (λ x. is_object_in_range x.1) (λ (s : ServiceDraft). (key_of s, object_of s.check)) ds.services
+    ∙ all_same (λ s. is_object_in_range (object_of s.check)) (λ s. is_in_range s.check) (λ s. same_limits s.check) ds.services ∙ services) in
     let hosts_numbered : list_all (λ o. is_object_in_range o.object) (map named_host (map (numbered_host ns) (hosts_in_order ds.hosts))) ≡ true =
     list_all-map (λ o. is_object_in_range o.object) named_host (map (numbered_host ns) (hosts_in_order ds.hosts))
     ∙ list_all-map (λ h. is_object_in_range h.object) (numbered_host ns) (hosts_in_order ds.hosts) ∙ hosts_placed in

@@ -8,6 +8,9 @@ use Rattle.check_numbers.specs.Configuration.{Configuration, Host, masters_of, p
 use Rattle.link_order.specs.Cycles.{has_cycle}
 use Rattle.check_drafts.specs.Agreement.{◌>>=◌}
 use Rattle.check_drafts.specs.Draft.{Drafts}
+use Rattle.check_drafts.specs.Fault as faults
+use Rattle.check_drafts.specs.Fault.{Fault, load_error}
+use Rattle.check_documents.specs.Faults.{fault_of}
 use Rattle.check_documents.specs.Tree.{tree_of}
 use Rattle.check_documents.specs.Reading.{drafts_of}
 use Rattle.check_faults.specs.Verification.{is_faultless}
@@ -40,3 +43,21 @@ setup_of_tree d = drafts_of d >>= setup_of_drafts
 -- the setup of a document's bytes
 unfoldable pub setup_of : List ℕ → Result Configuration LoadError
 setup_of bytes = if nat_lt 16777216 (length bytes) then Err errors.TooLong else (ok_or (tree_of bytes) errors.NotJson >>= setup_of_tree)
+
+-- ---- with what is told besides
+
+-- a result with a fault in place of its refusal
+abbrev pub or_fault : {A : Type 0} → (LoadError → Fault) → Result A LoadError → Result A Fault
+or_fault fault (Ok x) = Ok x
+or_fault fault (Err e) = Err (fault e)
+
+-- the setup of a document's bytes, or its fault: the refusal, and besides it the member or the count that is at fault
+unfoldable pub examined : List ℕ → Result Configuration Fault
+examined bytes =
+    if nat_lt 16777216 (length bytes) then Err faults.too_long
+    else (ok_or (tree_of bytes) faults.not_json >>= λ d. or_fault (fault_of d) (setup_of_tree d))
+
+-- a result with the refusal of its fault
+abbrev pub or_refusal : {A : Type 0} → Result A Fault → Result A LoadError
+or_refusal (Ok x) = Ok x
+or_refusal (Err f) = Err (load_error f)

@@ -10,10 +10,12 @@
 pub mod laws;
 mod setup;
 
+pub use check_documents::{fault_of, items, value_at};
 pub use check_drafts::{
-    Criteria, DelayMethod, Dependency, InterleaveFactor, LoadError, MAX_ATTEMPTS,
-    MAX_CONCURRENT_CHECKS, MAX_DELAY, MAX_DEPENDENCIES, MAX_DOCUMENT_BYTES, MAX_FACTOR,
-    MAX_FLAP_THRESHOLD, MAX_INTERVAL, MAX_INTERVAL_LENGTH, MAX_NAME_BYTES, MAX_OBJECTS,
-    MAX_PARENTS, MAX_SPREAD, Object, Options, Part, Place,
+    Count, Criteria, DefaultValue, DelayMethod, Dependency, Fault, HOST_LETTERS, InterleaveFactor,
+    Kind, LoadError, MAX_ATTEMPTS, MAX_CONCURRENT_CHECKS, MAX_DELAY, MAX_DEPENDENCIES,
+    MAX_DOCUMENT_BYTES, MAX_FACTOR, MAX_FLAP_THRESHOLD, MAX_INTERVAL, MAX_INTERVAL_LENGTH,
+    MAX_NAME_BYTES, MAX_OBJECTS, MAX_PARENTS, MAX_SPREAD, Member, Object, Options, Part, Place,
+    RangeFault, SERVICE_LETTERS, ShapeFault, members, members_at,
 };
 pub use setup::Setup;

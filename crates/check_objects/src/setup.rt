@@ -5,14 +5,17 @@ ghost use Rattle.check_numbers.specs.Configuration.{Configuration, object_count,
 ghost use Rattle.link_order.specs.Orders.{IsOrder};
 ghost use Rattle.check_numbers.specs.Numbering.{configuration};
 ghost use Rattle.check_objects.specs.Kept.{configuration_of, IsKept};
-ghost use Rattle.check_objects.specs.Setup.{setup_of, setup_of_drafts, without_cycles, no_parent_cycle};
+ghost use Rattle.check_objects.specs.Setup.{examined, or_fault, setup_of, setup_of_drafts, setup_of_tree, without_cycles, no_parent_cycle};
 ghost use Rattle.check_faults.specs.Verification.{is_faultless, is_faultless_but_ends};
 ghost use Rattle.check_drafts.specs.Drafted.{HasFewAttempts};
 ghost use Rattle.check_numbers.specs.Entries.{host_entry, named, service_entry};
 ghost use Rattle.check_drafts.specs.LoadError.{Gives};
+ghost use Rattle.check_drafts.specs.Fault.{Tells};
+ghost use Rattle.check_documents.specs.Faults.{fault_of};
+ghost use Rattle.serde_json.specs.View.{view};
 
-use check_documents::{read_drafts, read_tree};
-use check_drafts::{Dependency, Drafts, LoadError, MAX_DOCUMENT_BYTES, Object, Options};
+use check_documents::{fault_of, read_drafts, read_tree};
+use check_drafts::{Dependency, Drafts, Fault, LoadError, MAX_DOCUMENT_BYTES, Object, Options};
 use check_faults::verify_but_ends;
 use check_numbers::{
     Dependencies, Host, Parents, Service, list_dependencies, number_objects, object_number,
@@ -20,6 +23,7 @@ use check_numbers::{
 };
 use indexmap::IndexMap;
 use link_order::order_by_links;
+use serde_json::Value;
 use smallvec::SmallVec;
 use std::alloc::Global;
 use std::marker::Model;
@@ -55,16 +59,53 @@ impl Setup {
     ///
     /// The setup is the document's, or the error is the document's first fault in the order of
     /// [`LoadError`], but that `Memory` may come in place of either. Nothing is made then.
-    #[tactic(auto, unfolding(crate::specs::Setup::setup_of, crate::specs::Setup::setup_of_tree))]
+    /// [`examine`](Setup::examine) says besides which member is at fault.
     pub fn read(alloc: Global, bytes: &[u8]) -> Result<Setup, LoadError>
         ensures exact { Gives (λ s. s) result (setup_of bytes.now) }
         ensures too_long { 16777216 < length bytes.now → result ≡ Err LoadError.TooLong }
     {
-        if bytes.len() > MAX_DOCUMENT_BYTES {
-            return Err(LoadError::TooLong);
+        match Setup::examine(alloc, bytes) {
+            Ok(setup) => Ok(setup),
+            Err(fault) => Err(LoadError::from(fault)),
         }
-        let tree = read_tree(alloc, bytes)?;
-        let drafts = read_drafts(alloc, &tree)?;
+    }
+
+    /// Reads one setup document as [`read`](Setup::read) does, and says of a refused one besides the
+    /// refusal and its place which member or which count is at fault.
+    ///
+    /// `Memory` may come in place of a setup and of a fault. Nothing is made then.
+    #[tactic(auto, unfolding(crate::specs::Setup::examined))]
+    pub fn examine(alloc: Global, bytes: &[u8]) -> Result<Setup, Fault>
+        ensures exact { Tells (λ s. s) result (examined bytes.now) }
+        ensures too_long { 16777216 < length bytes.now → result ≡ Err Fault.TooLong }
+    {
+        if bytes.len() > MAX_DOCUMENT_BYTES {
+            return Err(Fault::TooLong);
+        }
+        match read_tree(alloc, bytes) {
+            Ok(tree) => Setup::examine_tree(alloc, &tree),
+            Err(LoadError::Memory) => Err(Fault::Memory),
+            Err(_) => Err(Fault::NotJson),
+        }
+    }
+
+    /// The setup of a tree, or its fault.
+    fn examine_tree(alloc: Global, tree: &Value) -> Result<Setup, Fault>
+        ensures { Tells (λ s. s) result
+            (or_fault (fault_of (view tree.now)) (setup_of_tree (view tree.now))) }
+    {
+        match Setup::of_tree(alloc, tree) {
+            Ok(setup) => Ok(setup),
+            Err(refusal) => Err(fault_of(tree, refusal)),
+        }
+    }
+
+    /// The setup of a tree, or its first fault.
+    #[tactic(auto, unfolding(crate::specs::Setup::setup_of_tree))]
+    fn of_tree(alloc: Global, tree: &Value) -> Result<Setup, LoadError>
+        ensures { Gives (λ s. s) result (setup_of_tree (view tree.now)) }
+    {
+        let drafts = read_drafts(alloc, tree)?;
         verify_but_ends(alloc, &drafts)?;
         Setup::of_drafts(alloc, &drafts)
     }

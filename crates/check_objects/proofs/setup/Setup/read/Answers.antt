@@ -1,18 +1,12 @@
-use Rattle.std.proofs.Common.{ap, rules}
-use Rattle.check_drafts.specs.Agreement.{◌>>=◌}
-use Rattle.check_drafts.specs.Drafted.{drafts_view}
-use Rattle.check_drafts.specs.LoadError.{refusal}
-use Rattle.check_faults.specs.Verification.{is_faultless_but_ends}
-use Rattle.check_faults.proofs.FaultlessLemmas.{refused_but_ends}
-use Rattle.check_numbers.specs.Numbering.{configuration}
-use Rattle.check_objects.specs.Setup.{setup_of, setup_of_drafts, setup_of_tree, without_cycles}
-use Rattle.check_objects.proofs.CycleLemmas.{fails_later}
+use Rattle.std.proofs.Common.{◌∙◌, ap}
+use Rattle.check_drafts.specs.Fault.{seen}
+use Rattle.check_objects.specs.Setup.{examined, or_refusal}
+use Rattle.check_objects.proofs.ExaminedLemmas.{fails_alike, refused_alike}
 use Rattle.check_objects.proofs.setup.Setup.read.Goals as goal
 
-pub returns-in_err-verify_but_ends-clause-exact : goal.returns-in_err-verify_but_ends-clause-exact
-unfolding setup_of setup_of_tree
-returns-in_err-verify_but_ends-clause-exact c =
-    let ds = drafts_view c.in_ok-drafts.drafts in
-    let fails = fails_later (refusal c.in_err-verify_but_ends.field-0.0) (is_faultless_but_ends ds) (setup_of_drafts ds)
-    c.in_err-verify_but_ends.ensures.exact (λ x h. ap (λ r. r >>= λ _. without_cycles (configuration ds)) (refused_but_ends ds x h)) in
-    search (rules, fails)
+pub returns-in-Ok-clause-exact : goal.returns-in-Ok-clause-exact
+returns-in-Ok-clause-exact c = refused_alike c.args.bytes.now ∙ ap or_refusal c.in-Ok.ensures.exact
+
+pub returns-in-Err-clause-exact : goal.returns-in-Err-clause-exact
+returns-in-Err-clause-exact c =
+    rw (c.from.ensures, refused_alike c.args.bytes.now) (fails_alike (seen c.in-Err.fault) (examined c.args.bytes.now) c.in-Err.ensures.exact)
