@@ -1,18 +1,20 @@
 -- The setup of a text is that of its tree.
-use Rattle.std.proofs.Common.{◌≡◌, ℕ, ◌≤◌, ◌<◌, ◌⊎◌, inl, inr, true, false, cond, Bool, List, length, Option, Some, None, Ok, Err, refl, arith}
-use Rattle.std.specs.Prelude.{nat_lt, ok_or, Result}
+use Rattle.std.proofs.Common.{◌≡◌, ℕ, ◌≤◌, ◌<◌, ◌⊎◌, inl, inr, true, false, cond, Bool, List, length, Option, Some, None, Ok, Err, refl, ap, ◌∙◌, arith}
+use Rattle.std.specs.Prelude.{nat_lt, ok_or, IsOk, Result}
 use Rattle.std.proofs.lemmas.Bool.{cases_lt}
 use Rattle.std.proofs.lemmas.Bool.Decides.{nat_tests}
 use Rattle.serde_json.specs.Data.{Data, depth}
 use Rattle.serde_json.specs.Read.{read, max_depth}
 use Rattle.serde_json.proofs.Nesting.{depth-read}
-use Rattle.check_drafts.specs.declared.error.LoadError.{LoadError}
+use Rattle.check_drafts.specs.Fault as fault
+use Rattle.check_drafts.specs.Fault.{Fault, but_memory}
 use Rattle.check_drafts.specs.declared.error.LoadError.TheVariants as errors
 use Rattle.check_drafts.specs.Agreement.{Fails}
 use Rattle.check_documents.specs.Tree.{tree_of}
 use Rattle.check_explain.specs.DocumentLine.{IsTold}
 use Rattle.check_numbers.specs.Configuration.{Configuration}
-use Rattle.check_objects.specs.Setup.{setup_of, setup_of_tree}
+use Rattle.check_objects.specs.Setup.{examined, or_refusal, setup_of, setup_of_tree}
+use Rattle.check_objects.proofs.ExaminedLemmas.{refused_alike}
 use Rattle.std.specs.Str.{is_utf8}
 
 pub setup_by_tree : (bytes : List ℕ) (d : Data) → length bytes ≤ 16777216 → ok_or (tree_of bytes) errors.NotJson ≡ Ok d
@@ -45,20 +47,21 @@ shallow_tree bytes d e = depth-read bytes d (read_by (is_utf8 bytes) (read bytes
 -- ---- why there is no line
 
 -- a document that is refused is told by its fault
-pub refused_is_told : (r : Option LoadError) (setup : Result Configuration LoadError) → Fails r setup → IsTold r setup
+pub refused_is_told : (r : Option Fault) (setup : Result Configuration Fault) → Fails r setup → IsTold r setup
 refused_is_told None setup h = tt
 refused_is_told (Some e) setup h = rw h refl
 
-no_tree : (P : Type 0) (document : List ℕ) (c : Configuration) (e : LoadError) → setup_of document ≡ Ok c → ok_or (tree_of document) errors.NotJson ≡ Err e → P
-unfolding setup_of
-no_tree P document c e good bad =
-    let few = short_document document c good in
-    let short : nat_lt 16777216 (length document) ≡ false = grind (arith, nat_tests, few) in
-    let no = rw (short, bad) at good in
-    cc
+-- what a document is examined as, it is read as
+pub good_document : (document : List ℕ) (c : Configuration) → examined document ≡ Ok c → setup_of document ≡ Ok c
+good_document document c good = refused_alike document ∙ ap or_refusal good
 
--- a good document has a tree, unless memory runs out
-pub no_tree_is_told : (r : Option LoadError) (document : List ℕ) (c : Configuration) → setup_of document ≡ Ok c
-    → Fails r (ok_or (tree_of document) errors.NotJson) → IsTold r (setup_of document)
-no_tree_is_told None document c good h = tt
-no_tree_is_told (Some e) document c good h = no_tree (IsTold (Some e) (setup_of document)) document c e good h
+pub is_good : (document : List ℕ) (c : Configuration) → examined document ≡ Ok c → IsOk (setup_of document)
+is_good document c good = rw (good_document document c good) refl
+
+-- a document that is too long is no good one
+pub refused_is_bad : (P : Type 0) (document : List ℕ) (f : Fault) → Fails (but_memory f) (examined document) → f ≡ fault.too_long → IsOk (setup_of document) → P
+refused_is_bad P document f fails long good =
+    let refused : examined document ≡ Err fault.too_long = rw long at fails in
+    let bad : setup_of document ≡ Err errors.TooLong = refused_alike document ∙ ap or_refusal refused in
+    let no = rw bad at good in
+    cc

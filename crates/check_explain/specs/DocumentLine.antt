@@ -3,9 +3,8 @@ use Rattle.std.specs.Prelude.{◌≡◌, ◌≢◌, ℕ, false, List, Option, So
 use Rattle.std.specs.List.{AllByRecursion}
 use Rattle.serde_json.specs.Data.{Data}
 use Rattle.serde_json.specs.Written.{has_float}
-use Rattle.check_drafts.specs.declared.error.LoadError.{LoadError}
-use Rattle.check_drafts.specs.declared.error.LoadError.TheVariants as errors
-use Rattle.check_drafts.specs.LoadError.{refusal}
+use Rattle.check_drafts.specs.Fault as fault
+use Rattle.check_drafts.specs.Fault.{Fault, but_memory}
 use Rattle.check_documents.specs.Tree.{tree_of}
 use Rattle.check_numbers.specs.Configuration.{Configuration}
 
@@ -16,13 +15,13 @@ OfTree document P = (tree : Data) → tree_of document ≡ Some tree → has_flo
 
 -- Why there is no line: the fault of a document that is refused, and of a good one that its line is too long. Out of memory
 -- says nothing.
-abbrev pub IsTold : Option LoadError → Result Configuration LoadError → Type 0
+abbrev pub IsTold : Option Fault → Result Configuration Fault → Type 0
 IsTold None setup = Unit {0}
-IsTold (Some fault) (Ok c) = fault ≡ errors.TooLong
-IsTold (Some fault) (Err expected) = fault ≡ expected
+IsTold (Some f) (Ok c) = f ≡ fault.too_long
+IsTold (Some f) (Err expected) = f ≡ expected
 
-abbrev pub IsFault : Result Configuration LoadError → LoadError → Type 0
-IsFault setup fault = IsTold (refusal fault) setup
+abbrev pub IsFault : Result Configuration Fault → Fault → Type 0
+IsFault setup f = IsTold (but_memory f) setup
 
 -- no byte is a line feed (10)
 abbrev pub HasNoFeed : List ℕ → Type 0
