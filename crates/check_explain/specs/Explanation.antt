@@ -1,8 +1,8 @@
 -- How the explanation of a refused document begins: with the place of the fault, the name that stands there, and the member or the
 -- name that is at fault.
-use Rattle.std.specs.Prelude.{ℕ, ◌≡◌, List, [], ◌++◌, Option, Some, None, codes, decimal, option_and_then, option_map, slice_get}
-use Rattle.serde_json.specs.Data.{Data, Members}
-use Rattle.serde_json.specs.Find.{as_object, as_str, get}
+use Rattle.std.specs.Prelude.{ℕ, ◌≡◌, ◌||◌, Bool, false, not, List, [], ◌∷◌, ◌++◌, Option, Some, None, bytes_eq, codes, decimal, find, option_and_then, option_map, slice_get}
+use Rattle.serde_json.specs.Data.{Data, Items, no_items, item, Members}
+use Rattle.serde_json.specs.Find.{as_array, as_object, as_str, get}
 use Rattle.check_drafts.specs.declared.place.Place.{Place}
 use Rattle.check_drafts.specs.declared.place.Part.{Part}
 use Rattle.check_drafts.specs.declared.place.Part.TheVariants as part
@@ -11,7 +11,7 @@ use Rattle.check_drafts.specs.Fault.{Fault, WrongShape, WrongNumber}
 use Rattle.check_drafts.specs.Members as members
 use Rattle.check_drafts.specs.Members.{part_name}
 use Rattle.check_documents.specs.Faults.{keys_in}
-use Rattle.check_documents.specs.Places.{value_at}
+use Rattle.check_documents.specs.Places.{items_at, or_no_items, value_at}
 use Rattle.check_documents.specs.Tree.{tree_of}
 use Rattle.check_explain.specs.Shown.{cut, shown}
 
@@ -65,13 +65,14 @@ place_text tree place = part_text place.part place.index ++ (after_space (option
 abbrev pub key_at : ℕ → Members → Option (List ℕ)
 key_at index ms = slice_get (keys_in ms) index
 
-abbrev pub unknown_text : Option (List ℕ) → List ℕ
-unknown_text None = []
-unknown_text (Some name) = codes "a member " ++ shown name
+-- what a name is, and the name, where there is one
+abbrev pub named : List ℕ → Option (List ℕ) → List ℕ
+named role None = []
+named role (Some name) = role ++ shown name
 
 -- in this value
 abbrev pub misshapen : Data → WrongShape → List ℕ
-misshapen d (fault.unknown i) = unknown_text (option_and_then (key_at i) (as_object d))
+misshapen d (fault.unknown i) = named (codes "a member ") (option_and_then (key_at i) (as_object d))
 misshapen d (fault.missing m) = codes "the member " ++ shown m.name
 misshapen d (fault.misfit m) = shown m.name
 misshapen d w = []
@@ -86,6 +87,44 @@ stray_member fault.host_thresholds = members.low_host_flap_threshold.name
 abbrev pub misnamed_member : Part → List ℕ
 misnamed_member part.Services = members.description.name
 misnamed_member p = members.host_name.name
+
+-- ---- the name that isn't there
+
+abbrev pub any_item : (Data → Bool) → Items → Bool
+any_item test no_items = false
+any_item test (item d ds) = test d || any_item test ds
+
+-- whether there is a text, and it is this one
+abbrev pub is_text : List ℕ → Option (List ℕ) → Bool
+is_text name None = false
+is_text name (Some text) = bytes_eq text name
+
+-- whether a host has this name
+abbrev pub is_host : Data → List ℕ → Bool
+is_host tree name = any_item (λ host. is_text name (text_in (codes "name") host)) (items_at tree part.Hosts)
+
+abbrev pub text_before : Option (List ℕ) → List (List ℕ) → List (List ℕ)
+text_before None texts = texts
+text_before (Some text) texts = text ∷ texts
+
+-- the texts among some items
+abbrev pub texts_among : Items → List (List ℕ)
+texts_among no_items = []
+texts_among (item d ds) = text_before (as_str d) (texts_among ds)
+
+-- the first of some names that no host has
+abbrev pub first_unknown : Data → List (List ℕ) → Option (List ℕ)
+first_unknown tree names = find (λ name. not (is_host tree name)) names
+
+-- the host of a service, or the first parent of a host, that isn't there
+abbrev pub unknown_host : Data → Part → Data → Option (List ℕ)
+unknown_host tree part.Services d = first_unknown tree (text_before (text_in (codes "host") d) [])
+unknown_host tree p d = first_unknown tree (texts_among (or_no_items (option_and_then as_array (get (codes "parents") d))))
+
+-- what a host is that isn't there
+abbrev pub host_role : Part → List ℕ
+host_role part.Services = codes "host "
+host_role p = codes "parent "
 
 -- ---- how an explanation begins
 
@@ -103,6 +142,7 @@ abbrev pub subject_in : Data → Data → Fault → List ℕ
 subject_in tree d (fault.shape p w) = misshapen d w
 subject_in tree d (fault.range p w) = shown (stray_member w)
 subject_in tree d (fault.bad_name p) = shown (misnamed_member p.part)
+subject_in tree d (fault.unknown_host p) = named (host_role p.part) (unknown_host tree p.part d)
 subject_in tree d other = []
 
 abbrev pub subject_by : Data → Fault → Option Data → List ℕ

@@ -11,6 +11,7 @@ use crate::cycle::{push_dependency_cycle, push_parent_cycle};
 use crate::line::Line;
 use crate::names::{
     misnamed_member, push_bad_name, push_duplicate, push_unknown_end, push_unknown_host,
+    push_unknown_name,
 };
 use crate::no_fault::push_no_fault;
 use crate::places::push_place;
@@ -163,6 +164,7 @@ fn push_subject(
         Fault::Shape(_, shape) => push_misshapen(line, value, shape),
         Fault::Range(_, range) => line.push_text(stray_member(range)),
         Fault::BadName(place) => line.push_text(misnamed_member(place.part)),
+        Fault::UnknownHost(place) => push_unknown_name(line, tree, value, place.part),
         _ => Ok(()),
     }
 }

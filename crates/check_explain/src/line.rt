@@ -1,6 +1,7 @@
 //! A line of text that grows, and never has a line feed in it.
-ghost use Rattle.std.specs.Prelude.{◌≡◌, ◌≢◌, ◌<◌, ◌++◌, ◌∷◌, false, [], OnOk, decimal, string_bytes};
+ghost use Rattle.std.specs.Prelude.{◌≡◌, ◌≢◌, ◌<◌, ◌++◌, ◌∷◌, false, [], OnOk, decimal, option_map, string_bytes};
 ghost use Rattle.std.specs.Char.{digit_char, encode_utf8};
+ghost use Rattle.check_explain.specs.Explanation.{named};
 ghost use Rattle.check_explain.specs.Feeds.{has_feed, HasNoFeed};
 ghost use Rattle.check_explain.specs.Shown.{cut, escape_of, escaped, shown};
 
@@ -105,6 +106,17 @@ impl Line {
     {
         self.push_words(words)?;
         self.push_text(text)
+    }
+
+    /// Appends words of ours and a name, where there is one.
+    pub(crate) fn push_name(&mut self, role: &str, name: Option<&str>) -> Result<(), AllocError>
+        ensures text { OnOk result (has_feed role.now ≡ false
+            → self.new ≡ self.old ++ named role.now (option_map (λ name. name.now) name.entry)) }
+    {
+        match name {
+            Some(name) => self.push_named(role, name),
+            None => Ok(()),
+        }
     }
 
     /// Appends a text as it stands in a JSON string; behind 80 characters dots stand for the rest.

@@ -1,6 +1,11 @@
 //! Faults of names: bad ones, repeated ones, and names of what isn't there.
-ghost use Rattle.std.specs.Prelude.{◌≡◌};
-ghost use Rattle.check_explain.specs.Explanation.{misnamed_member};
+ghost use Rattle.std.specs.Prelude.{◌≡◌, ◌++◌, [], false, OnOk, codes, option_and_then, option_map};
+ghost use Rattle.serde_json.specs.Find.{as_array, get};
+ghost use Rattle.serde_json.specs.View.{items_view, view};
+ghost use Rattle.check_documents.specs.Places.{or_no_items};
+ghost use Rattle.check_explain.specs.Explanation.{first_unknown, host_role, is_host, is_text, misnamed_member, named};
+ghost use Rattle.check_explain.specs.Explanation.{text_before, text_in, texts_among, unknown_host};
+ghost use Rattle.check_explain.specs.Feeds.{has_feed};
 
 use crate::line::Line;
 use crate::no_fault::push_no_fault;
@@ -110,7 +115,20 @@ fn are_alike(one: &Value, other: &Value, part: Part) -> bool {
 
 // ---- hosts that aren't there
 
-/// Appends which parent of a host isn't a host, or that the host of a service isn't one.
+/// Appends which parent of a host isn't a host, or which host of a service isn't one.
+pub(crate) fn push_unknown_name(
+    line: &mut Line,
+    tree: &Value,
+    item: &Value,
+    part: Part,
+) -> Result<(), AllocError>
+    ensures { OnOk result (line.new ≡ line.old
+        ++ named (host_role part) (unknown_host (view tree.now) part (view item.now))) }
+{
+    line.push_name(host_role(part), unknown_host(tree, item, part))
+}
+
+/// Appends that a host isn't there.
 pub(crate) fn push_unknown_host(
     line: &mut Line,
     tree: &Value,
@@ -118,16 +136,15 @@ pub(crate) fn push_unknown_host(
     part: Part,
 ) -> Result<(), AllocError> {
     match unknown_host(tree, item, part) {
-        Some(name) => {
-            line.push_words(role(part))?;
-            line.push_text(name)?;
-            line.push_words(" isn't among the hosts")
-        }
+        Some(_) => line.push_words(" isn't among the hosts"),
         None => push_no_fault(line),
     }
 }
 
-fn role(part: Part) -> &'static str {
+fn host_role(part: Part) -> &'static str
+    ensures text { result.now ≡ host_role part }
+    ensures flat { has_feed result.now ≡ false }
+{
     match part {
         Part::Services => "host ",
         _ => "parent ",
@@ -135,37 +152,76 @@ fn role(part: Part) -> &'static str {
 }
 
 /// The host of a service, or the first parent of a host, that isn't among the hosts.
-fn unknown_host<'v>(tree: &Value, item: &'v Value, part: Part) -> Option<&'v str> {
+fn unknown_host<'v>(tree: &Value, item: &'v Value, part: Part) -> Option<&'v str>
+    ensures { option_map (λ name. name.now) result
+        ≡ unknown_host (view tree.now) part (view item.now) }
+{
     match part {
-        Part::Services => {
-            let host = text_of(item, "host")?;
-            if is_host(tree, host) {
-                None
-            } else {
-                Some(host)
-            }
-        }
-        _ => first_unknown(tree, item.get("parents").and_then(Value::as_array)?),
+        Part::Services => unknown_text(tree, text_of(item, "host")),
+        _ => first_unknown(tree, parents_of(item)),
+    }
+}
+
+/// The parents of a host.
+fn parents_of(host: &Value) -> &[Value]
+    ensures { items_view result.now
+        ≡ or_no_items (option_and_then as_array (get (codes "parents") (view host.now))) }
+{
+    match host.get("parents").and_then(Value::as_array) {
+        Some(parents) => parents.as_slice(),
+        None => &[],
     }
 }
 
 /// The first of these texts that is no host's name.
-fn first_unknown<'v>(tree: &Value, names: &'v [Value]) -> Option<&'v str> {
+fn first_unknown<'v>(tree: &Value, names: &'v [Value]) -> Option<&'v str>
+    ensures { option_map (λ name. name.now) result
+        ≡ first_unknown (view tree.now) (texts_among (items_view names.now)) }
+{
     for value in names {
-        if let Some(name) = value.as_str()
-            && !is_host(tree, name)
-        {
-            return Some(name);
+        let unknown = unknown_text(tree, value.as_str());
+        if unknown.is_some() {
+            return unknown;
         }
     }
     None
 }
 
+/// A text, where there is one and no host has it for a name.
+fn unknown_text<'v>(tree: &Value, text: Option<&'v str>) -> Option<&'v str>
+    ensures { option_map (λ name. name.now) result ≡ first_unknown (view tree.now)
+        (text_before (option_map (λ text. text.now) text.entry) []) }
+{
+    match text {
+        Some(name) => {
+            if is_host(tree, name) {
+                None
+            } else {
+                Some(name)
+            }
+        }
+        None => None,
+    }
+}
+
 /// Whether there is a host of this name.
-fn is_host(tree: &Value, name: &str) -> bool {
+#[tactic(auto, using(crate::proofs::NameLemmas::any_seen))]
+fn is_host(tree: &Value, name: &str) -> bool
+    ensures { result ≡ is_host (view tree.now) name.now }
+{
     items(tree, Part::Hosts)
         .iter()
-        .any(|host| text_of(host, "name") == Some(name))
+        .any(|host| has_text(host, "name", name))
+}
+
+/// Whether a member of an item is this text.
+fn has_text(item: &Value, member: &str, text: &str) -> bool
+    ensures { result ≡ is_text text.now (text_in member.now (view item.now)) }
+{
+    match text_of(item, member) {
+        Some(found) => found == text,
+        None => false,
+    }
 }
 
 /// Whether there is a service of this full name.

@@ -4,7 +4,7 @@ ghost use Rattle.std.specs.BTreeMap.{keys};
 ghost use Rattle.serde_json.specs.Find.{as_object};
 ghost use Rattle.serde_json.specs.View.{members_view, view};
 ghost use Rattle.check_drafts.specs.Fault.{shape_seen};
-ghost use Rattle.check_explain.specs.Explanation.{key_at, misshapen, unknown_text};
+ghost use Rattle.check_explain.specs.Explanation.{key_at, misshapen};
 
 use crate::kinds::{kind_words, push_value};
 use crate::line::Line;
@@ -22,7 +22,7 @@ pub(crate) fn push_misshapen(
 {
     match fault {
         ShapeFault::NotAnArray | ShapeFault::NotAnObject => Ok(()),
-        ShapeFault::Unknown(index) => push_unknown(line, key_at(value, index)),
+        ShapeFault::Unknown(index) => line.push_name("a member ", key_at(value, index)),
         ShapeFault::Missing(member) => line.push_named("the member ", member.name),
         ShapeFault::Misfit(member) => line.push_text(member.name),
     }
@@ -53,16 +53,6 @@ fn nth_key(object: &Map<String, Value>, index: usize) -> Option<&String>
     ensures { option_map (λ key. key.now) result ≡ slice_get (keys object.now) index }
 {
     object.keys().nth(index)
-}
-
-fn push_unknown(line: &mut Line, name: Option<&str>) -> Result<(), AllocError>
-    ensures { OnOk result (line.new
-        ≡ line.old ++ unknown_text (option_map (λ name. name.now) name.entry)) }
-{
-    match name {
-        Some(name) => line.push_named("a member ", name),
-        None => Ok(()),
-    }
 }
 
 /// Appends what is wrong with the shape of a value, or with the member of it that is at fault.

@@ -1,19 +1,26 @@
 -- A whole check of a setup, and what its faults leave.
-use Rattle.std.proofs.Common.{◌≡◌, ◌≢◌, ℕ, ◌<◌, ◌≤◌, Bool, true, false, List, [], length, Option, Some, None, Ok, Err, refl, sym, subst, ◌∙◌}
+use Rattle.std.proofs.Common.{◌≡◌, ◌≢◌, ℕ, ◌<◌, ◌≤◌, Bool, true, false, List, [], length, Option, Some, None, Ok, Err, refl, sym, ap, subst, ◌∙◌}
 use Rattle.std.proofs.Common.{arith, inl, inr, ◌⊎◌}
 use Rattle.std.specs.Prelude.{nat_lt, IfSome}
 use Rattle.std.specs.Io.KnownBytes.{Appends, Keeps}
 use Rattle.std.proofs.lemmas.Bool.{cases_lt}
 use Rattle.std.proofs.lemmas.Bool.Decides.{nat_tests}
 use Rattle.check_drafts.specs.declared.error.LoadError.TheVariants as load
-use Rattle.check_objects.specs.Setup.{setup_of}
+use Rattle.check_drafts.specs.Fault as fault
+use Rattle.check_drafts.specs.Fault.{Fault, but_memory, load_error}
+use Rattle.check_drafts.specs.Agreement.{Fails}
+use Rattle.check_objects.specs.Setup.{examined, or_refusal, setup_of}
+use Rattle.check_objects.proofs.ExaminedLemmas.{refused_alike}
+use Rattle.check_numbers.specs.Configuration.{Configuration}
+use Rattle.check_explain.specs.Explanation.{place_of, IsOfFault}
+use Rattle.check_explain.proofs.HeadLemmas.{of_nowhere}
 use Rattle.check_script.specs.declared.drive_error.DriveError.{DriveError}
 use Rattle.check_script.specs.declared.drive_error.DriveError.TheVariants as errors
 use Rattle.check_script.specs.Input.{without_last_feed}
 use Rattle.check_text.specs.Output.{WroteFront}
 use Rattle.check_text.proofs.OutputLemmas.{front_all, Appends-Keeps}
 use Rattle.check_drive.specs.declared.drive.Outcome.{Outcome}
-use Rattle.check_session.specs.Check.{IsCheckOnInput, IsTold}
+use Rattle.check_session.specs.Check.{HasOnly, IsCheckOnInput, IsRefusalTold, IsRefusedAs, IsTold}
 use Rattle.check_session.specs.Reading.{read_of}
 use Rattle.check_session.proofs.ReadingLemmas.{cut_length, read_all, read_long}
 use Rattle.check_drive.proofs.DriveLemmas.{input_of, input_of-is, Keeps-same}
@@ -24,10 +31,22 @@ too_long : (bs : List ℕ) → 16777216 < length bs → setup_of bs ≡ Err load
 unfolding setup_of
 too_long bs h = let a : nat_lt 16777216 (length bs) ≡ true = grind (arith, nat_tests, h) in rw a refl
 
+examined_long : (bs : List ℕ) → 16777216 < length bs → examined bs ≡ Err fault.too_long
+unfolding examined
+examined_long bs h = let a : nat_lt 16777216 (length bs) ≡ true = grind (arith, nat_tests, h) in rw a refl
+
+explained_long : (document : List ℕ) (f : Fault) (words : List ℕ) → examined document ≡ Err fault.too_long → examined document ≡ Err f → IsOfFault document f words
+explained_long document f words long is =
+    let same : f ≡ fault.too_long = cc (long, is) in of_nowhere document f words (ap place_of same)
+
+refused_long : (one other text : List ℕ) (told : Outcome) → examined other ≡ Err fault.too_long
+    → IsRefusalTold one load.TooLong text told → IsRefusalTold other load.TooLong text told
+refused_long one other text told long ((words, (flat, of_one), is), out) = ((words, (flat, λ f is_f. explained_long other f words long is_f), is), out)
+
 told_long : (start : ℕ) (line : Bool) (one other text : List ℕ) (told : Outcome) → setup_of one ≡ Err load.TooLong → setup_of other ≡ Err load.TooLong
-    → IsTold start line one text told → IsTold start line other text told
-told_long start true one other text told e f h = rw f (rw e at h)
-told_long start false one other text told e f h = rw f (rw e at h)
+    → examined other ≡ Err fault.too_long → IsTold start line one text told → IsTold start line other text told
+told_long start true one other text told e f long h = rw f (refused_long one other text told long (rw e at h))
+told_long start false one other text told e f long h = rw f (refused_long one other text told long (rw e at h))
 
 read_by : (start : ℕ) (line : Bool) (bytes text : List ℕ) (told : Outcome) → (16777217 < length bytes) ⊎ (length bytes ≤ 16777217)
     → IsTold start line (without_last_feed (read_of bytes)) text told → IsTold start line (without_last_feed bytes) text told
@@ -35,7 +54,8 @@ read_by start line bytes text told (inl long) h =
     let cut = cut_length bytes in
     told_long start line (without_last_feed (read_of bytes)) (without_last_feed bytes) text told
     (too_long (without_last_feed (read_of bytes)) (read_long bytes long))
-    (too_long (without_last_feed bytes) (omega (arith, cut, long))) h
+    (too_long (without_last_feed bytes) (omega (arith, cut, long)))
+    (examined_long (without_last_feed bytes) (omega (arith, cut, long))) h
 read_by start line bytes text told (inr short) h =
     subst (λ read. IsTold start line (without_last_feed read) text told) (read_all bytes short) h
 
@@ -88,3 +108,12 @@ flushed_check start line had held mid holds read text told all is a k = record {
   is_input = input_of-is had read;
   told = (text, told_of start line had read text told all is, Appends-Keeps held mid holds text a k);
 }
+
+-- ---- a document that was examined
+
+pub examined_good : (document : List ℕ) (c : Configuration) → examined document ≡ Ok c → setup_of document ≡ Ok c
+examined_good document c is = refused_alike document ∙ ap or_refusal is
+
+pub examined_bad : (document : List ℕ) (f : Option Fault) → Fails f (examined document) → IsRefusedAs document f
+examined_bad document None fails = tt
+examined_bad document (Some f) fails = (refused_alike document ∙ ap or_refusal fails, λ other is. cc)

@@ -1,11 +1,11 @@
 -- What a check of a setup from a reader to a writer leaves, fault or none.
-use Rattle.std.specs.Prelude.{ℕ, ◌≡◌, ◌<◌, ◌≤◌, ◌⊎◌, Bool, true, false, List, [], ◌∷◌, ◌++◌, length, Option, Result, Ok, Err}
+use Rattle.std.specs.Prelude.{ℕ, ◌≡◌, ◌<◌, ◌≤◌, ◌⊎◌, Bool, true, false, List, [], ◌∷◌, ◌++◌, length, Option, Some, None, Result, Ok, Err}
 use Rattle.std.specs.Io.KnownBytes.{Appends, Keeps}
 use Rattle.serde_json.specs.Written.{compact_text}
 use Rattle.check_drafts.specs.declared.error.LoadError.{LoadError}
 use Rattle.check_drafts.specs.declared.error.LoadError.TheVariants as errors
 use Rattle.check_objects.specs.Configuration.{Configuration}
-use Rattle.check_drafts.specs.Fault.{Fault}
+use Rattle.check_drafts.specs.Fault.{Fault, load_error}
 use Rattle.check_objects.specs.Setup.{examined, setup_of}
 use Rattle.check_script.specs.declared.drive_error.DriveError.{DriveError}
 use Rattle.check_script.specs.declared.drive_error.DriveError.TheVariants as fault
@@ -35,6 +35,11 @@ IsExplained document words = HasNoFeed words × ((f : Fault) → examined docume
 -- a document with a fault has this one
 abbrev pub HasOnly : List ℕ → Fault → Type 0
 HasOnly document f = (other : Fault) → examined document ≡ Err other → other ≡ f
+
+-- a document with this fault
+abbrev pub IsRefusedAs : List ℕ → Option Fault → Type 0
+IsRefusedAs document None = Unit {0}
+IsRefusedAs document (Some f) = (setup_of document ≡ Err (load_error f)) × HasOnly document f
 
 -- a refused one: the line that a run on it writes, and one line more, which explains the fault
 abbrev pub IsRefusalTold : List ℕ → LoadError → List ℕ → Outcome → Type 0

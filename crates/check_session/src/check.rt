@@ -1,7 +1,8 @@
 //! A check of a setup: reads one document, and tells what is in it, or why it is refused.
-ghost use Rattle.std.specs.Prelude.{◌≡◌, ◌≤◌, IfOk, IfErr, IfSome, OnOk};
-ghost use Rattle.check_drafts.specs.Fault.{load_error, seen};
-ghost use Rattle.check_session.specs.Check.{HasOnly, IsCheckOnInput, IsLineTold, IsSummaryTold, IsRefusalTold, IsTold};
+ghost use Rattle.std.specs.Prelude.{◌≡◌, ◌≤◌, Ok, IfOk, IfErr, IfSome, OnOk};
+ghost use Rattle.check_drafts.specs.Fault.{but_memory, load_error, seen};
+ghost use Rattle.check_objects.specs.Setup.{setup_of};
+ghost use Rattle.check_session.specs.Check.{HasOnly, IsCheckOnInput, IsRefusedAs, IsLineTold, IsSummaryTold, IsRefusalTold, IsTold};
 ghost use Rattle.check_session.specs.Reading.{HasBegun, HasReadDocument};
 
 use crate::reading::{MAX_CHECKED_BYTES, document, read_checked};
@@ -68,11 +69,20 @@ fn tell(alloc: Global, start: u64, line: bool, document: &[u8]) -> Result<Told, 
     if line {
         return tell_line(alloc, document);
     }
-    match Setup::examine(alloc, document) {
+    match examine(alloc, document) {
         Ok(setup) => Ok(tell_summary(alloc, start, &setup)?),
         Err(Fault::Memory) => Err(DriveError::Memory),
         Err(fault) => Ok(tell_refusal(alloc, document, fault)?),
     }
+}
+
+/// The setup of a document, or its fault.
+fn examine(alloc: Global, document: &[u8]) -> Result<Setup, Fault>
+    ensures good { IfOk result (λ setup. setup_of document.now ≡ Ok setup) }
+    ensures refused { IfErr result (λ fault.
+        IsRefusedAs document.now (but_memory (seen fault))) }
+{
+    Setup::examine(alloc, document)
 }
 
 /// The line of a document, or why there is none. An Err is `Memory`.
