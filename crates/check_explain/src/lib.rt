@@ -2,7 +2,7 @@
 //!
 //! [`explain`] says in plain words why a document is refused: at which place, by the name that stands
 //! there, which member is at fault, and what is wrong with it. [`write_line`] writes a document as the
-//! one line that a run and a conversation want it to be. [`schema`] writes the JSON schema of a
+//! one line that a run and a conversation want it to be. [`write_schema`] writes the JSON schema of a
 //! document, from the table of its members.
 //!
 //! The modules: `line` has a line that never gets a line feed, `places` what stands at a place and how
@@ -30,4 +30,4 @@ mod shapes;
 
 pub use document_line::write_line;
 pub use explanation::explain;
-pub use schema::schema;
+pub use schema::write_schema;

@@ -1,5 +1,6 @@
 //! Faults of names: bad ones, repeated ones, and names of what isn't there.
 ghost use Rattle.std.specs.Prelude.{◌≡◌, ◌++◌, [], false, OnOk, codes, option_and_then, option_map};
+ghost use Rattle.std.specs.List.{list_any};
 ghost use Rattle.serde_json.specs.Find.{as_array, get};
 ghost use Rattle.serde_json.specs.View.{items_view, view};
 ghost use Rattle.check_documents.specs.Places.{or_no_items};
@@ -205,13 +206,18 @@ fn unknown_text<'v>(tree: &Value, text: Option<&'v str>) -> Option<&'v str>
 }
 
 /// Whether there is a host of this name.
-#[tactic(auto, using(crate::proofs::NameLemmas::any_seen))]
 fn is_host(tree: &Value, name: &str) -> bool
     ensures { result ≡ is_host (view tree.now) name.now }
 {
-    items(tree, Part::Hosts)
-        .iter()
-        .any(|host| has_text(host, "name", name))
+    have_name(items(tree, Part::Hosts), name)
+}
+
+/// Whether one of these hosts has this name.
+fn have_name(hosts: &[Value], name: &str) -> bool
+    ensures { result
+        ≡ list_any (λ host. is_text name.now (text_in (codes "name") (view host))) hosts.now }
+{
+    hosts.iter().any(|host| has_text(host, "name", name))
 }
 
 /// Whether a member of an item is this text.

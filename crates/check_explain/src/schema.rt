@@ -21,7 +21,7 @@ or sign (1.0, 1e2 and -0 pass here and are refused); a lone surrogate in a text 
 /// Writes the JSON schema, of draft 2020-12, of a setup document: the members that each object may
 /// have, with their kinds, limits and defaults, as the table of members has them. The one error is that
 /// memory ran out. (Our own profile.)
-pub fn schema(alloc: Global) -> Result<String, AllocError> {
+pub fn write_schema(alloc: Global) -> Result<String, AllocError> {
     let mut layout = Layout::new(alloc)?;
     layout.text("$schema", "https://json-schema.org/draft/2020-12/schema")?;
     layout.text("title", "Setup of nagsched")?;
