@@ -1,26 +1,29 @@
 -- A whole check of a setup, and what its faults leave.
 use Rattle.std.proofs.Common.{◌≡◌, ◌≢◌, ℕ, ◌<◌, ◌≤◌, Bool, true, false, List, [], length, Option, Some, None, Ok, Err, refl, sym, ap, subst, ◌∙◌}
 use Rattle.std.proofs.Common.{arith, inl, inr, ◌⊎◌}
-use Rattle.std.specs.Prelude.{nat_lt, IfSome}
+use Rattle.std.specs.Prelude.{nat_lt, IfErr, IfOk, IfSome, IsOk, Result}
 use Rattle.std.specs.Io.KnownBytes.{Appends, Keeps}
 use Rattle.std.proofs.lemmas.Bool.{cases_lt}
 use Rattle.std.proofs.lemmas.Bool.Decides.{nat_tests}
 use Rattle.check_drafts.specs.declared.error.LoadError.TheVariants as load
 use Rattle.check_drafts.specs.Fault as fault
-use Rattle.check_drafts.specs.Fault.{Fault, but_memory, load_error}
+use Rattle.check_drafts.specs.declared.fault.Fault as declared
+use Rattle.check_drafts.specs.Fault.{Fault, Tells, but_memory, load_error, seen}
 use Rattle.check_drafts.specs.Agreement.{Fails}
 use Rattle.check_objects.specs.Setup.{examined, or_refusal, setup_of}
 use Rattle.check_objects.proofs.ExaminedLemmas.{refused_alike}
 use Rattle.check_numbers.specs.Configuration.{Configuration}
 use Rattle.check_explain.specs.Explanation.{place_of, IsOfFault}
 use Rattle.check_explain.proofs.HeadLemmas.{of_nowhere}
+use Rattle.check_explain.specs.DocumentLine.{IsFault, OfTree}
+use Rattle.serde_json.specs.Written.{compact_text}
 use Rattle.check_script.specs.declared.drive_error.DriveError.{DriveError}
 use Rattle.check_script.specs.declared.drive_error.DriveError.TheVariants as errors
 use Rattle.check_script.specs.Input.{without_last_feed}
 use Rattle.check_text.specs.Output.{WroteFront}
 use Rattle.check_text.proofs.OutputLemmas.{front_all, Appends-Keeps}
 use Rattle.check_drive.specs.declared.drive.Outcome.{Outcome}
-use Rattle.check_session.specs.Check.{HasOnly, IsCheckOnInput, IsRefusalTold, IsRefusedAs, IsTold}
+use Rattle.check_session.specs.Check.{HasOnly, IsCheckOnInput, IsLineTold, IsRefusalTold, IsRefusedAs, IsTold}
 use Rattle.check_session.specs.Reading.{read_of}
 use Rattle.check_session.proofs.ReadingLemmas.{cut_length, read_all, read_long}
 use Rattle.check_drive.proofs.DriveLemmas.{input_of, input_of-is, Keeps-same}
@@ -117,3 +120,43 @@ examined_good document c is = refused_alike document ∙ ap or_refusal is
 pub examined_bad : (document : List ℕ) (f : Option Fault) → Fails f (examined document) → IsRefusedAs document f
 examined_bad document None fails = tt
 examined_bad document (Some f) fails = (refused_alike document ∙ ap or_refusal fails, λ other is. cc)
+
+pub good_by : (r : Result Configuration declared.Fault) (document : List ℕ) → Tells (λ c. c) r (examined document) → IfOk r (λ c. setup_of document ≡ Ok c)
+good_by (Ok c) document is = examined_good document c is
+good_by (Err f) document is = tt
+
+pub bad_by : (r : Result Configuration declared.Fault) (document : List ℕ) → Tells (λ c. c) r (examined document)
+    → IfErr r (λ f. IsRefusedAs document (but_memory (seen f)))
+bad_by (Ok c) document is = tt
+bad_by (Err f) document is = examined_bad document (but_memory (seen f)) is
+
+-- ---- a document of which no line was written
+
+only_by : (document : List ℕ) (f : Fault) (r : Result Configuration Fault) → examined document ≡ r → IsFault r f → but_memory f ≡ Some f → HasOnly document f
+only_by document f (Ok c) is told real other is_other = cc
+only_by document f (Err e) is told real other is_other =
+    let same : f ≡ e = rw real at told in cc
+
+-- the fault for which no line was written is the document's only one
+pub only_unwritten : (document : List ℕ) (f : Fault) → IsFault (examined document) f → but_memory f ≡ Some f → HasOnly document f
+only_unwritten document f told real = only_by document f (examined document) refl told real
+
+unwritten_by : (document : List ℕ) (f : Fault) (text : List ℕ) (told : Outcome) (r : Result Configuration Fault) → examined document ≡ r → IsFault r f
+    → but_memory f ≡ Some f → (f ≡ fault.too_long → IsOk (setup_of document) → OfTree document (λ tree. 16777216 < length (compact_text tree)))
+    → IsRefusalTold document (load_error f) text told → IsLineTold document text told
+unwritten_by document f text told (Ok c) is fails real long refused =
+    let good : setup_of document ≡ Ok c = examined_good document c is in
+    let same : f ≡ fault.too_long = rw real at fails in
+    let past = long same (rw good refl) in
+    let as_long : IsRefusalTold document load.TooLong text told = rw same at refused in
+    rw good (inr (past, as_long))
+unwritten_by document f text told (Err e) is fails real long refused =
+    let bad : setup_of document ≡ Err (load_error e) = refused_alike document ∙ ap or_refusal is in
+    let same : f ≡ e = rw real at fails in
+    let as_told : IsRefusalTold document (load_error e) text told = rw same at refused in
+    rw bad as_told
+
+pub unwritten : (document : List ℕ) (f : Fault) (text : List ℕ) (told : Outcome) → IsFault (examined document) f → but_memory f ≡ Some f
+    → (f ≡ fault.too_long → IsOk (setup_of document) → OfTree document (λ tree. 16777216 < length (compact_text tree)))
+    → IsRefusalTold document (load_error f) text told → IsLineTold document text told
+unwritten document f text told fails real long refused = unwritten_by document f text told (examined document) refl fails real long refused

@@ -1,7 +1,7 @@
 #!/usr/bin/env python3
 """Writes the tables of docs/MAP.md, file by file, from the first sentence of each source file.
 
-    docs/map.py [--check]     with --check it writes nothing, and ends in status 1 where the page says something else
+    .ci/map.py [--check]     with --check it writes nothing, and ends in status 1 where the page says something else
 
 A file's definitions are those of its own crate that its contracts bring in.
 """
@@ -56,7 +56,7 @@ def tables():
 def main():
     page = PAGE.read_text(encoding="utf-8")
     before, rest = page.split(BEGIN)
-    words = "\nEach file by the first sentence of its own comment (`docs/map.py` writes the tables).\n\n"
+    words = "\nEach file by the first sentence of its own comment (`.ci/map.py` writes the tables).\n\n"
     made = before + BEGIN + words + "\n".join(tables()) + "\n" + END + rest.split(END)[1]
     if "--check" in sys.argv[1:]:
         return 0 if made == page else 1

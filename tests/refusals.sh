@@ -1,6 +1,6 @@
 #!/usr/bin/env bash
 # Refuses the built programs each request for memory in turn, and prints one table. Run by hand; no part of the gate.
-#   bench/refusals.sh          wants a C compiler, for the shared object that refuses
+#   tests/refusals.sh          wants a C compiler, for the shared object that refuses
 # A run is made with its Nth call of malloc or realloc refused, for N = 1, 2, 3 and on, until one asks for less than N. It has to end in
 # its answer of ample memory, in status 4, or, for a drill, in a total that counts the refusal. `nagsched_refusals` looks at its calls
 # itself: it ends in status 0, and its lines tell which call was refused. Anything else is told with its N, and the script ends in status 1.

@@ -1,4 +1,4 @@
-"""The commands that the pages name, each with what it gives or with where it is run: docs/check.py holds both to each other.
+"""The commands that the pages name, each with what it gives or with where it is run: .ci/pages.py holds both to each other.
 
 A command is a line of a plain code block, or words in backticks, that begins with a program or script of this repository, a compiler,
 a shell or Nagios. The syntax of the program's words, which has brackets, is none, and neither are the kit's own commands.
@@ -10,7 +10,7 @@ import subprocess
 import tempfile
 
 TOP = pathlib.Path(__file__).resolve().parent.parent
-SCRIPT = r"(?:(?:tools|bench|\.ci|docs|examples)/\w+\.(?:py|sh)|conformance/check|\.ci/run)"
+SCRIPT = r"(?:(?:tools|bench|tests|\.ci|examples)/\w+\.(?:py|sh)|conformance/check|\.ci/run)"
 BEGINS = rf"(?:nagsched|crates/nagsched/out/nagsched|nagios4|bash|cc|\(cd|{SCRIPT})"
 LINE = re.compile(rf"^(?: {{4}}|\$ )?({BEGINS}(?: .*)?)$", re.M)
 SPAN = re.compile(rf"`({BEGINS} [^`\n]*|{SCRIPT})`")
@@ -38,8 +38,8 @@ RUN = {
 }
 # What a script of the gate makes.
 IN_THE_GATE = {
-    "crates/nagsched/out/nagsched live": "docs/check.py",
-    "crates/nagsched/out/nagsched drill --workers 1 < examples/drill.txt": "docs/check.py",
+    "crates/nagsched/out/nagsched live": ".ci/pages.py",
+    "crates/nagsched/out/nagsched drill --workers 1 < examples/drill.txt": ".ci/pages.py",
     "conformance/check PROGRAM": ".ci/run",
     "cc -IPREFIX/include program.c PREFIX/lib/libnagsched.a -lpthread": ".ci/c_library.py",
     "cc program.c $(pkg-config --cflags --libs PREFIX/lib/pkgconfig/nagsched.pc) -lpthread": ".ci/c_library.py",
@@ -54,11 +54,11 @@ IN_THE_GATE = {
     "examples/embed.py": ".ci/c_library.py",
     "examples/monitor.py": ".ci/monitor.py",
     "examples/monitor.py setup.json commands.json --workers 8 --journal office.journal": ".ci/monitor.py",
-    "docs/map.py": "docs/check.py",
-    "docs/commands.py": "docs/check.py",
+    ".ci/map.py": ".ci/pages.py",
+    ".ci/commands.py": ".ci/pages.py",
 }
 # Why it is no part of the gate.
-MINUTES, NAGIOS = "takes minutes, and proves nothing more", "wants Nagios"
+NAGIOS = "wants Nagios"
 BY_HAND = {
     "(cd crates/nagsched && rt try < ../../examples/office.txt)": "compiles anew what the gate has built",
     "(cd crates/nagsched && rt run < ../../examples/office.txt)": "proves anew what the gate has proved",
@@ -66,15 +66,12 @@ BY_HAND = {
     "nagios4 -vp /etc/nagios4/nagios.cfg": NAGIOS,
     "nagios4 -s /etc/nagios4/nagios.cfg": NAGIOS,
     "bench/nagios.sh DIRECTORY": NAGIOS,
-    "docs/schema.py": MINUTES,
-    ".ci/times.py": MINUTES,
-    ".ci/slowest.py": MINUTES,
 }
 
 
 def is_by_hand(command):
-    """Whether a command is no part of the gate: those of bench/ measure, each for minutes on a machine with nothing else to do."""
-    return command in BY_HAND or re.fullmatch(r"bench/\w+\.(?:sh|py)", command) is not None
+    """Whether a command is no part of the gate: those of bench/ and of tests/ take minutes, on a machine with nothing else to do."""
+    return command in BY_HAND or re.fullmatch(r"(?:bench|tests)/\w+\.(?:sh|py)", command) is not None
 
 
 def is_in_the_gate(command):

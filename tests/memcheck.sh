@@ -1,6 +1,6 @@
 #!/usr/bin/env bash
 # Runs programs over the C library under valgrind's memcheck: no access that isn't allowed, no block that is left. Run by hand.
-#   bench/memcheck.sh [PREFIX]     where tools/build_c.sh has laid the library down, out/c where no folder is named
+#   tests/memcheck.sh [PREFIX]     where tools/build_c.sh has laid the library down, out/c where no folder is named
 # The programs are examples/embed.c, with its four workers and an operator, tests/c/wrong.c and tests/c/refused.c, which refuses each
 # request for memory in turn.
 set -eu -o pipefail

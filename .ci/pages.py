@@ -1,10 +1,10 @@
 #!/usr/bin/env python3
 """Runs the examples and the commands of the pages on the built program, and compares what it writes.
 
-    docs/check.py [PROGRAM]     crates/nagsched/out/nagsched where no program is named
+    .ci/pages.py [PROGRAM]     crates/nagsched/out/nagsched where no program is named
 
 A part of the gate. It tells each that comes out otherwise, and ends in status 1 then. A command of a page that isn't run here has
-to be told in docs/commands.py, with the part of the gate that makes it, or why none does.
+to be told in .ci/commands.py, with the part of the gate that makes it, or why none does.
 """
 import pathlib
 import re
@@ -113,7 +113,7 @@ helped((TOP / "docs/FORMATS.md").read_text())
 nagios((TOP / "docs/NAGIOS.md").read_text())
 readme((TOP / "README.md").read_text())
 commands.check(PROGRAM, [TOP / "README.md", *sorted((TOP / "docs").glob("*.md")), TOP / "conformance/README.md"], compare)
-compare("the tables of MAP.md, by docs/map.py", 0, subprocess.run([sys.executable, TOP / "docs/map.py", "--check"]).returncode)
+compare("the tables of MAP.md, by .ci/map.py", 0, subprocess.run([sys.executable, TOP / ".ci/map.py", "--check"]).returncode)
 for example in wrong:
     print(example)
 print(f"pages: {checked - len(wrong)} passed, {len(wrong)} failed")
