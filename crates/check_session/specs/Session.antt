@@ -21,6 +21,17 @@ use Rattle.check_text.specs.Output.{WroteFront, WroteShort}
 use Rattle.check_text.specs.Text.{text}
 use Rattle.check_words.specs.Words.{AsksHelp, IsRefused, job_asked, program}
 
+-- What a job wrote that is to write this text: all of it, after a fault of the writer a prefix of it, and out of memory nothing.
+abbrev pub IsTextTold : List ℕ → Result Outcome DriveError → Option (List ℕ) → Option (List ℕ) → Type 0
+IsTextTold told (Ok ended) held holds = (ended ≡ outcome.Ran) × Appends held holds told
+IsTextTold told (Err errors.Write) held holds = WroteFront held holds told
+IsTextTold told (Err errors.Memory) held holds = holds ≡ held
+IsTextTold told (Err errors.Read) held holds = ⊥
+
+-- the schema is a text that nothing more is said of
+abbrev pub IsSchemaTold : Result Outcome DriveError → Option (List ℕ) → Option (List ℕ) → Type 0
+IsSchemaTold ended held holds = (schema : List ℕ) × IsTextTold schema ended held holds
+
 -- What a job has done that no error ended, by how it ended, by what the reader had and has left and by what the writer held
 -- and holds: it ran or refused one input, which is the reader's where that is known, wrote what it is to write on it, and
 -- read it.
@@ -32,6 +43,7 @@ DidJob (job.Check start line) outcome had left held holds =
     IsCheckOnInput start line (Ok outcome) had held holds × IfSome had (HasReadDocument had left)
 DidJob (job.Drill start workers room) outcome had left held holds =
     IsDrillOnInput start workers room (Ok outcome) had held holds × IfSome had (HasRead had left)
+DidJob job.Schema outcome had left held holds = (left ≡ had) × IsSchemaTold (Ok outcome) held holds
 
 -- What a job leaves that an error ended. Out of memory a run and a drill have never written the whole of what was to be written,
 -- and a check has read a byte, unless there was none.
@@ -45,6 +57,7 @@ FailedJob (job.Check start line) e had left held holds =
 FailedJob (job.Drill start workers room) e had left held holds =
     AfterDrillFault e start workers room had left held holds × IsDrillOnInput start workers room (Err e) had held holds
     × (e ≡ errors.Memory → IfSome had (λ input. WroteDrillShort start workers room input held holds))
+FailedJob job.Schema e had left held holds = (left ≡ had) × IsSchemaTold (Err e) held holds
 
 -- words in which `clap` finds no fault, and which ask for this job
 abbrev pub Asks : List Text → Job → Type 0

@@ -5,12 +5,13 @@ ghost use Rattle.clap.specs.Walk.{texts};
 ghost use Rattle.check_script.specs.declared.drive_error.DriveError.{DriveError};
 ghost use Rattle.check_session.specs.declared.session.Ending.{Ending};
 ghost use Rattle.check_text.specs.Output.{WroteFront};
-ghost use Rattle.check_session.specs.Session.{exit_status, Ends, Tells};
+ghost use Rattle.check_session.specs.Session.{exit_status, Ends, IsSchemaTold, IsTextTold, Tells};
 
 use crate::check::check;
 use crate::drill::drill;
 use check_drive::drive::{Outcome, drive};
 use check_drive::live::live;
+use check_explain::write_schema;
 use check_script::DriveError;
 use check_text::{flush, write_text};
 use check_words::job::job;
@@ -23,7 +24,8 @@ use std::thread::Threads;
 /// How a session ended that met no fault and wasn't out of memory.
 #[derive(Clone, Copy, Debug, PartialEq, Eq)]
 pub enum Ending {
-    /// The words were accepted, and the input was run or refused.
+    /// The words were accepted, and the input was run or refused; or the schema was written, for which
+    /// no input is read.
     Drove(Outcome),
     /// The words asked for help, which was written. The input wasn't read.
     Helped,
@@ -89,8 +91,30 @@ fn serve<H: Threads + Wait + Sync, R: Read, W: Write>(
             Ok(outcome) => Ok(Ending::Drove(outcome)),
             Err(e) => Err(e),
         },
+        Ok(Job::Schema) => match tell_schema(alloc, writer) {
+            Ok(outcome) => Ok(Ending::Drove(outcome)),
+            Err(e) => Err(e),
+        },
         Err(error) => tell_words(error, writer),
     }
+}
+
+/// Writes the JSON schema of a setup. Out of memory it writes nothing.
+fn tell_schema<W: Write>(alloc: Global, writer: &mut W) -> Result<Outcome, DriveError>
+    ensures { IsSchemaTold result (W.contents writer.old) (W.contents writer.new) }
+{
+    match write_schema(alloc) {
+        Ok(schema) => tell_text(writer, schema.as_str()),
+        Err(_) => Err(DriveError::Memory),
+    }
+}
+
+/// Writes a text and flushes it, as the whole of a job.
+fn tell_text<W: Write>(writer: &mut W, text: &str) -> Result<Outcome, DriveError>
+    ensures { IsTextTold text.now result (W.contents writer.old) (W.contents writer.new) }
+{
+    tell(writer, text.as_bytes())?;
+    Ok(Outcome::Ran)
 }
 
 /// Tells words that ask for no job their help, or that they are refused. Out of memory it writes

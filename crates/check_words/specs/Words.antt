@@ -59,10 +59,14 @@ check_subcommand = with_rule (with_rule (new_app (codes "check")) start_option) 
 abbrev pub drill_subcommand : App
 drill_subcommand = with_rule (with_rule (with_rule (new_app (codes "drill")) start_option) workers_option) room_option
 
--- the program's words, with its four subcommands
+-- the subcommand `schema`, without an option
+abbrev pub schema_subcommand : App
+schema_subcommand = new_app (codes "schema")
+
+-- the program's words, with its five subcommands
 abbrev pub program : App
-program = with_subcommand (with_subcommand
-    (with_subcommand (with_subcommand (new_app (codes "nagsched")) run_subcommand.top) live_subcommand.top) check_subcommand.top) drill_subcommand.top
+program = with_subcommand (with_subcommand (with_subcommand (with_subcommand
+    (with_subcommand (new_app (codes "nagsched")) run_subcommand.top) live_subcommand.top) check_subcommand.top) drill_subcommand.top) schema_subcommand.top
 
 -- ---- what the words ask for
 
@@ -116,7 +120,8 @@ job_of (Some (name, options)) =
     if bytes_eq name (codes "run") then run_of options
     else (if bytes_eq name (codes "live") then live_of options
     else (if bytes_eq name (codes "check") then check_of options
-    else (if bytes_eq name (codes "drill") then drill_of options else None)))
+    else (if bytes_eq name (codes "drill") then drill_of options
+    else (if bytes_eq name (codes "schema") then Some job.Schema else None))))
 
 -- The job that the words ask for, the program's name first: of the subcommand that `clap` reads
 -- from them, with the first value of each of its options.
@@ -128,6 +133,7 @@ abbrev pub IsWithinLimits : Job → Type 0
 IsWithinLimits (job.Run start) = start ≤ 2 ^ 60
 IsWithinLimits (job.Live start) = start ≤ 2 ^ 60
 IsWithinLimits (job.Check start line) = start ≤ 2 ^ 60
+IsWithinLimits job.Schema = ⊤
 IsWithinLimits (job.Drill start workers room) = (start ≤ 2 ^ 60) × (1 ≤ workers) × (workers ≤ 64) × (room ≤ 1000000)
 
 -- ---- where the words are no job

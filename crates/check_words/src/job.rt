@@ -4,7 +4,7 @@ ghost use Rattle.std.specs.Prelude.{◌≡◌, ◌≤◌, ◌^◌, Some, [], fal
 ghost use Rattle.clap.specs.declared.builder.command.Command.TheViews.{out-Command};
 ghost use Rattle.clap.specs.Words.{app_of, fault_of, kind_of, rows_of, rule_of, found_of, subcommand_rows_of};
 ghost use Rattle.clap.specs.Walk.{texts};
-ghost use Rattle.check_words.specs.Words.{program, run_subcommand, live_subcommand, check_subcommand, drill_subcommand};
+ghost use Rattle.check_words.specs.Words.{program, run_subcommand, live_subcommand, check_subcommand, drill_subcommand, schema_subcommand};
 ghost use Rattle.check_words.specs.Words.{number_option, start_option, workers_option, room_option, line_flag, line_of};
 ghost use Rattle.check_words.specs.Words.{job_asked, job_of, run_of, live_of, check_of, drill_of, start_of, workers_of, room_of};
 ghost use Rattle.check_words.specs.Words.{number_of, number_between, Explains, IsWithinLimits, Reads, Tells};
@@ -39,6 +39,9 @@ const ABOUT_CHECK: &str = "Tells what is in a setup, or why it is refused";
 
 /// What the help says of the subcommand `drill`.
 const ABOUT_DRILL: &str = "Has workers share one scheduler, with scripted plugins";
+
+/// What the help says of the subcommand `schema`.
+const ABOUT_SCHEMA: &str = "Writes the JSON schema of a setup";
 
 /// What the help says of the option `--start`.
 const ABOUT_START: &str = "Moment of the start, in ms, from 0 to 2^60";
@@ -161,6 +164,19 @@ Example:
   printf '%s\\n' '{\"hosts\":[{\"name\":\"gateway\",\"max_check_attempts\":3}]}' \\
     '[\"plugin\",\"gateway\",2]' '[\"moment\",0]' | nagsched drill --workers 1";
 
+/// What stands at the end of the help of `schema`.
+const SCHEMA_NOTES: &str = "\
+No input is read. Output is a JSON schema of draft 2020-12, which says of each
+member its name, its kind, its limits and its default.
+
+docs/FORMATS.md has every line, member and refusal, each with an example.
+
+Exit status:
+  0 written   2 words refused   3 device failed   4 out of memory
+
+Example:
+  nagsched schema";
+
 /// The latest moment at which a scheduler may start, in milliseconds.
 const LAST_MOMENT: u64 = 1 << 60;
 
@@ -171,9 +187,9 @@ const MAX_WORKERS: u64 = 64;
 const MAX_ROOM: u64 = 1_000_000;
 
 /// Reads the program's words, its own name first: `run [--start N]`, `live [--start N]`,
-/// `check [--start N] [--line]`, or `drill [--start N] [--workers N] [--room N]`, or nothing, which is
-/// `run --start 0`. N is read as std reads a `u64` from a text. Options without a subcommand are refused, and of an option that is
-/// given twice `clap` decides.
+/// `check [--start N] [--line]`, `drill [--start N] [--workers N] [--room N]` or `schema`, or nothing,
+/// which is `run --start 0`. N is read as std reads a `u64` from a text. Options without a subcommand
+/// are refused, and of an option that is given twice `clap` decides.
 pub fn job(alloc: Global, words: &[&str]) -> Result<Job, WordsError>
     ensures asked { IfOk result (λ job. job_asked (texts words.now) ≡ Some job) }
     ensures faultless { OnOk result (fault_of program (texts words.now) ≡ []) }
@@ -196,7 +212,8 @@ fn build_program<'a>(alloc: Global) -> Result<Command<'a>, AllocError>
         .subcommand(build_run(alloc)?)?
         .subcommand(build_live(alloc)?)?
         .subcommand(build_check(alloc)?)?
-        .subcommand(build_drill(alloc)?)
+        .subcommand(build_drill(alloc)?)?
+        .subcommand(build_schema(alloc))
 }
 
 /// The subcommand `run`.
@@ -244,6 +261,16 @@ fn build_drill<'a>(alloc: Global) -> Result<Command<'a>, AllocError>
         .arg(start_option(alloc))?
         .arg(workers_option(alloc))?
         .arg(room_option(alloc))
+}
+
+/// The subcommand `schema`, which has no option.
+fn build_schema<'a>(alloc: Global) -> Command<'a>
+    ensures app { app_of result ≡ schema_subcommand }
+    ensures local { (out-Command result).has_globals ≡ false }
+{
+    Command::new(alloc, "schema")
+        .about(ABOUT_SCHEMA)
+        .after_help(SCHEMA_NOTES)
 }
 
 /// The option `--start N`.
@@ -303,6 +330,7 @@ fn read_job(matches: &ArgMatches<'_>) -> Result<Job, WordsError>
         Some(("live", options)) => read_live(options).ok_or(WordsError::Refused),
         Some(("check", options)) => read_check(options).ok_or(WordsError::Refused),
         Some(("drill", options)) => read_drill(options).ok_or(WordsError::Refused),
+        Some(("schema", _)) => Ok(Job::Schema),
         Some(_) => Err(WordsError::Refused),
     }
 }

@@ -31,6 +31,8 @@ pub enum Job {
         workers: u32,
         room: usize,
     },
+    /// To write the JSON schema of a setup. No input is read.
+    Schema,
 }
 
 /// Why the program's words ask for nothing that it could do.
