@@ -1,5 +1,5 @@
 #!/usr/bin/env python3
-"""Writes the tables of docs/MAP.md, file by file, from the first sentence of each source file.
+"""Writes docs/FILES.md, a table of files for each crate, from the first sentence of each source file.
 
     .ci/map.py [--check]     with --check it writes nothing, and ends in status 1 where the page says something else
 
@@ -10,8 +10,12 @@ import re
 import sys
 
 TOP = pathlib.Path(__file__).resolve().parent.parent
-PAGE = TOP / "docs/MAP.md"
-BEGIN, END = "## The crates, file by file\n", "## Ways through\n"
+PAGE = TOP / "docs/FILES.md"
+HEAD = """# The files of each crate
+
+Each file by the first sentence of its own comment; `.ci/map.py` writes this page. [MAP.md](MAP.md) has what the crates are.
+
+"""
 
 
 def first_sentence(file):
@@ -50,16 +54,13 @@ def tables():
     for line in (TOP / "crates.txt").read_text(encoding="utf-8").splitlines():
         crate = re.match(r"\w+", line)
         if crate:
-            yield f"### {crate.group()}\n\n| File | What is in it | Its definitions |\n|---|---|---|\n" + "\n".join(rows(crate.group())) + "\n"
+            yield f"## {crate.group()}\n\n| File | What is in it | Its definitions |\n|---|---|---|\n" + "\n".join(rows(crate.group())) + "\n"
 
 
 def main():
-    page = PAGE.read_text(encoding="utf-8")
-    before, rest = page.split(BEGIN)
-    words = "\nEach file by the first sentence of its own comment (`.ci/map.py` writes the tables).\n\n"
-    made = before + BEGIN + words + "\n".join(tables()) + "\n" + END + rest.split(END)[1]
+    made = HEAD + "\n".join(tables())
     if "--check" in sys.argv[1:]:
-        return 0 if made == page else 1
+        return 0 if made == PAGE.read_text(encoding="utf-8") else 1
     PAGE.write_text(made, encoding="utf-8")
     return 0
 

@@ -113,7 +113,7 @@ helped((TOP / "docs/FORMATS.md").read_text())
 nagios((TOP / "docs/NAGIOS.md").read_text())
 readme((TOP / "README.md").read_text())
 commands.check(PROGRAM, [TOP / "README.md", *sorted((TOP / "docs").glob("*.md")), TOP / "conformance/README.md"], compare)
-compare("the tables of MAP.md, by .ci/map.py", 0, subprocess.run([sys.executable, TOP / ".ci/map.py", "--check"]).returncode)
+compare("FILES.md, by .ci/map.py", 0, subprocess.run([sys.executable, TOP / ".ci/map.py", "--check"]).returncode)
 for example in wrong:
     print(example)
 print(f"pages: {checked - len(wrong)} passed, {len(wrong)} failed")
