@@ -95,12 +95,7 @@ fn push_unread(line: &mut Line, error: Error) -> Result<(), AllocError>
 }
 
 /// Appends the fault of a document that is JSON.
-fn push_fault(
-    alloc: Global,
-    line: &mut Line,
-    tree: &Value,
-    fault: Fault,
-) -> Result<(), AllocError>
+fn push_fault(alloc: Global, line: &mut Line, tree: &Value, fault: Fault) -> Result<(), AllocError>
     ensures { OnOk result (Begins (line.old ++ head_of (view tree.now) (seen fault)) line.new) }
 {
     match place_of(fault) {
@@ -199,12 +194,7 @@ fn push_rest(
 }
 
 /// Appends what is wrong with the document as a whole.
-fn push_whole(
-    alloc: Global,
-    line: &mut Line,
-    tree: &Value,
-    fault: Fault,
-) -> Result<(), AllocError>
+fn push_whole(alloc: Global, line: &mut Line, tree: &Value, fault: Fault) -> Result<(), AllocError>
     ensures { OnOk result (Begins line.old line.new) }
 {
     let rest = rest_of(alloc, tree, fault)?;

@@ -8,6 +8,7 @@ use Rattle.std.proofs.lemmas.Bool.Decides.{nat_tests}
 use Rattle.check_drafts.specs.declared.error.LoadError.TheVariants as load
 use Rattle.check_drafts.specs.Fault as fault
 use Rattle.check_drafts.specs.declared.fault.Fault as declared
+use Rattle.check_drafts.specs.declared.fault.Fault.TheVariants as faults
 use Rattle.check_drafts.specs.Fault.{Fault, Tells, but_memory, load_error, seen}
 use Rattle.check_drafts.specs.Agreement.{Fails}
 use Rattle.check_objects.specs.Setup.{examined, or_refusal, setup_of}
@@ -160,3 +161,17 @@ pub unwritten : (document : List ℕ) (f : Fault) (text : List ℕ) (told : Outc
     → (f ≡ fault.too_long → IsOk (setup_of document) → OfTree document (λ tree. 16777216 < length (compact_text tree)))
     → IsRefusalTold document (load_error f) text told → IsLineTold document text told
 unwritten document f text told fails real long refused = unwritten_by document f text told (examined document) refl fails real long refused
+
+pub seen_long : (f : declared.Fault) → seen f ≡ fault.too_long → f ≡ faults.TooLong
+seen_long faults.TooLong is = refl
+seen_long faults.NotJson is = cc
+seen_long (faults.Shape p w) is = cc
+seen_long (faults.TooMany c) is = cc
+seen_long (faults.BadName p) is = cc
+seen_long (faults.Duplicate p) is = cc
+seen_long (faults.UnknownHost p) is = cc
+seen_long (faults.UnknownMaster p) is = cc
+seen_long (faults.Range p w) is = cc
+seen_long faults.DependencyCycle is = cc
+seen_long faults.ParentCycle is = cc
+seen_long faults.Memory is = cc

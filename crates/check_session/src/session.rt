@@ -110,10 +110,10 @@ fn tell_schema<W: Write>(alloc: Global, writer: &mut W) -> Result<Outcome, Drive
 }
 
 /// Writes a text and flushes it, as the whole of a job.
-fn tell_text<W: Write>(writer: &mut W, text: &str) -> Result<Outcome, DriveError>
-    ensures { IsTextTold text.now result (W.contents writer.old) (W.contents writer.new) }
+fn tell_text<W: Write>(writer: &mut W, told: &str) -> Result<Outcome, DriveError>
+    ensures { IsTextTold told.now result (W.contents writer.old) (W.contents writer.new) }
 {
-    tell(writer, text.as_bytes())?;
+    tell(writer, told.as_bytes())?;
     Ok(Outcome::Ran)
 }
 

@@ -21,11 +21,7 @@ fn explains_what_no_document_needs(rt: HostRuntime) -> Result<(), Fail> {
 #[test]
 fn tells_a_fault_of_another_document(rt: HostRuntime) -> Result<(), Fail> {
     let alloc = rt.alloc();
-    for fault in [
-        Fault::NotJson,
-        Fault::DependencyCycle,
-        Fault::ParentCycle,
-    ] {
+    for fault in [Fault::NotJson, Fault::DependencyCycle, Fault::ParentCycle] {
         let line = explain(alloc, b"{}", fault)?;
         assert_eq!(rt; line.as_str(), "the document has no such fault");
     }

@@ -24,8 +24,8 @@ loop-shown-preserved c =
     record {
       utf8 = IsUtf8-past_char c.loop-shown.left.rest.now c.next.new.self.rest.now c.in-Some.character c.loop-shown.invariant.utf8 c.in-Some.ensures.steps.0;
       whole = cut_next (80 - c.loop-shown.shown) (80 - (c.loop-shown.shown + 1)) c.in-Some.character c.loop-shown.left.rest.now c.next.new.self.rest.now
-        c.loop-shown.self c.push_escaped.new.self _ c.loop-shown.invariant.utf8 c.in-Some.ensures.steps.0 count
-        c.in_ok-push_escaped-in-Some.ensures.text c.loop-shown.invariant.whole;
+          c.loop-shown.self c.push_escaped.new.self _ c.loop-shown.invariant.utf8 c.in-Some.ensures.steps.0 count
+          c.in_ok-push_escaped-in-Some.ensures.text c.loop-shown.invariant.whole;
     }
 
 pub returns-in-Some-next : goal.returns-in-Some-next
@@ -33,8 +33,8 @@ returns-in-Some-next c =
     let done : 80 - c.loop-shown.shown ≡ 0 = omega (arith, c.loop-shown-test.false) in
     record {
       text = on_ok_weaker c.push_words.result (λ appended. cut_off (80 - c.loop-shown.shown) c.in-Some-next.field-0 c.loop-shown.left.rest.now
-        c.next-2.new.self.rest.now c.loop-shown.self c.push_words.new.self _ c.loop-shown.invariant.utf8 c.in-Some-next.ensures.steps.0 done
-        (appended refl) c.loop-shown.invariant.whole) c.push_words.ensures.text;
+          c.next-2.new.self.rest.now c.loop-shown.self c.push_words.new.self _ c.loop-shown.invariant.utf8 c.in-Some-next.ensures.steps.0 done
+          (appended refl) c.loop-shown.invariant.whole) c.push_words.ensures.text;
     }
 
 pub returns-in-None-next : goal.returns-in-None-next
