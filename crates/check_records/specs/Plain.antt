@@ -31,6 +31,10 @@ abbrev pub flag : Bool → ℕ
 flag true = 1
 flag false = 0
 
+-- the code of this number, 0 to 3
+abbrev pub code_of : ℕ → Option Code
+code_of n = numbered_code n
+
 -- yes or no of this number, 1 or 0
 abbrev pub flag_of : ℕ → Option Bool
 flag_of n = cond (n == 0) (Some false) (cond (n == 1) (Some true) None)

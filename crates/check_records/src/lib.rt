@@ -14,7 +14,7 @@ mod plain;
 mod reading;
 mod saved_faults;
 
-pub use numbers::flag_of;
+pub use numbers::{code_of, flag_of};
 pub use plain::{
     PlainCall, PlainEntry, PlainRefusal, PlainReply, PlainStanding, plain_call, plain_entry,
     plain_refusal, plain_reply, plain_standing, tell_reply,

@@ -2,7 +2,7 @@
 //! kinds have theirs in check_rules.
 
 ghost use Rattle.std.specs.Prelude.{◌≡◌};
-ghost use Rattle.check_records.specs.Plain.{flag, flag_of, part_number, refusal_number};
+ghost use Rattle.check_records.specs.Plain.{code_of, flag, flag_of, part_number, refusal_number};
 ghost use Rattle.check_records.specs.Plain.{code_back, kind_back, part_back, state_back};
 
 use check_drafts::Part;
@@ -14,6 +14,13 @@ pub(crate) fn flag(yes: bool) -> u32
     ensures { result ≡ flag yes }
 {
     if yes { 1 } else { 0 }
+}
+
+/// What a check returned, where the number is one of those.
+pub fn code_of(number: u32) -> Option<Code>
+    ensures { result ≡ code_of number }
+{
+    Code::numbered(u64::from(number))
 }
 
 /// Yes or no, where the number is 1 or 0.
