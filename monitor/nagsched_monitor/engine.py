@@ -72,6 +72,7 @@ class Engine:
             self._results.clear()
             self.scheduling.reopen()
             self._last_turn = None
+            self._opened = now
             return now
         first = self.scheduling.known.first()
         return now + LONGEST_WAIT if first is None else min(first, now + LONGEST_WAIT)

@@ -14,7 +14,7 @@ from . import changes, control
 from .changes import Notifier
 from .clock import Clock, SystemClock
 from .engine import Engine
-from .faults import MonitorFault
+from .faults import ConversationEnded, MonitorFault, NotStored
 from .requests import Requests
 from .runners import RunnerProcesses
 from .scheduling import Scheduling
@@ -110,7 +110,10 @@ class Monitor:
     def _drop_old_changes(self) -> None:
         if self.clock.wall() - self._dropped_at > DAY / 24:
             self._dropped_at = self.clock.wall()
-            self.store.write(DropChangesBefore(self.clock.wall() - self.site.options.keep_days * DAY))
+            try:
+                self.store.write(DropChangesBefore(self.clock.wall() - self.site.options.keep_days * DAY))
+            except NotStored as fault:
+                self.log(str(fault))
 
     # ---- what it can be asked
 
@@ -140,7 +143,10 @@ class Monitor:
         self.control.close()
         self.runners.close()
         self._notifier.close()
-        self.engine.save()
+        try:
+            self.engine.save()
+        except (NotStored, ConversationEnded) as fault:
+            self.log(f"the state isn't saved: {fault}")
         self.scheduling.close()
         self.store.close()
 

@@ -51,7 +51,7 @@ class Requests:
     def _answer(self, line: bytes) -> Dict[str, Any]:
         try:
             members = json.loads(line)
-        except ValueError as error:
+        except (ValueError, RecursionError) as error:
             raise RequestFault(f"no JSON: {error}") from None
         if not isinstance(members, dict):
             raise RequestFault("a request is an object")
@@ -135,7 +135,7 @@ class Requests:
             raise RequestFault(f"no code from 0 to 3: {code!r}")
         if not isinstance(output, str) or len(output) > MOST_OUTPUT:
             raise RequestFault(f"output is a text of at most {MOST_OUTPUT} characters")
-        words = output.partition("\n")[0]
+        words = output.partition("\n")[0].encode(errors="replace").decode()
         self.engine.store.write(KeepResult(known.name, code, words))
         self.engine.expect(self.engine.store.waiting()[-1])
         return {"done": "result", "name": known.name}

@@ -55,6 +55,9 @@ class Words(SiteTest):
         self.monitored.run(1)
         (change,) = self.monitored.changes
         self.assertEqual((change[1].state, change[1].words), ("CRITICAL", "door open"))
+        self.assertEqual(json.loads(self.requests.answer(b'{"do":"result","name":"web;trap","code":1,"output":"half \\ud800 a letter"}'))["done"], "result")
+        self.monitored.run(1)
+        self.assertEqual(self.monitored.changes[-1][1].words, "half ? a letter")
 
     def test_others(self) -> None:
         self.assertEqual(self.ask(do="reload"), {"done": "reload", "new": [], "dropped": []})
@@ -65,7 +68,7 @@ class Words(SiteTest):
     def test_bad_lines(self) -> None:
         before = self.monitored.store.last_call
         for line, word in (
-            (b"", "no JSON"), (b"\xff", "no JSON"), (b"[]", "object"), (b"{}", "None"), (b'{"do":7}', "7"), (b'{"do":"fly"}', "'fly'"),
+            (b"", "no JSON"), (b"\xff", "no JSON"), (b"[" * 100_000, "no JSON"), (b"[]", "object"), (b"{}", "None"), (b'{"do":7}', "7"), (b'{"do":"fly"}', "'fly'"),
             (b'{"do":"status","pattern":1}', "pattern"), (b'{"do":"status","patern":"x"}', "'patern'"),
             (b'{"do":"reschedule"}', "name"), (b'{"do":"reschedule","name":"x"}', "no object 'x'"),
             (b'{"do":"reschedule","name":"web","at":"now"}', "at is"), (b'{"do":"reschedule","name":"web","at":-1e30}', "no time"),
