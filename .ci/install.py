@@ -33,8 +33,8 @@ def words_of_help(program):
     """Subcommands and options, as the help of the program and its subcommands has them."""
     told = output(program, "--help")[0]
     commands = re.findall(r"^  ([a-z]+)  ", told[told.index("Commands:"):], re.MULTILINE) if "Commands:" in told else []
-    options = {option for command in commands if command != "help" for option in re.findall(r"--[a-z]+", output(program, command, "--help")[0].split("Options:")[-1])}
-    return sorted({*commands} | options)
+    helps = [output(program, command, "--help")[0].split("Options:")[-1] for command in commands if command != "help"]
+    return sorted({*commands, *(option for text in helps for option in re.findall(r"--[a-z]+", text))})
 
 
 def installed(program, prefix, work):

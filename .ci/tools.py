@@ -228,7 +228,8 @@ def site(work):
     services = "".join("define service {\n\thost_name\th\n\tservice_description\t%s\n\tmax_check_attempts\t3\n%s\t}\n"
                        % (name, "".join(f"\t{member}\t{value}\n" for member, value in members.items())) for name, members in SITE.items())
     (work / "site.precache").write_text(COMMANDS + PERIODS + services)
-    (work / "site.cfg").write_text("max_concurrent_checks=40\nservice_check_timeout=20\nhost_check_timeout=7\ncached_host_check_horizon=9\ninterval_length=60\n")
+    options = {"max_concurrent_checks": 40, "service_check_timeout": 20, "host_check_timeout": 7, "cached_host_check_horizon": 9, "interval_length": 60}
+    (work / "site.cfg").write_text("".join(f"{name}={value}\n" for name, value in options.items()))
     (work / "resource.cfg").write_text("$USER1$=/plugins\n")
     status, _, told = from_nagios("--site", work / "site", "--resource", work / "resource.cfg", work / "site.cfg", work / "site.precache")
     files = {path.stem: json.loads(path.read_text()) for path in (work / "site").iterdir()} if status == 0 else {}

@@ -101,14 +101,15 @@ def nagios(work, binary, plugin, rate):
     }
     (folder / "nagios.cfg").write_text("".join(f"{name}={value}\n" for name, value in options.items()))
     always = "".join(f" {day} 00:00-24:00\n" for day in ("sunday", "monday", "tuesday", "wednesday", "thursday", "friday", "saturday"))
-    objects = [f"define timeperiod {{\n timeperiod_name always\n alias always\n{always}}}\n", f"define command {{\n command_name c\n command_line {plugin} {folder}/count\n}}\n",
+    objects = [f"define timeperiod {{\n timeperiod_name always\n alias always\n{always}}}\n",
+               f"define command {{\n command_name c\n command_line {plugin} {folder}/count\n}}\n",
                "define command {\n command_name n\n command_line /bin/true\n}\n",
                "define contact {\n contact_name nobody\n host_notifications_enabled 0\n service_notifications_enabled 0\n host_notification_commands n\n"
                " service_notification_commands n\n host_notification_period always\n service_notification_period always\n}\n",
                "define host {\n host_name h\n address h\n max_check_attempts 3\n check_period always\n notifications_enabled 0\n}\n"]
     for name in names_of(rate):
-        objects.append(f"define service {{\n host_name h\n service_description {name}\n check_command c\n max_check_attempts 3\n check_interval {INTERVAL}\n"
-                       f" retry_interval {INTERVAL}\n check_period always\n notifications_enabled 0\n}}\n")
+        objects.append(f"define service {{\n host_name h\n service_description {name}\n check_command c\n max_check_attempts 3\n"
+                       f" check_interval {INTERVAL}\n retry_interval {INTERVAL}\n check_period always\n notifications_enabled 0\n}}\n")
     (folder / "objects.cfg").write_text("".join(objects))
     (folder / "count").touch()
     figures, text = watched([binary, folder / "nagios.cfg"], folder / "count", folder / "status")
@@ -169,8 +170,9 @@ def main(program, *rates):
         subprocess.run(["dpkg", "-x", next(work.glob("nagios4-core*.deb")), work / "nagios"], check=True)
         print(f"{'due a second':>14} {'':10} {'checks a second':>16} {'median ms':>10} {'95th ms':>8} {'CPU ms a check':>15} {'MB':>6}")
         for rate in [int(rate) for rate in rates] or RATES:
-            for who, ran in (("Nagios", lambda: nagios(work, work / "nagios/usr/sbin/nagios4", plugin, rate)), ("monitor", lambda: monitor(work, program, plugin, rate))):
-                (a_second, cost, megabytes), (median, late) = ran()
+            sides = {"Nagios": (nagios, work / "nagios/usr/sbin/nagios4"), "monitor": (monitor, program)}
+            for who, (ran, binary) in sides.items():
+                (a_second, cost, megabytes), (median, late) = ran(work, binary, plugin, rate)
                 print(f"{rate:>14} {who:10} {a_second:>16.1f} {median:>10.1f} {late:>8.1f} {cost:>15.2f} {megabytes:>6.0f}", flush=True)
 
 

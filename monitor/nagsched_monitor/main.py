@@ -188,7 +188,8 @@ def request_of(words: argparse.Namespace) -> Dict[str, Any]:
 def printed(answer: Dict[str, Any]) -> str:
     """An answer in words."""
     if "objects" not in answer:
-        return "\n".join([f"{answer['done']}: {answer.get('name', 'done')}", *(f"{word}: {name}" for word in ("new", "dropped") for name in answer.get(word, ()))])
+        others = [f"{word}: {name}" for word in ("new", "dropped") for name in answer.get(word, ())]
+        return "\n".join([f"{answer['done']}: {answer.get('name', 'done')}", *others])
     lines = []
     for it in answer["objects"]:
         marks = "".join(word for word, there in ((" FLAPPING", it["flapping"]), (" out", it["out"]), (" off", not it["on"])) if there)

@@ -11,7 +11,8 @@ from typing import Any, Dict, List
 
 EXAMPLES = pathlib.Path(__file__).resolve().parent.parent.parent / "examples"
 CHANGE = {
-    "time": 1_795_766_400.0, "name": "web;http", "state": "CRITICAL", "kind": "HARD", "attempt": 3, "flapping": False, "was": "OK", "was_flapping": False, "output": "no answer",
+    "time": 1_795_766_400.0, "name": "web;http", "state": "CRITICAL", "kind": "HARD", "attempt": 3, "flapping": False, "was": "OK",
+    "was_flapping": False, "output": "no answer",
 }
 
 

@@ -112,7 +112,8 @@ class Outages(SiteTest):
 class Periods(SiteTest):
     def test_an_object_is_checked_in_its_period(self) -> None:
         day = {name: ["08:10-08:20", "08:30-08:40"] for name in ("monday", "tuesday", "wednesday", "thursday", "friday")}
-        self.write_site([host("web")], [service("web", "http")], periods={"periods": {"p": {"weekdays": day}}, "objects": {"web;http": "p"}}, monitor={"zone": "UTC"})
+        periods = {"periods": {"p": {"weekdays": day}}, "objects": {"web;http": "p"}}
+        self.write_site([host("web")], [service("web", "http")], periods=periods, monitor={"zone": "UTC"})
         monitor = self.monitor(fine)
         monitor.run(3600)
         minutes = {start // 60_000 for start in monitor.starts()["web;http"]}

@@ -24,7 +24,8 @@ class TimePeriods(unittest.TestCase):
             self.assertEqual(self.includes(document, "work", text), wanted, text)
 
     def test_a_date_stands_before_the_weekday(self) -> None:
-        document = {"work": {"weekdays": WORK, "dates": [{"month": 12, "day": 24, "times": ["09:00-12:00"]}, {"first": "2026-12-24", "last": "2026-12-25", "times": []}]}}
+        dates = [{"month": 12, "day": 24, "times": ["09:00-12:00"]}, {"first": "2026-12-24", "last": "2026-12-25", "times": []}]
+        document = {"work": {"weekdays": WORK, "dates": dates}}
         self.assertFalse(self.includes(document, "work", "2026-12-24T10:00"))
         self.assertTrue(self.includes(document, "work", "2027-12-24T10:00"))
         self.assertFalse(self.includes(document, "work", "2027-12-24T13:00"))

@@ -68,7 +68,8 @@ class Words(SiteTest):
     def test_bad_lines(self) -> None:
         before = self.monitored.store.last_call
         for line, word in (
-            (b"", "no JSON"), (b"\xff", "no JSON"), (b"[" * 100_000, "no JSON"), (b"[]", "object"), (b"{}", "None"), (b'{"do":7}', "7"), (b'{"do":"fly"}', "'fly'"),
+            (b"", "no JSON"), (b"\xff", "no JSON"), (b"[" * 100_000, "no JSON"), (b"[]", "object"), (b"{}", "None"), (b'{"do":7}', "7"),
+            (b'{"do":"fly"}', "'fly'"),
             (b'{"do":"status","pattern":1}', "pattern"), (b'{"do":"status","patern":"x"}', "'patern'"),
             (b'{"do":"reschedule"}', "name"), (b'{"do":"reschedule","name":"x"}', "no object 'x'"),
             (b'{"do":"reschedule","name":"web","at":"now"}', "at is"), (b'{"do":"reschedule","name":"web","at":-1e30}', "no time"),

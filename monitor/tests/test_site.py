@@ -78,7 +78,8 @@ class SiteFiles(SiteTest):
     def test_passive(self) -> None:
         self.write_site([HOST], [TRAP])
         for document, word in (
-            ({"x": {}}, "no such object"), ({"web": []}, "object"), ({"web": {"only": 1}}, "only"), ({"web": {"freshness": -1}}, "freshness"), ({"web": {"f": 1}}, "'f'"),
+            ({"x": {}}, "no such object"), ({"web": []}, "object"), ({"web": {"only": 1}}, "only"), ({"web": {"freshness": -1}}, "freshness"),
+            ({"web": {"f": 1}}, "'f'"),
         ):
             with self.subTest(word):
                 self.write("passive.json", document)
