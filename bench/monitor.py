@@ -95,7 +95,8 @@ def nagios(work, binary, plugin, rate):
     (folder / "spool").mkdir(parents=True)
     options = {
         "log_file": folder / "log", "cfg_file": folder / "objects.cfg", "object_cache_file": folder / "cache", "status_file": folder / "status",
-        "temp_file": folder / "tmp", "temp_path": folder, "check_result_path": folder / "spool", "lock_file": folder / "pid", "command_file": folder / "cmd", "query_socket": folder / "query",
+        "temp_file": folder / "tmp", "temp_path": folder, "check_result_path": folder / "spool", "lock_file": folder / "pid",
+        "command_file": folder / "cmd", "query_socket": folder / "query",
         "interval_length": 1, "max_service_check_spread": 1, "status_update_interval": 5, "execute_host_checks": 0, "check_for_updates": 0,
         "nagios_user": "root", "nagios_group": "root", "log_initial_states": 0, "use_syslog": 0, "enable_notifications": 0, "check_external_commands": 0,
     }
