@@ -26,7 +26,8 @@ use Rattle.check_records.specs.declared.plain.PlainEntry.{PlainEntry}
 use Rattle.check_records.specs.declared.plain.PlainRefusal.{PlainRefusal}
 use Rattle.check_records.specs.Plain.{call_back, code_back, kind_back, part_back, place_back, refusal_back, reply_back, standing_back, state_back, time_back}
 use Rattle.check_records.specs.Plain.{HasByteAttempt, IsNoCall, IsNoEntry, IsNoRefusal, IsNoReply}
-use Rattle.check_records.specs.Plain.{code_number, flag, has_time, kind_number, part_number, state_number, time_or_0}
+use Rattle.check_rules.specs.Numbers.{code_number, kind_number, state_number}
+use Rattle.check_records.specs.Plain.{flag, has_time, part_number, time_or_0}
 use Rattle.check_records.specs.Plain.{plain_call, plain_entry, plain_refusal, plain_reply, plain_standing, refusal_at}
 
 -- what can be read back tells values apart

@@ -1,5 +1,5 @@
 -- The structs that cross to C, and the values of the scheduler for which they stand.
-use Rattle.std.specs.Prelude.{◌≢◌, ◌<◌, ◌^◌, ⊤, ℕ, Bool, true, false, ◌==◌, cond, Option, Some, None}
+use Rattle.std.specs.Prelude.{◌≢◌, ◌<◌, ◌^◌, ⊤, ℕ, Bool, true, false, ◌==◌, cond, Option, Some, None, unwrap_or}
 use Rattle.ticket_steps.specs.declared.kept.Entry.{Entry}
 use Rattle.check_drafts.specs.declared.error.LoadError.{LoadError}
 use Rattle.check_drafts.specs.declared.error.LoadError.TheVariants as load
@@ -13,6 +13,7 @@ use Rattle.check_rules.specs.declared.state.Code.{Code}
 use Rattle.check_rules.specs.declared.state.Code.TheVariants as code
 use Rattle.check_rules.specs.declared.state.State.{State}
 use Rattle.check_rules.specs.declared.state.State.TheVariants as state
+use Rattle.check_rules.specs.Numbers.{code_number, kind_number, numbered_code, numbered_state, state_number}
 use Rattle.check_sched.specs.declared.call.Call.{Call}
 use Rattle.check_sched.specs.declared.call.Call.TheVariants as call
 use Rattle.check_sched.specs.declared.call.Reply.{Reply}
@@ -30,32 +31,9 @@ abbrev pub flag : Bool → ℕ
 flag true = 1
 flag false = 0
 
-abbrev pub code_number : Code → ℕ
-code_number code.Ok = 0
-code_number code.Warning = 1
-code_number code.Critical = 2
-code_number code.Unknown = 3
-
--- the code of this number, 0 to 3
-abbrev pub code_of : ℕ → Option Code
-code_of n = cond (n == 0) (Some code.Ok) (cond (n == 1) (Some code.Warning) (cond (n == 2) (Some code.Critical) (cond (n == 3) (Some code.Unknown) None)))
-
 -- yes or no of this number, 1 or 0
 abbrev pub flag_of : ℕ → Option Bool
 flag_of n = cond (n == 0) (Some false) (cond (n == 1) (Some true) None)
-
-abbrev pub state_number : State → ℕ
-state_number state.Ok = 0
-state_number state.Warning = 1
-state_number state.Critical = 2
-state_number state.Unknown = 3
-state_number state.Up = 4
-state_number state.Down = 5
-state_number state.Unreachable = 6
-
-abbrev pub kind_number : Kind → ℕ
-kind_number kind.Soft = 0
-kind_number kind.Hard = 1
 
 -- why a call was refused, among the kinds of a reply
 abbrev pub refusal_number : Refusal → ℕ
@@ -147,11 +125,10 @@ plain_refusal load.Memory = refusal_nowhere 11
 -- ---- read back: the value that has this struct, where one has it
 
 abbrev pub code_back : ℕ → Code
-code_back n = cond (n == 0) code.Ok (cond (n == 1) code.Warning (cond (n == 2) code.Critical code.Unknown))
+code_back n = unwrap_or (numbered_code n) code.Unknown
 
 abbrev pub state_back : ℕ → State
-state_back n = cond (n == 0) state.Ok (cond (n == 1) state.Warning (cond (n == 2) state.Critical (cond (n == 3) state.Unknown
-    (cond (n == 4) state.Up (cond (n == 5) state.Down state.Unreachable)))))
+state_back n = unwrap_or (numbered_state n) state.Unreachable
 
 abbrev pub kind_back : ℕ → Kind
 kind_back n = cond (n == 0) kind.Soft kind.Hard

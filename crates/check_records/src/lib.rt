@@ -5,14 +5,14 @@
 //! back from them. Nothing in them is a handle, a text or a status.
 //!
 //! The modules: `plain` has the structs and which of them stands for a value, `numbers` the numbers of
-//! what has names, `reading` reads structs back, `laws` says that nothing is lost on the way.
+//! switches, parts and refusals, `reading` reads structs back, `laws` says that nothing is lost on the way.
 
 pub mod laws;
 mod numbers;
 mod plain;
 mod reading;
 
-pub use numbers::{code_of, flag_of};
+pub use numbers::flag_of;
 pub use plain::{
     PlainCall, PlainEntry, PlainRefusal, PlainReply, PlainStanding, plain_call, plain_entry,
     plain_refusal, plain_reply, plain_standing, tell_reply,

@@ -1,8 +1,8 @@
-//! The numbers of what has names: codes, states, kinds, parts and refusals of calls, and what has each
-//! number.
+//! The numbers of switches, parts and refusals of calls, and what has each number. Codes, states and
+//! kinds have theirs in check_rules.
 
 ghost use Rattle.std.specs.Prelude.{◌≡◌};
-ghost use Rattle.check_records.specs.Plain.{code_number, code_of, flag, flag_of, kind_number, part_number, refusal_number, state_number};
+ghost use Rattle.check_records.specs.Plain.{flag, flag_of, part_number, refusal_number};
 ghost use Rattle.check_records.specs.Plain.{code_back, kind_back, part_back, state_back};
 
 use check_drafts::Part;
@@ -16,31 +16,6 @@ pub(crate) fn flag(yes: bool) -> u32
     if yes { 1 } else { 0 }
 }
 
-/// What a check returned, as a number.
-pub(crate) fn code_number(code: Code) -> u32
-    ensures { result ≡ code_number code }
-{
-    match code {
-        Code::Ok => 0,
-        Code::Warning => 1,
-        Code::Critical => 2,
-        Code::Unknown => 3,
-    }
-}
-
-/// What a check returned, where the number is one of those.
-pub fn code_of(number: u32) -> Option<Code>
-    ensures { result ≡ code_of number }
-{
-    match number {
-        0 => Some(Code::Ok),
-        1 => Some(Code::Warning),
-        2 => Some(Code::Critical),
-        3 => Some(Code::Unknown),
-        _ => None,
-    }
-}
-
 /// Yes or no, where the number is 1 or 0.
 pub fn flag_of(number: u32) -> Option<bool>
     ensures { result ≡ flag_of number }
@@ -49,31 +24,6 @@ pub fn flag_of(number: u32) -> Option<bool>
         0 => Some(false),
         1 => Some(true),
         _ => None,
-    }
-}
-
-/// The state of a service or a host, as a number.
-pub(crate) fn state_number(state: State) -> u32
-    ensures { result ≡ state_number state }
-{
-    match state {
-        State::Ok => 0,
-        State::Warning => 1,
-        State::Critical => 2,
-        State::Unknown => 3,
-        State::Up => 4,
-        State::Down => 5,
-        State::Unreachable => 6,
-    }
-}
-
-/// The kind of a state, as a number.
-pub(crate) fn kind_number(kind: Kind) -> u32
-    ensures { result ≡ kind_number kind }
-{
-    match kind {
-        Kind::Soft => 0,
-        Kind::Hard => 1,
     }
 }
 
@@ -108,11 +58,9 @@ pub(crate) fn part_number(part: Part) -> u32
 pub(crate) fn code_back(number: u32) -> Code
     ensures { result ≡ code_back number }
 {
-    match number {
-        0 => Code::Ok,
-        1 => Code::Warning,
-        2 => Code::Critical,
-        _ => Code::Unknown,
+    match Code::numbered(u64::from(number)) {
+        Some(code) => code,
+        None => Code::Unknown,
     }
 }
 
@@ -120,14 +68,9 @@ pub(crate) fn code_back(number: u32) -> Code
 pub(crate) fn state_back(number: u32) -> State
     ensures { result ≡ state_back number }
 {
-    match number {
-        0 => State::Ok,
-        1 => State::Warning,
-        2 => State::Critical,
-        3 => State::Unknown,
-        4 => State::Up,
-        5 => State::Down,
-        _ => State::Unreachable,
+    match State::numbered(u64::from(number)) {
+        Some(state) => state,
+        None => State::Unreachable,
     }
 }
 

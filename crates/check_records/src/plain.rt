@@ -7,7 +7,7 @@ ghost use Rattle.std.specs.Prelude.{◌≡◌};
 ghost use Rattle.check_records.specs.Plain.{has_time, time_or_0};
 ghost use Rattle.check_records.specs.Plain.{plain_call, plain_entry, plain_refusal, plain_reply, plain_standing, refusal_at, refusal_nowhere, with_time};
 
-use crate::numbers::{code_number, flag, kind_number, part_number, refusal_number, state_number};
+use crate::numbers::{flag, part_number, refusal_number};
 use check_drafts::{LoadError, Place};
 use check_rules::Standing;
 use check_sched::{Call, Reply};
@@ -95,8 +95,8 @@ pub struct PlainRefusal {
     pub index: u64,
 }
 
-/// The call that none of the kinds has.
-const NO_CALL: PlainCall = PlainCall {
+/// A take at the moment 0: what the struct of every call is made from.
+const FIRST_TAKE: PlainCall = PlainCall {
     kind: 0,
     object: 0,
     run: 0,
@@ -132,10 +132,10 @@ pub fn plain_standing(standing: Standing) -> PlainStanding
 {
     PlainStanding {
         checked: flag(standing.checked),
-        state: state_number(standing.state),
-        kind: kind_number(standing.kind),
+        state: standing.state.number(),
+        kind: standing.kind.number(),
         attempt: standing.attempt as u32,
-        last_hard: state_number(standing.last_hard),
+        last_hard: standing.last_hard.number(),
         flapping: flag(standing.flapping),
     }
 }
@@ -147,21 +147,21 @@ pub fn plain_call(call: Call) -> PlainCall
     match call {
         Call::Take { now } => PlainCall {
             moment: now,
-            ..NO_CALL
+            ..FIRST_TAKE
         },
         Call::Report { object, run, code } => PlainCall {
             kind: 1,
             object,
             run,
-            code: code_number(code),
-            ..NO_CALL
+            code: code.number(),
+            ..FIRST_TAKE
         },
         Call::Abandon { object, run, now } => PlainCall {
             kind: 2,
             object,
             run,
             moment: now,
-            ..NO_CALL
+            ..FIRST_TAKE
         },
         Call::Reschedule {
             object,
@@ -172,18 +172,18 @@ pub fn plain_call(call: Call) -> PlainCall
             object,
             moment: time,
             flag: flag(forced),
-            ..NO_CALL
+            ..FIRST_TAKE
         },
         Call::Enable { object, on } => PlainCall {
             kind: 4,
             object,
             flag: flag(on),
-            ..NO_CALL
+            ..FIRST_TAKE
         },
         Call::Status { object } => PlainCall {
             kind: 5,
             object,
-            ..NO_CALL
+            ..FIRST_TAKE
         },
     }
 }

@@ -7,8 +7,8 @@ use Rattle.check_rules.specs.declared.state.State.TheVariants as state
 use Rattle.check_rules.specs.declared.standing.Kind.{Kind}
 use Rattle.check_rules.specs.declared.standing.Kind.TheVariants as kind
 use Rattle.check_rules.specs.declared.standing.Standing.{Standing}
-use Rattle.check_rules.specs.State.{state_number}
-use Rattle.check_rules.specs.Board.{code_of, flag, kind_number, numbered_state, standing_coded}
+use Rattle.check_rules.specs.Numbers.{kind_number, numbered_state, state_number}
+use Rattle.check_rules.specs.Board.{code_of, flag, standing_coded}
 
 module _ (c s k a l f : ℕ) (small_c : c < 2) (small_s : s < 8) (small_k : k < 2) (small_a : a < 256) (small_l : l < 8) (small_f : f < 2) where
   abbrev whole : ℕ

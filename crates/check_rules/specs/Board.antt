@@ -1,21 +1,15 @@
 -- A standing as one word, as it stands on a board that is read without the lock. (Our own profile.)
-use Rattle.std.specs.Prelude.{ℕ, ◌+◌, ◌*◌, ◌/◌, ◌%◌, ◌==◌, Bool, List, [], ◌∷◌, find, nat_lt, if◌then◌else◌}
+use Rattle.std.specs.Prelude.{ℕ, ◌+◌, ◌*◌, ◌/◌, ◌%◌, ◌==◌, Bool, nat_lt, if◌then◌else◌}
 use Rattle.std.specs.Prelude.{Option, None, option_map, option_and_then}
 use Rattle.check_rules.specs.declared.state.State.{State}
-use Rattle.check_rules.specs.declared.state.State.TheVariants as state
-use Rattle.check_rules.specs.declared.standing.Kind.{Kind}
 use Rattle.check_rules.specs.declared.standing.Kind.TheVariants as kind
 use Rattle.check_rules.specs.declared.standing.Standing.{Standing}
-use Rattle.check_rules.specs.State.{state_number}
+use Rattle.check_rules.specs.Numbers.{kind_number, numbered_state, state_number}
 
 -- ---- a standing's word
 
 abbrev pub flag : Bool → ℕ
 flag b = if b then 1 else 0
-
-abbrev pub kind_number : Kind → ℕ
-kind_number kind.Soft = 0
-kind_number kind.Hard = 1
 
 -- bit 0 whether it is checked, bits 1 to 3 the state, bit 4 whether it is hard, bits 5 to 12 the attempt, bits 13 to 15 the last
 -- hard state, bit 16 whether it flaps
@@ -24,13 +18,6 @@ code_of s =
     flag s.checked + 2 * state_number s.state + 16 * kind_number s.kind + 32 * s.attempt + 8192 * state_number s.last_hard + 65536 * flag s.flapping
 
 -- ---- the standing of a word
-
-abbrev pub all_states : List State
-all_states = state.Ok ∷ state.Warning ∷ state.Critical ∷ state.Unknown ∷ state.Up ∷ state.Down ∷ state.Unreachable ∷ []
-
--- the state of this number
-abbrev pub numbered_state : ℕ → Option State
-numbered_state number = find (λ s. state_number s == number) all_states
 
 -- whether this bit is set
 abbrev pub has_bit : ℕ → ℕ → Bool

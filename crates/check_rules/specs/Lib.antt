@@ -1,3 +1,5 @@
+pub mod Numbers
+pub mod Words
 pub mod State
 pub mod Standing
 pub mod Reachability

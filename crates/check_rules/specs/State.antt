@@ -4,6 +4,7 @@ use Rattle.check_rules.specs.declared.state.Code.{Code}
 use Rattle.check_rules.specs.declared.state.Code.TheVariants as code
 use Rattle.check_rules.specs.declared.state.State.{State}
 use Rattle.check_rules.specs.declared.state.State.TheVariants as state
+use Rattle.check_rules.specs.Numbers.{state_number}
 
 -- Whether a state is one of hosts: UP, DOWN and UNREACHABLE are.
 abbrev pub is_host_state : State → Bool
@@ -40,16 +41,6 @@ service_state_of code.Ok = state.Ok
 service_state_of code.Warning = state.Warning
 service_state_of code.Critical = state.Critical
 service_state_of code.Unknown = state.Unknown
-
--- a number for each state, to tell them apart
-abbrev pub state_number : State → ℕ
-state_number state.Ok = 0
-state_number state.Warning = 1
-state_number state.Critical = 2
-state_number state.Unknown = 3
-state_number state.Up = 4
-state_number state.Down = 5
-state_number state.Unreachable = 6
 
 -- whether two states are different
 abbrev pub is_another_state : State → State → Bool

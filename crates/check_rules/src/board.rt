@@ -1,8 +1,7 @@
 //! A standing as one word, as it stands on a board that is read without the lock. (Our own profile.)
 
 ghost use Rattle.std.specs.Prelude.{◌≡◌, ◌<◌, ◌^◌, Some, IfSome};
-ghost use Rattle.check_rules.specs.Board.{code_of, flag, has_bit, kind_number, numbered_state, standing_coded};
-ghost use Rattle.check_rules.specs.State.{state_number};
+ghost use Rattle.check_rules.specs.Board.{code_of, flag, has_bit, standing_coded};
 
 use crate::standing::{Kind, Standing};
 use crate::state::State;
@@ -17,23 +16,23 @@ pub fn code(standing: Standing) -> u64
     ensures within { result < 2 ^ 17 }
 {
     flag(standing.checked)
-        + 2 * state_number(standing.state)
-        + 16 * kind_number(standing.kind)
+        + 2 * u64::from(standing.state.number())
+        + 16 * u64::from(standing.kind.number())
         + 32 * u64::from(standing.attempt)
-        + 8192 * state_number(standing.last_hard)
+        + 8192 * u64::from(standing.last_hard.number())
         + 65536 * flag(standing.flapping)
 }
 
-/// The standing whose word this is, or None where it is no standing's: one of the two states has no
-/// number 7, and no bit above bit 16 is set. (Our own profile.)
+/// The standing whose word this is. None where it is no standing's: where one of the two states has
+/// the number 7, or a bit above bit 16 is set. (Our own profile.)
 pub fn decode(word: u64) -> Option<Standing>
     ensures { result ≡ standing_coded word }
 {
     if word >= 131_072 {
         return None;
     }
-    let state = numbered_state(word / 2 % 8)?;
-    let last_hard = numbered_state(word / 8192 % 8)?;
+    let state = State::numbered(word / 2 % 8)?;
+    let last_hard = State::numbered(word / 8192 % 8)?;
     Some(Standing {
         checked: has_bit(word, 1),
         state,
@@ -61,44 +60,4 @@ fn flag(is_set: bool) -> u64
     ensures within { result < 2 }
 {
     u64::from(is_set)
-}
-
-fn state_number(state: State) -> u64
-    ensures value { result ≡ state_number state }
-    ensures within { result < 7 }
-{
-    match state {
-        State::Ok => 0,
-        State::Warning => 1,
-        State::Critical => 2,
-        State::Unknown => 3,
-        State::Up => 4,
-        State::Down => 5,
-        State::Unreachable => 6,
-    }
-}
-
-fn numbered_state(number: u64) -> Option<State>
-    ensures { result ≡ numbered_state number }
-{
-    match number {
-        0 => Some(State::Ok),
-        1 => Some(State::Warning),
-        2 => Some(State::Critical),
-        3 => Some(State::Unknown),
-        4 => Some(State::Up),
-        5 => Some(State::Down),
-        6 => Some(State::Unreachable),
-        _ => None,
-    }
-}
-
-fn kind_number(kind: Kind) -> u64
-    ensures value { result ≡ kind_number kind }
-    ensures within { result < 2 }
-{
-    match kind {
-        Kind::Soft => 0,
-        Kind::Hard => 1,
-    }
 }

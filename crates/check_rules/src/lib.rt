@@ -9,19 +9,21 @@
 //! of this project makes it, and the item says so. Every function changes nothing but the scratch that
 //! it is handed, and takes no memory.
 //!
-//! The modules: `state` has return codes and states, `standing` what is known of an object,
-//! `verdicts` the verdict on a result, `flapping` whether a state keeps changing, `reachability` the
-//! state of a host by its parents, `dependencies` whether a dependency holds a check back, `board`
-//! a standing as one word, `laws` what it is worth.
+//! The modules: `state` has return codes and states, `standing` what is known of an object, `numbers`
+//! and `words` their numbers and words, `verdicts` the verdict on a result, `flapping` whether a state
+//! keeps changing, `reachability` the state of a host by its parents, `dependencies` whether a
+//! dependency holds a check back, `board` a standing as one word, `laws` what it is worth.
 
 mod board;
 mod dependencies;
 mod flapping;
 pub mod laws;
+mod numbers;
 mod reachability;
 mod standing;
 mod state;
 mod verdicts;
+mod words;
 
 pub use board::{code, decode};
 pub use dependencies::blocked;

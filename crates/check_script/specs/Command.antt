@@ -1,11 +1,10 @@
 -- The words of `run`, and the call that each means with the members after it.
-use Rattle.std.specs.Prelude.{ℕ, ◌==◌, Bool, List, Option, Some, None, Result, Ok, Err, ok_or, codes, bytes_eq, if◌then◌else◌}
+use Rattle.std.specs.Prelude.{ℕ, Bool, List, Option, Some, None, Result, Ok, Err, ok_or, codes, bytes_eq, if◌then◌else◌}
 use Rattle.serde_json.specs.Data.{Data, Items, no_items, item}
 use Rattle.serde_json.specs.Find.{as_bool, as_str}
 use Rattle.check_objects.specs.Tree.{◌>=>◌, whole_number}
 use Rattle.check_objects.specs.Configuration.{Configuration, number_of}
-use Rattle.check_rules.specs.declared.state.Code.{Code}
-use Rattle.check_rules.specs.declared.state.Code.TheVariants as code
+use Rattle.check_rules.specs.Numbers.{numbered_code}
 use Rattle.check_sched.specs.declared.call.Call.{Call}
 use Rattle.check_sched.specs.declared.call.Call.TheVariants as call
 use Rattle.check_script.specs.declared.refusal.LineFault.{LineFault}
@@ -48,11 +47,6 @@ name_number_switch members =
 abbrev pub object_named : Configuration → List ℕ → Result ℕ LineFault
 object_named c name = ok_or (number_of c name) fault.UnknownName
 
--- a plugin's return code, 0 to 3
-abbrev pub code_of : ℕ → Option Code
-code_of returned = if returned == 0 then Some code.Ok else (if returned == 1 then Some code.Warning
-    else (if returned == 2 then Some code.Critical else (if returned == 3 then Some code.Unknown else None)))
-
 -- ---- one definition a word, over the members after the word: first their number and kinds, then
 -- the return code, then the name
 
@@ -67,7 +61,7 @@ take_call members = Err fault.Shape
 
 -- `["report",name,run,code]`: the check of the object `name` that runs under the number `run` returned `code`
 abbrev pub report_call : Configuration → Items → Result Call LineFault
-report_call c members = ok_or (name_and_numbers members) fault.Shape >>= λ p. (ok_or (code_of p.2) fault.Code >>= λ code.
+report_call c members = ok_or (name_and_numbers members) fault.Shape >>= λ p. (ok_or (numbered_code p.2) fault.Code >>= λ code.
     (object_named c p.0 >>= λ object. Ok (call.Report object p.1 code)))
 
 -- `["abandon",name,run,now]`: the check of the object `name` that runs under the number `run` is given up at the moment `now`

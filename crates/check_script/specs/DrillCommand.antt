@@ -8,7 +8,8 @@ use Rattle.check_rules.specs.declared.state.Code.{Code}
 use Rattle.check_script.specs.declared.refusal.LineFault.{LineFault}
 use Rattle.check_script.specs.declared.refusal.LineFault.TheVariants as fault
 use Rattle.check_drafts.specs.Agreement.{◌>>=◌}
-use Rattle.check_script.specs.Command.{code_of, object_named, one_of}
+use Rattle.check_rules.specs.Numbers.{numbered_code}
+use Rattle.check_script.specs.Command.{object_named, one_of}
 
 -- a command of a drill
 pub data Command : Type 0 where
@@ -40,7 +41,7 @@ number_in members = one_of members >=> whole_number
 
 -- the return code that a member is
 abbrev pub code_in : Data → Option Code
-code_in d = whole_number d >=> code_of
+code_in d = whole_number d >=> numbered_code
 
 -- the return codes that members are, if each is one
 abbrev pub codes_in : Items → Option (List Code)

@@ -5,7 +5,7 @@ ghost use Rattle.serde_json.specs.View.{items_view};
 ghost use Rattle.check_script.specs.Command.{call_by, take_call, report_call, abandon_call};
 ghost use Rattle.check_script.specs.Command.{reschedule_call, enable_call, status_call};
 ghost use Rattle.check_script.specs.Command.{name_in, name_and_switch, name_and_numbers};
-ghost use Rattle.check_script.specs.Command.{name_number_switch, object_named, code_of};
+ghost use Rattle.check_script.specs.Command.{name_number_switch, object_named};
 ghost use Rattle.check_sched.specs.declared.call.Call.{Call};
 
 use crate::line::{Command, refused};
@@ -75,7 +75,7 @@ fn report_call(setup: &Setup, members: &[Value]) -> Result<Call, LineFault>
     let Some((name, run, code)) = name_and_numbers(members) else {
         return Err(LineFault::Shape);
     };
-    let Some(code) = code_of(code) else {
+    let Some(code) = Code::numbered(code) else {
         return Err(LineFault::Code);
     };
     let object = object_named(setup, name)?;
@@ -186,18 +186,5 @@ pub fn object_named(setup: &Setup, name: &str) -> Result<u32, LineFault>
     match setup.number(name) {
         Some(object) => Ok(object),
         None => Err(LineFault::UnknownName),
-    }
-}
-
-/// The return code of a plugin, 0 to 3.
-pub fn code_of(number: u64) -> Option<Code>
-    ensures { result ≡ code_of number }
-{
-    match number {
-        0 => Some(Code::Ok),
-        1 => Some(Code::Warning),
-        2 => Some(Code::Critical),
-        3 => Some(Code::Unknown),
-        _ => None,
     }
 }

@@ -11,7 +11,7 @@ ghost use Rattle.check_script.specs.DrillCommand.{number_in, code_in, codes_in};
 ghost use Rattle.check_script.specs.DrillScript.{moment_of};
 ghost use Rattle.check_script.specs.Agreement.{Gives};
 
-use crate::command::{code_of, object_named};
+use crate::command::object_named;
 use crate::line::{Command, refused};
 use crate::refusal::{LineFault, ScriptError};
 use check_objects::Setup;
@@ -164,5 +164,5 @@ fn codes_in(alloc: Global, values: &[Value]) -> Result<Option<Vec<Code>>, AllocE
 fn code_in(value: &Value) -> Option<Code>
     ensures { result ≡ code_in (view value.now) }
 {
-    code_of(value.as_u64()?)
+    Code::numbered(value.as_u64()?)
 }

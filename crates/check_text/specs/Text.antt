@@ -9,11 +9,8 @@ use Rattle.check_drafts.specs.declared.error.LoadError.TheVariants as load
 use Rattle.check_drafts.specs.declared.place.Place.{Place}
 use Rattle.check_drafts.specs.declared.place.Part.{Part}
 use Rattle.check_drafts.specs.declared.place.Part.TheVariants as part
-use Rattle.check_rules.specs.declared.standing.Kind.{Kind}
-use Rattle.check_rules.specs.declared.standing.Kind.TheVariants as kind
 use Rattle.check_rules.specs.declared.standing.Standing.{Standing}
-use Rattle.check_rules.specs.declared.state.State.TheVariants as state
-use Rattle.check_rules.specs.declared.state.State as rules
+use Rattle.check_rules.specs.Words.{kind_word, state_word}
 use Rattle.check_sched.specs.declared.call.Call.{Call}
 use Rattle.check_sched.specs.declared.call.Call.TheVariants as call
 use Rattle.check_sched.specs.declared.call.Reply.{Reply}
@@ -51,22 +48,9 @@ putoff_text until name = codes "putoff " ++ (time_text until ++ (codes " " ++ na
 abbrev pub idle_text : Option ℕ → List ℕ
 idle_text next = codes "idle " ++ time_text next
 
-abbrev pub state_word : rules.State → List ℕ
-state_word state.Ok = codes "OK"
-state_word state.Warning = codes "WARNING"
-state_word state.Critical = codes "CRITICAL"
-state_word state.Unknown = codes "UNKNOWN"
-state_word state.Up = codes "UP"
-state_word state.Down = codes "DOWN"
-state_word state.Unreachable = codes "UNREACHABLE"
-
 -- the state of an object, or PENDING where it was never checked
 abbrev pub state_text : Standing → List ℕ
 state_text s = if s.checked then state_word s.state else codes "PENDING"
-
-abbrev pub kind_text : Kind → List ℕ
-kind_text kind.Soft = codes "SOFT"
-kind_text kind.Hard = codes "HARD"
 
 -- whether a state differs from the one before
 abbrev pub changed_text : Bool → List ℕ
@@ -80,7 +64,7 @@ flapping_text false = codes "STEADY"
 
 -- how the object with this full name stands, and when it is checked next
 abbrev pub standing_text : Standing → Bool → Option ℕ → List ℕ → List ℕ
-standing_text s changed next name = codes "standing " ++ (state_text s ++ (codes " " ++ (kind_text s.kind ++ (codes " " ++
+standing_text s changed next name = codes "standing " ++ (state_text s ++ (codes " " ++ (kind_word s.kind ++ (codes " " ++
     (decimal s.attempt ++ (codes " " ++ (changed_text changed ++ (codes " " ++ (flapping_text s.flapping ++ (codes " " ++
     (time_text next ++ (codes " " ++ name))))))))))))
 

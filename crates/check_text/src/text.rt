@@ -4,12 +4,12 @@ ghost use Rattle.std.specs.Prelude.{◌≡◌, ◌+◌, ◌≤◌, ◌++◌, OnO
 ghost use Rattle.check_objects.specs.Configuration.{name_of};
 ghost use Rattle.check_text.specs.Text.{reply_text, reply_line, refusal_line, entry_line, total_line};
 ghost use Rattle.check_text.specs.Text.{taken_text, putoff_text, idle_text, standing_text, freed_text, done_text, refused_text, time_text};
-ghost use Rattle.check_text.specs.Text.{asked_name, state_text, kind_text, changed_text, flapping_text};
+ghost use Rattle.check_text.specs.Text.{asked_name, state_text, changed_text, flapping_text};
 ghost use Rattle.check_text.specs.Text.{call_refusal_text, part_text, fault_text};
 ghost use Rattle.check_text.specs.Room.{FitsIn};
 
 use check_objects::{LoadError, Part, Place, Setup};
-use check_rules::{Kind, Standing, State};
+use check_rules::Standing;
 use check_sched::{Call, Refusal, Reply};
 use check_script::{InputRefusal, LineFault};
 use itoa::Buffer;
@@ -115,7 +115,7 @@ fn push_standing(
 {
     line.push_str("standing ")?;
     line.push_str(state_text(standing))?;
-    line.push_str(kind_between_spaces(standing.kind))?;
+    push_between_spaces(line, standing.kind.word())?;
     push_number(line, standing.attempt as u64)?;
     line.push_str(marks_between_spaces(changed, standing.flapping))?;
     push_time(line, next)?;
@@ -153,6 +153,17 @@ fn push_refused(line: &mut String, reason: &str) -> Result<(), AllocError>
 {
     line.push_str("refused ")?;
     line.push_str(reason)
+}
+
+/// Appends a word between two spaces.
+fn push_between_spaces(line: &mut String, word: &str) -> Result<(), AllocError>
+    ensures text { OnOk result (string_bytes line.new
+        ≡ string_bytes line.old ++ (codes " " ++ (word.now ++ codes " "))) }
+    ensures room { FitsIn (length word.now + 2) result line.old line.new }
+{
+    line.push_str(" ")?;
+    line.push_str(word)?;
+    line.push_str(" ")
 }
 
 /// Appends a number in decimal.
@@ -211,26 +222,7 @@ fn state_text(standing: Standing) -> &'static str
     if !standing.checked {
         return "PENDING";
     }
-    match standing.state {
-        State::Ok => "OK",
-        State::Warning => "WARNING",
-        State::Critical => "CRITICAL",
-        State::Unknown => "UNKNOWN",
-        State::Up => "UP",
-        State::Down => "DOWN",
-        State::Unreachable => "UNREACHABLE",
-    }
-}
-
-/// The kind of a state, between spaces.
-fn kind_between_spaces(kind: Kind) -> &'static str
-    ensures text { result.now ≡ codes " " ++ (kind_text kind ++ codes " ") }
-    ensures few { length result.now ≤ 6 }
-{
-    match kind {
-        Kind::Soft => " SOFT ",
-        Kind::Hard => " HARD ",
-    }
+    standing.state.word()
 }
 
 /// Whether a state differs from the one before, and whether the object is flapping, between spaces.

@@ -6,9 +6,12 @@ pub returns-clause-read : goal.returns-clause-read
 returns-clause-read c =
     rw (
       c.flag.ensures.value,
-      c.state_number.ensures.value,
-      c.kind_number.ensures.value,
       c.from.ensures,
-      c.state_number-2.ensures.value,
+      c.number.ensures.value,
+      c.from-2.ensures,
+      c.number-2.ensures.value,
+      c.from-3.ensures,
+      c.from-4.ensures,
+      c.number-3.ensures.value,
       c.flag-2.ensures.value,
     ) (coded_back c.args.standing (search rules))
