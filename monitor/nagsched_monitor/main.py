@@ -7,6 +7,7 @@ import selectors
 import signal
 import socket
 import sys
+import time
 from typing import Any, Dict, List, Optional, Set
 
 from . import changes, control
@@ -22,6 +23,8 @@ from .store import DropChangesBefore, Store
 
 DAY = 86_400
 BUSY_WAIT = 100
+# From one turn to the next at least, in seconds: what comes meanwhile is kept by one sync.
+BETWEEN_TURNS = 0.01
 
 
 class Monitor:
@@ -59,6 +62,7 @@ class Monitor:
         for line in changes.standing_problems([(known.name, known.standing) for known in self.scheduling.known.objects.values() if known.standing]):
             self.log(f"at the start {line}")
         while not self._is_ended:
+            begun = time.monotonic()
             wanted = self.engine.turn()
             for change in self.scheduling.changed():
                 self.log(changes.line_of(change, self.site.zone))
@@ -69,8 +73,13 @@ class Monitor:
                 self._reload_by_signal()
             wait = max(0, wanted - self.clock.moment())
             self._wait(min(wait, BUSY_WAIT) if self._notifier.is_busy() else wait)
+            rest = begun + BETWEEN_TURNS - time.monotonic()
+            if rest > 0:
+                time.sleep(rest)
+                self._wait(0)
 
     def _wait(self, milliseconds: int) -> None:
+        """Waits so long for something to come, and reads what came."""
         for key, _ in self._selector.select(milliseconds / 1000):
             if key.data is not None:
                 key.data.recv(4096)  # a signal came

@@ -19,7 +19,7 @@ use Rattle.check_drafts.specs.Members as members
 use Rattle.check_drafts.proofs.RefusalLemmas.{twice_not}
 use Rattle.check_documents.specs.Criteria.{criteria_of}
 use Rattle.check_documents.specs.Faults.{first_of, first_unknown, has_kind, is_misfit, is_missing, is_other, keys_in, wrong_member, wrong_object}
-use Rattle.check_documents.specs.Reading.{check_draft, delay_in, delay_method, dependency_draft, dependency_members, document_members, factor_in, host_draft, host_members, interleave_factor, names, option_members, options_but_thresholds, options_of, service_draft, service_members, with_thresholds}
+use Rattle.check_documents.specs.Reading.{check_draft, delay_in, delay_method, dependency_draft, dependency_members, document_members, factor_in, host_draft, host_letters, host_members, interleave_factor, names, option_members, options_but_thresholds, options_of, service_draft, service_letters, service_members, with_thresholds}
 use Rattle.check_documents.specs.Tree.{has_only, is_among, member_or, number_in, only_members, switch_in, texts_in, texts_of, whole_number, ◌>=>◌}
 
 -- ---- nothing is found where all pass
@@ -222,7 +222,7 @@ module _ (k : Kind) (letters : List (List ℕ)) (lettered : (v : Data) → has_k
       ∙ chain (option_and_then (λ v. as_str v >=> criteria_of letters) (get members.criteria_name d)) _ _ (λ criteria.
       chain (switch_in members.inherits_parent (Some d)) _ true (λ inherits. refl)))))
 
-  pub dependency_by_table : (d : Data) → is_some (dependency_draft letters d) ≡ is_none (wrong_object (members.dependency_members k) d)
+  dependency_by_table : (d : Data) → is_some (dependency_draft letters d) ≡ is_none (wrong_object (members.dependency_members k) d)
   dependency_by_table d =
       let dependent = text_fit members.dependent.name d in
       let master = text_fit members.master.name d in
@@ -230,6 +230,14 @@ module _ (k : Kind) (letters : List (List ℕ)) (lettered : (v : Data) → has_k
       let inherits = fit_optional kind.Switch as_bool false (get members.inherits_parent.name d) (λ v. refl) in
       dependency_read d ∙ sym (λ i. has_only dependency_members d && (dependent i && (master i && (criteria i && (inherits i && true)))))
       ∙ sym (by_table (members.dependency_members k) d)
+
+pub service_dependency_by_table : (d : Data) → is_some (dependency_draft service_letters d)
+    ≡ is_none (wrong_object (members.dependency_members kind.ServiceLetters) d)
+service_dependency_by_table = dependency_by_table kind.ServiceLetters service_letters (λ v. refl)
+
+pub host_dependency_by_table : (d : Data) → is_some (dependency_draft host_letters d)
+    ≡ is_none (wrong_object (members.dependency_members kind.HostLetters) d)
+host_dependency_by_table = dependency_by_table kind.HostLetters host_letters (λ v. refl)
 
 -- ---- the options
 

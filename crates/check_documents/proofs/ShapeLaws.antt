@@ -18,7 +18,7 @@ use Rattle.check_documents.specs.Faults.{wrong_object, wrong_shape_at}
 use Rattle.check_documents.specs.Places.{value_of_part}
 use Rattle.check_documents.specs.Reading.{dependencies_in, dependency_draft, document_members, drafts_of, host_draft, host_letters, items_from, list_of, options_but_thresholds, options_of, service_draft, service_letters, with_thresholds}
 use Rattle.check_documents.specs.Tree.{has_only}
-use Rattle.check_documents.proofs.ReadingLaws.{dependency_by_table, document_by_table, host_by_table, options_by_table, service_by_table}
+use Rattle.check_documents.proofs.ReadingLaws.{document_by_table, host_by_table, host_dependency_by_table, options_by_table, service_by_table, service_dependency_by_table}
 
 -- ---- what was refused
 
@@ -138,11 +138,9 @@ wrong_there d q e =
     refused_in (list_of service_draft the_services service_at (get members.services.name d)) _ (errors.Shape q) Goal
     (in_list d part.Services members.service_members service_draft service_by_table refl (λ i. refl) (get members.services.name d) q refl) (λ services e3.
     refused_in (dependencies_in part.ServiceDependencies service_letters (get members.service_dependencies.name d)) _ (errors.Shape q) Goal
-    (in_list d part.ServiceDependencies (members.dependency_members kind.ServiceLetters) (dependency_draft service_letters)
-    (dependency_by_table kind.ServiceLetters service_letters (λ v. refl)) refl (λ i. refl) (get members.service_dependencies.name d) q refl) (λ between e4.
+    (in_list d part.ServiceDependencies (members.dependency_members kind.ServiceLetters) (dependency_draft service_letters) service_dependency_by_table refl (λ i. refl) (get members.service_dependencies.name d) q refl) (λ between e4.
     refused_in (dependencies_in part.HostDependencies host_letters (get members.host_dependencies.name d)) _ (errors.Shape q) Goal
-    (in_list d part.HostDependencies (members.dependency_members kind.HostLetters) (dependency_draft host_letters)
-    (dependency_by_table kind.HostLetters host_letters (λ v. refl)) refl (λ i. refl) (get members.host_dependencies.name d) q refl)
+    (in_list d part.HostDependencies (members.dependency_members kind.HostLetters) (dependency_draft host_letters) host_dependency_by_table refl (λ i. refl) (get members.host_dependencies.name d) q refl)
     (λ among e5. cc)
     e4) e3) e2) e1) members_e)
     (λ only other. ap (λ place. is_some (wrong_shape_at d place)) (place_of the_document q other) ∙ document_wrong d (has_only document_members d) refl only)

@@ -12,6 +12,7 @@ use check_drafts::{LoadError, Place};
 /// Reading goes by the table of members: a value is read exactly where nothing is wrong with it by the
 /// table. So the names, the kinds and what is required are the table's; the defaults and the limits of
 /// numbers are taken from it.
+#[tactic(auto, using(crate::proofs::ReadingLaws::document_by_table, crate::proofs::ReadingLaws::options_by_table, crate::proofs::ReadingLaws::host_by_table, crate::proofs::ReadingLaws::service_by_table, crate::proofs::ReadingLaws::service_dependency_by_table, crate::proofs::ReadingLaws::host_dependency_by_table))]
 pub fn reading_goes_by_the_table()
     ensures document { (d : Data) → has_only document_members d
         ≡ is_none (wrong_object members.document_members d) }
@@ -29,6 +30,7 @@ pub fn reading_goes_by_the_table()
 
 /// A document whose shape is refused at a place has something wrong with the value there, by the table
 /// of members. So what a fault says of a shape is never a filler.
+#[tactic(auto, using(crate::proofs::ShapeLaws::wrong_there))]
 pub fn a_refused_shape_is_wrong()
     ensures { (d : Data) → (place : Place) → drafts_of d ≡ Err (LoadError.Shape place)
         → is_some (wrong_shape_at d place) ≡ true }

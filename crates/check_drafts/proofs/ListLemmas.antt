@@ -35,7 +35,7 @@ found : (b : Bool) (a i : ℕ) → cond b (Some a) None ≡ Some i → (b ≡ tr
 found true a i e = (refl, cc)
 found false a i e = cc
 
-missed : (b : Bool) (a : ℕ) → cond b (Some a) None ≡ None → b ≡ false
+pub missed : (b : Bool) (a : ℕ) → cond b (Some a) None ≡ None → b ≡ false
 missed true a e = cc
 missed false a e = refl
 

@@ -10,6 +10,7 @@ use Rattle.check_drafts.specs.Draft.{DependencyDraft}
 use Rattle.check_drafts.specs.Ends.{has_known_ends, known_ends}
 use Rattle.check_drafts.specs.LoadError.{refused_at}
 use Rattle.check_drafts.specs.Place.{item_of_part}
+use Rattle.check_drafts.proofs.ListLemmas.{missed}
 
 -- nothing was refused where there is no place of a fault
 pub nowhere : (fault : ℕ → LoadError) (o : Option ℕ) → refused_at fault o ≡ Ok tt → o ≡ None
@@ -25,10 +26,6 @@ prefix_all : {A : Type 0} (p : A → Bool) (xs : List A) → nat_lt (prefix_len 
 prefix_all p [] e = refl
 prefix_all p (x ∷ xs) e = prefix_all_by p x xs (p x) refl (prefix_all p xs) e
 
-none_by : (b : Bool) (i : ℕ) → cond b (Some i) None ≡ None → b ≡ false
-none_by true i e = cc
-none_by false i e = refl
-
 pub twice_not : (b : Bool) → not (not b) ≡ b
 twice_not true = refl
 twice_not false = refl
@@ -37,7 +34,7 @@ twice_not false = refl
 pub all_by_position : {A : Type 0} (p : A → Bool) (xs : List A) → position (λ x. not (p x)) xs ≡ None → list_all p xs ≡ true
 all_by_position p xs e =
     let agree : (λ x. not (not (p x))) ≡ p = λ i x. twice_not (p x) i in
-    ap (λ q. list_all q xs) (sym agree) ∙ prefix_all (λ x. not (not (p x))) xs (none_by _ _ e)
+    ap (λ q. list_all q xs) (sym agree) ∙ prefix_all (λ x. not (not (p x))) xs (missed _ _ e)
 
 -- ---- the ends of dependencies
 

@@ -4,7 +4,7 @@ use Rattle.std.proofs.Common.{length, Some, None, option_map, bytes_eq, refl, sy
 use Rattle.std.specs.Prelude.{nat_lt, unwrap_or, slice_get, All}
 use Rattle.std.specs.List.{AllByRecursion, list_any, list_all, position}
 use Rattle.std.specs.List.Sorted.{IsPermutation, IsStrictlySortedBy}
-use Rattle.std.proofs.lemmas.Bool.{cases_lt}
+use Rattle.std.proofs.lemmas.Bool.{cases_lt, or_parts}
 use Rattle.std.proofs.lemmas.Bool.Decides.{nat_tests}
 use Rattle.std.proofs.lemmas.List.{length-map, length-append}
 use Rattle.std.proofs.lemmas.List.Elements.{recursion_from_All}
@@ -22,15 +22,11 @@ use Rattle.link_order.proofs.TestLemmas.{and_first, and_second, and_both}
 
 -- ---- places
 
-neither : (a b : Bool) → (a || b) ≡ false → (a ≡ false) × (b ≡ false)
-neither true b e = cc
-neither false b e = (refl, e)
-
 -- where nothing passes, there is no place
 pub nowhere : {A : Type 0} (p : A → Bool) (xs : List A) → list_any p xs ≡ false → position p xs ≡ None
 nowhere p [] e = refl
 nowhere p (x ∷ xs) e =
-    let b = neither (p x) (list_any p xs) e in
+    let b = or_parts (p x) (list_any p xs) e in
     position-back p (x ∷ []) xs (one_missed p x b.0) ∙ ap (option_map (λ j. 1 + j)) (nowhere p xs b.1)
 
 one_more : (n : ℕ) → 1 + n ≡ suc n
@@ -42,7 +38,7 @@ pub first_at : {A : Type 0} (p : A → Bool) (xs : List A) (n : ℕ) (x : A) →
 first_at p [] n x at e new = cc
 first_at p (y ∷ xs) zero x at e new = let same : y ≡ x = cc in position-front p (y ∷ []) xs 0 (one_found p y (ap p same ∙ e))
 first_at p (y ∷ xs) (suc n) x at e new =
-    let b = neither (p y) (list_any p (take n xs)) new in
+    let b = or_parts (p y) (list_any p (take n xs)) new in
     position-back p (y ∷ []) xs (one_missed p y b.0) ∙ ap (option_map (λ j. 1 + j)) (first_at p xs n x at e b.1) ∙ ap Some (one_more n)
 
 -- an element that passes, and its place

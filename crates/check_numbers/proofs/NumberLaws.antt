@@ -1,5 +1,6 @@
 -- Entries put in order one after another: they ascend, and where no key comes twice they are all there.
 use Rattle.std.proofs.Common.{◌≡◌, ℕ, ◌+◌, ◌&&◌, ◌||◌, Bool, true, false, cond, List, [], ◌∷◌, ◌++◌, map, Option, Some, None, bytes_eq, refl, sym, ap}
+use Rattle.std.proofs.lemmas.Bool.{or_parts}
 use Rattle.std.proofs.Common.{◌≤◌, subst, ◌∙◌, append-nil, length, Bor, Ordering, Less, Equal, Greater, is_eq, arith}
 use Rattle.std.specs.BTreeMap.{insert_entry}
 use Rattle.std.specs.Cmp.{IsTotalOrder}
@@ -22,10 +23,6 @@ use Rattle.check_numbers.proofs.RankLemmas.{ascending_is_in_order, in_order_all}
 use Rattle.check_numbers.proofs.NameLemmas.{all_moved}
 use Rattle.check_drafts.proofs.RepeatLemmas.{first_repeat_is, repeat_after}
 use Rattle.check_numbers.proofs.Placed.{placed}
-
-either_false : (a b : Bool) → (a || b) ≡ false → (a ≡ false) × (b ≡ false)
-either_false true b e = cc
-either_false false b e = (refl, e)
 
 or_swap : (a b c : Bool) → (a || (b || c)) ≡ (b || (a || c))
 or_swap true true c = refl
@@ -101,7 +98,7 @@ module _ {K V : Type 0} (order : K → K → Ordering) (total : IsTotalOrder ord
   insert_keeps_all : (es : List (K × V)) (k : K) (v : V) → has_key k es ≡ false → IsPermutation ((k, v) ∷ es) (insert_entry order es k v)
   insert_keeps_all [] k v new = IsPermutation-refl ((k, v) ∷ [])
   insert_keeps_all (e ∷ es) k v new =
-      let apart = either_false (is_eq (order k e.0)) (has_key k es) new in
+      let apart = or_parts (is_eq (order k e.0)) (has_key k es) new in
       insert_all_by (order k e.0) e es k v refl apart.0 (insert_keeps_all es k v apart.1)
 
   has_key_by : (q : K) (o : Ordering) (e : K × V) (es : List (K × V)) (k : K) (v : V) → is_eq o ≡ false
@@ -116,7 +113,7 @@ module _ {K V : Type 0} (order : K → K → Ordering) (total : IsTotalOrder ord
       → has_key q (insert_entry order es k v) ≡ (is_eq (order q k) || has_key q es)
   has_key-insert q [] k v new = refl
   has_key-insert q (e ∷ es) k v new =
-      let apart = either_false (is_eq (order k e.0)) (has_key k es) new in
+      let apart = or_parts (is_eq (order k e.0)) (has_key k es) new in
       has_key_by q (order k e.0) e es k v apart.0 (has_key-insert q es k v apart.1)
 
   pub placed_all : {A : Type 0} (same : K → K → Bool) (agree : (a b : K) → same a b ≡ is_eq (order a b)) (key : A → K) (value : A → V)

@@ -1,5 +1,6 @@
 -- Objects put in the order of their names.
-use Rattle.std.proofs.Common.{◌≡◌, ℕ, ◌+◌, ◌==◌, ◌&&◌, ◌||◌, not, Bool, true, false, List, [], ◌∷◌, ◌++◌, map, drop, Bor, String, Global}
+use Rattle.std.proofs.Common.{◌≡◌, ℕ, ◌+◌, ◌==◌, ◌&&◌, not, Bool, true, false, List, [], ◌∷◌, ◌++◌, map, drop, Bor, String, Global}
+use Rattle.std.proofs.lemmas.Bool.{or_parts}
 use Rattle.std.proofs.Common.{string_bytes, bytes_eq, refl, sym, ap, subst, ◌∙◌, append_assoc, append-nil, Ordering, Less, Equal, Greater, nat_cmp, is_eq}
 use Rattle.std.proofs.Common.{arith}
 use Rattle.std.proofs.lemmas.Bool.Decides.{nat_tests}
@@ -169,15 +170,11 @@ names_apart a b p q less =
 
 -- ---- maps that grow at their end
 
-neither : (a b : Bool) → (a || b) ≡ false → (a ≡ false) × (b ≡ false)
-neither true b e = cc
-neither false b e = (refl, e)
-
 pub insert_new : {X : Type 0} (es : List (String Global × X)) (k : String Global) (v : X)
     → list_any (λ e. bytes_eq (string_bytes k) (string_bytes e.0)) es ≡ false → insert_entry_by string_eq es k v ≡ es ++ (k, v) ∷ []
 insert_new [] k v new = refl
 insert_new (e ∷ es) k v new =
-    let b = neither (bytes_eq (string_bytes k) (string_bytes e.0)) (list_any (λ e. bytes_eq (string_bytes k) (string_bytes e.0)) es) new in
+    let b = or_parts (bytes_eq (string_bytes k) (string_bytes e.0)) (list_any (λ e. bytes_eq (string_bytes k) (string_bytes e.0)) es) new in
     rw b.0 (ap (λ l. e ∷ l) (insert_new es k v b.1))
 
 -- ---- the names of hosts

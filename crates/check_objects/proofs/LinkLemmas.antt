@@ -1,5 +1,5 @@
 -- The links of a document without a fault, by number and back by name.
-use Rattle.std.proofs.Common.{◌≡◌, ℕ, ◌<◌, ◌==◌, ◌&&◌, ◌||◌, Bool, true, false, cond, List, [], ◌∷◌, map, option_map, bytes_eq, refl, sym, ap, subst, ◌∙◌}
+use Rattle.std.proofs.Common.{◌≡◌, ℕ, ◌<◌, ◌==◌, ◌&&◌, Bool, true, false, cond, List, [], ◌∷◌, map, option_map, bytes_eq, refl, sym, ap, subst, ◌∙◌}
 use Rattle.std.proofs.Common.{Ok, arith}
 use Rattle.std.specs.Prelude.{nat_lt, unwrap_or}
 use Rattle.std.specs.List.{list_any, list_all, filter}
@@ -19,7 +19,7 @@ use Rattle.check_numbers.specs.Numbering.{hosts_in_order, services_in_order, nam
 use Rattle.std.proofs.lemmas.List.Folds.{list_all-map}
 use Rattle.check_drafts.proofs.ListLemmas.{list_any-map}
 use Rattle.check_numbers.proofs.BucketLemmas.{bucket, in_buckets, joined_same}
-use Rattle.link_order.proofs.TestLemmas.{and_first, and_second, and_both, or_second}
+use Rattle.link_order.proofs.TestLemmas.{and_first, and_second, and_both, or_second, or_first}
 use Rattle.check_numbers.proofs.DependencyLemmas.{list_of_object}
 use Rattle.check_numbers.proofs.NameLemmas.{HasNames, found, name_leads_back, all_moved}
 use Rattle.check_objects.proofs.OrderLemmas.{hosts_all, services_all}
@@ -58,10 +58,6 @@ number_is_name c names name n below known = same_by (number_or_none c name == n)
     (λ e. eq-eqb (number_or_none c name) n (ap (number_or_none c) ((bytes_eq-Decides name (name_of c n)).0 e)
     ∙ ap (λ o. unwrap_or o 0) (name_leads_back c names n below)))
 
-or_front : (a b : Bool) → a ≡ true → (a || b) ≡ true
-or_front true b h = refl
-or_front false b h = cc
-
 host_is_object : (ds : Drafts) → is_faultless ds ≡ Ok tt → (name : List ℕ) → is_known (names_of ds.hosts) name ≡ true → is_object (configuration ds) name ≡ true
 host_is_object ds e name known =
     let c = configuration ds in
@@ -70,7 +66,7 @@ host_is_object ds e name known =
     let there : list_any (λ o. bytes_eq name o.name) (map named_host c.hosts) ≡ true =
     list_any-map (λ o. bytes_eq name o.name) named_host c.hosts ∙ sym (list_any-map (bytes_eq name) (λ h. h.name) c.hosts)
     ∙ ap (λ l. is_known l name) (host_names_are ns hs) ∙ sym (known_in_order ds.hosts body_of hs (hosts_all ds e) name) ∙ known in
-    list_any-append (λ o. bytes_eq name o.name) (map named_host c.hosts) (map named_service c.services) ∙ or_front _ _ there
+    list_any-append (λ o. bytes_eq name o.name) (map named_host c.hosts) (map named_service c.services) ∙ or_first _ _ there
 
 service_is_object : (ds : Drafts) → is_faultless ds ≡ Ok tt → (name : List ℕ) → is_known (full_names ds.services) name ≡ true
     → is_object (configuration ds) name ≡ true

@@ -4,6 +4,7 @@ use Rattle.std.proofs.Common.{None, bytes_eq, refl, sym, ap, subst, ◌∙◌, R
 use Rattle.std.specs.Prelude.{nat_lt, nat_le, unwrap_or, All}
 use Rattle.std.specs.List.{AllByRecursion, list_any, list_all, position_or_len}
 use Rattle.std.specs.List.Sorted.{IsStrictlySortedBy}
+use Rattle.std.proofs.Math.Bool.{and_assoc}
 use Rattle.std.proofs.lemmas.Bool.{cases_lt}
 use Rattle.std.proofs.lemmas.Bool.Decides.{nat_tests}
 use Rattle.std.proofs.lemmas.List.{length-map, length-append, map-append}
@@ -213,15 +214,11 @@ good_options_in_range options hosts services e =
 no_least : (n : ℕ) → nat_le 0 n ≡ true
 no_least n = grind (arith, nat_tests)
 
-grouped : (a b c : Bool) → (a && (b && c)) ≡ (a && b && c)
-grouped true b c = refl
-grouped false b c = refl
-
 -- the limits of the members that say how an object is checked are those of a setup's objects
 same_limits : (c : CheckDraft) → is_object_in_range (object_of c) ≡ is_in_range c
 same_limits c =
     rw (no_least c.check_interval, no_least c.retry_interval)
-    (sym (grouped (nat_le c.check_interval 525600 && nat_le c.retry_interval 525600) (nat_le 1 c.max_check_attempts) (nat_le c.max_check_attempts 255)))
+    (and_assoc (nat_le c.check_interval 525600 && nat_le c.retry_interval 525600) (nat_le 1 c.max_check_attempts) (nat_le c.max_check_attempts 255))
 
 all_same : {A : Type 0} (p q : A → Bool) → ((x : A) → p x ≡ q x) → (xs : List A) → list_all p xs ≡ list_all q xs
 all_same p q agree xs = let e : p ≡ q = λ i x. agree x i in ap (λ t. list_all t xs) e

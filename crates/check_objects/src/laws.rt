@@ -75,6 +75,7 @@ pub fn links_are_kept()
 /// A document that is refused for a number at a place has a number there that is out of its limits by
 /// the table of members, or thresholds of flapping that are crossed. So what a fault says of a number is
 /// never a filler.
+#[tactic(auto, using(crate::proofs::StrayLemmas::host_in_range, crate::proofs::StrayLemmas::service_in_range, crate::proofs::StrayLemmas::options_in_range, crate::proofs::RangeLemmas::number_wrong))]
 pub fn a_refused_number_is_wrong()
     ensures host { (d : Data) → (h : HostDraft) → host_draft d ≡ Some h
         → is_none (wrong_number part.Hosts members.host_members d) ≡ is_in_range h.check }
@@ -88,6 +89,7 @@ pub fn a_refused_number_is_wrong()
 
 /// What a fault says besides the refusal leaves the refusal as it is: examining a document refuses it
 /// exactly where reading it does, and for the same.
+#[tactic(auto, using(crate::proofs::ExaminedLemmas::refused_alike))]
 pub fn faults_are_refusals()
     ensures { (bytes : List ℕ) → setup_of bytes ≡ or_refusal (examined bytes) }
 {}

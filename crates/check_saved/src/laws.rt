@@ -20,8 +20,8 @@ pub fn what_is_read_is_what_can_be_saved()
 {}
 
 /// The text of what is saved is within the limit of a text (`fits`) and is read as the same
-/// (`inverse`); so whatever a text says, what is written of it says the same (`again`). Each name is UTF-8 and each interval a number of 64 bits, as in every
-/// [`Saved`](crate::Saved).
+/// (`inverse`); so whatever a text says, what is written of it says the same (`again`). Each name is
+/// UTF-8 and each interval a number of 64 bits, as in every [`Saved`](crate::Saved).
 pub fn what_is_written_is_read()
     ensures fits { (saved : Saved) → IsSaved saved → IsWritable saved
         → length (saved_text saved) ≤ 16777216 }

@@ -41,7 +41,7 @@ const RUN_MEMBERS: [&str; 2] = ["number", "start"];
 
 /// Whether the format is this one, as far as there is a number of it.
 pub(crate) fn verify_format(tree: &Value) -> Result<(), SavedFault>
-    ensures { Gives (λ u. u) result (in_this_format (view tree.now)) }
+    ensures { result ≡ in_this_format (view tree.now) }
 {
     match number_in(tree, "format") {
         Some(1) | None => Ok(()),

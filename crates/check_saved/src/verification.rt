@@ -28,7 +28,7 @@ pub(crate) fn verify_draft(alloc: Global, draft: &SavedDraft<'_>) -> Result<(), 
 }
 
 fn verify_count(objects: &[ObjectDraft<'_>]) -> Result<(), SavedFault>
-    ensures { Gives (λ u. u) result (few_objects objects.now) }
+    ensures { result ≡ few_objects objects.now }
 {
     if objects.len() > MAX_OBJECTS {
         return Err(SavedFault::TooMany);
@@ -39,7 +39,7 @@ fn verify_count(objects: &[ObjectDraft<'_>]) -> Result<(), SavedFault>
 // ---- names
 
 fn verify_names(objects: &[ObjectDraft<'_>]) -> Result<(), SavedFault>
-    ensures { Gives (λ u. u) result (good_names objects.now) }
+    ensures { result ≡ good_names objects.now }
 {
     match bad_name(objects) {
         Some(index) => Err(SavedFault::BadName(index)),
@@ -68,7 +68,7 @@ fn verify_distinct(alloc: Global, objects: &[ObjectDraft<'_>]) -> Result<(), Sav
 // ---- limits
 
 fn verify_ranges(draft: &SavedDraft<'_>) -> Result<(), SavedFault>
-    ensures exact { Gives (λ u. u) result (good_ranges draft.now) }
+    ensures exact { result ≡ good_ranges draft.now }
     ensures few { OnOk result (All HasFewAttempts draft.now.objects) }
 {
     if draft.start > LAST_MOMENT || draft.runs > MAX_RUNS {
