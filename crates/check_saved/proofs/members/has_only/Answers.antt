@@ -6,4 +6,4 @@ use Rattle.check_saved.proofs.members.has_only.Goals as goal
 pub returns-in-Some : goal.returns-in-Some
 returns-in-Some c =
     let e = object_by_members _ _ (sym c.in-Some.ensures) in
-    c.are_known.ensures ∙ only_known c.args.names.now _ ∙ sym (ap (has_only (map (λ name. name.now) c.args.names.now)) e)
+    c.are_known.ensures ∙ only_known (λ name. name.now) c.args.names.now _ ∙ sym (ap (has_only (map (λ name. name.now) c.args.names.now)) e)
