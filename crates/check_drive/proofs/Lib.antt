@@ -1,3 +1,4 @@
 pub mod DriveLemmas
 pub mod LiveLemmas
 pub mod LiveLinesLemmas
+pub mod LiveResumedLemmas

@@ -59,6 +59,7 @@ fn command_by(setup: &Setup, word: &str, members: &[Value]) -> Result<RunCommand
 }
 
 /// `["save"]`: what is to be saved of the scheduler.
+#[tactic(auto, using(crate::proofs::CommandLemmas::save_members))]
 fn save_command(members: &[Value]) -> Result<RunCommand, LineFault>
     ensures { result ≡ save_command (items_view members.now) }
 {
