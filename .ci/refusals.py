@@ -44,6 +44,7 @@ def checks(held):
 def runs(held):
     """Each run that is swept: its name, its words, its input, and what is written with ample memory, or nothing where that varies."""
     yield from checks(held)
+    yield "schema", ["schema"], b"", (TOP / "docs/setup.schema.json").read_bytes()
     office, drill = ((EXAMPLES / f"{name}.txt").read_bytes() for name in ("office", "drill"))
     for word in ("run", "live"):
         yield f"{word}, the office", [word], office, (EXAMPLES / "office.out").read_bytes()

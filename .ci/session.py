@@ -24,6 +24,7 @@ HELPS = {
     "help-of-live": (["live", "--help"], ["live", "-h"], ["help", "live"]),
     "help-of-check": (["check", "--help"], ["check", "--line", "-h"], ["help", "check"]),
     "help-of-drill": (["drill", "--help"], ["drill", "--workers", "0", "-h"], ["help", "drill"]),
+    "help-of-schema": (["schema", "--help"], ["schema", "-h"], ["help", "schema"]),
 }
 COLUMNS = 80
 NO_TEXT = ([b"\xff"], [b"run", b"--start", b"\xff"], [b"drill", b"--workers", b"1", b"\xc3"], [b"--help", b"\xed\xa0\x80"])
@@ -83,6 +84,11 @@ def helps(held):
         held.compare(f"{case}: lines that are too long", [], [line for line in text.decode().splitlines() if len(line) > COLUMNS])
 
 
+def schema(held):
+    """The schema reads nothing. What it writes is held to docs/setup.schema.json by .ci/schema.py."""
+    held.compare(["schema"], 0, unread(held, ["schema"])[1])
+
+
 def refused_words(held):
     """Words that are no text are refused, and nothing is read."""
     for words in NO_TEXT:
@@ -98,7 +104,7 @@ def faults(held):
     torn = [([], office), ([], b""), (["drill", "--workers", "1"], drill), (["drill", "--workers", "3"], drill)]
     torn += [(["live"], SERVICE + TAKE), (["live"], b"{}}")]
     torn += [(words, given) for words in (["check"], ["check", "--line"]) for given in (SERVICE, b"{}}")]
-    for words, given in [*torn, (["--help"], b""), (["walk"], b""), ([b"\xff"], b"")]:
+    for words, given in [*torn, (["--help"], b""), (["schema"], b""), (["walk"], b""), ([b"\xff"], b"")]:
         held.compare(f"{words}: a torn pipe", 3, into_torn_pipe(held, words, given))
         held.compare(f"{words}: a full device", 3, into_full_device(held, words, given))
     for words in ([], ["live"]):
@@ -132,6 +138,6 @@ def long_documents(held):
 
 
 held = Held("session")
-for part in (helps, refused_words, faults, faults_of_conversations, long_documents):
+for part in (helps, schema, refused_words, faults, faults_of_conversations, long_documents):
     part(held)
 held.end()

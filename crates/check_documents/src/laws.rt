@@ -9,22 +9,32 @@ ghost use Rattle.check_documents.specs.Tree.{has_only};
 
 use check_drafts::{LoadError, Place};
 
-/// Reading goes by the table of members: a value is read exactly where nothing is wrong with it by the
-/// table. So the names, the kinds and what is required are the table's; the defaults and the limits of
-/// numbers are taken from it.
-#[tactic(auto, using(crate::proofs::ReadingLaws::document_by_table, crate::proofs::ReadingLaws::options_by_table, crate::proofs::ReadingLaws::host_by_table, crate::proofs::ReadingLaws::service_by_table, crate::proofs::ReadingLaws::service_dependency_by_table, crate::proofs::ReadingLaws::host_dependency_by_table))]
-pub fn reading_goes_by_the_table()
+/// Reading the document and its options goes by the table of members: each is read exactly where
+/// nothing is wrong with it by the table. So the names, the kinds and what is required are the table's;
+/// the defaults and the limits of numbers are taken from it.
+#[tactic(auto, using(crate::proofs::ReadingLaws::document_by_table, crate::proofs::ReadingLaws::options_by_table))]
+pub fn the_document_is_read_by_the_table()
     ensures document { (d : Data) → has_only document_members d
         ≡ is_none (wrong_object members.document_members d) }
     ensures options { (d : Data) → is_some (options_of (Some d))
         ≡ is_none (wrong_object members.option_members d) }
+{}
+
+/// Reading hosts and services goes by the table, as reading the document does.
+#[tactic(auto, using(crate::proofs::ReadingLaws::host_by_table, crate::proofs::ReadingLaws::service_by_table))]
+pub fn objects_are_read_by_the_table()
     ensures host { (d : Data) → is_some (host_draft d)
         ≡ is_none (wrong_object members.host_members d) }
     ensures service { (d : Data) → is_some (service_draft d)
         ≡ is_none (wrong_object members.service_members d) }
-    ensures service_dependency { (d : Data) → is_some (dependency_draft service_letters d)
+{}
+
+/// Reading dependencies goes by the table, as reading the document does.
+#[tactic(auto, using(crate::proofs::ReadingLaws::service_dependency_by_table, crate::proofs::ReadingLaws::host_dependency_by_table))]
+pub fn dependencies_are_read_by_the_table()
+    ensures between_services { (d : Data) → is_some (dependency_draft service_letters d)
         ≡ is_none (wrong_object (members.dependency_members kind.ServiceLetters) d) }
-    ensures host_dependency { (d : Data) → is_some (dependency_draft host_letters d)
+    ensures between_hosts { (d : Data) → is_some (dependency_draft host_letters d)
         ≡ is_none (wrong_object (members.dependency_members kind.HostLetters) d) }
 {}
 

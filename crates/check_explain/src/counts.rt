@@ -1,29 +1,32 @@
 //! Counts past their limits.
 
-use crate::no_fault::push_no_fault;
-use check_objects::{MAX_DEPENDENCIES, MAX_OBJECTS, MAX_PARENTS, Part};
-use check_places::{Line, items};
+use crate::line::Line;
+use check_documents::items;
+use check_drafts::{Count, MAX_DEPENDENCIES, MAX_OBJECTS, MAX_PARENTS, Part};
 use serde_json::Value;
 use std::alloc::AllocError;
 
-/// Appends the first count of a document that is past its limit.
-pub(crate) fn push_count(line: &mut Line, tree: &Value) -> Result<(), AllocError> {
-    let objects = count_both(tree, Part::Hosts, Part::Services);
-    let parents = count_parents(items(tree, Part::Hosts));
-    let dependencies = count_both(tree, Part::ServiceDependencies, Part::HostDependencies);
-    if objects > MAX_OBJECTS {
-        push_too_many(line, objects, "hosts and services", MAX_OBJECTS)
-    } else if parents > MAX_PARENTS {
-        push_too_many(line, parents, "parents of all hosts", MAX_PARENTS)
-    } else if dependencies > MAX_DEPENDENCIES {
-        push_too_many(
+/// Appends how much there is of what there is too much of, and how much there can be.
+pub(crate) fn push_count(line: &mut Line, tree: &Value, count: Count) -> Result<(), AllocError> {
+    match count {
+        Count::Objects => push_too_many(
             line,
-            dependencies,
+            count_both(tree, Part::Hosts, Part::Services),
+            "hosts and services",
+            MAX_OBJECTS,
+        ),
+        Count::Parents => push_too_many(
+            line,
+            count_parents(items(tree, Part::Hosts)),
+            "parents of all hosts",
+            MAX_PARENTS,
+        ),
+        Count::Dependencies => push_too_many(
+            line,
+            count_both(tree, Part::ServiceDependencies, Part::HostDependencies),
             "dependencies of both sorts",
             MAX_DEPENDENCIES,
-        )
-    } else {
-        push_no_fault(line)
+        ),
     }
 }
 

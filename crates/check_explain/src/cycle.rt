@@ -1,9 +1,11 @@
 //! Cycles: objects that lead back to themselves, through one link or more.
 
+use crate::line::Line;
 use crate::links::{Link, dependencies_of, dependency_links, parent_links};
 use crate::no_fault::push_no_fault;
-use check_objects::Part;
-use check_places::{Line, items, part_name, push_name};
+use crate::places::push_name;
+use check_documents::items;
+use check_drafts::Part;
 use serde_json::Value;
 use std::alloc::{AllocError, Global};
 
@@ -53,7 +55,7 @@ fn push_cycle_among(
     let links = dependency_links(alloc, tree, part)?;
     match cycle_in(alloc, objects.len(), &links)? {
         Some(cycle) => {
-            let what = part_name(dependencies_of(part));
+            let what = dependencies_of(part).name();
             push_cycle(line, what, objects, part, &cycle)?;
             Ok(true)
         }
@@ -71,15 +73,15 @@ fn push_cycle(
     cycle: &[usize],
 ) -> Result<(), AllocError> {
     line.push_words(what)?;
-    line.push_words(" go round: ")?;
+    line.push_words(" go round:")?;
     for object in &cycle[..cycle.len().min(FEW)] {
         push_object(line, objects, part, *object)?;
-        line.push_words(" -> ")?;
+        line.push_words(" ->")?;
     }
     if cycle.len() > FEW {
-        line.push_words("(")?;
+        line.push_words(" (")?;
         line.push_number((cycle.len() - FEW) as u64)?;
-        line.push_words(" more) -> ")?;
+        line.push_words(" more) ->")?;
     }
     match cycle.first() {
         Some(object) => push_object(line, objects, part, *object),

@@ -1,29 +1,40 @@
 //! The explanation of a refusal.
-ghost use Rattle.std.specs.Prelude.{IfOk, string_bytes};
-ghost use Rattle.check_places.specs.Feeds.{HasNoFeed};
+ghost use Rattle.std.specs.Prelude.{◌≡◌, ◌++◌, IfOk, OnOk, Some, [], string_bytes};
+ghost use Rattle.serde_json.specs.Errors.{IsMemory};
+ghost use Rattle.serde_json.specs.View.{view};
+ghost use Rattle.check_drafts.specs.Fault.{seen};
+ghost use Rattle.check_explain.specs.Explanation.{head_by, head_of, place_of, subject_in, Begins, IsOfFault};
+ghost use Rattle.check_explain.specs.Feeds.{HasNoFeed};
 
 use crate::counts::push_count;
 use crate::cycle::{push_dependency_cycle, push_parent_cycle};
-use crate::names::{push_bad_name, push_duplicate, push_unknown_end, push_unknown_host};
+use crate::line::Line;
+use crate::names::{
+    misnamed_member, push_bad_name, push_duplicate, push_unknown_end, push_unknown_host,
+    push_unknown_name,
+};
 use crate::no_fault::push_no_fault;
-use crate::ranges::push_range;
-use crate::shapes::push_shape;
-use check_objects::{LoadError, MAX_DOCUMENT_BYTES};
-use check_places::Line;
+use crate::places::push_place;
+use crate::ranges::{push_range, stray_member};
+use crate::shapes::{push_misshapen, push_shape};
+use check_documents::value_at;
+use check_drafts::{Fault, MAX_DOCUMENT_BYTES, Place};
 use serde_json::{Error, Value};
 use std::alloc::{AllocError, Global};
 
 /// Why a setup document was refused, in one line of plain words without a line feed: the place, the
-/// name that stands there, and what is wrong.
+/// name that stands there, the member or the name that is at fault, and what is wrong with it.
 ///
-/// The refusal is the one that `Setup::read` gave for the document; of any other the line says that
-/// the document has no such fault. Texts of the document are told as JSON strings, of which at most
-/// 80 characters are shown. The one error is that memory ran out.
-pub fn explain(alloc: Global, document: &[u8], refusal: LoadError) -> Result<String, AllocError>
+/// The fault is the one that `Setup::examine` gave for the document; nothing is looked for again. The
+/// line begins with the fault's place, and names its member. Texts of the document are told as JSON
+/// strings, of which at most 80 characters are shown. The one error is that memory ran out.
+pub fn explain(alloc: Global, document: &[u8], fault: Fault) -> Result<String, AllocError>
     ensures line { IfOk result (λ text. HasNoFeed (string_bytes text)) }
+    ensures begins { IfOk result (λ text.
+        IsOfFault document.now (seen fault) (string_bytes text)) }
 {
     let mut line = Line::new(alloc);
-    push_explanation(alloc, &mut line, document, refusal)?;
+    push_explanation(alloc, &mut line, document, fault)?;
     Ok(line.into_text())
 }
 
@@ -32,15 +43,14 @@ fn push_explanation(
     alloc: Global,
     line: &mut Line,
     document: &[u8],
-    refusal: LoadError,
-) -> Result<(), AllocError> {
-    match refusal {
-        LoadError::TooLong => push_too_long(line),
-        LoadError::Memory => line.push_words("memory ran out; that says nothing of the document"),
-        _ => match Value::from_slice(alloc, document) {
-            Ok(tree) => push_fault(alloc, line, &tree, refusal),
-            Err(error) => push_unread(line, error),
-        },
+    fault: Fault,
+) -> Result<(), AllocError>
+    ensures { OnOk result (line.old ≡ [] → IsOfFault document.now (seen fault) line.new) }
+{
+    match fault {
+        Fault::TooLong => push_too_long(line),
+        Fault::Memory => line.push_words("memory ran out; that says nothing of the document"),
+        _ => push_read(alloc, line, document, fault),
     }
 }
 
@@ -51,8 +61,25 @@ fn push_too_long(line: &mut Line) -> Result<(), AllocError> {
     line.push_words(" bytes")
 }
 
+/// Appends the fault of a document, or where reading it stops.
+fn push_read(
+    alloc: Global,
+    line: &mut Line,
+    document: &[u8],
+    fault: Fault,
+) -> Result<(), AllocError>
+    ensures { OnOk result (line.old ≡ [] → IsOfFault document.now (seen fault) line.new) }
+{
+    match Value::from_slice(alloc, document) {
+        Ok(tree) => push_fault(alloc, line, &tree, fault),
+        Err(error) => push_unread(line, error),
+    }
+}
+
 /// Appends where reading a document stops that is no JSON.
-fn push_unread(line: &mut Line, error: Error) -> Result<(), AllocError> {
+fn push_unread(line: &mut Line, error: Error) -> Result<(), AllocError>
+    ensures { OnOk result (¬ IsMemory error) }
+{
     if error.is_memory() {
         return Err(AllocError);
     }
@@ -68,22 +95,120 @@ fn push_unread(line: &mut Line, error: Error) -> Result<(), AllocError> {
 }
 
 /// Appends the fault of a document that is JSON.
-fn push_fault(
+fn push_fault(alloc: Global, line: &mut Line, tree: &Value, fault: Fault) -> Result<(), AllocError>
+    ensures { OnOk result (Begins (line.old ++ head_of (view tree.now) (seen fault)) line.new) }
+{
+    match place_of(fault) {
+        Some(place) => push_fault_at(alloc, line, tree, fault, place),
+        None => push_whole(alloc, line, tree, fault),
+    }
+}
+
+/// The place of a fault, where it has one.
+fn place_of(fault: Fault) -> Option<Place>
+    ensures { result ≡ place_of (seen fault) }
+{
+    match fault {
+        Fault::Shape(place, _)
+        | Fault::BadName(place)
+        | Fault::Duplicate(place)
+        | Fault::UnknownHost(place)
+        | Fault::UnknownMaster(place)
+        | Fault::Range(place, _) => Some(place),
+        _ => None,
+    }
+}
+
+/// Appends a place, and what is wrong there.
+fn push_fault_at(
     alloc: Global,
     line: &mut Line,
     tree: &Value,
-    refusal: LoadError,
-) -> Result<(), AllocError> {
-    match refusal {
-        LoadError::Shape(place) => push_shape(alloc, line, tree, place),
-        LoadError::TooMany => push_count(line, tree),
-        LoadError::BadName(place) => push_bad_name(line, tree, place),
-        LoadError::Duplicate(place) => push_duplicate(line, tree, place),
-        LoadError::UnknownHost(place) => push_unknown_host(line, tree, place),
-        LoadError::UnknownMaster(place) => push_unknown_end(line, tree, place),
-        LoadError::Range(place) => push_range(line, tree, place),
-        LoadError::DependencyCycle => push_dependency_cycle(alloc, line, tree),
-        LoadError::ParentCycle => push_parent_cycle(alloc, line, tree),
-        LoadError::NotJson | LoadError::TooLong | LoadError::Memory => push_no_fault(line),
+    fault: Fault,
+    place: Place,
+) -> Result<(), AllocError>
+    ensures { OnOk result (Begins (line.old ++ head_by (view tree.now) (seen fault) (Some place)) line.new) }
+{
+    push_head(line, tree, fault, place)?;
+    let rest = rest_at(alloc, tree, fault, place)?;
+    line.push_line(&rest)
+}
+
+/// Appends a place, and the member or the name at fault.
+fn push_head(line: &mut Line, tree: &Value, fault: Fault, place: Place) -> Result<(), AllocError>
+    ensures { OnOk result (line.new ≡ line.old ++ head_by (view tree.now) (seen fault) (Some place)) }
+{
+    push_place(line, tree, place)?;
+    match value_at(tree, place) {
+        Some(value) => push_subject(line, tree, value, fault),
+        None => Ok(()),
     }
+}
+
+/// Appends the member or the name at fault in the value at the place.
+fn push_subject(
+    line: &mut Line,
+    tree: &Value,
+    value: &Value,
+    fault: Fault,
+) -> Result<(), AllocError>
+    ensures { OnOk result (line.new
+        ≡ line.old ++ subject_in (view tree.now) (view value.now) (seen fault)) }
+{
+    match fault {
+        Fault::Shape(_, shape) => push_misshapen(line, value, shape),
+        Fault::Range(_, range) => line.push_text(stray_member(range)),
+        Fault::BadName(place) => line.push_text(misnamed_member(place.part)),
+        Fault::UnknownHost(place) => push_unknown_name(line, tree, value, place.part),
+        _ => Ok(()),
+    }
+}
+
+/// What is said of a fault behind its place and its member.
+fn rest_at(alloc: Global, tree: &Value, fault: Fault, place: Place) -> Result<Line, AllocError> {
+    let mut rest = Line::new(alloc);
+    match value_at(tree, place) {
+        Some(value) => push_rest(alloc, &mut rest, tree, value, fault)?,
+        None => push_no_fault(&mut rest)?,
+    }
+    Ok(rest)
+}
+
+/// Appends what is wrong with the value at a place.
+fn push_rest(
+    alloc: Global,
+    rest: &mut Line,
+    tree: &Value,
+    value: &Value,
+    fault: Fault,
+) -> Result<(), AllocError> {
+    match fault {
+        Fault::Shape(_, shape) => push_shape(alloc, rest, value, shape),
+        Fault::BadName(place) => push_bad_name(rest, value, place.part),
+        Fault::Duplicate(place) => push_duplicate(rest, tree, value, place),
+        Fault::UnknownHost(place) => push_unknown_host(rest, tree, value, place.part),
+        Fault::UnknownMaster(place) => push_unknown_end(rest, tree, value, place.part),
+        Fault::Range(_, range) => push_range(rest, value, range),
+        _ => push_no_fault(rest),
+    }
+}
+
+/// Appends what is wrong with the document as a whole.
+fn push_whole(alloc: Global, line: &mut Line, tree: &Value, fault: Fault) -> Result<(), AllocError>
+    ensures { OnOk result (Begins line.old line.new) }
+{
+    let rest = rest_of(alloc, tree, fault)?;
+    line.push_line(&rest)
+}
+
+/// What is said of a fault that has no place.
+fn rest_of(alloc: Global, tree: &Value, fault: Fault) -> Result<Line, AllocError> {
+    let mut rest = Line::new(alloc);
+    match fault {
+        Fault::TooMany(count) => push_count(&mut rest, tree, count)?,
+        Fault::DependencyCycle => push_dependency_cycle(alloc, &mut rest, tree)?,
+        Fault::ParentCycle => push_parent_cycle(alloc, &mut rest, tree)?,
+        _ => push_no_fault(&mut rest)?,
+    }
+    Ok(rest)
 }

@@ -1,16 +1,33 @@
-//! Why a setup document is refused, in plain words: the place by the name that stands there, and what
-//! is wrong with what stands there.
+//! A setup document as a reader sees it: its places, the explanation of its fault, its line.
 //!
-//! [`explain`] is the one function; what it writes has no line feed, being a `Line` of check_places.
+//! [`explain`] says in plain words why a document is refused: at which place, by the name that stands
+//! there, which member is at fault, and what is wrong with it. [`write_line`] writes a document as the
+//! one line that a run and a conversation want it to be. [`write_schema`] writes the JSON schema of a
+//! document, from the table of its members.
+//!
+//! The modules: `line` has a line that never gets a line feed, `places` what stands at a place and how
+//! it is told, `kinds` how kinds and values are, `shapes`, `ranges`, `names`, `counts` and `cycle` (over
+//! `links`) the faults by sort, `explanation` puts them together; `document_line` writes the line of a
+//! document, and `laws` says what is so of every good one; `schema` writes the schema, over `layout`,
+//! which lays JSON text out.
 #![tactic(auto)]
 
 mod counts;
 mod cycle;
+mod document_line;
 mod explanation;
+mod kinds;
+pub mod laws;
+mod layout;
+mod line;
 mod links;
 mod names;
 mod no_fault;
+mod places;
 mod ranges;
+mod schema;
 mod shapes;
 
+pub use document_line::write_line;
 pub use explanation::explain;
+pub use schema::write_schema;

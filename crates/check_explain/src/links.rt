@@ -1,7 +1,8 @@
 //! The links between the items of one list of a document, by their indexes.
 
-use check_objects::Part;
-use check_places::{items, text_of, texts_of};
+use crate::places::{text_of, texts_of};
+use check_documents::items;
+use check_drafts::Part;
 use indexmap::IndexSet;
 use serde_json::Value;
 use std::alloc::{AllocError, Global};

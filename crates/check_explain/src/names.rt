@@ -1,28 +1,42 @@
 //! Faults of names: bad ones, repeated ones, and names of what isn't there.
+ghost use Rattle.std.specs.Prelude.{◌≡◌, ◌++◌, [], false, OnOk, codes, option_and_then, option_map};
+ghost use Rattle.std.specs.List.{list_any};
+ghost use Rattle.serde_json.specs.Find.{as_array, get};
+ghost use Rattle.serde_json.specs.View.{items_view, view};
+ghost use Rattle.check_documents.specs.Places.{or_no_items};
+ghost use Rattle.check_explain.specs.Explanation.{first_unknown, host_role, is_host, is_text, misnamed_member, named};
+ghost use Rattle.check_explain.specs.Explanation.{text_before, text_in, texts_among, unknown_host};
+ghost use Rattle.check_explain.specs.Feeds.{has_feed};
 
+use crate::line::Line;
 use crate::no_fault::push_no_fault;
-use check_objects::{MAX_NAME_BYTES, Part, Place};
-use check_places::{Line, items, push_part_and_index, push_place, text_of, texts_of, value_at};
+use crate::places::{push_part_and_index, text_of, texts_of};
+use check_documents::items;
+use check_drafts::{MAX_NAME_BYTES, Part, Place};
 use serde_json::Value;
 use std::alloc::AllocError;
 
 // ---- bad names
 
-/// Appends what is wrong with the name of the host or the description of the service at a place.
-pub(crate) fn push_bad_name(line: &mut Line, tree: &Value, place: Place) -> Result<(), AllocError> {
-    push_place(line, tree, place)?;
-    let member = match place.part {
+/// The member whose text is a name, or may be none: of a service its description.
+pub(crate) fn misnamed_member(part: Part) -> &'static str
+    ensures { result.now ≡ misnamed_member part }
+{
+    match part {
         Part::Services => "description",
         _ => "name",
-    };
-    match value_at(tree, place).and_then(|item| text_of(item, member)) {
-        Some(name) => push_name_fault(line, member, name),
-        None => push_no_fault(line),
     }
 }
 
-fn push_name_fault(line: &mut Line, member: &str, name: &str) -> Result<(), AllocError> {
-    line.push_text(member)?;
+/// Appends what is wrong with the name of a host or the description of a service.
+pub(crate) fn push_bad_name(line: &mut Line, item: &Value, part: Part) -> Result<(), AllocError> {
+    match text_of(item, misnamed_member(part)) {
+        Some(name) => push_name_fault(line, name),
+        None => line.push_words(" isn't there"),
+    }
+}
+
+fn push_name_fault(line: &mut Line, name: &str) -> Result<(), AllocError> {
     if name.is_empty() {
         return line.push_words(" is empty; it can have 1 to 255 bytes");
     }
@@ -57,11 +71,10 @@ fn push_bad_byte(line: &mut Line, byte: u8) -> Result<(), AllocError> {
 pub(crate) fn push_duplicate(
     line: &mut Line,
     tree: &Value,
+    item: &Value,
     place: Place,
 ) -> Result<(), AllocError> {
-    push_place(line, tree, place)?;
-    let first = value_at(tree, place).and_then(|item| first_like(tree, item, place.part));
-    match first {
+    match first_like(tree, item, place.part) {
         Some(index) if is_earlier(index, place) => {
             push_part_and_index(line, place.part, Some(index))?;
             line.push_words(repeated(place.part))
@@ -103,26 +116,36 @@ fn are_alike(one: &Value, other: &Value, part: Part) -> bool {
 
 // ---- hosts that aren't there
 
-/// Appends which parent of the host at a place isn't a host, or that the host of the service there
-/// isn't one.
+/// Appends which parent of a host isn't a host, or which host of a service isn't one.
+pub(crate) fn push_unknown_name(
+    line: &mut Line,
+    tree: &Value,
+    item: &Value,
+    part: Part,
+) -> Result<(), AllocError>
+    ensures { OnOk result (line.new ≡ line.old
+        ++ named (host_role part) (unknown_host (view tree.now) part (view item.now))) }
+{
+    line.push_name(host_role(part), unknown_host(tree, item, part))
+}
+
+/// Appends that a host isn't there.
 pub(crate) fn push_unknown_host(
     line: &mut Line,
     tree: &Value,
-    place: Place,
+    item: &Value,
+    part: Part,
 ) -> Result<(), AllocError> {
-    push_place(line, tree, place)?;
-    let unknown = value_at(tree, place).and_then(|item| unknown_host(tree, item, place.part));
-    match unknown {
-        Some(name) => {
-            line.push_words(role(place.part))?;
-            line.push_text(name)?;
-            line.push_words(" isn't among the hosts")
-        }
+    match unknown_host(tree, item, part) {
+        Some(_) => line.push_words(" isn't among the hosts"),
         None => push_no_fault(line),
     }
 }
 
-fn role(part: Part) -> &'static str {
+fn host_role(part: Part) -> &'static str
+    ensures text { result.now ≡ host_role part }
+    ensures flat { has_feed result.now ≡ false }
+{
     match part {
         Part::Services => "host ",
         _ => "parent ",
@@ -130,37 +153,81 @@ fn role(part: Part) -> &'static str {
 }
 
 /// The host of a service, or the first parent of a host, that isn't among the hosts.
-fn unknown_host<'v>(tree: &Value, item: &'v Value, part: Part) -> Option<&'v str> {
+fn unknown_host<'v>(tree: &Value, item: &'v Value, part: Part) -> Option<&'v str>
+    ensures { option_map (λ name. name.now) result
+        ≡ unknown_host (view tree.now) part (view item.now) }
+{
     match part {
-        Part::Services => {
-            let host = text_of(item, "host")?;
-            if is_host(tree, host) {
-                None
-            } else {
-                Some(host)
-            }
-        }
-        _ => first_unknown(tree, item.get("parents").and_then(Value::as_array)?),
+        Part::Services => unknown_text(tree, text_of(item, "host")),
+        _ => first_unknown(tree, parents_of(item)),
+    }
+}
+
+/// The parents of a host.
+fn parents_of(host: &Value) -> &[Value]
+    ensures { items_view result.now
+        ≡ or_no_items (option_and_then as_array (get (codes "parents") (view host.now))) }
+{
+    match host.get("parents").and_then(Value::as_array) {
+        Some(parents) => parents.as_slice(),
+        None => &[],
     }
 }
 
 /// The first of these texts that is no host's name.
-fn first_unknown<'v>(tree: &Value, names: &'v [Value]) -> Option<&'v str> {
+fn first_unknown<'v>(tree: &Value, names: &'v [Value]) -> Option<&'v str>
+    ensures { option_map (λ name. name.now) result
+        ≡ first_unknown (view tree.now) (texts_among (items_view names.now)) }
+{
     for value in names {
-        if let Some(name) = value.as_str()
-            && !is_host(tree, name)
-        {
-            return Some(name);
+        let unknown = unknown_text(tree, value.as_str());
+        if unknown.is_some() {
+            return unknown;
         }
     }
     None
 }
 
+/// A text, where there is one and no host has it for a name.
+fn unknown_text<'v>(tree: &Value, text: Option<&'v str>) -> Option<&'v str>
+    ensures { option_map (λ name. name.now) result ≡ first_unknown (view tree.now)
+        (text_before (option_map (λ text. text.now) text.entry) []) }
+{
+    match text {
+        Some(name) => {
+            if is_host(tree, name) {
+                None
+            } else {
+                Some(name)
+            }
+        }
+        None => None,
+    }
+}
+
 /// Whether there is a host of this name.
-fn is_host(tree: &Value, name: &str) -> bool {
-    items(tree, Part::Hosts)
-        .iter()
-        .any(|host| text_of(host, "name") == Some(name))
+fn is_host(tree: &Value, name: &str) -> bool
+    ensures { result ≡ is_host (view tree.now) name.now }
+{
+    have_name(items(tree, Part::Hosts), name)
+}
+
+/// Whether one of these hosts has this name.
+fn have_name(hosts: &[Value], name: &str) -> bool
+    ensures { result
+        ≡ list_any (λ host. is_text name.now (text_in (codes "name") (view host))) hosts.now }
+{
+    hosts.iter().any(|host| has_text(host, "name", name))
+}
+
+/// Whether a member of an item is this text.
+fn has_text(item: &Value, member: &str, text: &str) -> bool
+    ensures { result ≡ is_text text.now (text_in member.now (view item.now)) }
+{
+    match text_of(item, member) {
+        Some(found) => found == text,
+        None => false,
+    }
 }
 
 /// Whether there is a service of this full name.
@@ -174,20 +241,19 @@ fn is_service(tree: &Value, name: &str) -> bool {
 
 // ---- ends that aren't there
 
-/// Appends which end of the dependency at a place isn't there, or is of the other sort.
+/// Appends which end of a dependency isn't there, or is of the other sort.
 pub(crate) fn push_unknown_end(
     line: &mut Line,
     tree: &Value,
-    place: Place,
+    item: &Value,
+    part: Part,
 ) -> Result<(), AllocError> {
-    push_place(line, tree, place)?;
-    let ends = value_at(tree, place).and_then(|item| texts_of(item, "dependent", "master"));
-    match ends {
+    match texts_of(item, "dependent", "master") {
         Some((dependent, master)) => {
-            if !is_end(tree, dependent, place.part) {
-                push_end(line, tree, "dependent ", dependent, place.part)
+            if !is_end(tree, dependent, part) {
+                push_end(line, tree, "dependent ", dependent, part)
             } else {
-                push_end(line, tree, "master ", master, place.part)
+                push_end(line, tree, "master ", master, part)
             }
         }
         None => push_no_fault(line),

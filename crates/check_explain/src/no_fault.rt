@@ -1,6 +1,6 @@
 //! What is said of a refusal that another document has.
 
-use check_places::Line;
+use crate::line::Line;
 use std::alloc::AllocError;
 
 /// Appends that the document has no fault of this sort.

@@ -1,52 +1,77 @@
 //! Faults of shape: a member that is unknown, missing or of the wrong kind.
+ghost use Rattle.std.specs.Prelude.{◌≡◌, ◌++◌, OnOk, option_and_then, option_map, slice_get};
+ghost use Rattle.std.specs.BTreeMap.{keys};
+ghost use Rattle.serde_json.specs.Find.{as_object};
+ghost use Rattle.serde_json.specs.View.{members_view, view};
+ghost use Rattle.check_drafts.specs.Fault.{shape_seen};
+ghost use Rattle.check_explain.specs.Explanation.{key_at, misshapen};
 
-use crate::no_fault::push_no_fault;
-use check_objects::Place;
-use check_places::{
-    Kind, Line, Member, members_at, misfit, missing_member, push_place, push_value, unknown_member,
-    value_at,
-};
-use serde_json::Value;
+use crate::kinds::{kind_words, push_value};
+use crate::line::Line;
+use check_drafts::{Kind, Member, ShapeFault};
+use serde_json::{Map, Value};
 use std::alloc::{AllocError, Global};
 
-/// Appends what is wrong with the shape of what stands at a place.
+/// Appends which member of a value is at fault.
+pub(crate) fn push_misshapen(
+    line: &mut Line,
+    value: &Value,
+    fault: ShapeFault,
+) -> Result<(), AllocError>
+    ensures { OnOk result (line.new ≡ line.old ++ misshapen (view value.now) (shape_seen fault)) }
+{
+    match fault {
+        ShapeFault::NotAnArray | ShapeFault::NotAnObject => Ok(()),
+        ShapeFault::Unknown(index) => line.push_name("a member ", key_at(value, index)),
+        ShapeFault::Missing(member) => line.push_named("the member ", member.name),
+        ShapeFault::Misfit(member) => line.push_text(member.name),
+    }
+}
+
+/// The name of the member at this index, by the order of an object's names.
+fn key_at(value: &Value, index: usize) -> Option<&str>
+    ensures { option_map (λ key. key.now) result
+        ≡ option_and_then (key_at index) (as_object (view value.now)) }
+{
+    match value.as_object() {
+        Some(object) => key_of(object, index),
+        None => None,
+    }
+}
+
+fn key_of(object: &Map<String, Value>, index: usize) -> Option<&str>
+    ensures { option_map (λ key. key.now) result
+        ≡ key_at index (members_view object.now.entries) }
+{
+    match nth_key(object, index) {
+        Some(key) => Some(key.as_str()),
+        None => None,
+    }
+}
+
+fn nth_key(object: &Map<String, Value>, index: usize) -> Option<&String>
+    ensures { option_map (λ key. key.now) result ≡ slice_get (keys object.now) index }
+{
+    object.keys().nth(index)
+}
+
+/// Appends what is wrong with the shape of a value, or with the member of it that is at fault.
 pub(crate) fn push_shape(
     alloc: Global,
     line: &mut Line,
-    tree: &Value,
-    place: Place,
-) -> Result<(), AllocError> {
-    push_place(line, tree, place)?;
-    match (value_at(tree, place), members_at(place)) {
-        (Some(value), Some(members)) => push_object(alloc, line, value, members),
-        (Some(value), None) => push_other_kind(alloc, line, value, "an array"),
-        (None, _) => push_no_fault(line),
-    }
-}
-
-/// Appends what is wrong with a value that has to be an object with these members.
-fn push_object(
-    alloc: Global,
-    line: &mut Line,
     value: &Value,
-    members: &[Member],
+    fault: ShapeFault,
 ) -> Result<(), AllocError> {
-    let Some(object) = value.as_object() else {
-        return push_other_kind(alloc, line, value, "an object");
-    };
-    if let Some(name) = unknown_member(object, members) {
-        return push_unknown(line, name);
-    }
-    if let Some(member) = missing_member(value, members) {
-        return push_missing(line, member);
-    }
-    match misfit(value, members) {
-        Some((member, value)) => push_misfit(alloc, line, member, value),
-        None => push_no_fault(line),
+    match fault {
+        ShapeFault::NotAnArray => push_other_kind(alloc, line, value, "an array"),
+        ShapeFault::NotAnObject => push_other_kind(alloc, line, value, "an object"),
+        ShapeFault::Unknown(_) => line.push_words(" isn't known here"),
+        ShapeFault::Missing(_) => line.push_words(" is missing"),
+        ShapeFault::Misfit(member) => push_misfit(alloc, line, value, member),
     }
 }
 
-/// Appends that what stands at the place isn't of this kind.
+/// Appends that a value isn't of this kind.
 fn push_other_kind(
     alloc: Global,
     line: &mut Line,
@@ -59,33 +84,32 @@ fn push_other_kind(
     line.push_words(kind)
 }
 
-fn push_unknown(line: &mut Line, name: &str) -> Result<(), AllocError> {
-    line.push_words("a member ")?;
-    line.push_text(name)?;
-    line.push_words(" isn't known here")
-}
-
-fn push_missing(line: &mut Line, member: Member) -> Result<(), AllocError> {
-    line.push_words("the member ")?;
-    line.push_text(member.name)?;
-    line.push_words(" is missing")
-}
-
 /// Appends that the value of a member is of the wrong kind.
 fn push_misfit(
     alloc: Global,
     line: &mut Line,
-    member: Member,
     value: &Value,
+    member: Member,
 ) -> Result<(), AllocError> {
-    line.push_text(member.name)?;
-    match (member.kind, value.as_array()) {
+    match value.get(member.name) {
+        Some(value) => push_wrong_kind(alloc, line, value, member.kind),
+        None => line.push_words(" isn't there"),
+    }
+}
+
+fn push_wrong_kind(
+    alloc: Global,
+    line: &mut Line,
+    value: &Value,
+    kind: Kind,
+) -> Result<(), AllocError> {
+    match (kind, value.as_array()) {
         (Kind::Texts, Some(values)) => push_no_text(alloc, line, values),
         _ => {
             line.push_words(" is ")?;
             push_value(alloc, line, value)?;
             line.push_words("; it has to be ")?;
-            line.push_words(member.kind.words())
+            line.push_words(kind_words(kind))
         }
     }
 }

@@ -72,18 +72,24 @@ pub fn links_are_kept()
         (map (named_parents (configuration d)) (configuration d).hosts) }
 {}
 
-/// A document that is refused for a number at a place has a number there that is out of its limits by
-/// the table of members, or thresholds of flapping that are crossed. So what a fault says of a number is
-/// never a filler.
-#[tactic(auto, using(crate::proofs::StrayLemmas::host_in_range, crate::proofs::StrayLemmas::service_in_range, crate::proofs::StrayLemmas::options_in_range, crate::proofs::RangeLemmas::number_wrong))]
-pub fn a_refused_number_is_wrong()
+/// The limits of numbers go by the table of members: the numbers of a host, a service and the options
+/// that were read are within their limits exactly where no number is wrong by the table.
+#[tactic(auto, using(crate::proofs::StrayLemmas::host_in_range, crate::proofs::StrayLemmas::service_in_range, crate::proofs::StrayLemmas::options_in_range))]
+pub fn limits_go_by_the_table()
     ensures host { (d : Data) → (h : HostDraft) → host_draft d ≡ Some h
         → is_none (wrong_number part.Hosts members.host_members d) ≡ is_in_range h.check }
     ensures service { (d : Data) → (s : ServiceDraft) → service_draft d ≡ Some s
         → is_none (wrong_number part.Services members.service_members d) ≡ is_in_range s.check }
     ensures options { (d : Data) → (o : Options) → options_of (Some d) ≡ Some o
         → is_none (wrong_number part.Options members.option_members d) ≡ are_options_in_range o }
-    ensures place { (d : Data) → (place : Place) → setup_of_tree d ≡ Err (LoadError.Range place)
+{}
+
+/// A document that is refused for a number at a place has a number there that is out of its limits by
+/// the table of members, or thresholds of flapping that are crossed. So what a fault says of a number is
+/// never a filler.
+#[tactic(auto, using(crate::proofs::RangeLemmas::number_wrong))]
+pub fn a_refused_number_is_wrong()
+    ensures { (d : Data) → (place : Place) → setup_of_tree d ≡ Err (LoadError.Range place)
         → is_some (wrong_number_at d place) ≡ true }
 {}
 

@@ -31,7 +31,7 @@ use Rattle.check_records.specs.Plain.{flag, has_time, part_number, time_or_0}
 use Rattle.check_records.specs.Plain.{plain_call, plain_entry, plain_refusal, plain_reply, plain_standing, refusal_at}
 
 -- what can be read back tells values apart
-told : {X Y : Type 0} (back : Y → X) (plain : X → Y) → ((x : X) → back (plain x) ≡ x) → (a b : X) → plain a ≡ plain b → a ≡ b
+pub told : {X Y : Type 0} (back : Y → X) (plain : X → Y) → ((x : X) → back (plain x) ≡ x) → (a b : X) → plain a ≡ plain b → a ≡ b
 told back plain is a b same = sym (is a) ∙ (ap back same ∙ is b)
 
 -- ---- the parts
@@ -59,7 +59,7 @@ kind_is : (k : Kind) → kind_back (kind_number k) ≡ k
 kind_is kind.Soft = refl
 kind_is kind.Hard = refl
 
-time_is : (t : Option ℕ) → time_back (has_time t) (time_or_0 t) ≡ t
+pub time_is : (t : Option ℕ) → time_back (has_time t) (time_or_0 t) ≡ t
 time_is (Some time) = refl
 time_is None = refl
 
@@ -146,7 +146,7 @@ refusals_told = told refusal_back plain_refusal refusal_is
 -- ---- structs that nothing has
 
 -- where what is read back has another struct, nothing has this one
-none_has : {X Y : Type 0} (back : Y → X) (plain : X → Y) → ((x : X) → back (plain x) ≡ x) → (y : Y) → plain (back y) ≢ y → (x : X) → plain x ≢ y
+pub none_has : {X Y : Type 0} (back : Y → X) (plain : X → Y) → ((x : X) → back (plain x) ≡ x) → (y : Y) → plain (back y) ≢ y → (x : X) → plain x ≢ y
 none_has back plain is y other x has = other (subst (λ z. plain (back z) ≡ z) has (ap plain (is x)))
 
 pub no_call : (plain : PlainCall) → plain_call (call_back plain) ≢ plain → IsNoCall plain

@@ -81,17 +81,17 @@ pub struct PlainEntry {
     pub reply: PlainReply,
 }
 
-/// Why a document is no setup, and where.
+/// Why a document is no setup, or a text no saved state, and where.
 #[repr(C)]
 #[derive(Clone, Copy, PartialEq)]
 pub struct PlainRefusal {
-    /// The reason, 0 to 10.
+    /// The reason: 0 to 10 of a document, 11 to 19 of a saved state.
     pub kind: u32,
-    /// The part of the document, 1 to 6, or 0 where the kind has no place.
+    /// The part of the document, 1 to 6, or 0 where the kind has no place, and of a saved state.
     pub part: u32,
     /// 1 where there is an index, else 0.
     pub has_index: u64,
-    /// The index in the part's list, from 0, where there is one.
+    /// The index in the part's list, or in the list of saved objects, from 0, where there is one.
     pub index: u64,
 }
 

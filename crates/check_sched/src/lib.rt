@@ -29,6 +29,6 @@ mod roster;
 mod sched;
 
 pub use call::{Call, Refusal, Reply};
-pub use check_saved::Saved;
+pub use check_saved::{Saved, SavedRun};
 pub use check_spread::{LAST_MOMENT, LAST_TIME};
 pub use sched::{MAX_RUNS, Sched};

@@ -1,6 +1,6 @@
 //! The scheduler: how it is made, its one call, and what can be read of it between calls.
 
-ghost use Rattle.std.specs.Prelude.{◌≡◌, ◌<◌, ◌≤◌, IfSome, IfOk, IfErr, IsTrue, Ok, OnOk, length, slice_index};
+ghost use Rattle.std.specs.Prelude.{◌≡◌, ◌<◌, ◌≤◌, IfSome, IfOk, IfErr, IsTrue, Ok, OnOk, length, option_and_then, slice_get, slice_index};
 ghost use Rattle.std.specs.List.{All};
 ghost use Rattle.check_objects.specs.Configuration.{IsSetup, object_count};
 ghost use Rattle.check_spread.specs.Spread.{initial_times};
@@ -17,6 +17,7 @@ use crate::results::Results;
 use crate::roster::Roster;
 use check_objects::Setup;
 use check_rules::{Standing, code, pending};
+use check_saved::SavedRun;
 use check_spread::{LAST_MOMENT, LAST_TIME, initial_times};
 use std::alloc::{AllocError, Global};
 use std::marker::Model;
@@ -239,6 +240,15 @@ impl Sched {
         ensures { result ≡ run_number_of number self.now }
     {
         self.roster.at(number).run_number()
+    }
+
+    /// The check of the object with this number that is out: the number of its run, and the moment at
+    /// which it was handed out, in milliseconds. None where the object isn't being checked.
+    pub fn open_run(&self, number: u32) -> Option<SavedRun>
+        requires { number < object_count self.now.setup }
+        ensures { result ≡ option_and_then (λ o. o.run) (slice_get self.now.objects number) }
+    {
+        self.roster.at(number).saved_run()
     }
 }
 

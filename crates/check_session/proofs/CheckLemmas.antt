@@ -1,19 +1,30 @@
 -- A whole check of a setup, and what its faults leave.
-use Rattle.std.proofs.Common.{◌≡◌, ◌≢◌, ℕ, ◌<◌, ◌≤◌, Bool, true, false, List, [], length, Option, Some, None, Ok, Err, refl, sym, subst, ◌∙◌}
+use Rattle.std.proofs.Common.{◌≡◌, ◌≢◌, ℕ, ◌<◌, ◌≤◌, Bool, true, false, List, [], length, Option, Some, None, Ok, Err, refl, sym, ap, subst, ◌∙◌}
 use Rattle.std.proofs.Common.{arith, inl, inr, ◌⊎◌}
-use Rattle.std.specs.Prelude.{nat_lt, IfSome}
+use Rattle.std.specs.Prelude.{nat_lt, IfErr, IfOk, IfSome, IsOk, Result}
 use Rattle.std.specs.Io.KnownBytes.{Appends, Keeps}
 use Rattle.std.proofs.lemmas.Bool.{cases_lt}
 use Rattle.std.proofs.lemmas.Bool.Decides.{nat_tests}
 use Rattle.check_drafts.specs.declared.error.LoadError.TheVariants as load
-use Rattle.check_objects.specs.Setup.{setup_of}
+use Rattle.check_drafts.specs.Fault as fault
+use Rattle.check_drafts.specs.declared.fault.Fault as declared
+use Rattle.check_drafts.specs.declared.fault.Fault.TheVariants as faults
+use Rattle.check_drafts.specs.Fault.{Fault, Tells, but_memory, load_error, seen}
+use Rattle.check_drafts.specs.Agreement.{Fails}
+use Rattle.check_objects.specs.Setup.{examined, or_refusal, setup_of}
+use Rattle.check_objects.proofs.ExaminedLemmas.{refused_alike}
+use Rattle.check_numbers.specs.Configuration.{Configuration}
+use Rattle.check_explain.specs.Explanation.{place_of, IsOfFault}
+use Rattle.check_explain.proofs.HeadLemmas.{of_nowhere}
+use Rattle.check_explain.specs.DocumentLine.{IsFault, OfTree}
+use Rattle.serde_json.specs.Written.{compact_text}
 use Rattle.check_script.specs.declared.drive_error.DriveError.{DriveError}
 use Rattle.check_script.specs.declared.drive_error.DriveError.TheVariants as errors
 use Rattle.check_script.specs.Input.{without_last_feed}
 use Rattle.check_text.specs.Output.{WroteFront}
 use Rattle.check_text.proofs.OutputLemmas.{front_all, Appends-Keeps}
 use Rattle.check_drive.specs.declared.drive.Outcome.{Outcome}
-use Rattle.check_session.specs.Check.{IsCheckOnInput, IsTold}
+use Rattle.check_session.specs.Check.{HasOnly, IsCheckOnInput, IsLineTold, IsRefusalTold, IsRefusedAs, IsTold}
 use Rattle.check_session.specs.Reading.{read_of}
 use Rattle.check_session.proofs.ReadingLemmas.{cut_length, read_all, read_long}
 use Rattle.check_drive.proofs.DriveLemmas.{input_of, input_of-is, Keeps-same}
@@ -24,10 +35,22 @@ too_long : (bs : List ℕ) → 16777216 < length bs → setup_of bs ≡ Err load
 unfolding setup_of
 too_long bs h = let a : nat_lt 16777216 (length bs) ≡ true = grind (arith, nat_tests, h) in rw a refl
 
+examined_long : (bs : List ℕ) → 16777216 < length bs → examined bs ≡ Err fault.too_long
+unfolding examined
+examined_long bs h = let a : nat_lt 16777216 (length bs) ≡ true = grind (arith, nat_tests, h) in rw a refl
+
+explained_long : (document : List ℕ) (f : Fault) (words : List ℕ) → examined document ≡ Err fault.too_long → examined document ≡ Err f → IsOfFault document f words
+explained_long document f words long is =
+    let same : f ≡ fault.too_long = cc (long, is) in of_nowhere document f words (ap place_of same)
+
+refused_long : (one other text : List ℕ) (told : Outcome) → examined other ≡ Err fault.too_long
+    → IsRefusalTold one load.TooLong text told → IsRefusalTold other load.TooLong text told
+refused_long one other text told long ((words, (flat, of_one), is), out) = ((words, (flat, λ f is_f. explained_long other f words long is_f), is), out)
+
 told_long : (start : ℕ) (line : Bool) (one other text : List ℕ) (told : Outcome) → setup_of one ≡ Err load.TooLong → setup_of other ≡ Err load.TooLong
-    → IsTold start line one text told → IsTold start line other text told
-told_long start true one other text told e f h = rw f (rw e at h)
-told_long start false one other text told e f h = rw f (rw e at h)
+    → examined other ≡ Err fault.too_long → IsTold start line one text told → IsTold start line other text told
+told_long start true one other text told e f long h = rw f (refused_long one other text told long (rw e at h))
+told_long start false one other text told e f long h = rw f (refused_long one other text told long (rw e at h))
 
 read_by : (start : ℕ) (line : Bool) (bytes text : List ℕ) (told : Outcome) → (16777217 < length bytes) ⊎ (length bytes ≤ 16777217)
     → IsTold start line (without_last_feed (read_of bytes)) text told → IsTold start line (without_last_feed bytes) text told
@@ -35,7 +58,8 @@ read_by start line bytes text told (inl long) h =
     let cut = cut_length bytes in
     told_long start line (without_last_feed (read_of bytes)) (without_last_feed bytes) text told
     (too_long (without_last_feed (read_of bytes)) (read_long bytes long))
-    (too_long (without_last_feed bytes) (omega (arith, cut, long))) h
+    (too_long (without_last_feed bytes) (omega (arith, cut, long)))
+    (examined_long (without_last_feed bytes) (omega (arith, cut, long))) h
 read_by start line bytes text told (inr short) h =
     subst (λ read. IsTold start line (without_last_feed read) text told) (read_all bytes short) h
 
@@ -88,3 +112,66 @@ flushed_check start line had held mid holds read text told all is a k = record {
   is_input = input_of-is had read;
   told = (text, told_of start line had read text told all is, Appends-Keeps held mid holds text a k);
 }
+
+-- ---- a document that was examined
+
+pub examined_good : (document : List ℕ) (c : Configuration) → examined document ≡ Ok c → setup_of document ≡ Ok c
+examined_good document c is = refused_alike document ∙ ap or_refusal is
+
+pub examined_bad : (document : List ℕ) (f : Option Fault) → Fails f (examined document) → IsRefusedAs document f
+examined_bad document None fails = tt
+examined_bad document (Some f) fails = (refused_alike document ∙ ap or_refusal fails, λ other is. cc)
+
+pub good_by : (r : Result Configuration declared.Fault) (document : List ℕ) → Tells (λ c. c) r (examined document) → IfOk r (λ c. setup_of document ≡ Ok c)
+good_by (Ok c) document is = examined_good document c is
+good_by (Err f) document is = tt
+
+pub bad_by : (r : Result Configuration declared.Fault) (document : List ℕ) → Tells (λ c. c) r (examined document)
+    → IfErr r (λ f. IsRefusedAs document (but_memory (seen f)))
+bad_by (Ok c) document is = tt
+bad_by (Err f) document is = examined_bad document (but_memory (seen f)) is
+
+-- ---- a document of which no line was written
+
+only_by : (document : List ℕ) (f : Fault) (r : Result Configuration Fault) → examined document ≡ r → IsFault r f → but_memory f ≡ Some f → HasOnly document f
+only_by document f (Ok c) is told real other is_other = cc
+only_by document f (Err e) is told real other is_other =
+    let same : f ≡ e = rw real at told in cc
+
+-- the fault for which no line was written is the document's only one
+pub only_unwritten : (document : List ℕ) (f : Fault) → IsFault (examined document) f → but_memory f ≡ Some f → HasOnly document f
+only_unwritten document f told real = only_by document f (examined document) refl told real
+
+unwritten_by : (document : List ℕ) (f : Fault) (text : List ℕ) (told : Outcome) (r : Result Configuration Fault) → examined document ≡ r → IsFault r f
+    → but_memory f ≡ Some f → (f ≡ fault.too_long → IsOk (setup_of document) → OfTree document (λ tree. 16777216 < length (compact_text tree)))
+    → IsRefusalTold document (load_error f) text told → IsLineTold document text told
+unwritten_by document f text told (Ok c) is fails real long refused =
+    let good : setup_of document ≡ Ok c = examined_good document c is in
+    let same : f ≡ fault.too_long = rw real at fails in
+    let past = long same (rw good refl) in
+    let as_long : IsRefusalTold document load.TooLong text told = rw same at refused in
+    rw good (inr (past, as_long))
+unwritten_by document f text told (Err e) is fails real long refused =
+    let bad : setup_of document ≡ Err (load_error e) = refused_alike document ∙ ap or_refusal is in
+    let same : f ≡ e = rw real at fails in
+    let as_told : IsRefusalTold document (load_error e) text told = rw same at refused in
+    rw bad as_told
+
+pub unwritten : (document : List ℕ) (f : Fault) (text : List ℕ) (told : Outcome) → IsFault (examined document) f → but_memory f ≡ Some f
+    → (f ≡ fault.too_long → IsOk (setup_of document) → OfTree document (λ tree. 16777216 < length (compact_text tree)))
+    → IsRefusalTold document (load_error f) text told → IsLineTold document text told
+unwritten document f text told fails real long refused = unwritten_by document f text told (examined document) refl fails real long refused
+
+pub seen_long : (f : declared.Fault) → seen f ≡ fault.too_long → f ≡ faults.TooLong
+seen_long faults.TooLong is = refl
+seen_long faults.NotJson is = cc
+seen_long (faults.Shape p w) is = cc
+seen_long (faults.TooMany c) is = cc
+seen_long (faults.BadName p) is = cc
+seen_long (faults.Duplicate p) is = cc
+seen_long (faults.UnknownHost p) is = cc
+seen_long (faults.UnknownMaster p) is = cc
+seen_long (faults.Range p w) is = cc
+seen_long faults.DependencyCycle is = cc
+seen_long faults.ParentCycle is = cc
+seen_long faults.Memory is = cc

@@ -15,11 +15,22 @@ use Rattle.check_words.specs.declared.words.WordsError.TheVariants as words_erro
 use Rattle.check_session.specs.Check.{IsCheckOnInput}
 use Rattle.check_session.specs.Drill.{AfterDrillFault, IsDrillOnInput, WroteDrillShort}
 use Rattle.check_session.specs.Reading.{HasBegun, HasReadDocument}
-use Rattle.check_drive.specs.Drive.{AfterFault, HasRead, IsRunOnInput}
-use Rattle.check_drive.specs.Live.{IsLiveOnInput}
+use Rattle.check_drive.specs.Drive.{AfterFault, AfterResumedFault, HasRead, IsResumedOnInput, IsRunOnInput}
+use Rattle.check_drive.specs.Live.{IsLiveOnInput, IsLiveResumedOnInput}
 use Rattle.check_text.specs.Output.{WroteFront, WroteShort}
-use Rattle.check_text.specs.Text.{text}
+use Rattle.check_text.specs.Text.{text, text_resumed}
 use Rattle.check_words.specs.Words.{AsksHelp, IsRefused, job_asked, program}
+
+-- What a job wrote that is to write this text: all of it, after a fault of the writer a prefix of it, and out of memory nothing.
+abbrev pub IsTextTold : List ℕ → Result Outcome DriveError → Option (List ℕ) → Option (List ℕ) → Type 0
+IsTextTold told (Ok ended) held holds = (ended ≡ outcome.Ran) × Appends held holds told
+IsTextTold told (Err errors.Write) held holds = WroteFront held holds told
+IsTextTold told (Err errors.Memory) held holds = holds ≡ held
+IsTextTold told (Err errors.Read) held holds = ⊥
+
+-- the schema is a text that nothing more is said of
+abbrev pub IsSchemaTold : Result Outcome DriveError → Option (List ℕ) → Option (List ℕ) → Type 0
+IsSchemaTold ended held holds = (schema : List ℕ) × IsTextTold schema ended held holds
 
 -- What a job has done that no error ended, by how it ended, by what the reader had and has left and by what the writer held
 -- and holds: it ran or refused one input, which is the reader's where that is known, wrote what it is to write on it, and
@@ -28,10 +39,14 @@ abbrev pub DidJob : Job → Outcome → Option (List ℕ) → Option (List ℕ) 
 DidJob (job.Run start) outcome had left held holds =
     IsRunOnInput start (Ok outcome) had held holds × IfSome had (HasRead had left)
 DidJob (job.Live start) outcome had left held holds = IsLiveOnInput start (Ok outcome) had left held holds
+DidJob (job.RunResumed start) outcome had left held holds =
+    IsResumedOnInput start (Ok outcome) had held holds × IfSome had (HasRead had left)
+DidJob (job.LiveResumed start) outcome had left held holds = IsLiveResumedOnInput start (Ok outcome) had left held holds
 DidJob (job.Check start line) outcome had left held holds =
     IsCheckOnInput start line (Ok outcome) had held holds × IfSome had (HasReadDocument had left)
 DidJob (job.Drill start workers room) outcome had left held holds =
     IsDrillOnInput start workers room (Ok outcome) had held holds × IfSome had (HasRead had left)
+DidJob job.Schema outcome had left held holds = (left ≡ had) × IsSchemaTold (Ok outcome) held holds
 
 -- What a job leaves that an error ended. Out of memory a run and a drill have never written the whole of what was to be written,
 -- and a check has read a byte, unless there was none.
@@ -40,11 +55,16 @@ FailedJob (job.Run start) e had left held holds =
     AfterFault e start had left held holds × IsRunOnInput start (Err e) had held holds
     × (e ≡ errors.Memory → IfSome had (λ input. WroteShort held holds (text start input)))
 FailedJob (job.Live start) e had left held holds = IsLiveOnInput start (Err e) had left held holds
+FailedJob (job.RunResumed start) e had left held holds =
+    AfterResumedFault e start had left held holds × IsResumedOnInput start (Err e) had held holds
+    × (e ≡ errors.Memory → IfSome had (λ input. WroteShort held holds (text_resumed start input)))
+FailedJob (job.LiveResumed start) e had left held holds = IsLiveResumedOnInput start (Err e) had left held holds
 FailedJob (job.Check start line) e had left held holds =
     IsCheckOnInput start line (Err e) had held holds × (e ≡ errors.Memory → HasBegun had left)
 FailedJob (job.Drill start workers room) e had left held holds =
     AfterDrillFault e start workers room had left held holds × IsDrillOnInput start workers room (Err e) had held holds
     × (e ≡ errors.Memory → IfSome had (λ input. WroteDrillShort start workers room input held holds))
+FailedJob job.Schema e had left held holds = (left ≡ had) × IsSchemaTold (Err e) held holds
 
 -- words in which `clap` finds no fault, and which ask for this job
 abbrev pub Asks : List Text → Job → Type 0

@@ -1,13 +1,14 @@
 //! A check of a setup: reads one document, and tells what is in it, or why it is refused.
-ghost use Rattle.std.specs.Prelude.{◌≡◌, ◌≤◌, IfOk, IfErr, IfSome, OnOk};
-ghost use Rattle.check_session.specs.Check.{IsCheckOnInput, IsLineTold, IsSummaryTold, IsRefusalTold, IsTold};
+ghost use Rattle.std.specs.Prelude.{◌≡◌, ◌≤◌, Ok, IfOk, IfErr, IfSome, OnOk};
+ghost use Rattle.check_drafts.specs.Fault.{but_memory, load_error, seen};
+ghost use Rattle.check_objects.specs.Setup.{setup_of};
+ghost use Rattle.check_session.specs.Check.{HasOnly, IsCheckOnInput, IsRefusedAs, IsLineTold, IsSummaryTold, IsRefusalTold, IsTold};
 ghost use Rattle.check_session.specs.Reading.{HasBegun, HasReadDocument};
 
 use crate::reading::{MAX_CHECKED_BYTES, document, read_checked};
 use check_drive::drive::Outcome;
-use check_explain::explain;
-use check_line::write_line;
-use check_objects::{LoadError, Setup};
+use check_explain::{explain, write_line};
+use check_objects::{Fault, LoadError, Setup};
 use check_sched::LAST_MOMENT;
 use check_script::{DriveError, InputRefusal};
 use check_summary::{Summary, push_summary};
@@ -68,11 +69,20 @@ fn tell(alloc: Global, start: u64, line: bool, document: &[u8]) -> Result<Told, 
     if line {
         return tell_line(alloc, document);
     }
-    match Setup::read(alloc, document) {
+    match examine(alloc, document) {
         Ok(setup) => Ok(tell_summary(alloc, start, &setup)?),
-        Err(LoadError::Memory) => Err(DriveError::Memory),
-        Err(refusal) => Ok(tell_refusal(alloc, document, refusal)?),
+        Err(Fault::Memory) => Err(DriveError::Memory),
+        Err(fault) => Ok(tell_refusal(alloc, document, fault)?),
     }
+}
+
+/// The setup of a document, or its fault.
+fn examine(alloc: Global, document: &[u8]) -> Result<Setup, Fault>
+    ensures good { IfOk result (λ setup. setup_of document.now ≡ Ok setup) }
+    ensures refused { IfErr result (λ fault.
+        IsRefusedAs document.now (but_memory (seen fault))) }
+{
+    Setup::examine(alloc, document)
 }
 
 /// The line of a document, or why there is none. An Err is `Memory`.
@@ -91,8 +101,8 @@ fn tell_line(alloc: Global, document: &[u8]) -> Result<Told, DriveError>
                 outcome: Outcome::Ran,
             })
         }
-        Err(LoadError::Memory) => Err(DriveError::Memory),
-        Err(refusal) => Ok(tell_refusal(alloc, document, refusal)?),
+        Err(Fault::Memory) => Err(DriveError::Memory),
+        Err(fault) => Ok(tell_refusal(alloc, document, fault)?),
     }
 }
 
@@ -112,12 +122,14 @@ fn tell_summary(alloc: Global, start: u64, setup: &Setup) -> Result<Told, AllocE
 }
 
 /// The line of a refusal, and the line that explains it.
-fn tell_refusal(alloc: Global, document: &[u8], refusal: LoadError) -> Result<Told, AllocError>
-    ensures { IfOk result (λ told. IsRefusalTold refusal told.text.items told.outcome) }
+fn tell_refusal(alloc: Global, document: &[u8], fault: Fault) -> Result<Told, AllocError>
+    requires { HasOnly document.now (seen fault) }
+    ensures { IfOk result (λ told.
+        IsRefusalTold document.now (load_error (seen fault)) told.text.items told.outcome) }
 {
     let mut text = String::new(alloc);
-    push_refusal(&mut text, InputRefusal::Setup(refusal))?;
-    text.push_str(explain(alloc, document, refusal)?.as_str())?;
+    push_refusal(&mut text, InputRefusal::Setup(LoadError::from(fault)))?;
+    text.push_str(explain(alloc, document, fault)?.as_str())?;
     text.push_str("\n")?;
     Ok(Told {
         text: text.into_bytes(),

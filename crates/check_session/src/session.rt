@@ -5,12 +5,15 @@ ghost use Rattle.clap.specs.Walk.{texts};
 ghost use Rattle.check_script.specs.declared.drive_error.DriveError.{DriveError};
 ghost use Rattle.check_session.specs.declared.session.Ending.{Ending};
 ghost use Rattle.check_text.specs.Output.{WroteFront};
-ghost use Rattle.check_session.specs.Session.{exit_status, Ends, Tells};
+ghost use Rattle.check_session.specs.Session.{exit_status, Ends, IsSchemaTold, IsTextTold, Tells};
 
 use crate::check::check;
 use crate::drill::drill;
 use check_drive::drive::{Outcome, drive};
+use check_drive::drive_resumed::drive_resumed;
 use check_drive::live::live;
+use check_drive::live_resumed::live_resumed;
+use check_explain::write_schema;
 use check_script::DriveError;
 use check_text::{flush, write_text};
 use check_words::job::job;
@@ -23,7 +26,8 @@ use std::thread::Threads;
 /// How a session ended that met no fault and wasn't out of memory.
 #[derive(Clone, Copy, Debug, PartialEq, Eq)]
 pub enum Ending {
-    /// The words were accepted, and the input was run or refused.
+    /// The words were accepted, and the input was run or refused; or the schema was written, for which
+    /// no input is read.
     Drove(Outcome),
     /// The words asked for help, which was written. The input wasn't read.
     Helped,
@@ -37,7 +41,7 @@ pub enum Ending {
 /// before each read too.
 ///
 /// The status is that of [`exit_status`]. Where it tells a fault or that there was no memory, a job
-/// leaves what `drive`, `live` or `drill` says of that error; without a job the reader is as it was,
+/// leaves what `drive`, `live`, `drive_resumed`, `live_resumed` or `drill` says of that error; without a job the reader is as it was,
 /// and the writer has got a front of what it was to be told, or nothing.
 ///
 /// `rt` is the machine that starts threads and waits, which only a drill uses.
@@ -75,6 +79,14 @@ fn serve<H: Threads + Wait + Sync, R: Read, W: Write>(
             Ok(outcome) => Ok(Ending::Drove(outcome)),
             Err(e) => Err(e),
         },
+        Ok(Job::RunResumed { start }) => match drive_resumed(alloc, start, reader, writer) {
+            Ok(outcome) => Ok(Ending::Drove(outcome)),
+            Err(e) => Err(e),
+        },
+        Ok(Job::LiveResumed { start }) => match live_resumed(alloc, start, reader, writer) {
+            Ok(outcome) => Ok(Ending::Drove(outcome)),
+            Err(e) => Err(e),
+        },
         Ok(Job::Check { start, line }) => match check(alloc, start, line, reader, writer) {
             Ok(outcome) => Ok(Ending::Drove(outcome)),
             Err(e) => Err(e),
@@ -89,8 +101,30 @@ fn serve<H: Threads + Wait + Sync, R: Read, W: Write>(
             Ok(outcome) => Ok(Ending::Drove(outcome)),
             Err(e) => Err(e),
         },
+        Ok(Job::Schema) => match tell_schema(alloc, writer) {
+            Ok(outcome) => Ok(Ending::Drove(outcome)),
+            Err(e) => Err(e),
+        },
         Err(error) => tell_words(error, writer),
     }
+}
+
+/// Writes the JSON schema of a setup. Out of memory it writes nothing.
+fn tell_schema<W: Write>(alloc: Global, writer: &mut W) -> Result<Outcome, DriveError>
+    ensures { IsSchemaTold result (W.contents writer.old) (W.contents writer.new) }
+{
+    match write_schema(alloc) {
+        Ok(schema) => tell_text(writer, schema.as_str()),
+        Err(_) => Err(DriveError::Memory),
+    }
+}
+
+/// Writes a text and flushes it, as the whole of a job.
+fn tell_text<W: Write>(writer: &mut W, told: &str) -> Result<Outcome, DriveError>
+    ensures { IsTextTold told.now result (W.contents writer.old) (W.contents writer.new) }
+{
+    tell(writer, told.as_bytes())?;
+    Ok(Outcome::Ran)
 }
 
 /// Tells words that ask for no job their help, or that they are refused. Out of memory it writes

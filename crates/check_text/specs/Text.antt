@@ -6,8 +6,7 @@ use Rattle.check_objects.specs.Configuration.{Configuration, name_of}
 use Rattle.check_drafts.specs.declared.error.LoadError.{LoadError}
 use Rattle.check_drafts.specs.declared.error.LoadError.TheVariants as load
 use Rattle.check_drafts.specs.declared.place.Place.{Place}
-use Rattle.check_drafts.specs.declared.place.Part.{Part}
-use Rattle.check_drafts.specs.declared.place.Part.TheVariants as part
+use Rattle.check_drafts.specs.Members.{part_name}
 use Rattle.check_rules.specs.declared.standing.Standing.{Standing}
 use Rattle.check_rules.specs.Words.{kind_word, state_word}
 use Rattle.check_sched.specs.declared.call.Call.{Call}
@@ -120,22 +119,13 @@ reply_line c asked r = line_of (reply_text c asked r)
 
 -- ---- refusals of the input
 
--- the part of a setup document: its member, or the document itself
-abbrev pub part_text : Part → List ℕ
-part_text part.Document = codes "document"
-part_text part.Options = codes "options"
-part_text part.Hosts = codes "hosts"
-part_text part.Services = codes "services"
-part_text part.ServiceDependencies = codes "service_dependencies"
-part_text part.HostDependencies = codes "host_dependencies"
-
 abbrev pub index_text : Option ℕ → List ℕ
 index_text None = []
 index_text (Some i) = codes " " ++ decimal i
 
 -- where in a setup document: the part, and the index where there is one
 abbrev pub place_text : Place → List ℕ
-place_text p = part_text p.part ++ index_text p.index
+place_text p = part_name p.part ++ index_text p.index
 
 -- what is wrong with a setup document
 abbrev pub load_text : LoadError → List ℕ

@@ -5,10 +5,10 @@ ghost use Rattle.check_objects.specs.Configuration.{name_of};
 ghost use Rattle.check_text.specs.Text.{reply_text, reply_line, refusal_line, entry_line, total_line};
 ghost use Rattle.check_text.specs.Text.{taken_text, putoff_text, idle_text, standing_text, freed_text, done_text, refused_text, time_text};
 ghost use Rattle.check_text.specs.Text.{asked_name, state_text, changed_text, flapping_text};
-ghost use Rattle.check_text.specs.Text.{call_refusal_text, part_text, fault_text, saved_line};
+ghost use Rattle.check_text.specs.Text.{call_refusal_text, fault_text, saved_line};
 ghost use Rattle.check_text.specs.Room.{FitsIn};
 
-use check_objects::{LoadError, Part, Place, Setup};
+use check_objects::{LoadError, Place, Setup};
 use check_rules::Standing;
 use check_saved::SavedFault;
 use check_sched::{Call, Refusal, Reply, Sched};
@@ -413,24 +413,10 @@ impl fmt::Display for PlaceText {
     ghost output = { λ p. Some (place_text p.0) };
 
     fn fmt<W: fmt::Write>(&self, f: &mut fmt::Formatter<W>) -> fmt::Result {
-        let part = part_text(self.0.part);
+        let part = self.0.part.name();
         match self.0.index {
             Some(index) => write!(f, "{part} {index}"),
             None => f.write_str(part),
         }
-    }
-}
-
-/// A part of a setup document: its member, or the document itself.
-fn part_text(part: Part) -> &'static str
-    ensures { result.now ≡ part_text part }
-{
-    match part {
-        Part::Document => "document",
-        Part::Options => "options",
-        Part::Hosts => "hosts",
-        Part::Services => "services",
-        Part::ServiceDependencies => "service_dependencies",
-        Part::HostDependencies => "host_dependencies",
     }
 }

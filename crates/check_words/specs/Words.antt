@@ -1,6 +1,6 @@
 -- What the program's words ask for, as `clap` reads them.
 use Rattle.std.specs.Prelude.{ℕ, ◌^◌, ◌≤◌, ◌≡◌, ◌≢◌, ◌⊎◌, ⊤, Bool, false, List, [], ◌∷◌, if◌then◌else◌}
-use Rattle.std.specs.Prelude.{Option, Some, None, Result, Ok, Err, codes, option_map, option_and_then}
+use Rattle.std.specs.Prelude.{IfSome, Option, Some, None, Result, Ok, Err, codes, option_map, option_and_then, unwrap_or}
 use Rattle.std.specs.Option.{option_map_or}
 use Rattle.std.specs.Str.{bytes_eq}
 use Rattle.std.specs.Str.Parse.{digits_value, without_leading_plus}
@@ -36,20 +36,35 @@ workers_option = number_option (codes "workers") (codes "2")
 abbrev pub room_option : Rule
 room_option = number_option (codes "room") (codes "1000")
 
--- the flag `--line`, which has no value of its own
-abbrev pub line_flag : Rule
-line_flag = record (new_rule (codes "line")) {
-  long = Some (codes "line");
+-- the option `--start N` of `run` and `live`, which has no value where it isn't given
+abbrev pub open_start_option : Rule
+open_start_option = record (new_rule (codes "start")) {
+  long = Some (codes "start");
+  value_names = 1;
+}
+
+-- a flag `--name`, which has no value of its own
+abbrev pub flag : Text → Rule
+flag name = record (new_rule name) {
+  long = Some name;
   action = Some action.SetTrue;
 }
 
--- the subcommand `run`, with its option
-abbrev pub run_subcommand : App
-run_subcommand = with_rule (new_app (codes "run")) start_option
+-- the flag `--line`
+abbrev pub line_flag : Rule
+line_flag = flag (codes "line")
 
--- the subcommand `live`, with its option
+-- the flag `--resume`
+abbrev pub resume_flag : Rule
+resume_flag = flag (codes "resume")
+
+-- the subcommand `run`, with its option and its flag
+abbrev pub run_subcommand : App
+run_subcommand = with_rule (with_rule (new_app (codes "run")) open_start_option) resume_flag
+
+-- the subcommand `live`, with its option and its flag
 abbrev pub live_subcommand : App
-live_subcommand = with_rule (new_app (codes "live")) start_option
+live_subcommand = with_rule (with_rule (new_app (codes "live")) open_start_option) resume_flag
 
 -- the subcommand `check`, with its option and its flag
 abbrev pub check_subcommand : App
@@ -59,10 +74,14 @@ check_subcommand = with_rule (with_rule (new_app (codes "check")) start_option) 
 abbrev pub drill_subcommand : App
 drill_subcommand = with_rule (with_rule (with_rule (new_app (codes "drill")) start_option) workers_option) room_option
 
--- the program's words, with its four subcommands
+-- the subcommand `schema`, without an option
+abbrev pub schema_subcommand : App
+schema_subcommand = new_app (codes "schema")
+
+-- the program's words, with its five subcommands
 abbrev pub program : App
-program = with_subcommand (with_subcommand
-    (with_subcommand (with_subcommand (new_app (codes "nagsched")) run_subcommand.top) live_subcommand.top) check_subcommand.top) drill_subcommand.top
+program = with_subcommand (with_subcommand (with_subcommand (with_subcommand
+    (with_subcommand (new_app (codes "nagsched")) run_subcommand.top) live_subcommand.top) check_subcommand.top) drill_subcommand.top) schema_subcommand.top
 
 -- ---- what the words ask for
 
@@ -86,17 +105,40 @@ workers_of = number_of (codes "workers") 1 64
 abbrev pub room_of : List Row → Option ℕ
 room_of = number_of (codes "room") 0 1000000
 
--- whether `--line` was given, by the options that were read: `clap` has the text "true" for it then
+-- whether a flag was given, by the options that were read: `clap` has the text "true" for it then
+abbrev pub flag_of : Text → List Row → Bool
+flag_of name options = option_map_or (λ text. bytes_eq text (codes "true")) (first_of name options) false
+
+-- whether `--line` was given
 abbrev pub line_of : List Row → Bool
-line_of options = option_map_or (λ text. bytes_eq text (codes "true")) (first_of (codes "line") options) false
+line_of options = flag_of (codes "line") options
+
+-- whether `--resume` was given
+abbrev pub resume_of : List Row → Bool
+resume_of options = flag_of (codes "resume") options
+
+-- the start of `run` and `live`: none where the option isn't given, or the moment that it gives, 0 to 2^60
+abbrev pub start_by : Option Text → Option (Option ℕ)
+start_by None = Some None
+start_by (Some text) = option_map Some (number_between 0 (2 ^ 60) text)
+
+abbrev pub open_start_of : List Row → Option (Option ℕ)
+open_start_of options = start_by (first_of (codes "start") options)
+
+-- the job with this start, which goes on from what was saved, or from its own start, which is 0 where none is given
+abbrev pub run_from : Bool → Option ℕ → Job
+run_from resumes start = if resumes then job.RunResumed start else job.Run (unwrap_or start 0)
+
+abbrev pub live_from : Bool → Option ℕ → Job
+live_from resumes start = if resumes then job.LiveResumed start else job.Live (unwrap_or start 0)
 
 -- `run`, by the options that were read for it
 abbrev pub run_of : List Row → Option Job
-run_of options = option_map job.Run (start_of options)
+run_of options = option_map (run_from (resume_of options)) (open_start_of options)
 
 -- `live`, by the options that were read for it
 abbrev pub live_of : List Row → Option Job
-live_of options = option_map job.Live (start_of options)
+live_of options = option_map (live_from (resume_of options)) (open_start_of options)
 
 -- `check`, by the options that were read for it
 abbrev pub check_of : List Row → Option Job
@@ -116,7 +158,8 @@ job_of (Some (name, options)) =
     if bytes_eq name (codes "run") then run_of options
     else (if bytes_eq name (codes "live") then live_of options
     else (if bytes_eq name (codes "check") then check_of options
-    else (if bytes_eq name (codes "drill") then drill_of options else None)))
+    else (if bytes_eq name (codes "drill") then drill_of options
+    else (if bytes_eq name (codes "schema") then Some job.Schema else None))))
 
 -- The job that the words ask for, the program's name first: of the subcommand that `clap` reads
 -- from them, with the first value of each of its options.
@@ -127,7 +170,10 @@ job_asked words = job_of (subcommand_of program words)
 abbrev pub IsWithinLimits : Job → Type 0
 IsWithinLimits (job.Run start) = start ≤ 2 ^ 60
 IsWithinLimits (job.Live start) = start ≤ 2 ^ 60
+IsWithinLimits (job.RunResumed start) = IfSome start (λ moment. moment ≤ 2 ^ 60)
+IsWithinLimits (job.LiveResumed start) = IfSome start (λ moment. moment ≤ 2 ^ 60)
 IsWithinLimits (job.Check start line) = start ≤ 2 ^ 60
+IsWithinLimits job.Schema = ⊤
 IsWithinLimits (job.Drill start workers room) = (start ≤ 2 ^ 60) × (1 ≤ workers) × (workers ≤ 64) × (room ≤ 1000000)
 
 -- ---- where the words are no job

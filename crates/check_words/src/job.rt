@@ -1,11 +1,13 @@
 //! What the program's words ask for, as `clap` reads them. What the program then does is no
 //! matter of this crate.
-ghost use Rattle.std.specs.Prelude.{◌≡◌, ◌≤◌, ◌^◌, Some, [], false, IfOk, OnOk, IfErr, IfSome};
+ghost use Rattle.std.specs.Prelude.{◌≡◌, ◌≤◌, ◌^◌, Some, [], false, option_map, IfOk, OnOk, IfErr, IfSome};
 ghost use Rattle.clap.specs.declared.builder.command.Command.TheViews.{out-Command};
 ghost use Rattle.clap.specs.Words.{app_of, fault_of, kind_of, rows_of, rule_of, found_of, subcommand_rows_of};
 ghost use Rattle.clap.specs.Walk.{texts};
-ghost use Rattle.check_words.specs.Words.{program, run_subcommand, live_subcommand, check_subcommand, drill_subcommand};
-ghost use Rattle.check_words.specs.Words.{number_option, start_option, workers_option, room_option, line_flag, line_of};
+ghost use Rattle.check_words.specs.Words.{program, run_subcommand, live_subcommand, check_subcommand, drill_subcommand, schema_subcommand};
+ghost use Rattle.check_words.specs.Words.{number_option, start_option, open_start_option, workers_option, room_option};
+ghost use Rattle.check_words.specs.Words.{flag, flag_of, line_flag, line_of, resume_flag, resume_of};
+ghost use Rattle.check_words.specs.Words.{live_from, open_start_of, run_from, start_by};
 ghost use Rattle.check_words.specs.Words.{job_asked, job_of, run_of, live_of, check_of, drill_of, start_of, workers_of, room_of};
 ghost use Rattle.check_words.specs.Words.{number_of, number_between, Explains, IsWithinLimits, Reads, Tells};
 
@@ -40,8 +42,18 @@ const ABOUT_CHECK: &str = "Tells what is in a setup, or why it is refused";
 /// What the help says of the subcommand `drill`.
 const ABOUT_DRILL: &str = "Has workers share one scheduler, with scripted plugins";
 
+/// What the help says of the subcommand `schema`.
+const ABOUT_SCHEMA: &str = "Writes the JSON schema of a setup";
+
 /// What the help says of the option `--start`.
 const ABOUT_START: &str = "Moment of the start, in ms, from 0 to 2^60";
+
+/// What the help of `run` and `live` says of the option `--start`.
+const ABOUT_OPEN_START: &str = "\
+Moment of the start, in ms, from 0 to 2^60 [default: 0, or with --resume the saved one]";
+
+/// What the help says of the flag `--resume`.
+const ABOUT_RESUME: &str = "Goes on from what was saved, which is line 2";
 
 /// What the help says of the flag `--line`.
 const ABOUT_LINE: &str = "Writes the setup as one line, for `run` and `live`";
@@ -80,11 +92,14 @@ Input, behind the setup, a call a line; moments and times in milliseconds:
   [\"reschedule\",name,time,forced] sets the next check
   [\"enable\",name,on]              switches an object's active checks
   [\"status\",name]                 asks how an object stands
+  [\"save\"]                        asks for what is to be saved, and is no call
+With --resume line 2 is what was saved, as `saved` wrote it without that word.
 
 Output, a line for each call:
   taken RUN NAME        putoff TIME NAME        idle TIME        atlimit
   standing STATE KIND ATTEMPT CHANGED FLAP TIME NAME
   freed TIME NAME       done NAME               refused CODE WHY
+  saved STATE           to `save`
 
 docs/FORMATS.md has every line, member and refusal, each with an example.
 
@@ -102,7 +117,8 @@ before more is asked for, and there is no limit on the whole.
   A line that is no command is answered by `refused CODE WHY LINE`, and changes
   nothing: the conversation goes on.
   A blank line has no answer: don't wait for one.
-  A refused setup is answered by its line, and ends the conversation.
+  A refused setup is answered by its line, and ends the conversation; so does
+  with --resume a refused line 2.
 It doesn't read while it writes: whoever sends more than pipes hold has to read
 the answers meanwhile.
 
@@ -161,6 +177,19 @@ Example:
   printf '%s\\n' '{\"hosts\":[{\"name\":\"gateway\",\"max_check_attempts\":3}]}' \\
     '[\"plugin\",\"gateway\",2]' '[\"moment\",0]' | nagsched drill --workers 1";
 
+/// What stands at the end of the help of `schema`.
+const SCHEMA_NOTES: &str = "\
+No input is read. Output is a JSON schema of draft 2020-12, which says of each
+member its name, its kind, its limits and its default.
+
+docs/FORMATS.md has every line, member and refusal, each with an example.
+
+Exit status:
+  0 written   2 words refused   3 device failed   4 out of memory
+
+Example:
+  nagsched schema";
+
 /// The latest moment at which a scheduler may start, in milliseconds.
 const LAST_MOMENT: u64 = 1 << 60;
 
@@ -170,10 +199,10 @@ const MAX_WORKERS: u64 = 64;
 /// The most entries for which a drill may have room from the outset.
 const MAX_ROOM: u64 = 1_000_000;
 
-/// Reads the program's words, its own name first: `run [--start N]`, `live [--start N]`,
-/// `check [--start N] [--line]`, or `drill [--start N] [--workers N] [--room N]`, or nothing, which is
-/// `run --start 0`. N is read as std reads a `u64` from a text. Options without a subcommand are refused, and of an option that is
-/// given twice `clap` decides.
+/// Reads the program's words, its own name first: `run [--start N] [--resume]`, `live` with the same,
+/// `check [--start N] [--line]`, `drill [--start N] [--workers N] [--room N]` or `schema`, or nothing,
+/// which is `run --start 0`. N is read as std reads a `u64` from a text. Options without a subcommand
+/// are refused, and of an option that is given twice `clap` decides.
 pub fn job(alloc: Global, words: &[&str]) -> Result<Job, WordsError>
     ensures asked { IfOk result (λ job. job_asked (texts words.now) ≡ Some job) }
     ensures faultless { OnOk result (fault_of program (texts words.now) ≡ []) }
@@ -196,7 +225,8 @@ fn build_program<'a>(alloc: Global) -> Result<Command<'a>, AllocError>
         .subcommand(build_run(alloc)?)?
         .subcommand(build_live(alloc)?)?
         .subcommand(build_check(alloc)?)?
-        .subcommand(build_drill(alloc)?)
+        .subcommand(build_drill(alloc)?)?
+        .subcommand(build_schema(alloc))
 }
 
 /// The subcommand `run`.
@@ -207,7 +237,8 @@ fn build_run<'a>(alloc: Global) -> Result<Command<'a>, AllocError>
     Command::new(alloc, "run")
         .about(ABOUT_RUN)
         .after_help(RUN_NOTES)
-        .arg(start_option(alloc))
+        .arg(open_start_option(alloc))?
+        .arg(resume_flag(alloc))
 }
 
 /// The subcommand `live`.
@@ -218,7 +249,8 @@ fn build_live<'a>(alloc: Global) -> Result<Command<'a>, AllocError>
     Command::new(alloc, "live")
         .about(ABOUT_LIVE)
         .after_help(LIVE_NOTES)
-        .arg(start_option(alloc))
+        .arg(open_start_option(alloc))?
+        .arg(resume_flag(alloc))
 }
 
 /// The subcommand `check`.
@@ -246,12 +278,33 @@ fn build_drill<'a>(alloc: Global) -> Result<Command<'a>, AllocError>
         .arg(room_option(alloc))
 }
 
+/// The subcommand `schema`, which has no option.
+fn build_schema<'a>(alloc: Global) -> Command<'a>
+    ensures app { app_of result ≡ schema_subcommand }
+    ensures local { (out-Command result).has_globals ≡ false }
+{
+    Command::new(alloc, "schema")
+        .about(ABOUT_SCHEMA)
+        .after_help(SCHEMA_NOTES)
+}
+
 /// The option `--start N`.
 fn start_option<'a>(alloc: Global) -> Arg<'a>
     ensures rule { rule_of result ≡ start_option }
     ensures local { result.global ≡ false }
 {
     number_option(alloc, "start", "0").help(ABOUT_START)
+}
+
+/// The option `--start N` of `run` and `live`.
+fn open_start_option<'a>(alloc: Global) -> Arg<'a>
+    ensures rule { rule_of result ≡ open_start_option }
+    ensures local { result.global ≡ false }
+{
+    Arg::new(alloc, "start")
+        .long("start")
+        .value_name("N")
+        .help(ABOUT_OPEN_START)
 }
 
 /// The option `--workers N`.
@@ -275,9 +328,24 @@ fn line_flag<'a>(alloc: Global) -> Arg<'a>
     ensures rule { rule_of result ≡ line_flag }
     ensures local { result.global ≡ false }
 {
-    Arg::new(alloc, "line")
-        .long("line")
-        .help(ABOUT_LINE)
+    flag(alloc, "line").help(ABOUT_LINE)
+}
+
+/// The flag `--resume`.
+fn resume_flag<'a>(alloc: Global) -> Arg<'a>
+    ensures rule { rule_of result ≡ resume_flag }
+    ensures local { result.global ≡ false }
+{
+    flag(alloc, "resume").help(ABOUT_RESUME)
+}
+
+/// The flag `--name`.
+fn flag<'a>(alloc: Global, name: &'a str) -> Arg<'a>
+    ensures rule { rule_of result ≡ flag name.now }
+    ensures local { result.global ≡ false }
+{
+    Arg::new(alloc, name)
+        .long(name)
         .action(ArgAction::SetTrue)
 }
 
@@ -303,6 +371,7 @@ fn read_job(matches: &ArgMatches<'_>) -> Result<Job, WordsError>
         Some(("live", options)) => read_live(options).ok_or(WordsError::Refused),
         Some(("check", options)) => read_check(options).ok_or(WordsError::Refused),
         Some(("drill", options)) => read_drill(options).ok_or(WordsError::Refused),
+        Some(("schema", _)) => Ok(Job::Schema),
         Some(_) => Err(WordsError::Refused),
     }
 }
@@ -312,9 +381,21 @@ fn read_run(options: &ArgMatches<'_>) -> Option<Job>
     ensures asked { result ≡ run_of (rows_of (found_of options.now)) }
     ensures limits { IfSome result IsWithinLimits }
 {
-    Some(Job::Run {
-        start: read_start(options)?,
-    })
+    let start = read_open_start(options)?;
+    Some(run_from(is_resumed(options), start))
+}
+
+/// The job of `run` with this start.
+fn run_from(resumes: bool, start: Option<u64>) -> Job
+    ensures { result ≡ run_from resumes start }
+{
+    if resumes {
+        Job::RunResumed { start }
+    } else {
+        Job::Run {
+            start: start.unwrap_or(0),
+        }
+    }
 }
 
 /// The job of `live` with these options.
@@ -322,9 +403,21 @@ fn read_live(options: &ArgMatches<'_>) -> Option<Job>
     ensures asked { result ≡ live_of (rows_of (found_of options.now)) }
     ensures limits { IfSome result IsWithinLimits }
 {
-    Some(Job::Live {
-        start: read_start(options)?,
-    })
+    let start = read_open_start(options)?;
+    Some(live_from(is_resumed(options), start))
+}
+
+/// The job of `live` with this start.
+fn live_from(resumes: bool, start: Option<u64>) -> Job
+    ensures { result ≡ live_from resumes start }
+{
+    if resumes {
+        Job::LiveResumed { start }
+    } else {
+        Job::Live {
+            start: start.unwrap_or(0),
+        }
+    }
 }
 
 /// The job of `check` with these options.
@@ -358,11 +451,45 @@ fn read_start(options: &ArgMatches<'_>) -> Option<u64>
     read_number(options, "start", 0, LAST_MOMENT)
 }
 
+/// The number of the option `--start` of `run` and `live`, if it is given, where a scheduler may start
+/// then.
+fn read_open_start(options: &ArgMatches<'_>) -> Option<Option<u64>>
+    ensures value { result ≡ open_start_of (rows_of (found_of options.now)) }
+    ensures limits { IfSome result (λ start. IfSome start (λ moment. moment ≤ 2 ^ 60)) }
+{
+    start_by(options.get_str("start"))
+}
+
+/// The start that a text is, if there is one.
+fn start_by(text: Option<&str>) -> Option<Option<u64>>
+    ensures value { result ≡ start_by (option_map (λ t. t.now) text) }
+    ensures limits { IfSome result (λ start. IfSome start (λ moment. moment ≤ 2 ^ 60)) }
+{
+    match text {
+        Some(text) => Some(Some(parse_number(text, 0, LAST_MOMENT)?)),
+        None => Some(None),
+    }
+}
+
 /// Whether the flag `--line` was given.
 fn read_line(options: &ArgMatches<'_>) -> bool
     ensures { result ≡ line_of (rows_of (found_of options.now)) }
 {
-    match options.get_str("line") {
+    read_flag(options, "line")
+}
+
+/// Whether the flag `--resume` was given.
+fn is_resumed(options: &ArgMatches<'_>) -> bool
+    ensures { result ≡ resume_of (rows_of (found_of options.now)) }
+{
+    read_flag(options, "resume")
+}
+
+/// Whether a flag was given.
+fn read_flag(options: &ArgMatches<'_>, name: &str) -> bool
+    ensures { result ≡ flag_of name.now (rows_of (found_of options.now)) }
+{
+    match options.get_str(name) {
         Some(text) => text == "true",
         None => false,
     }

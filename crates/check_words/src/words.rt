@@ -16,6 +16,15 @@ pub enum Job {
     Live {
         start: u64,
     },
+    /// To do as `Run` does on a scheduler that goes on from what was saved, from the moment `start` on,
+    /// as above, or from the saved start where there is none.
+    RunResumed {
+        start: Option<u64>,
+    },
+    /// To do as `Live` does on a scheduler that goes on so.
+    LiveResumed {
+        start: Option<u64>,
+    },
     /// To check a setup, and to tell what is in it or why it is refused. Its first checks are those of
     /// a scheduler that starts at the moment `start`, as above. With `line` the setup itself is written
     /// on one line in place of what is in it.
@@ -31,6 +40,8 @@ pub enum Job {
         workers: u32,
         room: usize,
     },
+    /// To write the JSON schema of a setup. No input is read.
+    Schema,
 }
 
 /// Why the program's words ask for nothing that it could do.

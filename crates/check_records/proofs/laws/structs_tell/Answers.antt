@@ -1,4 +1,5 @@
 use Rattle.check_records.proofs.PlainLaws.{calls_told, entries_told, refusals_told, replies_told, standings_told}
+use Rattle.check_records.proofs.FaultLaws.{faults_told}
 use Rattle.check_records.proofs.laws.structs_tell.Goals as goal
 
 pub returns : goal.returns
@@ -8,4 +9,5 @@ returns c = record {
   replies = λ a b same. replies_told a b same;
   entries = λ a b same. entries_told a b same;
   refusals = λ a b same. refusals_told a b same;
+  saved_faults = λ a b same. faults_told a b same;
 }

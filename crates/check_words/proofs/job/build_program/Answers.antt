@@ -15,5 +15,7 @@ returns c =
     ∙ ap₂ with_subcommand with_run (ap (λ (a : App). a.top) c.in_ok-build_live.ensures.0) in
     let with_check = c.in_ok-subcommand-3.ensures.shape c.in_ok-build_check.ensures.1
     ∙ ap₂ with_subcommand with_live (ap (λ (a : App). a.top) c.in_ok-build_check.ensures.0) in
-    IfOk-weaker c.subcommand-4.result _ _ (λ r h. h.shape c.in_ok-build_drill.ensures.1
-    ∙ ap₂ with_subcommand with_check (ap (λ (a : App). a.top) c.in_ok-build_drill.ensures.0)) c.subcommand-4.ensures
+    let with_drill = c.in_ok-subcommand-4.ensures.shape c.in_ok-build_drill.ensures.1
+    ∙ ap₂ with_subcommand with_check (ap (λ (a : App). a.top) c.in_ok-build_drill.ensures.0) in
+    IfOk-weaker c.subcommand-5.result _ _ (λ r h. h.shape c.build_schema.ensures.local
+    ∙ ap₂ with_subcommand with_drill (ap (λ (a : App). a.top) c.build_schema.ensures.app)) c.subcommand-5.ensures

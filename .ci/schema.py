@@ -1,0 +1,281 @@
+#!/usr/bin/env python3
+"""Holds the schema of a setup, the program, the pages and the tools to each other: what the one accepts, the others do.
+
+    .ci/schema.py [PROGRAM]     crates/nagsched/out/nagsched where no program is named
+
+A part of the gate. docs/setup.schema.json is what `nagsched schema` writes. A document that names each member once is changed in one
+place at a time: each number to its limits and one past them, each member to values of other kinds, each required member left out,
+each object given an unknown member, each name to texts at and past its limits, each criteria to all short texts of its letters. The
+program's first refusals of kinds, ranges, counts and names have to come exactly where the schema refuses, and the explanation of
+`check` has to be of a member that the schema refuses too. The tables of FORMATS.md name the members of the schema, with their limits
+and defaults, and what tools/from_nagios.py writes is a setup by the schema.
+"""
+import copy
+import itertools
+import json
+import re
+import subprocess
+import sys
+from concurrent.futures import ThreadPoolExecutor
+
+from program import TOP, Held
+
+SCHEMA = json.loads((TOP / "docs/setup.schema.json").read_text(encoding="utf-8"))
+MISSING = object()
+
+# Each member once; the spare host and service are named by no other object.
+DOCUMENT = {
+    "options": {
+        "interval_length": 60,
+        "service_inter_check_delay_method": "s",
+        "max_service_check_spread": 30,
+        "service_interleave_factor": "s",
+        "host_inter_check_delay_method": 250,
+        "max_host_check_spread": 30,
+        "max_concurrent_checks": 20,
+        "soft_state_dependencies": False,
+        "use_aggressive_host_checking": False,
+        "low_service_flap_threshold": 0,
+        "high_service_flap_threshold": 100,
+        "low_host_flap_threshold": 0,
+        "high_host_flap_threshold": 100,
+    },
+    "hosts": [
+        {"name": "a", "max_check_attempts": 3},
+        {"name": "b", "parents": ["a"], "max_check_attempts": 3, "check_interval": 5, "retry_interval": 1, "enabled": True},
+        {"name": "spare", "max_check_attempts": 3},
+    ],
+    "services": [
+        {"host": "a", "description": "s", "max_check_attempts": 3},
+        {"host": "b", "description": "t", "max_check_attempts": 3, "check_interval": 5, "retry_interval": 1, "enabled": True},
+        {"host": "b", "description": "spare", "max_check_attempts": 3},
+    ],
+    "service_dependencies": [{"dependent": "b;t", "master": "a;s", "criteria": "c", "inherits_parent": True}],
+    "host_dependencies": [{"dependent": "b", "master": "a", "criteria": "d", "inherits_parent": True}],
+}
+NAMES = [("hosts", 2, "name"), ("services", 2, "description")]
+KINDS = [None, True, -1, 1.5, "", "x", [], {}, ["x"], {"x": 1}]
+TEXTS = ["n" * 255, "n" * 256, "n;", ";", "n\n", "\n", "n\u001f", "n\u0020", "n\u007f", "\u00e9", ""]
+
+
+# What an explanation begins with: a part of the document, an index in it, the names that stand there.
+PLACE = re.compile(r'(\w+)(?: (\d+))?(?: "(?:[^"\\]|\\.)*"\.*(?: on "(?:[^"\\]|\\.)*"\.*)?)?: (.*)', re.S)
+# How it goes on where one member is at fault: by its name, and by an index where it is one of a list.
+MEMBER = re.compile(r'(?:a member |the member |)"(\w+)"(?: (\d+)(?= is))?')
+
+
+# The kinds of JSON by their names in a schema.
+KINDS_BY_NAME = {"object": dict, "array": list, "string": str, "boolean": bool, "integer": int}
+
+
+def is_of_type(name, value):
+    """Whether a value is of a kind of JSON. True and false are no numbers."""
+    return isinstance(value, KINDS_BY_NAME[name]) and (name == "boolean" or not isinstance(value, bool))
+
+
+def value_faults(schema, value, path):
+    """Where a value itself is refused: by its kind, its limits, its spelling."""
+    tests = {
+        "type": lambda name: is_of_type(name, value),
+        "enum": lambda values: value in values,
+        "const": lambda one: value == one,
+        "minimum": lambda least: not is_of_type("integer", value) or value >= least,
+        "maximum": lambda most: not is_of_type("integer", value) or value <= most,
+        "minLength": lambda least: not isinstance(value, str) or len(value) >= least,
+        "maxLength": lambda most: not isinstance(value, str) or len(value) <= most,
+        "maxItems": lambda most: not isinstance(value, list) or len(value) <= most,
+        "pattern": lambda pattern: not isinstance(value, str) or re.search(pattern, value) is not None,
+        "not": lambda other: any(True for _ in faults(other, value)),
+        "anyOf": lambda ways: any(not any(True for _ in faults(way, value)) for way in ways),
+    }
+    for word, test in tests.items():
+        if word in schema and not test(schema[word]):
+            yield path
+
+
+def faults(schema, value, path=()):
+    """Where a schema refuses a value, as the steps that lead there."""
+    yield from value_faults(schema, value, path)
+    if isinstance(value, dict):
+        known = schema.get("properties", {})
+        yield from ((*path, name) for name in schema.get("required", ()) if name not in value)
+        for name, inner in value.items():
+            if name in known:
+                yield from faults(known[name], inner, (*path, name))
+            elif schema.get("additionalProperties") is False:
+                yield (*path, name)
+    if isinstance(value, list) and "items" in schema:
+        for index, inner in enumerate(value):
+            yield from faults(schema["items"], inner, (*path, index))
+
+
+def runs(held, document):
+    """Whether the program takes the document."""
+    line = json.dumps(document, ensure_ascii=False).encode() + b"\n"
+    return not held.run([], line)[0].startswith(b"refused L")
+
+
+def explained(held, document):
+    """Where `check` says that the fault of the document is, as the steps that lead there; None where it says how many there are."""
+    line = json.dumps(document, ensure_ascii=False).encode()
+    told = held.run(["check"], line)[0].decode().splitlines()[1]
+    if told.startswith("there are "):
+        return None
+    part, index, rest = PLACE.fullmatch(told).groups()
+    member = MEMBER.match(rest)
+    named = () if part == "document" else (part,)
+    inner = [step for step in (member.groups() if member else ()) if step is not None]
+    return named + tuple(int(step) if step.isdigit() else step for step in ([index] if index else []) + inner)
+
+
+def changed(path, value):
+    """The document with another value at this place, or without it."""
+    document = copy.deepcopy(DOCUMENT)
+    inner = document
+    for step in path[:-1]:
+        inner = inner[step]
+    if value is MISSING:
+        del inner[path[-1]]
+    else:
+        inner[path[-1]] = value
+    return document
+
+
+def places(value, path=()):
+    """Each place of a value, with what stands there."""
+    if path:
+        yield path, value
+    inner = value.items() if isinstance(value, dict) else enumerate(value) if isinstance(value, list) else ()
+    for step, item in inner:
+        yield from places(item, (*path, step))
+
+
+def schema_at(path):
+    """The part of the schema for a place."""
+    part = SCHEMA
+    for step in path:
+        part = part["items"] if isinstance(step, int) else part["properties"][step]
+    return part
+
+
+def limits(part):
+    """The numbers at the limits of a part of the schema, and one past them."""
+    for one in [part, *part.get("anyOf", [])]:
+        if one.get("type") == "integer":
+            yield from (one["minimum"] - 1, one["minimum"], one["maximum"], one["maximum"] + 1)
+
+
+def probes():
+    """Documents, each with what was changed. No name is lost that others go by, and none is named that isn't there."""
+    yield "nothing", DOCUMENT
+    for path, value in places(DOCUMENT):
+        told = ".".join(map(str, path))
+        named = path[-1] in ("name", "host", "description", "dependent", "master") or path[-2:-1] == ("parents",)
+        for other in [*KINDS, *limits(schema_at(path))]:
+            lost = named and isinstance(other, str) or path[-1] in ("hosts", "services") and other == []
+            if not lost and not (path[-1] == "parents" and other == ["x"]):
+                yield f"{told} = {other!r}", changed(path, other)
+        if not isinstance(path[-1], int) and path[-1] not in ("hosts", "services"):
+            yield f"without {told}", changed(path, MISSING)
+        if isinstance(value, dict):
+            yield f"{told} with an unknown member", changed(path, {**value, "unknown": 1})
+    for path in NAMES:
+        for text in TEXTS:
+            yield f"{path} = {text!r}", changed(path, text)
+    for which in ("service_dependencies", "host_dependencies"):
+        for length in range(4):
+            for letters in itertools.product("owucdpn, C", repeat=length):
+                yield f"{which} criteria {''.join(letters)!r}", changed((which, 0, "criteria"), "".join(letters))
+    for count in (4096, 4097):
+        yield f"{count} hosts", {"hosts": [{"name": f"h{i}", "max_check_attempts": 1} for i in range(count)]}
+
+
+def hold(held, told, document):
+    """Holds the program and its explanation to the schema on one document."""
+    refused = set(faults(SCHEMA, document))
+    if runs(held, document) == bool(refused):
+        return f"{told}: the schema {'refuses' if refused else 'takes'} it, the program doesn't"
+    place = explained(held, document) if refused else None
+    if place is not None and place not in refused:
+        return f"{told}: the schema refuses {refused}, the explanation is of {place}"
+    return None
+
+
+def documents(held):
+    """Each changed document, by the schema and by the program."""
+    with ThreadPoolExecutor() as threads:
+        for wrong in threads.map(lambda probe: hold(held, *probe), probes()):
+            held.compare("a document", None, wrong)
+
+
+def rows(page, head):
+    """The rows of the table with this head: of each member its cells."""
+    lines = iter(page[page.index(head):].splitlines()[2:])
+    for line in itertools.takewhile(lambda line: line.startswith("|"), lines):
+        cells = [cell.strip() for cell in line.strip("|").split("|")]
+        for name in re.findall(r"`(\w+)`", cells[0]):
+            yield name, cells[1], cells[2]
+
+
+def default_told(cell):
+    """The default that a cell names, as it stands in the schema; a member that is required has none."""
+    return {"required": MISSING, "all defaults": {}, "empty": []}[cell] if cell in ("required", "all defaults", "empty") else json.loads(cell.strip("`"))
+
+
+def numbers_in(text):
+    """The whole numbers of a text, of which thousands are parted by commas."""
+    return {int(number.replace(",", "")) for number in re.findall(r"\d[\d,]*\d|\d", text)}
+
+
+def page_of_members(held, page, head, schema):
+    """A table of FORMATS.md names each member of an object with its limits and its default."""
+    told = {name: (kind, default) for name, kind, default in rows(page, head)}
+    held.compare(f"{head}: its members", set(schema["properties"]), set(told))
+    for name, part in schema["properties"].items():
+        kind, default = told.get(name, ("", "required"))
+        if default != "as for a host":
+            held.compare(f"{head}: {name}: the default", part.get("default", MISSING), default_told(default))
+        if not kind.startswith("as ") and "number" in kind + "percent":
+            held.compare(f"{head}: {name}: limits that aren't told", set(), set() if kind.startswith("as") else set(limits_of(part)) - numbers_in(kind))
+        held.compare(f"{head}: {name}: required", name in schema.get("required", ()), default == "required" or name == "max_check_attempts")
+
+
+def limits_of(part):
+    """The least and the most that a number of a part of the schema can be."""
+    for one in [part, *part.get("anyOf", [])]:
+        if one.get("type") == "integer":
+            yield from (one["minimum"], one["maximum"])
+
+
+def pages(held):
+    """The tables of FORMATS.md."""
+    page = (TOP / "docs/FORMATS.md").read_text(encoding="utf-8")
+    parts = SCHEMA["properties"]
+    page_of_members(held, page, "| Member of the document |", SCHEMA)
+    page_of_members(held, page, "| Member | Kind | Default | Example |\n|---|---|---|---|\n| `interval_length`", parts["options"])
+    page_of_members(held, page, "| Member of a host |", parts["hosts"]["items"])
+    page_of_members(held, page, "| Member of a service |", parts["services"]["items"])
+    for part in ("service_dependencies", "host_dependencies"):
+        page_of_members(held, page, "| Member | Kind | Default | Example |\n|---|---|---|---|\n| `dependent`", parts[part]["items"])
+
+
+def from_nagios(held):
+    """The setup that tools/from_nagios.py makes of Nagios's own files is one by the schema."""
+    office = TOP / "conformance/nagios"
+    words = [sys.executable, str(TOP / "tools/from_nagios.py"), str(office / "nagios.cfg"), str(office / "objects.precache")]
+    made = subprocess.run(words, stdout=subprocess.PIPE, check=True).stdout
+    held.compare("what from_nagios.py writes", [], list(faults(SCHEMA, json.loads(made))))
+
+
+def main():
+    held = Held("schema")
+    schema = (TOP / "docs/setup.schema.json").read_bytes()
+    held.compare("what `nagsched schema` writes", (schema, 0), held.run(["schema"], b""))
+    documents(held)
+    pages(held)
+    from_nagios(held)
+    held.end()
+
+
+if __name__ == "__main__":
+    main()

@@ -1,0 +1,383 @@
+-- A good document has whole numbers alone: each member of each object is read, and where a number is read it is a whole one.
+use Rattle.std.proofs.Common.{◌≡◌, ℕ, ◌+◌, List, [], ◌∷◌, Option, Some, None, Bool, true, false, cond, ◌&&◌, ◌||◌, bytes_eq, Result, Ok, Err, refl, sym, ap, ◌∙◌, subst}
+use Rattle.std.specs.Prelude.{codes, ok_or, option_and_then}
+use Rattle.std.proofs.lemmas.Slice.Eq.{bytes_eq-Decides}
+use Rattle.serde_json.specs.Data.{unsigned, negative, float, Data, null, boolean, number, string, array, object, Items, no_items, item, Members, no_members, member}
+use Rattle.serde_json.specs.Find.{get, get_member, as_bool, as_str, as_array}
+use Rattle.serde_json.specs.Written.{has_float, items_have_float, members_have_float}
+use Rattle.check_drafts.specs.declared.draft.CheckDraft.{CheckDraft}
+use Rattle.check_drafts.specs.declared.error.LoadError.TheVariants as errors
+use Rattle.check_drafts.specs.declared.options.Options.{Options}
+use Rattle.check_drafts.specs.declared.options.DelayMethod.{DelayMethod}
+use Rattle.check_drafts.specs.declared.options.DelayMethod.TheVariants as method
+use Rattle.check_drafts.specs.declared.options.InterleaveFactor.{InterleaveFactor}
+use Rattle.check_drafts.specs.declared.options.InterleaveFactor.TheVariants as factor
+use Rattle.check_drafts.specs.declared.place.Place.{Place}
+use Rattle.check_drafts.specs.declared.place.Part.TheVariants as part
+use Rattle.check_drafts.specs.Draft.{HostDraft, ServiceDraft, DependencyDraft, Drafts}
+use Rattle.check_drafts.specs.Agreement.{◌>>=◌}
+use Rattle.check_drafts.specs.Place.{the_options, the_hosts, host_at, the_services, service_at}
+use Rattle.check_documents.specs.Criteria.{criteria_of}
+use Rattle.check_documents.specs.Tree.{tree_of, is_among, only_members, has_only, whole_number, member_or, texts_of, texts_in, ◌>=>◌}
+use Rattle.check_documents.specs.Reading.{items_from, list_of, check_draft, host_members, host_draft, service_members, service_draft, dependency_members, dependency_draft, service_letters, host_letters, option_members, delay_method, interleave_factor, options_but_thresholds, with_thresholds, options_of, document_members, dependencies_in, drafts_of}
+use Rattle.check_numbers.specs.Configuration.{Configuration}
+use Rattle.check_objects.specs.Setup.{setup_of, setup_of_tree}
+use Rattle.check_explain.specs.Numbers.{has_other_number, items_have_other, members_have_other}
+use Rattle.check_explain.proofs.KeyLemmas.{IsSorted, AreSorted, HasSorted, OrSorted, found_behind, found_first, sorted_get, tree_is_sorted}
+use Rattle.check_explain.proofs.LineLemmas.{setup_by_tree, short_document}
+
+-- ---- what a reading was made of
+
+and_first : (a b : Bool) → a && b ≡ true → a ≡ true
+and_first true b e = refl
+and_first false b e = cc
+
+and_second : (a b : Bool) → a && b ≡ true → b ≡ true
+and_second true b e = e
+and_second false b e = cc
+
+linked : {A B : Type 0} (o : Option A) (f : A → Option B) (b : B) (P : Type 0) → ((a : A) → o ≡ Some a → f a ≡ Some b → P) → (o >=> f) ≡ Some b → P
+linked None f b P h e = cc
+linked (Some a) f b P h e = h a refl e
+
+guarded : {A : Type 0} (b : Bool) (o : Option A) (a : A) (P : Type 0) → (b ≡ true → o ≡ Some a → P) → cond b o None ≡ Some a → P
+guarded true o a P h e = h refl e
+guarded false o a P h e = cc
+
+next : {A B E : Type 0} (r : Result A E) (f : A → Result B E) (b : B) (P : Type 0) → ((a : A) → r ≡ Ok a → f a ≡ Ok b → P) → (r >>= f) ≡ Ok b → P
+next (Ok a) f b P h e = h a refl e
+next (Err x) f b P h e = cc
+
+guarded_ok : {A E : Type 0} (b : Bool) (r : Result A E) (x : E) (a : A) (P : Type 0) → (b ≡ true → r ≡ Ok a → P) → cond b r (Err x) ≡ Ok a → P
+guarded_ok true r x a P h e = h refl e
+guarded_ok false r x a P h e = cc
+
+from_ok_or : {A E : Type 0} (o : Option A) (x : E) (a : A) → ok_or o x ≡ Ok a → o ≡ Some a
+from_ok_or None x a e = cc
+from_ok_or (Some b) x a e = cc
+
+-- ---- members by name
+
+-- a value, where there is one, has whole numbers alone
+abbrev IsWhole : Option Data → Type 0
+IsWhole None = Unit {0}
+IsWhole (Some d) = has_other_number d ≡ false
+
+abbrev AreWhole : List (List ℕ) → Data → Type 0
+AreWhole [] d = Unit {0}
+AreWhole (n ∷ ns) d = IsWhole (get n d) × AreWhole ns d
+
+among_by : (b : Bool) (n k : List ℕ) (ns : List (List ℕ)) (d : Data) (ms : Members) → bytes_eq n k ≡ b → IsWhole (get_member n ms)
+    → (is_among ns k ≡ true → has_other_number d ≡ false) → (b || is_among ns k) ≡ true → get_member k ms ≡ Some d → has_other_number d ≡ false
+among_by true n k ns d ms is here more among h = subst IsWhole (ap (λ x. get_member x ms) ((bytes_eq-Decides n k).0 is) ∙ h) here
+among_by false n k ns d ms is here more among h = more among
+
+among_whole : (names : List (List ℕ)) (k : List ℕ) (d : Data) (ms : Members) → AreWhole names (object ms) → is_among names k ≡ true → get_member k ms ≡ Some d
+    → has_other_number d ≡ false
+among_whole [] k d ms each among h = cc
+among_whole (n ∷ ns) k d ms each among h = among_by (bytes_eq n k) n k ns d ms refl each.0 (λ later. among_whole ns k d ms each.1 later h) among h
+
+members_whole : (names : List (List ℕ)) (ms : Members) → HasSorted ms → only_members names ms ≡ true
+    → ((k : List ℕ) (d : Data) → is_among names k ≡ true → get_member k ms ≡ Some d → has_other_number d ≡ false) → members_have_other ms ≡ false
+members_whole names no_members s only each = refl
+members_whole names (member l d ms) s only each =
+    let first : has_other_number d ≡ false = each l d (and_first (is_among names l) (only_members names ms) only) (found_first l d ms) in
+    let rest : members_have_other ms ≡ false = members_whole names ms s.2 (and_second (is_among names l) (only_members names ms) only)
+    (λ k e among h. each k e among (found_behind k l d e ms s.0 h)) in
+    rw (first, rest) refl
+
+-- an object that has only members of these names, each of them with whole numbers alone
+object_whole : (names : List (List ℕ)) (d : Data) → IsSorted d → has_only names d ≡ true → AreWhole names d → has_other_number d ≡ false
+object_whole names null s only each = refl
+object_whole names (boolean b) s only each = refl
+object_whole names (number n) s only each = cc
+object_whole names (string t) s only each = refl
+object_whole names (array ds) s only each = cc
+object_whole names (object ms) s only each = members_whole names ms s only (λ k d among h. among_whole names k d ms each among h)
+
+-- ---- single values
+
+whole_whole : (d : Data) (n : ℕ) → whole_number d ≡ Some n → has_other_number d ≡ false
+whole_whole null n e = refl
+whole_whole (boolean b) n e = refl
+whole_whole (number (unsigned m)) n e = refl
+whole_whole (number (negative z)) n e = cc
+whole_whole (number (float x)) n e = cc
+whole_whole (string s) n e = refl
+whole_whole (array ds) n e = cc
+whole_whole (object ms) n e = cc
+
+text_whole : (d : Data) (t : List ℕ) → as_str d ≡ Some t → has_other_number d ≡ false
+text_whole null t e = refl
+text_whole (boolean b) t e = refl
+text_whole (number n) t e = cc
+text_whole (string s) t e = refl
+text_whole (array ds) t e = cc
+text_whole (object ms) t e = cc
+
+switch_whole : (d : Data) (b : Bool) → as_bool d ≡ Some b → has_other_number d ≡ false
+switch_whole null b e = refl
+switch_whole (boolean c) b e = refl
+switch_whole (number n) b e = cc
+switch_whole (string s) b e = refl
+switch_whole (array ds) b e = cc
+switch_whole (object ms) b e = cc
+
+method_whole : (d : Data) (m : DelayMethod) → delay_method d ≡ Some m → has_other_number d ≡ false
+method_whole null m e = refl
+method_whole (boolean c) m e = refl
+method_whole (number (unsigned n)) m e = refl
+method_whole (number (negative z)) m e = cc
+method_whole (number (float x)) m e = cc
+method_whole (string s) m e = refl
+method_whole (array ds) m e = cc
+method_whole (object ms) m e = cc
+
+factor_whole : (d : Data) (f : InterleaveFactor) → interleave_factor d ≡ Some f → has_other_number d ≡ false
+factor_whole null f e = refl
+factor_whole (boolean c) f e = refl
+factor_whole (number (unsigned n)) f e = refl
+factor_whole (number (negative z)) f e = cc
+factor_whole (number (float x)) f e = cc
+factor_whole (string s) f e = refl
+factor_whole (array ds) f e = cc
+factor_whole (object ms) f e = cc
+
+texts_whole : (ds : Items) (ts : List (List ℕ)) → texts_of ds ≡ Some ts → items_have_other ds ≡ false
+texts_whole no_items ts e = refl
+texts_whole (item d ds) ts e =
+    linked (as_str d) _ ts (items_have_other (item d ds) ≡ false)
+    (λ t is rest. linked (texts_of ds) _ ts (items_have_other (item d ds) ≡ false)
+    (λ more are last. let one : has_other_number d ≡ false = text_whole d t is in let others : items_have_other ds ≡ false = texts_whole ds more are in rw (one, others) refl)
+    rest) e
+
+array_whole : (d : Data) (ts : List (List ℕ)) → (as_array d >=> texts_of) ≡ Some ts → has_other_number d ≡ false
+array_whole null ts e = refl
+array_whole (boolean b) ts e = refl
+array_whole (number n) ts e = cc
+array_whole (string s) ts e = refl
+array_whole (array ds) ts e = texts_whole ds ts e
+array_whole (object ms) ts e = cc
+
+-- ---- members that may be absent
+
+or_whole : {A : Type 0} (parse : Data → Option A) (default a : A) (o : Option Data) → ((d : Data) (x : A) → parse d ≡ Some x → has_other_number d ≡ false)
+    → member_or parse default o ≡ Some a → IsWhole o
+or_whole parse default a None h e = tt
+or_whole parse default a (Some d) h e = h d a e
+
+wanted_whole : {A : Type 0} (parse : Data → Option A) (a : A) (o : Option Data) → ((d : Data) (x : A) → parse d ≡ Some x → has_other_number d ≡ false)
+    → option_and_then parse o ≡ Some a → IsWhole o
+wanted_whole parse a None h e = tt
+wanted_whole parse a (Some d) h e = h d a e
+
+parents_whole : (o : Option Data) (ts : List (List ℕ)) → texts_in o ≡ Some ts → IsWhole o
+parents_whole None ts e = tt
+parents_whole (Some d) ts e = array_whole d ts e
+
+-- ---- hosts, services and dependencies
+
+abbrev IsCheckWhole : Data → Type 0
+IsCheckWhole d = IsWhole (get (codes "check_interval") d) × IsWhole (get (codes "retry_interval") d) × IsWhole (get (codes "max_check_attempts") d)
+    × IsWhole (get (codes "enabled") d)
+
+check_whole : (d : Data) (c : CheckDraft) → check_draft d ≡ Some c → IsCheckWhole d
+unfolding check_draft
+check_whole d c e =
+    linked (member_or whole_number 5 (get (codes "check_interval") d)) _ c (IsCheckWhole d) (λ a first more.
+    linked (member_or whole_number 1 (get (codes "retry_interval") d)) _ c (IsCheckWhole d) (λ b second later.
+    linked (option_and_then whole_number (get (codes "max_check_attempts") d)) _ c (IsCheckWhole d) (λ m third last.
+    linked (member_or as_bool true (get (codes "enabled") d)) _ c (IsCheckWhole d) (λ on fourth end. (
+      or_whole whole_number 5 a _ whole_whole first,
+      or_whole whole_number 1 b _ whole_whole second,
+      wanted_whole whole_number m _ whole_whole third,
+      or_whole as_bool true on _ switch_whole fourth,
+    ))
+    last) later) more) e
+
+host_whole : (d : Data) (h : HostDraft) → IsSorted d → host_draft d ≡ Some h → has_other_number d ≡ false
+unfolding host_draft
+host_whole d h s e =
+    guarded (has_only host_members d) _ h (has_other_number d ≡ false) (λ only members.
+    linked (option_and_then as_str (get (codes "name") d)) _ h (has_other_number d ≡ false) (λ name first more.
+    linked (texts_in (get (codes "parents") d)) _ h (has_other_number d ≡ false) (λ parents second later.
+    linked (check_draft d) _ h (has_other_number d ≡ false) (λ check third last.
+    let checked = check_whole d check third in
+    object_whole host_members d s only
+    (wanted_whole as_str name _ text_whole first, (parents_whole _ parents second, (checked.0, (checked.1, (checked.2, (checked.3, tt)))))))
+    later) more) members) e
+
+service_whole : (d : Data) (x : ServiceDraft) → IsSorted d → service_draft d ≡ Some x → has_other_number d ≡ false
+unfolding service_draft
+service_whole d x s e =
+    guarded (has_only service_members d) _ x (has_other_number d ≡ false) (λ only members.
+    linked (option_and_then as_str (get (codes "host") d)) _ x (has_other_number d ≡ false) (λ host first more.
+    linked (option_and_then as_str (get (codes "description") d)) _ x (has_other_number d ≡ false) (λ description second later.
+    linked (check_draft d) _ x (has_other_number d ≡ false) (λ check third last.
+    let checked = check_whole d check third in
+    object_whole service_members d s only
+    (wanted_whole as_str host _ text_whole first, (wanted_whole as_str description _ text_whole second, (checked.0, (checked.1, (checked.2, (checked.3, tt)))))))
+    later) more) members) e
+
+dependency_whole : (letters : List (List ℕ)) (d : Data) (x : DependencyDraft) → IsSorted d → dependency_draft letters d ≡ Some x → has_other_number d ≡ false
+unfolding dependency_draft
+dependency_whole letters d x s e =
+    guarded (has_only dependency_members d) _ x (has_other_number d ≡ false) (λ only members.
+    linked (option_and_then as_str (get (codes "dependent") d)) _ x (has_other_number d ≡ false) (λ dependent first more.
+    linked (option_and_then as_str (get (codes "master") d)) _ x (has_other_number d ≡ false) (λ master second later.
+    linked (option_and_then as_str (get (codes "criteria") d)) _ x (has_other_number d ≡ false) (λ text third last.
+    linked (criteria_of letters text) _ x (has_other_number d ≡ false) (λ criteria fourth end.
+    linked (member_or as_bool false (get (codes "inherits_parent") d)) _ x (has_other_number d ≡ false) (λ inherits fifth nothing.
+    object_whole dependency_members d s only
+    (wanted_whole as_str dependent _ text_whole first, (wanted_whole as_str master _ text_whole second, (wanted_whole as_str text _ text_whole third, (or_whole as_bool false inherits _ switch_whole fifth, tt)))))
+    end) last) later) more) members) e
+
+-- ---- lists of them
+
+module _ {A : Type 0} (shape : Data → Option A) (each : (d : Data) (x : A) → IsSorted d → shape d ≡ Some x → has_other_number d ≡ false) where
+  items_whole : (place : ℕ → Place) (i : ℕ) (ds : Items) (xs : List A) → AreSorted ds → items_from shape place i ds ≡ Ok xs → items_have_other ds ≡ false
+  items_whole place i no_items xs s e = refl
+  items_whole place i (item d ds) xs s e =
+      next (ok_or (shape d) (errors.Shape (place i))) _ xs (items_have_other (item d ds) ≡ false) (λ x is rest.
+      next (items_from shape place (i + 1) ds) _ xs (items_have_other (item d ds) ≡ false) (λ more are last.
+      let one : has_other_number d ≡ false = each d x s.0 (from_ok_or (shape d) _ x is) in
+      let others : items_have_other ds ≡ false = items_whole place (i + 1) ds more s.1 are in
+      rw (one, others) refl)
+      rest) e
+
+  array_of_whole : (whole : Place) (place : ℕ → Place) (d : Data) (xs : List A) → IsSorted d
+      → (ok_or (as_array d) (errors.Shape whole) >>= λ items. items_from shape place 0 items) ≡ Ok xs → has_other_number d ≡ false
+  array_of_whole whole place null xs s e = refl
+  array_of_whole whole place (boolean b) xs s e = refl
+  array_of_whole whole place (number n) xs s e = cc
+  array_of_whole whole place (string t) xs s e = refl
+  array_of_whole whole place (array ds) xs s e = items_whole place 0 ds xs s e
+  array_of_whole whole place (object ms) xs s e = cc
+
+  list_whole : (whole : Place) (place : ℕ → Place) (o : Option Data) (xs : List A) → OrSorted o → list_of shape whole place o ≡ Ok xs → IsWhole o
+  list_whole whole place None xs s e = tt
+  list_whole whole place (Some d) xs s e = array_of_whole whole place d xs s e
+
+-- ---- options
+
+abbrev AreOptionsWhole : Data → Type 0
+AreOptionsWhole d =
+    IsWhole (get (codes "interval_length") d) × IsWhole (get (codes "service_inter_check_delay_method") d) × IsWhole (get (codes "max_service_check_spread") d)
+    × IsWhole (get (codes "service_interleave_factor") d) × IsWhole (get (codes "host_inter_check_delay_method") d)
+    × IsWhole (get (codes "max_host_check_spread") d) × IsWhole (get (codes "max_concurrent_checks") d)
+    × IsWhole (get (codes "soft_state_dependencies") d) × IsWhole (get (codes "use_aggressive_host_checking") d)
+
+nine_whole : (d : Data) (o : Options) → options_but_thresholds (Some d) ≡ Some o → AreOptionsWhole d
+unfolding options_but_thresholds
+nine_whole d o e =
+    linked (member_or whole_number 60 (get (codes "interval_length") d)) _ o (AreOptionsWhole d) (λ a ha ra.
+    linked (member_or delay_method method.Smart (get (codes "service_inter_check_delay_method") d)) _ o (AreOptionsWhole d) (λ b hb rb.
+    linked (member_or whole_number 30 (get (codes "max_service_check_spread") d)) _ o (AreOptionsWhole d) (λ c hc rc.
+    linked (member_or interleave_factor factor.Smart (get (codes "service_interleave_factor") d)) _ o (AreOptionsWhole d) (λ f hf rf.
+    linked (member_or delay_method method.Smart (get (codes "host_inter_check_delay_method") d)) _ o (AreOptionsWhole d) (λ g hg rg.
+    linked (member_or whole_number 30 (get (codes "max_host_check_spread") d)) _ o (AreOptionsWhole d) (λ h hh rh.
+    linked (member_or whole_number 0 (get (codes "max_concurrent_checks") d)) _ o (AreOptionsWhole d) (λ m hm rm.
+    linked (member_or as_bool false (get (codes "soft_state_dependencies") d)) _ o (AreOptionsWhole d) (λ s hs rs.
+    linked (member_or as_bool false (get (codes "use_aggressive_host_checking") d)) _ o (AreOptionsWhole d) (λ t ht rt. (
+      or_whole whole_number 60 a _ whole_whole ha,
+      or_whole delay_method method.Smart b _ method_whole hb,
+      or_whole whole_number 30 c _ whole_whole hc,
+      or_whole interleave_factor factor.Smart f _ factor_whole hf,
+      or_whole delay_method method.Smart g _ method_whole hg,
+      or_whole whole_number 30 h _ whole_whole hh,
+      or_whole whole_number 0 m _ whole_whole hm,
+      or_whole as_bool false s _ switch_whole hs,
+      or_whole as_bool false t _ switch_whole ht,
+    ))
+    rs) rm) rh) rg) rf) rc) rb) ra) e
+
+abbrev AreThresholdsWhole : Data → Type 0
+AreThresholdsWhole d = IsWhole (get (codes "low_service_flap_threshold") d) × IsWhole (get (codes "high_service_flap_threshold") d)
+    × IsWhole (get (codes "low_host_flap_threshold") d) × IsWhole (get (codes "high_host_flap_threshold") d)
+
+four_whole : (d : Data) (before o : Options) → with_thresholds (Some d) before ≡ Some o → AreThresholdsWhole d
+unfolding with_thresholds
+four_whole d before o e =
+    linked (member_or whole_number 20 (get (codes "low_service_flap_threshold") d)) _ o (AreThresholdsWhole d) (λ a ha ra.
+    linked (member_or whole_number 30 (get (codes "high_service_flap_threshold") d)) _ o (AreThresholdsWhole d) (λ b hb rb.
+    linked (member_or whole_number 20 (get (codes "low_host_flap_threshold") d)) _ o (AreThresholdsWhole d) (λ c hc rc.
+    linked (member_or whole_number 30 (get (codes "high_host_flap_threshold") d)) _ o (AreThresholdsWhole d) (λ f hf rf. (
+      or_whole whole_number _ a _ whole_whole ha,
+      or_whole whole_number _ b _ whole_whole hb,
+      or_whole whole_number _ c _ whole_whole hc,
+      or_whole whole_number _ f _ whole_whole hf,
+    ))
+    rc) rb) ra) e
+
+options_whole : (o : Option Data) (options : Options) → OrSorted o → options_of o ≡ Some options → IsWhole o
+options_whole None options s e = tt
+options_whole (Some d) options s e =
+    guarded (has_only option_members d) _ options (has_other_number d ≡ false) (λ only members.
+    linked (options_but_thresholds (Some d)) _ options (has_other_number d ≡ false) (λ before first second.
+    let nine = nine_whole d before first in
+    let four = four_whole d before options second in
+    object_whole option_members d s only
+    (nine.0, (nine.1, (nine.2, (nine.3, (nine.4, (nine.5, (nine.6, (nine.7, (nine.8, (four.0, (four.1, (four.2, (four.3, tt))))))))))))))
+    members) e
+
+-- ---- documents
+
+drafts_whole : (d : Data) (drafts : Drafts) → IsSorted d → drafts_of d ≡ Ok drafts → has_other_number d ≡ false
+unfolding drafts_of
+drafts_whole d drafts s e =
+    guarded_ok (has_only document_members d) _ _ drafts (has_other_number d ≡ false) (λ only members.
+    next (ok_or (options_of (get (codes "options") d)) (errors.Shape the_options)) _ drafts (has_other_number d ≡ false) (λ options ho ro.
+    next (list_of host_draft the_hosts host_at (get (codes "hosts") d)) _ drafts (has_other_number d ≡ false) (λ hosts hh rh.
+    next (list_of service_draft the_services service_at (get (codes "services") d)) _ drafts (has_other_number d ≡ false) (λ services hs rs.
+    next (dependencies_in part.ServiceDependencies service_letters (get (codes "service_dependencies") d)) _ drafts (has_other_number d ≡ false) (λ between hb rb.
+    next (dependencies_in part.HostDependencies host_letters (get (codes "host_dependencies") d)) _ drafts (has_other_number d ≡ false) (λ among ha ra.
+    object_whole document_members d s only
+    (options_whole (get (codes "options") d) options (sorted_get (codes "options") d s) (from_ok_or _ _ options ho), (list_whole host_draft host_whole the_hosts host_at (get (codes "hosts") d) hosts (sorted_get (codes "hosts") d s) hh, (list_whole service_draft service_whole the_services service_at (get (codes "services") d) services (sorted_get (codes "services") d s) hs, (list_whole (dependency_draft service_letters) (dependency_whole service_letters) _ _ _ between (sorted_get (codes "service_dependencies") d s) hb, (list_whole (dependency_draft host_letters) (dependency_whole host_letters) _ _ _ among (sorted_get (codes "host_dependencies") d s) ha, tt))))))
+    rb) rs) rh) ro) members) e
+
+setup_whole : (d : Data) (c : Configuration) → IsSorted d → setup_of_tree d ≡ Ok c → has_other_number d ≡ false
+unfolding setup_of_tree
+setup_whole d c s e = next (drafts_of d) _ c (has_other_number d ≡ false) (λ drafts is rest. drafts_whole d drafts s is) e
+
+-- each number in a good document is a whole one
+pub whole_numbers : (document : List ℕ) (d : Data) (c : Configuration) → setup_of document ≡ Ok c → tree_of document ≡ Some d → has_other_number d ≡ false
+whole_numbers document d c good is =
+    let few = short_document document c good in
+    let read : ok_or (tree_of document) errors.NotJson ≡ Ok d = rw (is) refl in
+    setup_whole d c (tree_is_sorted document d is) (sym (setup_by_tree document d few read) ∙ good)
+
+-- ---- floats
+
+or_first : (a b : Bool) → a || b ≡ false → a ≡ false
+or_first true b e = cc
+or_first false b e = refl
+
+or_second : (a b : Bool) → a || b ≡ false → b ≡ false
+or_second true b e = cc
+or_second false b e = e
+
+-- where each number is a whole one, there is no float
+mutual
+  pub no_float : (d : Data) → has_other_number d ≡ false → has_float d ≡ false
+  no_float null e = refl
+  no_float (boolean b) e = refl
+  no_float (number (unsigned n)) e = refl
+  no_float (number (negative z)) e = refl
+  no_float (number (float x)) e = cc
+  no_float (string s) e = refl
+  no_float (array ds) e = no_float_items ds e
+  no_float (object ms) e = no_float_members ms e
+
+  no_float_items : (ds : Items) → items_have_other ds ≡ false → items_have_float ds ≡ false
+  no_float_items no_items e = refl
+  no_float_items (item d ds) e =
+      let one : has_float d ≡ false = no_float d (or_first (has_other_number d) (items_have_other ds) e) in
+      let others : items_have_float ds ≡ false = no_float_items ds (or_second (has_other_number d) (items_have_other ds) e) in
+      rw (one, others) refl
+
+  no_float_members : (ms : Members) → members_have_other ms ≡ false → members_have_float ms ≡ false
+  no_float_members no_members e = refl
+  no_float_members (member k d ms) e =
+      let one : has_float d ≡ false = no_float d (or_first (has_other_number d) (members_have_other ms) e) in
+      let others : members_have_float ms ≡ false = no_float_members ms (or_second (has_other_number d) (members_have_other ms) e) in
+      rw (one, others) refl

@@ -1,0 +1,5 @@
+pub mod Feeds
+pub mod Shown
+pub mod Explanation
+pub mod DocumentLine
+pub mod Numbers

@@ -1,0 +1,40 @@
+//! How a kind of members and a value are told.
+
+use crate::line::Line;
+use check_drafts::Kind;
+use serde_json::Value;
+use std::alloc::{AllocError, Global};
+
+/// A kind in words, as the end of a sentence.
+pub(crate) fn kind_words(kind: Kind) -> &'static str {
+    match kind {
+        Kind::Part(_) => "a part of the document",
+        Kind::Text => "a text",
+        Kind::Texts => "an array of texts",
+        Kind::Switch => "true or false",
+        Kind::Number { .. } => "a whole number",
+        Kind::Delay => "\"n\", \"d\", \"s\" or a whole number",
+        Kind::Factor => "\"s\" or a whole number",
+        Kind::ServiceLetters => "letters of o, w, u, c, p and n with a comma between two",
+        Kind::HostLetters => "letters of o, u, d, p and n with a comma between two",
+    }
+}
+
+/// Appends what a value is, as the end of a sentence: a text, a number and the like itself, and of an
+/// array or an object that it is one.
+pub(crate) fn push_value(alloc: Global, line: &mut Line, value: &Value) -> Result<(), AllocError> {
+    match value {
+        Value::Null => line.push_words("null"),
+        Value::Bool(true) => line.push_words("true"),
+        Value::Bool(false) => line.push_words("false"),
+        Value::Number(_) => push_any_number(alloc, line, value),
+        Value::String(text) => line.push_text(text.as_str()),
+        Value::Array(_) => line.push_words("an array"),
+        Value::Object(_) => line.push_words("an object"),
+    }
+}
+
+fn push_any_number(alloc: Global, line: &mut Line, value: &Value) -> Result<(), AllocError> {
+    let number = value.to_string(alloc)?;
+    line.push_words(number.as_str())
+}

@@ -1,0 +1,20 @@
+//! Laws of the definitions, each the contract of a function without parameters and code.
+
+ghost use Rattle.std.specs.Prelude.{◌≡◌, ℕ, List, false, Ok, Some};
+ghost use Rattle.serde_json.specs.Data.{Data};
+ghost use Rattle.serde_json.specs.Written.{has_float};
+ghost use Rattle.check_documents.specs.Tree.{tree_of};
+ghost use Rattle.check_numbers.specs.Configuration.{Configuration};
+ghost use Rattle.check_objects.specs.Setup.{setup_of};
+ghost use Rattle.check_explain.specs.Numbers.{has_other_number};
+
+/// Each number that stands anywhere in a good document is a whole number from 0 to 2^64 - 1
+/// (`whole`). So none is a float (`no_float`), and what [`write_line`](crate::write_line) says of a
+/// document without one it says of every good document.
+pub fn good_numbers_are_whole()
+    ensures whole { (document : List ℕ) (tree : Data) (c : Configuration)
+        → setup_of document ≡ Ok c → tree_of document ≡ Some tree
+        → has_other_number tree ≡ false }
+    ensures no_float { (document : List ℕ) (tree : Data) (c : Configuration)
+        → setup_of document ≡ Ok c → tree_of document ≡ Some tree → has_float tree ≡ false }
+{}

@@ -1,0 +1,181 @@
+//! A line of text that grows, and never has a line feed in it.
+ghost use Rattle.std.specs.Prelude.{◌≡◌, ◌≢◌, ◌<◌, ◌++◌, ◌∷◌, false, [], OnOk, decimal, option_map, string_bytes};
+ghost use Rattle.std.specs.Char.{digit_char, encode_utf8};
+ghost use Rattle.check_explain.specs.Explanation.{named};
+ghost use Rattle.check_explain.specs.Feeds.{has_feed, HasNoFeed};
+ghost use Rattle.check_explain.specs.Shown.{cut, escape_of, escaped, shown};
+
+use itoa::Buffer;
+use std::alloc::{AllocError, Global};
+use std::marker::Model;
+
+/// How many characters of a text of the document are shown.
+const SHOWN: usize = 80;
+
+/// A line of text without a line feed. Contracts see its bytes.
+#[derive(Drop)]
+pub(crate) struct Line {
+    text: String,
+}
+
+impl Model for Line {
+    ghost use Rattle.std.specs.Prelude.{List, ℕ, string_bytes};
+    ghost use Rattle.check_explain.specs.Feeds.{HasNoFeed};
+
+    ghost Value = { List ℕ };
+
+    ghost view = { λ line. string_bytes line.text };
+
+    ghost invariant = { λ line. HasNoFeed (string_bytes line.text) };
+}
+
+impl Line {
+    /// A line without a byte.
+    pub(crate) fn new(alloc: Global) -> Line
+        ensures { result ≡ [] }
+    {
+        Line {
+            text: String::new(alloc),
+        }
+    }
+
+    /// The text of the line.
+    pub(crate) fn into_text(self) -> String
+        ensures text { string_bytes result ≡ self }
+        ensures line { HasNoFeed (string_bytes result) }
+    {
+        self.text
+    }
+
+    /// Appends another line.
+    pub(crate) fn push_line(&mut self, line: &Line) -> Result<(), AllocError>
+        ensures text { OnOk result (self.new ≡ self.old ++ line.now) }
+    {
+        self.text.push_str(line.text.as_str())
+    }
+
+    /// Appends words of ours, with a space in place of each line feed.
+    pub(crate) fn push_words(&mut self, words: &str) -> Result<(), AllocError>
+        ensures text { OnOk result (has_feed words.now ≡ false → self.new ≡ self.old ++ words.now) }
+    {
+        if words.bytes().any(|byte| byte == b'\n') {
+            self.push_flat(words)
+        } else {
+            self.text.push_str(words)
+        }
+    }
+
+    /// Appends a text, with a space in place of each line feed.
+    fn push_flat(&mut self, text: &str) -> Result<(), AllocError> {
+        for character in text.chars() {
+            self.push_char(without_feed(character))?;
+        }
+        Ok(())
+    }
+
+    /// Appends a character that is no line feed.
+    fn push_char(&mut self, character: char) -> Result<(), AllocError>
+        requires { character ≢ 10 }
+        ensures text { OnOk result (self.new ≡ self.old ++ encode_utf8 character) }
+    {
+        self.text.push(character)
+    }
+
+    /// Appends a number in decimal.
+    #[tactic(auto, using(crate::proofs::FeedLemmas::number_flat))]
+    pub(crate) fn push_number(&mut self, number: u64) -> Result<(), AllocError>
+        ensures text { OnOk result (self.new ≡ self.old ++ decimal number) }
+    {
+        let mut buffer = Buffer::new();
+        self.push_words(buffer.format(number))
+    }
+
+    /// Appends a text of the document as a JSON string, cut behind 80 characters.
+    pub(crate) fn push_text(&mut self, text: &str) -> Result<(), AllocError>
+        ensures text { OnOk result (self.new ≡ self.old ++ shown text.now) }
+    {
+        self.push_words("\"")?;
+        self.push_cut(text)?;
+        self.push_words("\"")
+    }
+
+    /// Appends words of ours and a text of the document.
+    pub(crate) fn push_named(&mut self, words: &str, text: &str) -> Result<(), AllocError>
+        ensures text { OnOk result (has_feed words.now ≡ false
+            → self.new ≡ self.old ++ (words.now ++ shown text.now)) }
+    {
+        self.push_words(words)?;
+        self.push_text(text)
+    }
+
+    /// Appends words of ours and a name, where there is one.
+    pub(crate) fn push_name(&mut self, role: &str, name: Option<&str>) -> Result<(), AllocError>
+        ensures text { OnOk result (has_feed role.now ≡ false
+            → self.new ≡ self.old ++ named role.now (option_map (λ name. name.now) name.entry)) }
+    {
+        match name {
+            Some(name) => self.push_named(role, name),
+            None => Ok(()),
+        }
+    }
+
+    /// Appends a text as it stands in a JSON string; behind 80 characters dots stand for the rest.
+    pub(crate) fn push_cut(&mut self, text: &str) -> Result<(), AllocError>
+        ensures text { OnOk result (self.new ≡ self.old ++ cut text.now) }
+    {
+        let mut left = text.chars();
+        for shown in 0..SHOWN {
+            match left.next() {
+                Some(character) => self.push_escaped(character)?,
+                None => return Ok(()),
+            }
+        }
+        match left.next() {
+            Some(_) => self.push_words("..."),
+            None => Ok(()),
+        }
+    }
+
+    /// Appends a character as it stands in a JSON string, and control characters by their numbers.
+    fn push_escaped(&mut self, character: char) -> Result<(), AllocError>
+        ensures text { OnOk result (self.new ≡ self.old ++ escaped character) }
+    {
+        match character {
+            '"' => self.push_words("\\\""),
+            '\\' => self.push_words("\\\\"),
+            '\n' => self.push_words("\\n"),
+            '\r' => self.push_words("\\r"),
+            '\t' => self.push_words("\\t"),
+            '\0'..='\u{1f}' | '\u{7f}'..='\u{9f}' => self.push_code(character as u32),
+            _ => self.push_char(character),
+        }
+    }
+
+    /// Appends the escape of a control character with this number.
+    fn push_code(&mut self, code: u32) -> Result<(), AllocError>
+        requires { code < 256 }
+        ensures text { OnOk result (self.new ≡ self.old ++ escape_of code) }
+    {
+        self.push_words("\\u00")?;
+        self.push_digit(code / 16)?;
+        self.push_digit(code % 16)
+    }
+
+    /// Appends a hexadecimal digit.
+    fn push_digit(&mut self, digit: u32) -> Result<(), AllocError>
+        requires { digit < 16 }
+        ensures text { OnOk result (self.new ≡ self.old ++ (digit_char digit ∷ [])) }
+    {
+        match char::from_digit(digit, 16) {
+            Some(character) => self.push_char(character),
+            None => Ok(()),
+        }
+    }
+}
+
+/// The character, or a space in place of a line feed.
+fn without_feed(character: char) -> char
+    ensures { result ≢ 10 }
+{
+    if character == '\n' { ' ' } else { character }
+}

@@ -1,0 +1,124 @@
+//! How a place of a document is told: by its part, its index and the name that stands there.
+ghost use Rattle.std.specs.Prelude.{◌≡◌, ◌++◌, OnOk, option_and_then, option_map};
+ghost use Rattle.serde_json.specs.View.{view};
+ghost use Rattle.check_drafts.specs.declared.place.Part.TheVariants as part;
+ghost use Rattle.check_explain.specs.Explanation.{after_space, both, name_shown, part_text, place_text, text_in, texts_in};
+ghost use Rattle.check_documents.specs.Places.{value_at};
+
+use crate::line::Line;
+use check_documents::value_at;
+use check_drafts::{Part, Place};
+use serde_json::Value;
+use std::alloc::AllocError;
+
+/// The text of a member of an object, or None where it has no such text.
+pub(crate) fn text_of<'v>(item: &'v Value, member: &str) -> Option<&'v str>
+    ensures { option_map (λ text. text.now) result ≡ text_in member.now (view item.now) }
+{
+    item.get(member).and_then(Value::as_str)
+}
+
+/// The texts of two members of an object, or None where it doesn't have both.
+pub(crate) fn texts_of<'v>(item: &'v Value, first: &str, second: &str) -> Option<(&'v str, &'v str)>
+    ensures { option_map (λ p. (p.0.now, p.1.now)) result
+        ≡ texts_in first.now second.now (view item.now) }
+{
+    match (text_of(item, first), text_of(item, second)) {
+        (Some(first), Some(second)) => Some((first, second)),
+        _ => None,
+    }
+}
+
+/// Appends a place, a colon and a space: its part, and of an item of a list its index and the name
+/// that stands there.
+pub(crate) fn push_place(line: &mut Line, tree: &Value, place: Place) -> Result<(), AllocError>
+    ensures { OnOk result (line.new ≡ line.old ++ place_text (view tree.now) place) }
+{
+    push_part_and_index(line, place.part, place.index)?;
+    push_name_at(line, tree, place)?;
+    line.push_words(": ")
+}
+
+/// Appends a part of the document, and the index in its list where there is one.
+pub(crate) fn push_part_and_index(
+    line: &mut Line,
+    part: Part,
+    index: Option<usize>,
+) -> Result<(), AllocError>
+    ensures { OnOk result (line.new ≡ line.old ++ part_text part index) }
+{
+    line.push_words(part.name())?;
+    match index {
+        Some(index) => {
+            line.push_words(" ")?;
+            line.push_number(index as u64)
+        }
+        None => Ok(()),
+    }
+}
+
+/// Appends a space and the name of what stands at a place, where it has one.
+fn push_name_at(line: &mut Line, tree: &Value, place: Place) -> Result<(), AllocError>
+    ensures { OnOk result (line.new ≡ line.old
+        ++ after_space (option_and_then (name_shown place.part) (value_at (view tree.now) place))) }
+{
+    match value_at(tree, place) {
+        Some(item) => push_name(line, item, place.part),
+        None => Ok(()),
+    }
+}
+
+/// Appends a space and the name of an item of a part: of a host or a service its full name, of a
+/// dependency both of its ends. An item without a name adds nothing.
+pub(crate) fn push_name(line: &mut Line, item: &Value, part: Part) -> Result<(), AllocError>
+    ensures { OnOk result (line.new ≡ line.old ++ after_space (name_shown part (view item.now))) }
+{
+    match part {
+        Part::Document | Part::Options => Ok(()),
+        Part::Hosts => push_host_name(line, item),
+        Part::Services => push_service_name(line, item),
+        Part::ServiceDependencies | Part::HostDependencies => push_ends(line, item),
+    }
+}
+
+fn push_host_name(line: &mut Line, item: &Value) -> Result<(), AllocError>
+    ensures { OnOk result (line.new ≡ line.old ++ after_space (name_shown part.Hosts (view item.now))) }
+{
+    match text_of(item, "name") {
+        Some(name) => {
+            line.push_words(" ")?;
+            line.push_text(name)
+        }
+        None => Ok(()),
+    }
+}
+
+fn push_service_name(line: &mut Line, item: &Value) -> Result<(), AllocError>
+    ensures { OnOk result (line.new ≡ line.old ++ after_space (name_shown part.Services (view item.now))) }
+{
+    match texts_of(item, "host", "description") {
+        Some((host, description)) => {
+            line.push_words(" \"")?;
+            line.push_cut(host)?;
+            line.push_words(";")?;
+            line.push_cut(description)?;
+            line.push_words("\"")
+        }
+        None => Ok(()),
+    }
+}
+
+fn push_ends(line: &mut Line, item: &Value) -> Result<(), AllocError>
+    ensures { OnOk result (line.new ≡ line.old
+        ++ after_space (name_shown part.HostDependencies (view item.now))) }
+{
+    match texts_of(item, "dependent", "master") {
+        Some((dependent, master)) => {
+            line.push_words(" ")?;
+            line.push_text(dependent)?;
+            line.push_words(" on ")?;
+            line.push_text(master)
+        }
+        None => Ok(()),
+    }
+}

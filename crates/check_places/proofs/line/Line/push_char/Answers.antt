@@ -1,5 +1,0 @@
-use Rattle.check_places.proofs.FeedLemmas.{pushed_to}
-use Rattle.check_places.proofs.line.Line.push_char.Goals as goal
-
-pub invariant_of-self : goal.invariant_of-self
-invariant_of-self c = pushed_to _ _ _ _ c.push.ensures.bytes c.self.invariant c.without_feed.ensures

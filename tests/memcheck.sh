@@ -1,0 +1,24 @@
+#!/usr/bin/env bash
+# Runs programs over the C library under valgrind's memcheck: no access that isn't allowed, no block that is left. Run by hand.
+#   tests/memcheck.sh [PREFIX]     where tools/build_c.sh has laid the library down, out/c where no folder is named
+# The programs are examples/embed.c, with its four workers and an operator, tests/c/wrong.c and tests/c/refused.c, which refuses each
+# request for memory in turn.
+set -eu -o pipefail
+top=$(cd "$(dirname "$0")/.." && pwd)
+prefix=${1:-$top/out/c}
+work=$(mktemp -d)
+trap 'rm -rf "$work"' EXIT
+
+# Compiles a program with these words, and runs it.
+checked() {
+    local name=$1
+    shift
+    cc -std=c11 -g -O2 -I"$prefix/include" -I"$top/tests/c" "$@" "$prefix/lib/libnagsched.a" -lpthread -o "$work/$name"
+    valgrind --error-exitcode=9 --leak-check=full --show-leak-kinds=all "$work/$name" > "$work/output" 2> "$work/report" \
+        || { cat "$work/report"; exit 1; }
+    echo "$name: $(grep -o 'in use at exit: .*' "$work/report"), $(grep -o 'ERROR SUMMARY: .* errors' "$work/report")"
+}
+
+checked embed "$top/examples/embed.c"
+checked wrong "$top/tests/c/wrong.c" -Wl,--wrap=malloc,--wrap=realloc
+checked refused "$top/tests/c/refused.c" -Wl,--wrap=malloc,--wrap=realloc,--wrap=free
