@@ -383,21 +383,19 @@ impl fmt::Display for SavedText {
     ghost output = { λ e. Some (saved_fault_text e.0) };
 
     fn fmt<W: fmt::Write>(&self, f: &mut fmt::Formatter<W>) -> fmt::Result {
-        let (reason, index) = match self.0 {
-            SavedFault::TooLong => ("K1 TooLong", None),
-            SavedFault::NotJson => ("K2 NotJson", None),
-            SavedFault::Version => ("K3 Version", None),
-            SavedFault::Shape(index) => ("K4 Shape", index),
-            SavedFault::TooMany => ("K5 TooMany", None),
-            SavedFault::BadName(index) => ("K6 BadName", Some(index)),
-            SavedFault::Duplicate(index) => ("K7 Duplicate", Some(index)),
-            SavedFault::Range(index) => ("K8 Range", index),
-            SavedFault::Unlawful(index) => ("K9 Unlawful", Some(index)),
-            SavedFault::Memory => ("Memory", None),
-        };
-        match index {
-            Some(index) => write!(f, "{reason} {index}"),
-            None => f.write_str(reason),
+        match self.0 {
+            SavedFault::TooLong => f.write_str("K1 TooLong"),
+            SavedFault::NotJson => f.write_str("K2 NotJson"),
+            SavedFault::Version => f.write_str("K3 Version"),
+            SavedFault::Shape(Some(index)) => write!(f, "K4 Shape {index}"),
+            SavedFault::Shape(None) => f.write_str("K4 Shape"),
+            SavedFault::TooMany => f.write_str("K5 TooMany"),
+            SavedFault::BadName(index) => write!(f, "K6 BadName {index}"),
+            SavedFault::Duplicate(index) => write!(f, "K7 Duplicate {index}"),
+            SavedFault::Range(Some(index)) => write!(f, "K8 Range {index}"),
+            SavedFault::Range(None) => f.write_str("K8 Range"),
+            SavedFault::Unlawful(index) => write!(f, "K9 Unlawful {index}"),
+            SavedFault::Memory => f.write_str("Memory"),
         }
     }
 }
