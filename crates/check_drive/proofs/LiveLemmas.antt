@@ -1,7 +1,9 @@
 -- A whole conversation, and what its faults leave.
 use Rattle.std.proofs.Common.{◌≡◌, ℕ, suc, ◌+◌, ◌≤◌, ◌==◌, cond, length-append, Bool, true, false, List, [], ◌∷◌, ◌++◌, length, Option, Some, None, Result, Ok, Err, refl, sym, ap, ◌∙◌}
 use Rattle.std.proofs.Common.{arith, inl, inr, ◌⊎◌, append_assoc, append-nil, subst}
-use Rattle.std.specs.Prelude.{IfSome, IfOk, IsOkUnless, OnOk, OnErr, IfErr}
+use Rattle.check_saved.specs.Text.{saved_text}
+use Rattle.check_sched.specs.Saved.{saved_of}
+use Rattle.std.specs.Prelude.{codes, IfSome, IfOk, IsOkUnless, OnOk, OnErr, IfErr}
 use Rattle.std.specs.Io.KnownBytes.{Appends, Consumes, IsAtEnd, Keeps}
 use Rattle.check_objects.specs.Configuration.{Configuration}
 use Rattle.check_objects.specs.Setup.{setup_of}
@@ -161,7 +163,7 @@ wrote_behind held mid holds text k a = Appends-trans held mid holds [] text (app
 command_lines : (s : State) (c : RunCommand) → AreWholeLines (answer_line s c)
 unfolding saved_line
 command_lines s (command.Call call) = inr (_, refl)
-command_lines s command.Save = inr (_, refl)
+command_lines s command.Save = inr (codes "saved " ++ saved_text (saved_of s), refl)
 
 pub answer_lines : (s : State) (r : Result (Option RunCommand) InputRefusal) → AreWholeLines (answer_to s r)
 answer_lines s (Ok None) = inl refl

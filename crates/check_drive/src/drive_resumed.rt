@@ -1,5 +1,5 @@
 //! A run that goes on from what was saved of a scheduler, over the same setup or another.
-ghost use Rattle.std.specs.Prelude.{◌≡◌, ◌≤◌, IfOk, IfErr, IfSome, IsOkUnless, OnOk, OnErr, ◌≢◌};
+ghost use Rattle.std.specs.Prelude.{◌≡◌, ◌≤◌, IfOk, IfErr, IfSome, IsOkUnless, OnOk, OnErr, ◌≢◌, unwrap_or};
 ghost use Rattle.std.specs.Io.KnownBytes.{Appends, Keeps};
 ghost use Rattle.check_script.specs.ResumedScripted.{resumed_script};
 ghost use Rattle.check_text.specs.Output.{WroteFront, WroteShort};
@@ -117,10 +117,22 @@ pub(crate) fn resume(
     ensures new { IfOk result (λ sched. sched ≡ resumed_from setup saved.now start) }
     ensures kind { IsOkUnless result DriveError.Memory }
 {
-    // for the proof: the saved start is a moment
-    saved.is_saved();
-    match Sched::resume(alloc, setup, saved, start.unwrap_or(saved.start())) {
+    match Sched::resume(alloc, setup, saved, moment_of(start, saved)) {
         Ok(sched) => Ok(sched),
         Err(_) => Err(DriveError::Memory),
+    }
+}
+
+/// This moment, or the saved start where there is none.
+fn moment_of(start: Option<u64>, saved: &Saved) -> u64
+    requires { IfSome start (λ moment. moment ≤ LAST_MOMENT) }
+    ensures value { result ≡ unwrap_or start saved.now.start }
+    ensures moment { result ≤ LAST_MOMENT }
+{
+    // for the proof: the saved start is a moment
+    saved.is_saved();
+    match start {
+        Some(moment) => moment,
+        None => saved.start(),
     }
 }

@@ -1,6 +1,8 @@
 -- The text of a run, call by call, and of a history, entry by entry.
 use Rattle.std.proofs.Common.{◌≡◌, ◌≢◌, ℕ, List, [], ◌∷◌, ◌++◌, refl, ap, ◌∙◌, append_assoc, append-nil, sym, arith, drop, length, ◌+◌, ◌≤◌, ◌<◌, get_or}
-use Rattle.std.specs.Prelude.{flat_map}
+use Rattle.std.specs.Prelude.{codes, flat_map}
+use Rattle.check_saved.specs.Text.{saved_text}
+use Rattle.check_sched.specs.Saved.{saved_of}
 use Rattle.std.proofs.lemmas.Grind.{common_steps}
 use Rattle.std.proofs.lemmas.List.{drop_all}
 use Rattle.ticket_steps.specs.declared.kept.Entry.{Entry}
@@ -54,7 +56,7 @@ line_from_some s call = line_of_some (reply_text s.setup call (step s call).1)
 pub answer_line_some : (s : State) (c : RunCommand) → answer_line s c ≢ []
 unfolding saved_line
 answer_line_some s (command.Call call) = line_from_some s call
-answer_line_some s command.Save = line_of_some _
+answer_line_some s command.Save = line_of_some (codes "saved " ++ saved_text (saved_of s))
 
 -- before the total there is the total at least
 pub history_some : (c : Configuration) (es : List (Entry Call Reply)) (entries refused : ℕ) → flat_map (entry_line c) es ++ total_line entries refused ≢ []

@@ -1,4 +1,4 @@
-use Rattle.std.proofs.Common.{◌≡◌, ◌∙◌, Ok, Err, ap}
+use Rattle.std.proofs.Common.{◌≡◌, ◌∙◌, ◌++◌, Ok, Err, ap}
 use Rattle.std.proofs.lemmas.Result.{err_from_is_err_and}
 use Rattle.check_drive.specs.Live.{saved_in}
 use Rattle.check_drive.proofs.LiveLemmas.{gives_refused, written_if}
@@ -20,7 +20,7 @@ returns-in_err-talk-in-Ok g c =
 pub returns-in-Ok : goal.returns-in-Ok
 returns-in-Ok g c =
     let t = c.in_ok-saved.ensures.took in
-    let s : saved_in _ ≡ Ok c.in-Ok.saved = rw (c.in-Ok.is) at t.3.0 in
+    let s : saved_in (c.args.at_hand ++ t.0) ≡ Ok c.in-Ok.saved = rw (c.in-Ok.is) at t.3.0 in
     let sched = written_if _ _ _ c.in_ok-talk-in-Ok.ensures c.resume.ensures.sched in
     let hand = written_if _ _ _ c.in_ok-talk-in-Ok.ensures c.resume.ensures.at_hand in
     let a = c.answer_all.ensures in
@@ -30,7 +30,7 @@ returns-in-Ok g c =
 pub returns-in-Err-Refused : goal.returns-in-Err-Refused
 returns-in-Err-Refused g c =
     let t = c.in_ok-saved.ensures.took in
-    let s : saved_in _ ≡ Err c.in-Err-Refused.refusal =
+    let s : saved_in (c.args.at_hand ++ t.0) ≡ Err c.in-Err-Refused.refusal =
     gives_refused _ c.in_ok-saved.saved _ c.in-Err-Refused.refusal _ t.3.0 c.in-Err-Refused.is
     (rw (c.in-Err-Refused.is) at c.in-Err-Refused.field-0-is) in
     let r = c.refuse.ensures in
