@@ -49,8 +49,7 @@ const ABOUT_SCHEMA: &str = "Writes the JSON schema of a setup";
 const ABOUT_START: &str = "Moment of the start, in ms, from 0 to 2^60";
 
 /// What the help of `run` and `live` says of the option `--start`.
-const ABOUT_OPEN_START: &str = "\
-Moment of the start, in ms, from 0 to 2^60 [default: 0, or with --resume the saved one]";
+const ABOUT_OPEN_START: &str = "Start in ms, 0 to 2^60; without it 0, or the saved one";
 
 /// What the help says of the flag `--resume`.
 const ABOUT_RESUME: &str = "Goes on from what was saved, which is line 2";
