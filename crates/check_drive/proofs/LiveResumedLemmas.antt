@@ -32,7 +32,7 @@ use Rattle.check_text.specs.Text.{refusal_line, resumed_from}
 use Rattle.check_drive.specs.declared.drive.Outcome.{Outcome}
 use Rattle.check_drive.specs.declared.drive.Outcome.TheVariants as outcome
 use Rattle.check_drive.specs.Drive.{IsInput, outcome_by}
-use Rattle.check_drive.specs.Live.{HasReadResumed, IsLiveResumedOnInput, LeavesText, ReadBehind, WentOn, live_resumed_outcome, saved_in}
+use Rattle.check_drive.specs.Live.{HasReadResumed, IsLiveResumedOnInput, LeavesText, ReadBehind, ReadResumedBy, WentOn, live_resumed_outcome, saved_in}
 use Rattle.check_drive.proofs.LiveLemmas.{TalkEnded, appended_none, end_input, input_all, input_on, leaves_before, leaves_kept, leaves_none, live_failed}
 use Rattle.check_drive.proofs.LiveLemmas.{not_long, refused_stays, rest_input, rest_none, rest_of, setup_is, setup_refused, written_err, written_if, written_ok, wrote_behind}
 
@@ -123,7 +123,7 @@ gone_unwritten start c false hand part e had left held holds read end kept = rec
 }
 
 -- an input by which what was saved is refused
-record Refuses (may_follow : Bool) (hand : List ℕ) (had left : Option (List ℕ)) (why : InputRefusal) : Type 0 where
+pub record Refuses (may_follow : Bool) (hand : List ℕ) (had left : Option (List ℕ)) (why : InputRefusal) : Type 0 where
   pub coming : List ℕ
   pub is_input : IsInput had coming
   pub short : may_follow ≡ false → coming ≡ []
@@ -159,8 +159,8 @@ gone_refused_by start c may_follow hand part had left held mid holds why wrote (
       is_input = z.is_input;
       short = z.short;
       outcome_is = written_if o wrote (λ x. x ≡ outcome.Refused) w refused ∙ sym (ap outcome_by z.refused);
-      written = rw text (wrote_behind held mid holds (refusal_line why) kept (written_ok o wrote w written));
-      read = rw (z.refused) (part, read);
+      written = subst (λ l. Appends held holds l) (sym text) (wrote_behind held mid holds (refusal_line why) kept (written_ok o wrote w written));
+      read = subst (λ q. ReadBehind q had left z.coming) (sym z.refused) (part, read);
       front = tt;
     }
 gone_refused_by start c may_follow hand part had left held mid holds why wrote (Err e) z read kept refused written fault w =
@@ -172,7 +172,7 @@ gone_refused_by start c may_follow hand part had left held mid holds why wrote (
       outcome_is = tt;
       written = tt;
       read = tt;
-      front = rw text (leaves_before (told e) held mid holds (refusal_line why) kept
+      front = subst (λ l. LeavesText (told e) held holds l) (sym text) (leaves_before (told e) held mid holds (refusal_line why) kept
           (written_err e wrote (λ x. LeavesText x mid holds (refusal_line why)) w fault));
     }
 
@@ -206,8 +206,8 @@ gone_answered start c saved may_follow false hand part had mid left held wrote h
       is_input = input_all had mid part read (ended refl);
       short = none;
       outcome_is = sym (ap outcome_by s);
-      written = rw text (appended_none held wrote kept);
-      read = rw s read;
+      written = subst (λ l. Appends held wrote l) (sym text) (appended_none held wrote kept);
+      read = subst (λ q. ReadBehind q had mid part) (sym s) read;
       front = tt;
     })
 gone_answered start c saved may_follow true hand part had mid left held wrote holds (Ok o) s read none end feed ended kept ran unread lines =
@@ -220,8 +220,8 @@ gone_answered start c saved may_follow true hand part had mid left held wrote ho
       is_input = input_on had mid part t.0 read t.1;
       short = λ f. absurd (never_follows may_follow hand part had none end (sym feed) f);
       outcome_is = ran ∙ sym (ap outcome_by stays);
-      written = rw text (wrote_behind held wrote holds _ kept t.3);
-      read = rw stays (Consumes-then had mid left part t.0 read t.2);
+      written = subst (λ l. Appends held holds l) (sym text) (wrote_behind held wrote holds _ kept t.3);
+      read = subst (λ q. ReadBehind q had left (part ++ t.0)) (sym stays) (Consumes-then had mid left part t.0 read t.2);
       front = tt;
     }
 gone_answered start c saved may_follow true hand part had mid left held wrote holds (Err e) s read none end feed ended kept ran unread lines =
@@ -234,7 +234,7 @@ gone_answered start c saved may_follow true hand part had mid left held wrote ho
       outcome_is = tt;
       written = tt;
       read = tt;
-      front = rw text (leaves_before (told e) held wrote holds _ kept t.4);
+      front = subst (λ l. LeavesText (told e) held holds l) (sym text) (leaves_before (told e) held wrote holds _ kept t.4);
     }
 
 -- ---- the whole
@@ -276,7 +276,8 @@ opened_outcome c input behind s b =
 
 opened_read : (c : Configuration) (input behind : List ℕ) (had left : Option (List ℕ)) → setup_of (first_line_of input) ≡ Ok c → behind_line input ≡ behind
     → ReadBehind (saved_in behind) had left input → HasReadResumed had left input
-opened_read c input behind had left s b read = rw (s, b) read
+opened_read c input behind had left s b read =
+    subst (λ q. ReadResumedBy q had left input) (sym s) (subst (λ l. ReadBehind (saved_in l) had left input) (sym b) read)
 
 -- what is shown of all behind a setup is what is shown of the whole
 pub whole_gone : (start : Option ℕ) (c : Configuration) (given : List ℕ) (had mid left held holds : Option (List ℕ)) (whole : Bool)
