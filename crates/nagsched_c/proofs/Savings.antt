@@ -43,7 +43,7 @@ resumed_from start room saved text before status setup book (inl (is, spent, (pr
   over = ap Some over;
   read = read;
   spent = spent;
-  book = made;
+  made = made;
   resumed = resumed;
 }
 resumed_from start room saved text before status setup book (inr (is, none, back)) read ok = absurd (omega (arith, is, ok))

@@ -1,5 +1,5 @@
 -- What C is told of a state that is saved, of a book that goes on from one, and of the checks that are out.
-use Rattle.std.specs.Prelude.{◌≡◌, ◌≢◌, ◌⊎◌, ◌<◌, ◌≤◌, ◌^◌, ℕ, List, Ok, Err, Option, Some, None, option_and_then, slice_get}
+use Rattle.std.specs.Prelude.{◌≡◌, ◌≢◌, ◌⊎◌, ◌<◌, ◌≤◌, ◌^◌, ⊤, ℕ, List, Ok, Err, Option, Some, None, option_and_then, slice_get}
 use Rattle.check_objects.specs.Configuration.{object_count}
 use Rattle.check_saved.specs.Saved.{Saved}
 use Rattle.check_saved.specs.Scheduling.{OpenRun}
@@ -31,7 +31,7 @@ HasSavedText sched room before status after bytes = IsTold (saved_text (saved_of
 
 -- a setup, in a handle
 abbrev pub IsSetupIn : Option Lodged → Type 0
-IsSetupIn (Some (lodged.Setup prepared)) = Unit {0}
+IsSetupIn (Some (lodged.Setup prepared)) = ⊤
 IsSetupIn other = ⊥
 
 -- all that going on needs but a saved state and memory: a setup, a start of at most 2^60, and an empty handle for the book
@@ -46,7 +46,7 @@ pub record IsResumedFrom (start room : ℕ) (text : List ℕ) (before after book
   pub over : before ≡ Some (lodged.Setup prepared)
   pub read : saved_of_text text ≡ Ok saved
   pub spent : after ≡ None
-  pub book : book ≡ Some (lodged.Book ledger)
+  pub made : book ≡ Some (lodged.Book ledger)
   pub resumed : IsResumed start room saved prepared ledger
 
 -- the struct of the text's first fault
@@ -64,10 +64,10 @@ IsLeft before after = after ≡ before
 -- a book went on, and the setup's handle is empty; or the setup is in its handle, and the book's is empty
 abbrev pub HasTriedToResume : ℕ → ℕ → Saved → Lodged → ℕ → Option Lodged → Option Lodged → Type 0
 HasTriedToResume start room saved before status setup book =
-    ((status ≡ 0) × (setup ≡ None) × ((prepared : Prepared) × (ledger : Ledger) × (before ≡ lodged.Setup prepared) × (book ≡ Some (lodged.Book ledger))
-        × IsResumed start room saved prepared ledger))
-    ⊎ ((status ≡ 3) × (book ≡ None) × ((prepared : Prepared) × (back : Prepared) × (before ≡ lodged.Setup prepared) × (setup ≡ Some (lodged.Setup back))
-        × (back.setup ≡ prepared.setup)))
+    ((status ≡ 0) × (setup ≡ None) × ((prepared : Prepared) × (ledger : Ledger)
+        × (before ≡ lodged.Setup prepared) × (book ≡ Some (lodged.Book ledger)) × IsResumed start room saved prepared ledger))
+    ⊎ ((status ≡ 3) × (book ≡ None) × ((prepared : Prepared) × (back : Prepared)
+        × (before ≡ lodged.Setup prepared) × (setup ≡ Some (lodged.Setup back)) × (back.setup ≡ prepared.setup)))
 
 -- ---- checks that are out
 

@@ -2,7 +2,6 @@
 
 ghost use Rattle.check_handles.specs.Handles.{contents_of, named_in, MatchNamed};
 ghost use Rattle.std.specs.Prelude.{◌≡◌};
-ghost use Rattle.check_script.specs.declared.refusal.InputRefusal.TheVariants.{Setup};
 ghost use Rattle.check_text.specs.Text.{refusal_line};
 ghost use Rattle.nagsched_c.specs.FaultText.{saved_refusal_line};
 ghost use Rattle.nagsched_c.specs.Texts.{HasEntryText, HasRefusalText, HasReplyText, IsTold};
@@ -47,7 +46,7 @@ pub extern "C" fn nagsched_refusal_text(
 
 /// Puts the text of a refusal of a document.
 fn put_refusal(alloc: Global, error: LoadError, text: &mut [u8], bytes: &mut usize) -> u32
-    ensures { IsTold (refusal_line (Setup error)) text.old bytes.old result text.new bytes.new }
+    ensures { IsTold (refusal_line (InputRefusal.Setup error)) text.old bytes.old result text.new bytes.new }
 {
     let mut line = String::new(alloc);
     match push_refusal(&mut line, InputRefusal::Setup(error)) {
