@@ -1,10 +1,12 @@
 -- Nothing is lost of a refusal of a saved state on the way to C.
-use Rattle.std.proofs.Common.{◌≡◌, refl, sym, ap, ◌∙◌}
+use Rattle.std.proofs.Common.{◌≡◌, ℕ, Some, None, refl, sym, ap, ◌∙◌}
 use mathlib.Core.Logic.{◌≢◌}
+use Rattle.std.specs.Prelude.{Option}
 use Rattle.check_saved.specs.declared.fault.SavedFault.{SavedFault}
 use Rattle.check_saved.specs.declared.fault.SavedFault.TheVariants as fault
 use Rattle.check_records.specs.declared.plain.PlainRefusal.{PlainRefusal}
-use Rattle.check_records.specs.SavedFaults.{fault_back, plain_fault, IsNoFault}
+use Rattle.check_records.specs.Plain.{has_time, time_back, time_or_0}
+use Rattle.check_records.specs.SavedFaults.{fault_back, fault_struct, plain_fault, IsNoFault}
 use Rattle.check_records.proofs.PlainLaws.{none_has, told, time_is}
 
 fault_is : (e : SavedFault) → fault_back (plain_fault e) ≡ e
