@@ -65,9 +65,9 @@ IsLeft before after = after ≡ before
 abbrev pub HasTriedToResume : ℕ → ℕ → Saved → Lodged → ℕ → Option Lodged → Option Lodged → Type 0
 HasTriedToResume start room saved before status setup book =
     ((status ≡ 0) × (setup ≡ None) × ((prepared : Prepared) × (ledger : Ledger)
-        × (before ≡ lodged.Setup prepared) × (book ≡ Some (lodged.Book ledger)) × IsResumed start room saved prepared ledger))
+    × (before ≡ lodged.Setup prepared) × (book ≡ Some (lodged.Book ledger)) × IsResumed start room saved prepared ledger))
     ⊎ ((status ≡ 3) × (book ≡ None) × ((prepared : Prepared) × (back : Prepared)
-        × (before ≡ lodged.Setup prepared) × (setup ≡ Some (lodged.Setup back)) × (back.setup ≡ prepared.setup)))
+    × (before ≡ lodged.Setup prepared) × (setup ≡ Some (lodged.Setup back)) × (back.setup ≡ prepared.setup)))
 
 -- ---- checks that are out
 
