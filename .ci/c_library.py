@@ -32,7 +32,7 @@ WORKERS = {"embed.c": 4, "embed.py": 2}
 PROVED = sys.argv[2:]
 COUNTED = ["-Wl,--wrap=malloc,--wrap=realloc"]
 EMBEDDING = TOP / "docs" / "EMBEDDING.md"
-DEFINITION = TOP / "crates" / "check_records" / "specs" / "Plain.antt"
+DEFINITIONS = [TOP / "crates" / "check_rules" / "specs" / "Numbers.antt", TOP / "crates" / "check_records" / "specs" / "Plain.antt"]
 STATUSES = TOP / "crates" / "nagsched_c" / "src" / "status.rt"
 # Each enumeration of the header: its name in Python, what its names begin with in C, and which functions of the definition number it.
 ENUMERATIONS = {
@@ -87,7 +87,7 @@ def numbers_of(text, pattern):
 
 def defined_numbers():
     """The numbers that the definition gives, by the function that gives them, with the names of C."""
-    text = DEFINITION.read_text(encoding="utf-8")
+    text = "\n".join(definition.read_text(encoding="utf-8") for definition in DEFINITIONS)
     found = collections.defaultdict(dict)
     for function, name, number in re.findall(r"^(\w+) \(?(?:\w+)\.(\w+)\b[^=\n]*\)? = (?:\w*(?:_struct|_nowhere|_at) |record \{ kind = )?(\d+)", text, re.M):
         found[function][re.sub(r"(?<!^)(?=[A-Z])", "_", name).upper()] = int(number)
