@@ -54,7 +54,7 @@ done
 place 644 "$built/include/nagsched.h" include/nagsched.h
 place 644 "$built/lib/libnagsched.a" lib/libnagsched.a
 for library in "$built"/lib/libnagsched.so.*; do
-    place 755 "$library" "lib/$(basename "$library")"
+    place 644 "$library" "lib/$(basename "$library")"
     ln -sf "$(basename "$library")" "$root/lib/libnagsched.so"
 done
 sed "s#^prefix=.*#prefix=$prefix#" "$built/lib/pkgconfig/nagsched.pc" > "$unit"

@@ -38,6 +38,10 @@ Description: $summary
  nagsched decides which host or service check is due, and what each result
  means, by the rules of Nagios Core 4. Its code is proved.
 END
+    if [ "$section" = libs ]; then
+        echo "activate-noawait ldconfig" > "$folder/DEBIAN/triggers"
+        echo "libnagsched $surface $name (>= $version)" > "$folder/DEBIAN/shlibs"
+    fi
     (cd "$folder" && find usr -type f -exec md5sum {} + | sort -k2 > DEBIAN/md5sums)
     dpkg-deb --root-owner-group --build "$folder" "$packages/${name}_${version}_${architecture}.deb" > /dev/null
     echo "$packages/${name}_${version}_${architecture}.deb"
