@@ -8,6 +8,7 @@ Modules, lowest first:
     site         the files of a site, read and tested
     calls        the calls of the scheduler, and its answers
     conversation one `nagsched live`, asked by a pipe
+    rows         the tables of the database, and what a row says
     store        the database: calls, states, changes, switches, results that wait
     known        what the answers say of each object
     plugins      one runner process: it runs the jobs that it reads

@@ -11,7 +11,8 @@ from typing import IO, Callable, List, Optional, Sequence, Tuple
 
 from .calls import Standing
 from .faults import NotStored
-from .store import DropDocument, KeptChange, Store
+from .rows import KeptChange
+from .store import DropDocument, Store
 
 # How long the command may take, in seconds, how often it is tried, and how long it is waited between two tries.
 LIMIT = 30.0

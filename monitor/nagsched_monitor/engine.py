@@ -10,11 +10,12 @@ from .clock import Clock
 from .faults import ConversationEnded, NotStored
 from .known import Known
 from .passive import Passive, is_stale
+from .rows import KeptResult
 from .runners import Event, Finished, Job, Runners
 from .scheduling import Scheduling
 from .site import Site, Watched
 from .sooner import Sooner, on_time
-from .store import KeptResult, Store
+from .store import Store
 from .verdict import verdict
 
 # A pause is more than so many milliseconds between two turns.

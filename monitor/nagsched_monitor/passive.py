@@ -4,10 +4,11 @@ from typing import Callable, Deque, Dict, List, Optional
 
 from .calls import Answer, AtLimit, Idle, Report, Reschedule, Standing, Taken
 from .known import Known
+from .rows import KeptResult
 from .runners import Job
 from .scheduling import Scheduling
 from .sooner import RESULT_FIRST, Sooner
-from .store import DropResult, KeptResult
+from .store import DropResult
 
 # Takes that are made for one passive result before others have their turn.
 MOST_TAKES = 64

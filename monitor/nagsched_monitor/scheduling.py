@@ -9,8 +9,9 @@ from .clock import Clock
 from .conversation import Conversation
 from .faults import MonitorFault
 from .known import AllKnown
+from .rows import Generation, KeptChange
 from .site import Site
-from .store import BeginGeneration, Generation, KeepCalls, KeepChange, KeptChange, Store, Write
+from .store import BeginGeneration, KeepCalls, KeepChange, Store, Write
 
 # Calls that are made again at a time, and how often it is said how many are left, in seconds.
 AT_ONCE = 4_096

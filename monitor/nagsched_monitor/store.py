@@ -10,74 +10,15 @@
 Each row has a checksum over its table and its members, so that a row that was changed since is found.
 """
 import fcntl
-import hashlib
-import json
 import os
 import pathlib
 import sqlite3
 from dataclasses import dataclass
-from typing import Dict, Iterator, List, Optional, Sequence, Tuple, Union
+from typing import Dict, Iterator, List, Optional, Sequence, Tuple
 
 from .calls import Abandon, Take, read_call
 from .faults import DamagedRow, MonitorFault, NotStored
-
-Cell = Union[int, float, str, bytes, None]
-
-TABLES: Dict[str, str] = {
-    "generations": "part INTEGER, setup BLOB, start INTEGER, saved BLOB, last_call INTEGER",
-    "calls": "part INTEGER, line TEXT, words TEXT",
-    "switches": "name TEXT UNIQUE, is_on INTEGER",
-    "passive": "name TEXT, code INTEGER, words TEXT",
-    "changes": "time REAL, name TEXT, state TEXT, kind TEXT, attempt INTEGER, flapping INTEGER, words TEXT",
-    "outbox": "document TEXT",
-}
-
-
-@dataclass(frozen=True)
-class Generation:
-    """How the scheduler of a part was opened last."""
-
-    part: int
-    setup: bytes
-    start: int
-    saved: Optional[bytes]
-    # The number of the last call that the saved state has in it.
-    last_call: int
-
-
-@dataclass(frozen=True)
-class KeptCall:
-    """A call that was kept: its number, part and line, and the words of the plugin that it reports."""
-
-    id: int
-    part: int
-    line: str
-    words: Optional[str]
-
-
-@dataclass(frozen=True)
-class KeptResult:
-    """A passive result that waits."""
-
-    id: int
-    name: str
-    code: int
-    words: str
-
-
-@dataclass(frozen=True)
-class KeptChange:
-    """A change of state: the number of its call, and what the object is since."""
-
-    id: int
-    time: float
-    name: str
-    state: str
-    kind: str
-    attempt: int
-    flapping: bool
-    words: str
-
+from .rows import TABLES, Cell, Generation, KeptCall, KeptChange, KeptResult, checksum_of
 
 class Store:
     """The database of one monitor. A second one of the same site is refused."""
@@ -203,11 +144,6 @@ def locked(folder: pathlib.Path) -> int:
         os.close(lock)
         raise MonitorFault(f"another monitor runs on {folder}") from None
     return lock
-
-
-def checksum_of(table: str, number: int, cells: Sequence[Cell]) -> str:
-    texts = [cell.hex() if isinstance(cell, bytes) else cell for cell in cells]
-    return hashlib.blake2b(json.dumps([table, number, *texts]).encode(), digest_size=8).hexdigest()
 
 
 # ---- what can be written

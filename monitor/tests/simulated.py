@@ -9,10 +9,11 @@ from dataclasses import dataclass, field
 from typing import Any, Callable, Dict, List, Optional, Tuple
 
 from nagsched_monitor.engine import Engine
+from nagsched_monitor.rows import KeptChange
 from nagsched_monitor.runners import Event, Finished, Job
 from nagsched_monitor.scheduling import Scheduling
 from nagsched_monitor.site import Site, read_site
-from nagsched_monitor.store import KeptChange, Store
+from nagsched_monitor.store import Store
 
 PROGRAM = os.environ.get("NAGSCHED", "nagsched")
 # 2026-11-27 08:00:00, in UTC.

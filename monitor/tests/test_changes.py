@@ -6,7 +6,8 @@ from typing import List, Optional
 
 from nagsched_monitor.calls import Standing
 from nagsched_monitor.changes import TRIES, Notifier, document_of, is_change, is_important, line_of
-from nagsched_monitor.store import KeepChange, KeptChange, Store
+from nagsched_monitor.rows import KeptChange
+from nagsched_monitor.store import KeepChange, Store
 
 from .simulated import SiteTest
 

@@ -2,9 +2,8 @@
 import sqlite3
 
 from nagsched_monitor.faults import DamagedRow, MonitorFault, NotStored
-from nagsched_monitor.store import (
-    BeginGeneration, DropChangesBefore, Generation, KeepCalls, KeepChange, KeepResult, KeptChange, SetSwitch, Store, TABLES,
-)
+from nagsched_monitor.rows import TABLES, Generation, KeptChange
+from nagsched_monitor.store import BeginGeneration, DropChangesBefore, KeepCalls, KeepChange, KeepResult, SetSwitch, Store
 
 from .simulated import SiteTest
 
