@@ -22,13 +22,9 @@ pub sift_up-requires : goal.sift_up-requires
 sift_up-requires c =
     let l = c.loop-hole in
     elim c.if-hole-len.branch [
-      | then-hole-len w ↦ rw (
-        w.rows-is,
-        w.hole-is,
-        w.write-then-hole-len.ensures.entries,
-        w.write-then-hole-len.ensures.places,
-        w.entry-below-then-hole-len.ensures,
-      )
+      | then-hole-len w ↦
+          let p = w.write-then-hole-len.ensures in
+          rw (w.rows-is, w.hole-is, p.entries, p.places, w.entry-below-then-hole-len.ensures)
           (to_leaf _ _ _ l.hole (2 * l.hole + 1) _ refl (omega arith) l.invariant.around l.invariant.linked)
       | else-hole-len w ↦ rw (w.rows-is, w.hole-is) (at_leaf _ _ _ _ _ (omega arith) l.invariant.around l.invariant.linked)
     ]
@@ -41,13 +37,9 @@ returns c =
     × (times_around (entries_of joined.rows) (places_of joined.rows) c.args.len joined.hole c.args.held
     ≡ times_around (entries_of l.rows) (places_of l.rows) c.args.len l.hole c.args.held) =
     elim joined.branch [
-      | then-hole-len w ↦ rw (
-        w.rows-is,
-        w.hole-is,
-        w.write-then-hole-len.ensures.entries,
-        w.write-then-hole-len.ensures.places,
-        w.entry-below-then-hole-len.ensures,
-      )
+      | then-hole-len w ↦
+          let p = w.write-then-hole-len.ensures in
+          rw (w.rows-is, w.hole-is, p.entries, p.places, w.entry-below-then-hole-len.ensures)
           (length-set _ _ _, times_moved _ _ _ l.hole (2 * l.hole + 1) c.args.held (omega arith) (omega arith) l.invariant.linked)
       | else-hole-len w ↦ rw (w.rows-is, w.hole-is) (refl, refl)
     ] in

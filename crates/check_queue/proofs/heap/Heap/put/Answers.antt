@@ -14,10 +14,9 @@ sift_up-requires c =
     let q = c.self.inside in
     let es = entries_of q.rows.items in
     let ps = places_of q.rows.items in
-    let k = c.args.number in
-    let bound : k < length (times_in es ps q.len) = rw c.self.view_is c.requires in
-    let none : None ≡ place_in es ps q.len k = rw (← c.deref.ensures.value) c.in-None.ensures in
-    rw c.deref_mut.ensures.value (joins es ps q.len k c.args.time c.self.invariant.ordered c.self.invariant.size bound none)
+    let none : None ≡ place_in es ps q.len c.args.number = rw (← c.deref.ensures.value) c.in-None.ensures in
+    rw c.deref_mut.ensures.value
+    (joins es ps q.len c.args.number c.args.time c.self.invariant.ordered c.self.invariant.size (rw c.self.view_is c.requires) none)
 
 -- what the queue is then
 with_one_more : (c : goal.After-self-in-None-1)
@@ -45,12 +44,11 @@ returns-in-None c = (with_one_more c).times ∙ ap (λ ts. set ts c.args.number 
 
 pub sift-requires-clause-linked : goal.sift-requires-clause-linked
 sift-requires-clause-linked c =
-    let q = c.self.inside in
-    let es = entries_of q.rows.items in
-    let ps = places_of q.rows.items in
-    let k = c.args.number in
-    let found : Some c.in-Some.hole ≡ place_in es ps q.len k = rw (← c.deref.ensures.value) c.in-Some.ensures in
-    rw c.deref_mut-in-Some.ensures.value (moves es ps q.len k _ c.args.time c.self.invariant.ordered (place_found es ps q.len k _ found))
+    let es = entries_of c.self.inside.rows.items in
+    let ps = places_of c.self.inside.rows.items in
+    let len = c.self.inside.len in
+    let found : Some c.in-Some.hole ≡ place_in es ps len c.args.number = rw (← c.deref.ensures.value) c.in-Some.ensures in
+    rw c.deref_mut-in-Some.ensures.value (moves es ps len c.args.number _ c.args.time c.self.invariant.ordered (place_found es ps len c.args.number _ found))
 
 -- what the queue is then
 with_another_time : (c : goal.After-self-in-Some-1)

@@ -8,23 +8,16 @@ use Rattle.check_queue.proofs.HeapLaws.{Written, in_vector, had, had_none, leave
 use Rattle.check_queue.proofs.heap.Heap.remove.Goals as goal
 use Rattle.check_queue.proofs.heap.Heap.remove.Goals.{then-hole-self, else-hole-self}
 
-pub returns-in_default-clause-had : goal.returns-in_default-clause-had
-returns-in_default-clause-had c =
+pub returns-in_default : goal.returns-in_default
+returns-in_default c =
     let q = c.self.inside in
     let es = entries_of q.rows.items in
     let ps = places_of q.rows.items in
-    let k = c.args.number in
-    let none : None ≡ place_in es ps q.len k = rw (← c.deref.ensures.value) c.in_default.ensures in
-    had_none es ps q.len k none ∙ ap (λ ts. is_some (get_or ts k None)) c.self.view_is
-
-pub returns-in_default-clause-after : goal.returns-in_default-clause-after
-returns-in_default-clause-after c =
-    let q = c.self.inside in
-    let es = entries_of q.rows.items in
-    let ps = places_of q.rows.items in
-    let k = c.args.number in
-    let none : None ≡ place_in es ps q.len k = rw (← c.deref.ensures.value) c.in_default.ensures in
-    rw (← c.self.view_is) (stays es ps q.len k none)
+    let none : None ≡ place_in es ps q.len c.args.number = rw (← c.deref.ensures.value) c.in_default.ensures in
+    record {
+      had = had_none es ps q.len c.args.number none ∙ ap (λ ts. is_some (get_or ts c.args.number None)) c.self.view_is;
+      after = rw (← c.self.view_is) (stays es ps q.len c.args.number none);
+    }
 
 pub sift-requires-clause-linked : goal.sift-requires-clause-linked
 sift-requires-clause-linked c =
@@ -81,11 +74,9 @@ invariant_of-self c = let w = without_it c in record { ordered = w.ordered; size
 pub returns-clause-had : goal.returns-clause-had
 returns-clause-had c =
     let q = c.self.inside in
-    let es = entries_of q.rows.items in
-    let ps = places_of q.rows.items in
-    let k = c.args.number in
-    let found : Some c.in-Some.hole ≡ place_in es ps q.len k = rw (← c.deref.ensures.value) c.in-Some.ensures in
-    had es ps q.len k _ found ∙ ap (λ ts. is_some (get_or ts k None)) c.self.view_is
+    let found : Some c.in-Some.hole ≡ place_in (entries_of q.rows.items) (places_of q.rows.items) q.len c.args.number =
+    rw (← c.deref.ensures.value) c.in-Some.ensures in
+    had _ _ q.len c.args.number _ found ∙ ap (λ ts. is_some (get_or ts c.args.number None)) c.self.view_is
 
 pub returns-clause-after : goal.returns-clause-after
 returns-clause-after c = (without_it c).times ∙ ap (λ ts. set ts c.args.number None) c.self.view_is
