@@ -11,7 +11,7 @@ use Rattle.check_rules.specs.declared.standing.Kind.TheVariants as kind
 use Rattle.check_rules.specs.declared.standing.Standing.{Standing}
 use Rattle.check_rules.specs.declared.state.State as rules
 use Rattle.check_rules.specs.declared.state.State.TheVariants as state
-use Rattle.check_rules.specs.Board.{code_of, standing_coded}
+use Rattle.check_rules.specs.Board.{encoded, decoded}
 use Rattle.check_rules.specs.Standing.{is_lawful}
 use Rattle.check_rules.proofs.BoardLemmas.{coded_back}
 use Rattle.check_sched.specs.declared.call.Call.{Call}
@@ -59,7 +59,7 @@ few_attempts setup n h = few_by setup n (slice_get (objects_of setup) n) h refl
 
 -- so the word of a lawful standing is read as that standing
 lawful_read : (setup : Configuration) (n : ℕ) (t : Standing) → IsSetup setup → is_lawful t (max_attempts_of setup n) ≡ true
-    → standing_coded (code_of t) ≡ Some t
+    → decoded (encoded t) ≡ Some t
 lawful_read setup n t h lawful =
     let few = lawful_few t.checked t.flapping t.state t.last_hard t.kind t.attempt (max_attempts_of setup n) lawful in
     let most = few_attempts setup n h in
@@ -77,7 +77,7 @@ read_by : (opened : BookState) (history : List (Entry Call Reply)) (object : ℕ
     → length opened.sched.objects ≡ object_count opened.sched.setup
     → is_lawful (standing_at (replay step opened.sched history).standings object) (max_attempts_of opened.sched.setup object) ≡ true
     → object < object_count opened.sched.setup
-    → standing_coded (slice_index (book_board (replay book_step opened history)) object)
+    → decoded (slice_index (book_board (replay book_step opened history)) object)
     ≡ Some (standing_at (replay book_step opened history).sched.standings object)
 read_by opened history object h each lawful there =
     let s = (replay book_step opened history).sched in
@@ -85,7 +85,7 @@ read_by opened history object h each lawful there =
     subst (λ (t : State). is_lawful (standing_at t.standings object) (max_attempts_of opened.sched.setup object) ≡ true)
     (sym (book_sched opened history)) lawful in
     let count = objects_from opened history in
-    ap standing_coded (word_at s object (omega (arith, there, count, each)))
+    ap decoded (word_at s object (omega (arith, there, count, each)))
     ∙ lawful_read opened.sched.setup object (standing_at s.standings object) h here
 
 -- The board has a word for each object of the setup, whatever the state that the book opened in.
@@ -95,7 +95,7 @@ state_words opened history h = length-board_of (replay book_step opened history)
 
 -- Each word is read as the standing of its object.
 pub state_read : (opened : BookState) (history : List (Entry Call Reply)) (object : ℕ) → IsState opened.sched → object < object_count opened.sched.setup
-    → standing_coded (slice_index (book_board (replay book_step opened history)) object)
+    → decoded (slice_index (book_board (replay book_step opened history)) object)
     ≡ Some (standing_at (replay book_step opened history).sched.standings object)
 state_read opened history object h there =
     read_by opened history object h.valid_setup h.one_each (state_standing opened.sched history object h there).lawful there
@@ -108,7 +108,7 @@ opened_words setup start room history =
     length-board_of (replay book_step opened history).sched ∙ objects_from opened history ∙ opening_count setup start
 
 pub opened_read : (setup : Configuration) (start room : ℕ) (history : List (Entry Call Reply)) (object : ℕ) → IsSetup setup → object < object_count setup
-    → standing_coded (slice_index (book_board (replay book_step (book_opening setup start room) history)) object)
+    → decoded (slice_index (book_board (replay book_step (book_opening setup start room) history)) object)
     ≡ Some (standing_at (replay book_step (book_opening setup start room) history).sched.standings object)
 opened_read setup start room history object h there =
     read_by (book_opening setup start room) history object h (opening_count setup start) (opened_standing setup start history object h there).lawful there

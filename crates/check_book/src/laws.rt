@@ -4,7 +4,7 @@ ghost use Rattle.std.specs.Prelude.{ℕ, ◌≡◌, ◌<◌, ◌≤◌, List, �
 ghost use Rattle.ticket_steps.specs.declared.kept.Entry.{Entry};
 ghost use Rattle.ticket_steps.specs.History.{entry, replay, IsLegal};
 ghost use Rattle.check_objects.specs.Configuration.{Configuration, IsSetup, object_count};
-ghost use Rattle.check_rules.specs.Board.{standing_coded};
+ghost use Rattle.check_rules.specs.Board.{decoded};
 ghost use Rattle.check_rules.specs.declared.state.Code.{Code};
 ghost use Rattle.check_sched.specs.declared.call.Call.{Call};
 ghost use Rattle.check_sched.specs.declared.call.Call.TheVariants as call;
@@ -60,14 +60,14 @@ pub fn board_shows_standings()
     ensures read { (setup : Configuration) → (start room : ℕ)
         → (history : List (Entry Call Reply)) → (object : ℕ)
         → IsSetup setup → object < object_count setup
-        → standing_coded (slice_index (book_board (replay book_step (book_opening setup start room) history)) object)
+        → decoded (slice_index (book_board (replay book_step (book_opening setup start room) history)) object)
         ≡ Some (standing_at (replay book_step (book_opening setup start room) history).sched.standings object) }
     ensures words_from { (opened : BookState) → (history : List (Entry Call Reply))
         → IsState opened.sched
         → length (book_board (replay book_step opened history)) ≡ object_count opened.sched.setup }
     ensures read_from { (opened : BookState) → (history : List (Entry Call Reply)) → (object : ℕ)
         → IsState opened.sched → object < object_count opened.sched.setup
-        → standing_coded (slice_index (book_board (replay book_step opened history)) object)
+        → decoded (slice_index (book_board (replay book_step opened history)) object)
         ≡ Some (standing_at (replay book_step opened history).sched.standings object) }
     ensures opened { (book : Book) → IsState (opening_of book).sched }
     ensures books { (book : Book) → IsSetup (sched_of book).setup }

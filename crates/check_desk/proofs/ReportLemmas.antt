@@ -1,5 +1,5 @@
 -- A report whose call has returned: it stands in what its pass has seen, and what is glanced of its object goes on from it.
-use Rattle.std.proofs.Common.{◌≡◌, ◌≢◌, ℕ, zero, suc, ◌+◌, ◌<◌, List, [], ◌∷◌, ◌++◌, length, Bool, true, false, cond, Option, Some, None, refl, sym, ap, ◌∙◌, subst, arith}
+use Rattle.std.proofs.Common.{◌≡◌, ◌≢◌, ℕ, zero, suc, ◌+◌, ◌<◌, List, [], ◌∷◌, ◌++◌, length, Bool, true, false, Option, Some, None, refl, sym, ap, ◌∙◌, subst, arith}
 use Rattle.std.specs.Prelude.{unwrap_or}
 use Rattle.std.proofs.lemmas.List.{append_assoc}
 use mathlib.Core.List.{IsPrefix}
@@ -15,13 +15,12 @@ use Rattle.check_sched.specs.declared.call.Call.TheVariants as call
 use Rattle.check_sched.specs.declared.call.Reply.{Reply}
 use Rattle.check_sched.specs.declared.call.Reply.TheVariants as reply
 use Rattle.check_sched.specs.Board.{place_by}
-use Rattle.check_sched.specs.BoardLaws.{by_test, length-update_at, update_at_apart}
-use Rattle.check_sched.specs.Candidate.{Candidate}
-use Rattle.check_sched.specs.Report.{put_off_until}
-use Rattle.check_sched.specs.Scheduling.{run_under}
+use Rattle.check_sched.specs.BoardLaws.{length-update_at, update_at_apart}
 use Rattle.check_sched.specs.State.{State, standing_at}
-use Rattle.check_sched.specs.Step.{found_in, is_held_back, judged_in, known, put_off, run_left, step, take_least, taken, update_at, within_range}
+use Rattle.check_sched.specs.Step.{found_in, judged_in, step, update_at}
+use Rattle.check_sched.proofs.OperatorLaws.{abandon_cases, enable_cases, reschedule_cases, status_cases}
 use Rattle.check_sched.proofs.ReportLaws.{report_cases}
+use Rattle.check_sched.proofs.TakeLaws.{take_cases}
 use Rattle.check_book.specs.BookState.{BookState, book_step}
 use Rattle.check_desk.specs.declared.desk.Desk.{Desk}
 use Rattle.check_desk.specs.Desks.{IsHistoryOf, objects_of, opened_with, standing_after}
@@ -53,39 +52,20 @@ glanced_after desk e c later object standing h more legal shown =
 abbrev Kept : State → State × Reply → Type 0
 Kept s a = a.0.standings ≡ s.standings
 
-kept_turn : (now n : ℕ) (s : State) (held : Bool)
-    → Kept s (cond held (put_off now n s, reply.PutOff n (put_off_until s.setup n now)) (taken now n s, reply.Taken n (s.runs + 1)))
-kept_turn now n s true = refl
-kept_turn now n s false = refl
-
-kept_least : (now : ℕ) (s : State) (found : Option Candidate) → Kept s (take_least now s found)
-kept_least now s (Some c) = kept_turn now c.1 s (is_held_back s c.1)
-kept_least now s None = refl
-
 kept_take : (now : ℕ) (s : State) → Kept s (step s (call.Take now))
-kept_take now s =
-    by_test (Kept s) s (within_range now) _ (λ why. refl)
-    (λ u m. by_test (Kept s) s (run_left s) _ (λ why. refl)
-    (λ v r. kept_least now s _))
+kept_take now s = take_cases (Kept s) now s (λ why. refl) (λ c m e. refl) (λ c m r e. refl) (λ e. refl)
 
 kept_abandon : (n run now : ℕ) (s : State) → Kept s (step s (call.Abandon n run now))
-kept_abandon n run now s =
-    by_test (Kept s) s (known n s) _ (λ why. refl)
-    (λ o e. by_test (Kept s) s (within_range now) _ (λ why. refl)
-    (λ u m. by_test (Kept s) s (run_under run o.run) _ (λ why. refl)
-    (λ r f. refl)))
+kept_abandon n run now s = abandon_cases (Kept s) n run now s (λ why. refl) (λ o e m. refl)
 
 kept_reschedule : (n time : ℕ) (forced : Bool) (s : State) → Kept s (step s (call.Reschedule n time forced))
-kept_reschedule n time forced s =
-    by_test (Kept s) s (known n s) _ (λ why. refl)
-    (λ o e. by_test (Kept s) s (within_range time) _ (λ why. refl)
-    (λ u m. refl))
+kept_reschedule n time forced s = reschedule_cases (Kept s) n time forced s (λ why. refl) (λ m. refl)
 
 kept_enable : (n : ℕ) (on : Bool) (s : State) → Kept s (step s (call.Enable n on))
-kept_enable n on s = by_test (Kept s) s (known n s) _ (λ why. refl) (λ o e. refl)
+kept_enable n on s = enable_cases (Kept s) n on s (λ why. refl) refl
 
 kept_status : (n : ℕ) (s : State) → Kept s (step s (call.Status n))
-kept_status n s = by_test (Kept s) s (known n s) _ (λ why. refl) (λ o e. refl)
+kept_status n s = status_cases (Kept s) n s (λ why. refl) (λ o e. refl)
 
 -- no call changes how many standings there are
 as_many : (s : State) (c : Call) → length (step s c).0.standings ≡ length s.standings

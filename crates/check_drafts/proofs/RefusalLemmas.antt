@@ -1,19 +1,28 @@
--- Where no item of a list is refused, all pass.
-use Rattle.std.proofs.Common.{◌≡◌, ℕ, suc, ◌+◌, ◌&&◌, not, Bool, true, false, cond, List, [], ◌∷◌, length, Option, Some, None, refl, sym, ap, ◌∙◌, Ok, arith}
+-- Where no test refuses anything, each passes; where no item of a list is refused, all pass.
+use Rattle.std.proofs.Common.{◌≡◌, ℕ, suc, ◌+◌, ◌&&◌, not, Bool, true, false, cond, List, [], ◌∷◌, length, Option, Some, None, refl, sym, ap, ◌∙◌, Result, Ok, Err, arith}
 use Rattle.std.specs.Prelude.{nat_lt}
 use Rattle.std.specs.List.{list_all, position, prefix_len}
 use Rattle.std.proofs.lemmas.Bool.Decides.{nat_tests}
-use Rattle.check_drafts.specs.declared.error.LoadError.{LoadError}
 use Rattle.check_drafts.specs.declared.error.LoadError.TheVariants as errors
 use Rattle.check_drafts.specs.declared.place.Part.{Part}
 use Rattle.check_drafts.specs.Draft.{DependencyDraft}
 use Rattle.check_drafts.specs.Ends.{has_known_ends, known_ends}
-use Rattle.check_drafts.specs.LoadError.{refused_at}
+use Rattle.check_drafts.specs.Agreement.{◌>>=◌, refused_at}
 use Rattle.check_drafts.specs.Place.{item_of_part}
 use Rattle.check_drafts.proofs.ListLemmas.{missed}
 
+-- what went before another test refused nothing where both together refused nothing
+pub first_ok : {B E : Type 0} (a : Result (Unit {0}) E) (f : Unit {0} → Result B E) (y : B) → (a >>= f) ≡ Ok y → a ≡ Ok tt
+first_ok (Ok u) f y e = refl
+first_ok (Err x) f y e = cc
+
+-- nor did the other
+pub rest_ok : {B E : Type 0} (a : Result (Unit {0}) E) (f : Unit {0} → Result B E) (y : B) → (a >>= f) ≡ Ok y → f tt ≡ Ok y
+rest_ok (Ok u) f y e = e
+rest_ok (Err x) f y e = cc
+
 -- nothing was refused where there is no place of a fault
-pub nowhere : (fault : ℕ → LoadError) (o : Option ℕ) → refused_at fault o ≡ Ok tt → o ≡ None
+pub nowhere : {E : Type 0} (fault : ℕ → E) (o : Option ℕ) → refused_at fault o ≡ Ok tt → o ≡ None
 nowhere fault None e = refl
 nowhere fault (Some i) e = cc
 

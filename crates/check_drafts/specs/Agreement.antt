@@ -1,6 +1,6 @@
 -- How a function of the code agrees with what the definitions say, running out of memory aside. The code's error is of any
 -- type; `refusal` says which refusal an error is, if it isn't that the code is out of memory.
-use Rattle.std.specs.Prelude.{◌≡◌, List, ◌++◌, Option, Some, None, Result, Ok, Err}
+use Rattle.std.specs.Prelude.{◌≡◌, ℕ, List, ◌++◌, Option, Some, None, Result, Ok, Err}
 
 infixl 10 ◌>>=◌
 -- what follows, unless there was a refusal before it
@@ -11,6 +11,11 @@ abbrev pub ◌>>=◌ : {A B E : Type 0} → Result A E → (A → Result B E) �
 -- a list that goes on with what follows
 abbrev pub with_front : {A E : Type 0} → List A → Result (List A) E → Result (List A) E
 with_front front rest = rest >>= λ more. Ok (front ++ more)
+
+-- a refusal at the index that is found, or none
+abbrev pub refused_at : {E : Type 0} → (ℕ → E) → Option ℕ → Result (Unit {0}) E
+refused_at fault None = Ok tt
+refused_at fault (Some i) = Err (fault i)
 
 -- the refusal is the one that is defined; where there is none the code is out of memory, which says nothing
 abbrev pub Fails : {Y R : Type 0} → Option R → Result Y R → Type 0

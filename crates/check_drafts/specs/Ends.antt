@@ -5,10 +5,9 @@ use Rattle.check_drafts.specs.declared.error.LoadError.{LoadError}
 use Rattle.check_drafts.specs.declared.error.LoadError.TheVariants as errors
 use Rattle.check_drafts.specs.declared.place.Part.{Part}
 use Rattle.check_drafts.specs.declared.place.Part.TheVariants as part
-use Rattle.check_drafts.specs.Agreement.{◌>>=◌}
+use Rattle.check_drafts.specs.Agreement.{◌>>=◌, refused_at}
 use Rattle.check_drafts.specs.Draft.{ServiceDraft, DependencyDraft, Drafts}
 use Rattle.check_drafts.specs.Keys.{key_of}
-use Rattle.check_drafts.specs.LoadError.{refused_at}
 use Rattle.check_drafts.specs.Name.{full_name}
 use Rattle.check_drafts.specs.Place.{item_of_part}
 

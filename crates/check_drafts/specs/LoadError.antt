@@ -1,13 +1,8 @@
 -- Refusals of a document, and how a function of the code agrees with what the definitions say of them.
-use Rattle.std.specs.Prelude.{ℕ, Option, Some, None, Result, Ok, Err}
+use Rattle.std.specs.Prelude.{Option, Some, None, Result}
 use Rattle.check_drafts.specs.declared.error.LoadError.{LoadError}
 use Rattle.check_drafts.specs.declared.error.LoadError.TheVariants as errors
 use Rattle.check_drafts.specs.Agreement as agreement
-
--- a refusal at the index that is told, or none
-abbrev pub refused_at : (ℕ → LoadError) → Option ℕ → Result (Unit {0}) LoadError
-refused_at fault None = Ok tt
-refused_at fault (Some i) = Err (fault i)
 
 -- the refusal that an error of the code is: each is one, but that the code is out of memory
 abbrev pub refusal : LoadError → Option LoadError

@@ -1,8 +1,27 @@
--- The places of a setup document.
-use Rattle.std.specs.Prelude.{ℕ, Some, None}
+-- The parts of a setup document by their numbers, and its places.
+use Rattle.std.specs.Prelude.{ℕ, ◌==◌, List, [], ◌∷◌, Option, Some, None, find}
 use Rattle.check_drafts.specs.declared.place.Place.{Place}
 use Rattle.check_drafts.specs.declared.place.Part.{Part}
 use Rattle.check_drafts.specs.declared.place.Part.TheVariants as part
+
+-- ---- numbers
+
+abbrev pub part_number : Part → ℕ
+part_number part.Document = 1
+part_number part.Options = 2
+part_number part.Hosts = 3
+part_number part.Services = 4
+part_number part.ServiceDependencies = 5
+part_number part.HostDependencies = 6
+
+abbrev pub all_parts : List Part
+all_parts = part.Document ∷ part.Options ∷ part.Hosts ∷ part.Services ∷ part.ServiceDependencies ∷ part.HostDependencies ∷ []
+
+-- the part of this number
+abbrev pub numbered_part : ℕ → Option Part
+numbered_part number = find (λ p. part_number p == number) all_parts
+
+-- ---- places
 
 -- the document itself
 abbrev pub the_document : Place

@@ -22,6 +22,7 @@ pub enum Part {
 impl Part {
     ghost use Rattle.std.specs.Prelude.{◌≡◌};
     ghost use Rattle.check_drafts.specs.Members.{part_name};
+    ghost use Rattle.check_drafts.specs.Place.{numbered_part, part_number};
 
     /// The word for the part: the name of the document's member that it is, or `document`.
     pub fn name(self) -> &'static str
@@ -34,6 +35,36 @@ impl Part {
             Part::Services => members::SERVICES.name,
             Part::ServiceDependencies => members::SERVICE_DEPENDENCIES.name,
             Part::HostDependencies => members::HOST_DEPENDENCIES.name,
+        }
+    }
+
+    /// The number of the part, 1 for the document to 6 for the dependencies of hosts, in the order of
+    /// the variants.
+    pub fn number(self) -> u32
+        ensures { result ≡ part_number self }
+    {
+        match self {
+            Part::Document => 1,
+            Part::Options => 2,
+            Part::Hosts => 3,
+            Part::Services => 4,
+            Part::ServiceDependencies => 5,
+            Part::HostDependencies => 6,
+        }
+    }
+
+    /// The part of this number. None for 0 and for a number above 6.
+    pub fn numbered(number: u32) -> Option<Part>
+        ensures { result ≡ numbered_part number }
+    {
+        match number {
+            1 => Some(Part::Document),
+            2 => Some(Part::Options),
+            3 => Some(Part::Hosts),
+            4 => Some(Part::Services),
+            5 => Some(Part::ServiceDependencies),
+            6 => Some(Part::HostDependencies),
+            _ => None,
         }
     }
 }

@@ -8,27 +8,16 @@ use Rattle.check_drafts.specs.declared.place.Part.TheVariants as part
 use Rattle.check_drafts.specs.declared.error.LoadError.{LoadError}
 use Rattle.check_drafts.specs.declared.error.LoadError.TheVariants as errors
 use Rattle.check_drafts.specs.Draft.{Drafts}
-use Rattle.check_drafts.specs.Agreement.{◌>>=◌}
-use Rattle.check_drafts.specs.LoadError.{refused_at}
+use Rattle.check_drafts.specs.Agreement.{◌>>=◌, refused_at}
 use Rattle.check_drafts.specs.Name.{is_name}
 use Rattle.check_drafts.specs.Place.{host_at, service_at}
 use Rattle.check_drafts.specs.Ends.{full_names, is_known, known_dependencies, known_ends}
-use Rattle.check_drafts.proofs.RefusalLemmas.{all_by_position, ends_known, have_known_ends, nowhere}
+use Rattle.check_drafts.proofs.RefusalLemmas.{all_by_position, ends_known, first_ok, have_known_ends, nowhere, rest_ok}
 use Rattle.check_faults.specs.Verification.{is_faultless, few_items, few_dependencies, known_links, few_objects}
 use Rattle.check_drafts.specs.Keys.{names_of, key_of, same_key, first_repeat}
 use Rattle.check_faults.specs.Verification.{has_few_parents, good_names, good_host_names, good_descriptions, host_names}
 use Rattle.check_faults.specs.Verification.{no_repeated_services, known_parents, known_hosts, good_ranges}
 use Rattle.check_faults.specs.Verification.{behind, is_faultless_but_ends, ranges_behind_ends}
-
--- ---- nothing was refused
-
-pub first_ok : {B : Type 0} (a : Result (Unit {0}) LoadError) (f : Unit {0} → Result B LoadError) (y : B) → (a >>= f) ≡ Ok y → a ≡ Ok tt
-first_ok (Ok u) f y e = refl
-first_ok (Err x) f y e = cc
-
-pub rest_ok : {B : Type 0} (a : Result (Unit {0}) LoadError) (f : Unit {0} → Result B LoadError) (y : B) → (a >>= f) ≡ Ok y → f tt ≡ Ok y
-rest_ok (Ok u) f y e = e
-rest_ok (Err x) f y e = cc
 
 -- ---- a document without a fault
 

@@ -6,10 +6,11 @@ use Rattle.std.specs.List.{list_any, position}
 use Rattle.std.proofs.lemmas.List.{map-append}
 use Rattle.check_drafts.specs.declared.draft.HostDraft.{HostDraft}
 use Rattle.check_drafts.specs.declared.error.LoadError.{LoadError}
-use Rattle.check_drafts.specs.LoadError.{refused_at}
+use Rattle.check_drafts.specs.Agreement.{refused_at}
 use Rattle.check_drafts.specs.Ends.{has_known_ends, is_known, known_ends}
 use Rattle.check_drafts.specs.declared.error.LoadError.TheVariants as errors
 use Rattle.check_drafts.specs.declared.place.Part.{Part}
+use Rattle.check_drafts.specs.declared.place.Place.{Place}
 use Rattle.check_drafts.specs.Draft as spec
 use Rattle.check_drafts.specs.Place.{item_of_part}
 use Rattle.std.proofs.lemmas.List.Folds.{list_any-append}
@@ -33,6 +34,11 @@ refused_there fault test view xs i e = refused_some fault _ i (e ∙ sym (positi
 pub refused_nowhere : {A B : Type 0} (fault : ℕ → LoadError) (test : B → Bool) (view : A → B) (xs : List A) → None ≡ position (λ x. test (view x)) xs
     → refused_at fault (position test (map view xs)) ≡ Ok tt
 refused_nowhere fault test view xs e = refused_none fault _ (e ∙ sym (position-map test view xs))
+
+-- the first number beyond its limits
+pub ranged_there : {A B : Type 0} (place : ℕ → Place) (test : B → Bool) (view : A → B) (xs : List A) (i : ℕ) (p : Place) → p ≡ place i
+    → Some i ≡ position (λ x. test (view x)) xs → Err (errors.Range p) ≡ refused_at (λ j. errors.Range (place j)) (position test (map view xs))
+ranged_there place test view xs i p at e = ap (λ q. Err (errors.Range q)) at ∙ sym (refused_there (λ j. errors.Range (place j)) test view xs i e)
 
 -- ---- parents counted
 

@@ -10,8 +10,7 @@ use Rattle.check_drafts.specs.declared.options.DelayMethod.TheVariants as method
 use Rattle.check_drafts.specs.declared.options.InterleaveFactor.{InterleaveFactor}
 use Rattle.check_drafts.specs.declared.options.InterleaveFactor.TheVariants as factor
 use Rattle.check_drafts.specs.declared.options.Options.{Options}
-use Rattle.check_drafts.specs.Agreement.{◌>>=◌}
-use Rattle.check_drafts.specs.LoadError.{refused_at}
+use Rattle.check_drafts.specs.Agreement.{◌>>=◌, refused_at}
 use Rattle.check_drafts.specs.Keys.{first_repeat, names_of, key_of, same_key}
 use Rattle.check_drafts.specs.Member.{Row, is_within_limits}
 use Rattle.check_drafts.specs.Members as members
@@ -172,8 +171,4 @@ unfoldable pub is_faultless_but_ends : Drafts → Result (Unit {0}) LoadError
 is_faultless_but_ends drafts =
     few_items drafts >>= λ _.
     (good_names drafts.hosts drafts.services >>= λ _.
-    (host_names drafts.hosts >>= λ names.
-    (no_repeated_services drafts.services >>= λ _.
-    (known_parents names drafts.hosts >>= λ _.
-    (known_hosts names drafts.services >>= λ _.
-    ranges_behind_ends names drafts)))))
+    (host_names drafts.hosts >>= λ names. faultless_behind_names names drafts))

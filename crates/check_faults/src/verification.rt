@@ -6,7 +6,7 @@ ghost use Rattle.check_drafts.specs.LoadError.{Gives};
 ghost use Rattle.check_drafts.specs.Ends.{full_names, has_known_ends, known_dependencies, known_ends, is_known};
 ghost use Rattle.check_faults.specs.Verification.{few_objects, has_few_parents, good_names, good_host_names, good_descriptions, host_names, no_repeated_services, known_parents, known_hosts, few_dependencies, few_items, good_ranges, good_options, good_host_ranges, good_service_ranges, ranges_behind_ends, faultless_behind_names, is_faultless_but_ends, is_in_range, is_delay_in_range, is_factor_in_range, are_in_order, are_numbers_in_range, are_thresholds_in_range, are_options_in_range};
 ghost use Rattle.check_drafts.specs.Member.{as_row};
-ghost use Rattle.check_drafts.specs.Name.{is_name_byte, is_name};
+ghost use Rattle.check_drafts.specs.Name.{is_name};
 ghost use Rattle.check_drafts.specs.Drafted.{host, service, dependency, drafts_view, texts, HasFewAttempts};
 ghost use Rattle.check_drafts.specs.Text.{text};
 
@@ -19,8 +19,8 @@ use check_drafts::members::{
 };
 use check_drafts::{
     CheckDraft, DelayMethod, DependencyDraft, Drafts, HostDraft, InterleaveFactor, LoadError,
-    MAX_DEPENDENCIES, MAX_NAME_BYTES, MAX_OBJECTS, MAX_PARENTS, Member, Options, Part, Place,
-    ServiceDraft, full_name, text,
+    MAX_DEPENDENCIES, MAX_OBJECTS, MAX_PARENTS, Member, Options, Part, Place, ServiceDraft,
+    full_name, is_name, text,
 };
 use indexmap::IndexSet;
 use serde_json::Value;
@@ -155,24 +155,6 @@ fn bad_description(services: &[ServiceDraft<'_>]) -> Option<usize>
     services
         .iter()
         .position(|service| !is_name(service.description))
-}
-
-fn is_name(name: &str) -> bool
-    ensures { result ≡ is_name name.now }
-{
-    1 <= name.len() && name.len() <= MAX_NAME_BYTES && are_name_bytes(name.as_bytes())
-}
-
-fn are_name_bytes(bytes: &[u8]) -> bool
-    ensures { result ≡ list_all is_name_byte bytes.now }
-{
-    bytes.iter().all(|byte| is_name_byte(*byte))
-}
-
-fn is_name_byte(byte: u8) -> bool
-    ensures { result ≡ is_name_byte byte }
-{
-    byte >= 32 && byte != 127 && byte != b';'
 }
 
 // ---- repeats

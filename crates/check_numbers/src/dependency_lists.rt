@@ -154,8 +154,9 @@ pub fn order_by_masters(
     Ok(order_by_links(alloc, &links)?)
 }
 
-/// The masters of each object, by number.
-fn master_links(
+/// The masters of each object, by number, where its dependencies are given so. An Err means out of
+/// memory.
+pub fn master_links(
     alloc: Global,
     dependencies: &[Dependencies],
 ) -> Result<Vec<SmallVec<u32, 4>>, AllocError>

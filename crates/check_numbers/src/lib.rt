@@ -5,5 +5,5 @@
 mod dependency_lists;
 mod numbering;
 
-pub use dependency_lists::{Dependencies, list_dependencies, order_by_masters};
+pub use dependency_lists::{Dependencies, list_dependencies, master_links, order_by_masters};
 pub use numbering::{Host, Parents, Service, number_objects, object_number};

@@ -11,11 +11,10 @@ use Rattle.check_drafts.specs.declared.error.LoadError.TheVariants as errors
 use Rattle.check_drafts.specs.declared.options.Options.{Options}
 use Rattle.check_drafts.specs.declared.place.Part.TheVariants as part
 use Rattle.check_drafts.specs.declared.place.Place.{Place}
-use Rattle.check_drafts.specs.Agreement.{◌>>=◌}
+use Rattle.check_drafts.specs.Agreement.{◌>>=◌, refused_at}
 use Rattle.check_drafts.specs.Draft.{Drafts, HostDraft, ServiceDraft}
 use Rattle.check_drafts.specs.Ends.{full_names, known_ends}
 use Rattle.check_drafts.specs.Keys.{first_repeat, names_of}
-use Rattle.check_drafts.specs.LoadError.{refused_at}
 use Rattle.check_drafts.specs.Members as members
 use Rattle.check_drafts.specs.Place.{host_at, service_at, the_hosts, the_options, the_services}
 use Rattle.check_documents.specs.Faults.{wrong_number, wrong_number_at}
@@ -144,21 +143,23 @@ count_no_range : (b : Bool) (q : Place) → cond b (Err errors.TooMany) (Ok (tt 
 count_no_range true q e = cc
 count_no_range false q e = cc
 
+-- what refuses an item for another fault
+no_other : (fault : ℕ → LoadError) (o : Option ℕ) (q : Place) → ((i : ℕ) → fault i ≡ errors.Range q → false ≡ true) → refused_at fault o ≡ Err (errors.Range q)
+    → false ≡ true
+no_other fault None q never e = cc
+no_other fault (Some i) q never e = never i cc
+
 name_no_range : (place : ℕ → Place) (o : Option ℕ) (q : Place) → refused_at (λ i. errors.BadName (place i)) o ≡ Err (errors.Range q) → false ≡ true
-name_no_range place None q e = cc
-name_no_range place (Some i) q e = cc
+name_no_range place o q e = no_other (λ i. errors.BadName (place i)) o q (λ i same. cc) e
 
 repeat_no_range : (place : ℕ → Place) (o : Option ℕ) (q : Place) → refused_at (λ i. errors.Duplicate (place i)) o ≡ Err (errors.Range q) → false ≡ true
-repeat_no_range place None q e = cc
-repeat_no_range place (Some i) q e = cc
+repeat_no_range place o q e = no_other (λ i. errors.Duplicate (place i)) o q (λ i same. cc) e
 
 host_no_range : (place : ℕ → Place) (o : Option ℕ) (q : Place) → refused_at (λ i. errors.UnknownHost (place i)) o ≡ Err (errors.Range q) → false ≡ true
-host_no_range place None q e = cc
-host_no_range place (Some i) q e = cc
+host_no_range place o q e = no_other (λ i. errors.UnknownHost (place i)) o q (λ i same. cc) e
 
 end_no_range : (place : ℕ → Place) (o : Option ℕ) (q : Place) → refused_at (λ i. errors.UnknownMaster (place i)) o ≡ Err (errors.Range q) → false ≡ true
-end_no_range place None q e = cc
-end_no_range place (Some i) q e = cc
+end_no_range place o q e = no_other (λ i. errors.UnknownMaster (place i)) o q (λ i same. cc) e
 
 dependency_no_range : (b : Bool) (c : Configuration) (q : Place) → cond b (Err errors.DependencyCycle) (Ok c) ≡ Err (errors.Range q) → false ≡ true
 dependency_no_range true c q e = cc

@@ -49,8 +49,8 @@ use Rattle.check_objects.proofs.NumberedLemmas.{AreAlike, host_names_are, pairs_
 use Rattle.check_objects.proofs.NumberedLemmas.{listed_few, host_end, service_end, ends_alike, both_hold, alike_among}
 use Rattle.check_numbers.proofs.DependencyLemmas.{dependents_below, masters_below, masters_within_lists, length-dependency_lists, list_of_object}
 use Rattle.check_numbers.proofs.NumberLaws.{hosts_counted, services_counted}
-use Rattle.check_drafts.proofs.RefusalLemmas.{all_by_position, have_known_ends, nowhere}
-use Rattle.check_faults.proofs.FaultlessLemmas.{IsFaultless, faultless, first_ok, rest_ok}
+use Rattle.check_drafts.proofs.RefusalLemmas.{all_by_position, first_ok, have_known_ends, nowhere, rest_ok}
+use Rattle.check_faults.proofs.FaultlessLemmas.{IsFaultless, faultless}
 
 -- ---- hosts' names have no semicolon
 

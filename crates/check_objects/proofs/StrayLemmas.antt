@@ -17,7 +17,7 @@ use Rattle.check_drafts.specs.Fault as fault
 use Rattle.check_drafts.specs.Member.{Row, is_within_limits, limits_of}
 use Rattle.check_drafts.specs.Members as members
 use Rattle.check_drafts.proofs.RefusalLemmas.{twice_not}
-use Rattle.check_documents.specs.Faults.{are_crossed, crossed_thresholds, is_above, is_beyond, is_stray, wrong_number}
+use Rattle.check_documents.specs.Faults.{are_crossed, crossed_thresholds, first_of, is_above, is_beyond, is_stray, wrong_number}
 use Rattle.check_documents.specs.Reading.{check_draft, delay_in, delay_method, factor_in, host_draft, host_members, interleave_factor, option_members, options_but_thresholds, options_of, service_draft, service_members, with_thresholds}
 use Rattle.check_documents.specs.Tree.{has_only, number_in, read_by, switch_in, texts_in, whole_number, ◌>=>◌}
 use Rattle.check_documents.proofs.ReadLemmas.{guarded, linked, some_is}
@@ -127,6 +127,20 @@ check_strays d c is =
 no_wrong_number : (ms : List Row) (d : Data) → is_none (option_map fault.beyond (find (is_beyond d) ms)) ≡ list_all (λ m. not (is_beyond d m)) ms
 no_wrong_number ms d = none_mapped fault.beyond (find (is_beyond d) ms) ∙ no_find (is_beyond d) ms
 
+-- the numbers of an item whose members are two without limits and those that say how it is checked
+item_in_range : (a b : Row) (d : Data) (c : CheckDraft) → limits_of a.kind ≡ None → limits_of b.kind ≡ None → IsCheckOf d c
+    → let ms = a ∷ b ∷ members.check_interval ∷ members.retry_interval ∷ members.max_check_attempts ∷ members.enabled ∷ [] in
+    is_none (first_of (option_map fault.beyond (find (is_beyond d) ms)) None) ≡ is_in_range c
+item_in_range a b d c one other is =
+    let ms = a ∷ b ∷ members.check_interval ∷ members.retry_interval ∷ members.max_check_attempts ∷ members.enabled ∷ [] in
+    let x = unlimited a one (get a.name d >=> whole_number) in
+    let y = unlimited b other (get b.name d >=> whole_number) in
+    let z = check_strays d c is in
+    none_of_first (option_map fault.beyond (find (is_beyond d) ms)) None
+    ∙ and_true (is_none (option_map fault.beyond (find (is_beyond d) ms)))
+    ∙ no_wrong_number ms d
+    ∙ (λ i. x i && (y i && z i))
+
 pub host_in_range : (d : Data) (h : HostDraft) → host_draft d ≡ Some h → is_none (wrong_number part.Hosts members.host_members d) ≡ is_in_range h.check
 unfolding host_draft
 host_in_range d h e =
@@ -135,14 +149,7 @@ host_in_range d h e =
     linked (option_and_then as_str (get members.host_name.name d)) _ h Goal (λ name hn rn.
     linked (texts_in (get members.parents.name d)) _ h Goal (λ parents hp rp.
     linked (check_draft d) _ h Goal (λ check hc rc.
-    let is = some_is _ h rc in
-    let n = unlimited members.host_name refl (get members.host_name.name d >=> whole_number) in
-    let p = unlimited members.parents refl (get members.parents.name d >=> whole_number) in
-    let c = check_strays d check (check_parts d check hc) in
-    none_of_first (option_map fault.beyond (find (is_beyond d) members.host_members)) None
-    ∙ and_true (is_none (option_map fault.beyond (find (is_beyond d) members.host_members)))
-    ∙ no_wrong_number members.host_members d
-    ∙ (λ i. n i && (p i && c i)) ∙ ap (λ (x : HostDraft). is_in_range x.check) is) rp) rn) rest) e
+    item_in_range members.host_name members.parents d check refl refl (check_parts d check hc) ∙ ap (λ (x : HostDraft). is_in_range x.check) (some_is _ h rc)) rp) rn) rest) e
 
 pub service_in_range : (d : Data) (s : ServiceDraft) → service_draft d ≡ Some s
     → is_none (wrong_number part.Services members.service_members d) ≡ is_in_range s.check
@@ -153,14 +160,7 @@ service_in_range d s e =
     linked (option_and_then as_str (get members.service_host.name d)) _ s Goal (λ host hh rh.
     linked (option_and_then as_str (get members.description.name d)) _ s Goal (λ description hd rd.
     linked (check_draft d) _ s Goal (λ check hc rc.
-    let is = some_is _ s rc in
-    let n = unlimited members.service_host refl (get members.service_host.name d >=> whole_number) in
-    let p = unlimited members.description refl (get members.description.name d >=> whole_number) in
-    let c = check_strays d check (check_parts d check hc) in
-    none_of_first (option_map fault.beyond (find (is_beyond d) members.service_members)) None
-    ∙ and_true (is_none (option_map fault.beyond (find (is_beyond d) members.service_members)))
-    ∙ no_wrong_number members.service_members d
-    ∙ (λ i. n i && (p i && c i)) ∙ ap (λ (x : ServiceDraft). is_in_range x.check) is) rd) rh) rest) e
+    item_in_range members.service_host members.description d check refl refl (check_parts d check hc) ∙ ap (λ (x : ServiceDraft). is_in_range x.check) (some_is _ s rc)) rd) rh) rest) e
 
 -- ---- the options
 

@@ -61,6 +61,7 @@ pub fn names_lead_back()
 /// dependencies of an object are those of the document that name it, in the same order
 /// (`dependencies`), all objects' together are the document's (`together`), and so are the hosts with
 /// their parents, of each in the same order (`parents`).
+#[tactic(auto, using(crate::proofs::LinkLemmas::dependencies_by_name, crate::proofs::LinkLemmas::dependencies_together, crate::proofs::LinkLemmas::parents_together))]
 pub fn links_are_kept()
     ensures dependencies { (d : Drafts) → (n : ℕ) → is_faultless d ≡ Ok tt
         → n < object_count (configuration d) → named_dependencies (configuration d) n

@@ -1,7 +1,7 @@
 //! The setup: the objects that are checked, with their names and numbers, and their links.
 ghost use Rattle.std.specs.Prelude.{◌≡◌, ◌<◌, ◌≤◌, length, map, Ok, option_map, slice_get, Some, IfSome, IfOk, IsOkUnless, Err, ◌==◌, All, nat_lt, true};
 ghost use Rattle.std.specs.List.{list_all};
-ghost use Rattle.check_numbers.specs.Configuration.{Configuration, object_count, host_count, objects_of, number_of, name_of, host_of, parents_of, dependencies_of, masters_of, IsSetup};
+ghost use Rattle.check_numbers.specs.Configuration.{Configuration, object_count, host_count, objects_of, number_of, name_of, host_of, parents_of, dependencies_of, masters_of, parents_by_host, IsSetup};
 ghost use Rattle.link_order.specs.Orders.{IsOrder};
 ghost use Rattle.check_numbers.specs.Numbering.{configuration};
 ghost use Rattle.check_objects.specs.Kept.{configuration_of, IsKept};
@@ -18,14 +18,14 @@ use check_documents::{fault_of, read_drafts, read_tree};
 use check_drafts::{Dependency, Drafts, Fault, LoadError, MAX_DOCUMENT_BYTES, Object, Options};
 use check_faults::verify_but_ends;
 use check_numbers::{
-    Dependencies, Host, Parents, Service, list_dependencies, number_objects, object_number,
-    order_by_masters,
+    Dependencies, Host, Parents, Service, list_dependencies, master_links, number_objects,
+    object_number, order_by_masters,
 };
 use indexmap::IndexMap;
 use link_order::order_by_links;
 use serde_json::Value;
 use smallvec::SmallVec;
-use std::alloc::Global;
+use std::alloc::{AllocError, Global};
 use std::marker::Model;
 
 /// The objects that are checked, with their names and numbers.
@@ -273,6 +273,24 @@ impl Setup {
         self.dependencies[number as usize].as_slice()
     }
 
+    /// The numbers of the masters of each object, by number. An Err means out of memory.
+    pub fn master_links(&self, alloc: Global) -> Result<Vec<SmallVec<u32, 4>>, AllocError>
+        ensures links { IfOk result (λ links.
+            map (λ list. list.items) links.items ≡ masters_of self.now) }
+        ensures setup { IsSetup self.now }
+    {
+        master_links(alloc, &self.dependencies)
+    }
+
+    /// The numbers of the parents of each host, by number. An Err means out of memory.
+    pub fn parent_links(&self, alloc: Global) -> Result<Vec<Parents>, AllocError>
+        ensures links { IfOk result (λ links.
+            map (λ list. list.items) links.items ≡ parents_by_host self.now) }
+        ensures setup { IsSetup self.now }
+    {
+        parent_links(alloc, &self.hosts)
+    }
+
     /// The numbers of all objects, each once, in an order in which every object stands behind all
     /// that it depends on.
     pub fn order(&self) -> &[u32]
@@ -297,10 +315,9 @@ fn verify_no_parent_cycle(alloc: Global, hosts: &IndexMap<String, Host>) -> Resu
 }
 
 /// The parents of each host, by number.
-fn parent_links(alloc: Global, hosts: &IndexMap<String, Host>) -> Result<Vec<Parents>, LoadError>
-    ensures links { IfOk result (λ v.
+fn parent_links(alloc: Global, hosts: &IndexMap<String, Host>) -> Result<Vec<Parents>, AllocError>
+    ensures { IfOk result (λ v.
         map (λ l. l.items) v.items ≡ map (λ h. h.parents) (map host_entry hosts.now.entries)) }
-    ensures memory { IsOkUnless result LoadError.Memory }
 {
     let mut links = Vec::with_capacity(alloc, hosts.len())?;
     for number in 0..hosts.len() {

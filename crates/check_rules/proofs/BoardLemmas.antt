@@ -3,12 +3,12 @@ use Rattle.std.proofs.Common.{◌≡◌, ℕ, ◌+◌, ◌*◌, ◌/◌, ◌%◌
 use Rattle.std.specs.Prelude.{nat_lt}
 use Rattle.std.proofs.lemmas.Bool.Decides.{nat_tests}
 use Rattle.check_rules.specs.declared.state.State.{State}
-use Rattle.check_rules.specs.declared.state.State.TheVariants as state
 use Rattle.check_rules.specs.declared.standing.Kind.{Kind}
 use Rattle.check_rules.specs.declared.standing.Kind.TheVariants as kind
 use Rattle.check_rules.specs.declared.standing.Standing.{Standing}
 use Rattle.check_rules.specs.Numbers.{kind_number, numbered_state, state_number}
-use Rattle.check_rules.specs.Board.{code_of, flag, standing_coded}
+use Rattle.check_rules.proofs.Cases.{each_state}
+use Rattle.check_rules.specs.Board.{encoded, flag, decoded}
 
 module _ (c s k a l f : ℕ) (small_c : c < 2) (small_s : s < 8) (small_k : k < 2) (small_a : a < 256) (small_l : l < 8) (small_f : f < 2) where
   abbrev whole : ℕ
@@ -35,13 +35,9 @@ module _ (c s k a l f : ℕ) (small_c : c < 2) (small_s : s < 8) (small_k : k < 
 
 -- what each state's number is read as, and that it takes no more than three bits
 number_read : (s : State) → (numbered_state (state_number s) ≡ Some s) × (state_number s < 8)
-number_read state.Ok = (refl, omega arith)
-number_read state.Warning = (refl, omega arith)
-number_read state.Critical = (refl, omega arith)
-number_read state.Unknown = (refl, omega arith)
-number_read state.Up = (refl, omega arith)
-number_read state.Down = (refl, omega arith)
-number_read state.Unreachable = (refl, omega arith)
+number_read =
+    each_state (λ s. (numbered_state (state_number s) ≡ Some s) × (state_number s < 8))
+    (refl, omega arith) (refl, omega arith) (refl, omega arith) (refl, omega arith) (refl, omega arith) (refl, omega arith) (refl, omega arith)
 
 flag_read : (b : Bool) → (flag b == 1) ≡ b
 flag_read true = refl
@@ -60,7 +56,7 @@ small_kind kind.Soft = omega arith
 small_kind kind.Hard = omega arith
 
 -- the word of a standing is read as that standing
-pub coded_back : (s : Standing) → s.attempt < 256 → standing_coded (code_of s) ≡ Some s
+pub coded_back : (s : Standing) → s.attempt < 256 → decoded (encoded s) ≡ Some s
 coded_back s few =
     let c = flag s.checked in
     let n = state_number s.state in
@@ -72,7 +68,7 @@ coded_back s few =
     let small_k = small_kind s.kind in
     let small_l = (number_read s.last_hard).1 in
     let small_f = small_flag s.flapping in
-    let below : nat_lt (code_of s) 131072 ≡ true = grind (arith, nat_tests, small_c, small_n, small_k, few, small_l, small_f) in
+    let below : nat_lt (encoded s) 131072 ≡ true = grind (arith, nat_tests, small_c, small_n, small_k, few, small_l, small_f) in
     let read = digits c n k s.attempt l f small_c small_n small_k few small_l small_f in
     rw (
       below,

@@ -1,3 +1,4 @@
+pub mod Cases
 pub mod BoardLemmas
 pub mod BlockedLaws
 pub mod FlappingLemmas

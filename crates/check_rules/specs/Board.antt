@@ -13,8 +13,8 @@ flag b = if b then 1 else 0
 
 -- bit 0 whether it is checked, bits 1 to 3 the state, bit 4 whether it is hard, bits 5 to 12 the attempt, bits 13 to 15 the last
 -- hard state, bit 16 whether it flaps
-abbrev pub code_of : Standing → ℕ
-code_of s =
+abbrev pub encoded : Standing → ℕ
+encoded s =
     flag s.checked + 2 * state_number s.state + 16 * kind_number s.kind + 32 * s.attempt + 8192 * state_number s.last_hard + 65536 * flag s.flapping
 
 -- ---- the standing of a word
@@ -35,8 +35,8 @@ standing_of word current last_hard = record {
 }
 
 -- the standing whose word this is, if it is one's: both numbers of states are below 7, and no bit above the 17 is set
-abbrev pub standing_coded : ℕ → Option Standing
-standing_coded word =
+abbrev pub decoded : ℕ → Option Standing
+decoded word =
     if nat_lt word 131072
     then option_and_then (λ current. option_map (standing_of word current) (numbered_state (word / 8192 % 8))) (numbered_state (word / 2 % 8))
     else None

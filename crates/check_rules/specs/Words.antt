@@ -1,9 +1,12 @@
--- The words of states and kinds.
-use Rattle.std.specs.Prelude.{ℕ, List, codes}
+-- The words of states and kinds, and a letter for each state of an object.
+use Rattle.std.specs.Prelude.{ℕ, ◌==◌, ◌||◌, Bool, List, [], ◌∷◌, Option, codes, bytes_eq, find, get_or, if◌then◌else◌}
 use Rattle.check_rules.specs.declared.standing.Kind.{Kind}
 use Rattle.check_rules.specs.declared.standing.Kind.TheVariants as kind
 use Rattle.check_rules.specs.declared.state.State.{State}
 use Rattle.check_rules.specs.declared.state.State.TheVariants as state
+use Rattle.check_rules.specs.Numbers.{all_states, state_number}
+
+-- ---- words
 
 abbrev pub state_word : State → List ℕ
 state_word state.Ok = codes "OK"
@@ -14,6 +17,33 @@ state_word state.Up = codes "UP"
 state_word state.Down = codes "DOWN"
 state_word state.Unreachable = codes "UNREACHABLE"
 
+-- the state that has this word
+abbrev pub worded_state : List ℕ → Option State
+worded_state word = find (λ s. bytes_eq word (state_word s)) all_states
+
 abbrev pub kind_word : Kind → List ℕ
 kind_word kind.Soft = codes "SOFT"
 kind_word kind.Hard = codes "HARD"
+
+-- the kind that has this word
+abbrev pub worded_kind : List ℕ → Option Kind
+worded_kind word = find (λ k. bytes_eq word (kind_word k)) (kind.Soft ∷ kind.Hard ∷ [])
+
+-- ---- letters
+
+-- the letter of a state: o w c u of a service's, o d u of a host's, in the order of their numbers
+abbrev pub state_letter : State → ℕ
+state_letter s = get_or (codes "owcuodu") (state_number s) 0
+
+-- whether a byte is the letter of a state, of either sort of object
+abbrev pub is_letter : ℕ → Bool
+is_letter b = b == 111 || b == 119 || b == 117 || b == 99 || b == 100
+
+-- The state of a host, or of a service, that has this letter. A letter of the other sort is a state of that sort.
+abbrev pub lettered_state : Bool → ℕ → State
+lettered_state host letter =
+    if letter == 111 then (if host then state.Up else state.Ok)
+    else if letter == 119 then state.Warning
+    else if letter == 117 then (if host then state.Unreachable else state.Unknown)
+    else if letter == 99 then state.Critical
+    else state.Down

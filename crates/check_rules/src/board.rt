@@ -1,7 +1,7 @@
 //! A standing as one word, as it stands on a board that is read without the lock. (Our own profile.)
 
 ghost use Rattle.std.specs.Prelude.{◌≡◌, ◌<◌, ◌^◌, Some, IfSome};
-ghost use Rattle.check_rules.specs.Board.{code_of, flag, has_bit, standing_coded};
+ghost use Rattle.check_rules.specs.Board.{decoded, encoded, flag, has_bit};
 
 use crate::standing::{Kind, Standing};
 use crate::state::State;
@@ -10,9 +10,9 @@ use crate::state::State;
 /// that is hard, bits 5 to 12 the attempt, bits 13 to 15 the last hard state, bit 16 whether it flaps.
 /// OK, WARNING, CRITICAL, UNKNOWN, UP, DOWN, UNREACHABLE are 0 to 6. [`decode`] reads it. (Our own
 /// profile.)
-pub fn code(standing: Standing) -> u64
-    ensures value { result ≡ code_of standing }
-    ensures read { standing_coded result ≡ Some standing }
+pub fn encode(standing: Standing) -> u64
+    ensures value { result ≡ encoded standing }
+    ensures read { decoded result ≡ Some standing }
     ensures within { result < 2 ^ 17 }
 {
     flag(standing.checked)
@@ -26,7 +26,7 @@ pub fn code(standing: Standing) -> u64
 /// The standing whose word this is. None where it is no standing's: where one of the two states has
 /// the number 7, or a bit above bit 16 is set. (Our own profile.)
 pub fn decode(word: u64) -> Option<Standing>
-    ensures { result ≡ standing_coded word }
+    ensures { result ≡ decoded word }
 {
     if word >= 131_072 {
         return None;

@@ -25,7 +25,7 @@ mod state;
 mod verdicts;
 mod words;
 
-pub use board::{code, decode};
+pub use board::{decode, encode};
 pub use dependencies::blocked;
 pub use flapping::{KEPT_RESULTS, flaps, percent};
 pub use reachability::host_state;

@@ -1,11 +1,11 @@
-//! The words of states and kinds.
+//! The words of states and kinds, and the letters of states.
 
 use crate::standing::Kind;
 use crate::state::State;
 
 impl State {
-    ghost use Rattle.std.specs.Prelude.{◌≡◌, ◌≤◌, length};
-    ghost use Rattle.check_rules.specs.Words.{state_word};
+    ghost use Rattle.std.specs.Prelude.{◌≡◌, ◌≤◌, ◌∷◌, [], length};
+    ghost use Rattle.check_rules.specs.Words.{is_letter, lettered_state, state_letter, state_word, worded_state};
 
     /// The word of the state, in capitals: `OK` to `UNREACHABLE`. (Manual: "State Types".)
     pub fn word(self) -> &'static str
@@ -22,11 +22,75 @@ impl State {
             State::Unreachable => "UNREACHABLE",
         }
     }
+
+    /// The state that has this word, if one has it. (Manual: "State Types".)
+    pub fn worded(word: &str) -> Option<State>
+        ensures { result ≡ worded_state word.now }
+    {
+        match word {
+            "OK" => Some(State::Ok),
+            "WARNING" => Some(State::Warning),
+            "CRITICAL" => Some(State::Critical),
+            "UNKNOWN" => Some(State::Unknown),
+            "UP" => Some(State::Up),
+            "DOWN" => Some(State::Down),
+            "UNREACHABLE" => Some(State::Unreachable),
+            _ => None,
+        }
+    }
+
+    /// The letter of the state: `o`, `w`, `c`, `u` of OK, WARNING, CRITICAL, UNKNOWN, and `o`, `d`, `u`
+    /// of UP, DOWN, UNREACHABLE. (Our own profile.)
+    pub fn letter(self) -> &'static str
+        ensures { result.now ≡ state_letter self ∷ [] }
+    {
+        match self {
+            State::Ok | State::Up => "o",
+            State::Warning => "w",
+            State::Critical => "c",
+            State::Unknown | State::Unreachable => "u",
+            State::Down => "d",
+        }
+    }
+
+    /// Whether a byte is the letter of a state, of either sort of object.
+    pub fn is_letter(byte: u8) -> bool
+        ensures { result ≡ is_letter byte }
+    {
+        byte == b'o' || byte == b'w' || byte == b'u' || byte == b'c' || byte == b'd'
+    }
+
+    /// The state of a host, or of a service, that has this letter. A letter of the other sort is a
+    /// state of that sort, and a byte that is no letter is DOWN's.
+    pub fn lettered(host: bool, letter: u8) -> State
+        ensures { result ≡ lettered_state host letter }
+    {
+        match letter {
+            b'o' if host => State::Up,
+            b'o' => State::Ok,
+            b'w' => State::Warning,
+            b'u' if host => State::Unreachable,
+            b'u' => State::Unknown,
+            b'c' => State::Critical,
+            _ => State::Down,
+        }
+    }
 }
 
 impl Kind {
     ghost use Rattle.std.specs.Prelude.{◌≡◌, ◌≤◌, length};
-    ghost use Rattle.check_rules.specs.Words.{kind_word};
+    ghost use Rattle.check_rules.specs.Words.{kind_word, worded_kind};
+
+    /// The kind that has this word, if one has it. (Manual: "State Types".)
+    pub fn worded(word: &str) -> Option<Kind>
+        ensures { result ≡ worded_kind word.now }
+    {
+        match word {
+            "SOFT" => Some(Kind::Soft),
+            "HARD" => Some(Kind::Hard),
+            _ => None,
+        }
+    }
 
     /// The word of the kind: `SOFT` or `HARD`. (Manual: "State Types".)
     pub fn word(self) -> &'static str

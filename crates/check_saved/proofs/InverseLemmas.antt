@@ -14,13 +14,14 @@ use Rattle.check_saved.specs.Saved.{IsSaved, IsSavedObject, Saved, SavedObject}
 use Rattle.check_saved.specs.Scheduling.{OpenRun, is_moment, is_time}
 use Rattle.check_saved.specs.Text.{saved_of_text, saved_text}
 use Rattle.check_saved.specs.Tree.{object_tree, objects_tree, run_tree, saved_tree, time_tree}
-use Rattle.check_saved.specs.Words.{flapping_word, kind_word, letters_of, result_letter, state_word}
+use Rattle.check_rules.specs.Words.{kind_word, state_letter, state_word}
+use Rattle.check_saved.specs.Words.{flapping_word, letters_of}
 use Rattle.check_saved.specs.Written.{IsWritable, IsWritableObject}
 use Rattle.check_saved.proofs.PlainLemmas.{ArePlain, IsPlain, read_compact, text_is_utf8}
 use Rattle.check_saved.proofs.RangeLemmas.{attempt_by}
 use Rattle.check_saved.proofs.SizeLemmas.{text_fits}
 use Rattle.check_saved.proofs.TextLemmas.{text_back}
-use Rattle.check_saved.proofs.TreeLemmas.{saved_depth}
+use Rattle.check_saved.proofs.TreeLemmas.{letter_fits, saved_depth}
 
 word : (s : rules.State) → IsUtf8 (state_word s)
 word state.Ok = IsUtf8-are_ascii (codes "OK") refl
@@ -39,18 +40,9 @@ flapping_is : (b : Bool) → IsUtf8 (flapping_word b)
 flapping_is true = IsUtf8-are_ascii (codes "FLAPPING") refl
 flapping_is false = IsUtf8-are_ascii (codes "STEADY") refl
 
-letter_is : (s : rules.State) → nat_lt (result_letter s) 128 ≡ true
-letter_is state.Ok = refl
-letter_is state.Warning = refl
-letter_is state.Critical = refl
-letter_is state.Unknown = refl
-letter_is state.Up = refl
-letter_is state.Down = refl
-letter_is state.Unreachable = refl
-
 letters_ascii : (results : List rules.State) → are_ascii (letters_of results) ≡ true
 letters_ascii [] = refl
-letters_ascii (s ∷ ss) = rw (letter_is s) (letters_ascii ss)
+letters_ascii (s ∷ ss) = rw ((letter_fits s).1) (letters_ascii ss)
 
 time_plain : (time : Option ℕ) → is_time time ≡ true → IsPlain (time_tree time)
 time_plain None e = tt

@@ -12,10 +12,10 @@ use Rattle.std.proofs.lemmas.Bool.Decides.{nat_tests}
 use Rattle.std.proofs.lemmas.List.Folds.{list_any-append}
 use Rattle.std.proofs.lemmas.List.Sums.{passes_at_first, prefix_len-le-length, split_at_first}
 use Rattle.std.proofs.lemmas.Slice.Eq.{bytes_eq-Decides}
-use Rattle.check_drafts.specs.Agreement.{◌>>=◌}
+use Rattle.check_drafts.specs.Agreement.{◌>>=◌, refused_at}
 use Rattle.check_drafts.specs.Keys.{first_repeat}
 use Rattle.check_drafts.specs.Name.{is_host_name, is_name}
-use Rattle.check_drafts.proofs.RefusalLemmas.{all_by_position}
+use Rattle.check_drafts.proofs.RefusalLemmas.{all_by_position, first_ok, nowhere, rest_ok}
 use Rattle.check_drafts.proofs.RepeatLemmas.{first_repeat_is, repeat_after}
 use Rattle.check_rules.specs.declared.standing.Kind.{Kind}
 use Rattle.check_rules.specs.declared.standing.Kind.TheVariants as kind
@@ -28,24 +28,11 @@ use Rattle.check_rules.specs.State.{fine_state, is_host_state, is_of_sort, is_pr
 use Rattle.check_saved.specs.declared.fault.SavedFault.{SavedFault}
 use Rattle.check_saved.specs.declared.fault.SavedFault.TheVariants as faults
 use Rattle.check_saved.specs.Saved.{IsFullName, IsSaved, IsSavedObject, Saved, SavedObject}
-use Rattle.check_saved.specs.SavedFault.{refused_at}
 use Rattle.check_saved.specs.Scheduling.{OpenRun, is_in_time, is_timed_if_forced}
 use Rattle.check_saved.specs.Verification.{can_be, can_have_results, can_stand, distinct_names, earlier_place, few_objects, good_names, is_as_pending, is_attempt, is_full_name, is_hard, is_in_range, is_numbered, is_same_run, is_semicolon, lawful_objects, run_number, tests_of_draft, verified}
 use Rattle.check_saved.proofs.NameLemmas.{all_by_prefix}
 
 -- ---- nothing was refused
-
-pub first_ok : {B : Type 0} (a : Result (Unit {0}) SavedFault) (f : Unit {0} → Result B SavedFault) (y : B) → (a >>= f) ≡ Ok y → a ≡ Ok tt
-first_ok (Ok u) f y e = refl
-first_ok (Err x) f y e = cc
-
-pub rest_ok : {B : Type 0} (a : Result (Unit {0}) SavedFault) (f : Unit {0} → Result B SavedFault) (y : B) → (a >>= f) ≡ Ok y → f tt ≡ Ok y
-rest_ok (Ok u) f y e = e
-rest_ok (Err x) f y e = cc
-
-pub nowhere : (fault : ℕ → SavedFault) (o : Option ℕ) → refused_at fault o ≡ Ok tt → o ≡ None
-nowhere fault None e = refl
-nowhere fault (Some i) e = cc
 
 few_by : (b : Bool) (n : ℕ) (y : Result (Unit {0}) SavedFault) → y ≡ Ok tt → nat_lt 4096 n ≡ b → cond b (Err faults.TooMany) (Ok tt) ≡ y → n ≤ 4096
 few_by true n y o t e = cc

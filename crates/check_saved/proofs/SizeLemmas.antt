@@ -21,7 +21,8 @@ use Rattle.check_saved.specs.Saved.{IsFullName, IsSaved, IsSavedObject, Saved, S
 use Rattle.check_saved.specs.Scheduling.{OpenRun, is_moment, is_time}
 use Rattle.check_saved.specs.Text.{saved_text}
 use Rattle.check_saved.specs.Tree.{object_tree, objects_tree, run_tree, saved_tree, time_tree}
-use Rattle.check_saved.specs.Words.{flapping_word, kind_word, letters_of, result_letter, state_word}
+use Rattle.check_rules.specs.Words.{kind_word, state_letter, state_word}
+use Rattle.check_saved.specs.Words.{flapping_word, letters_of}
 use Rattle.check_saved.proofs.RangeLemmas.{attempt_by, short_name}
 
 -- a bound that counts a comma before each item and member
@@ -178,7 +179,7 @@ object_weight runs o few saved narrow =
     let j = quoted_length o.name in
     let k = name_length o.name saved.name in
     let l = quoted_length (letters_of o.results) in
-    let m = length-map o.results result_letter in
+    let m = length-map o.results state_letter in
     let n = saved.results.few in
     omega arith
 

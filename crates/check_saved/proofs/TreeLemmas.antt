@@ -1,6 +1,6 @@
 -- The tree of what is saved: it has no floats, nests a few levels deep, and says what was saved.
 use Rattle.std.proofs.Common.{◌≡◌, ℕ, ◌+◌, ◌≤◌, ◌||◌, Bool, true, false, cond, List, [], ◌∷◌, Option, Some, None, Ok, refl, ap, arith}
-use Rattle.std.specs.Prelude.{max}
+use Rattle.std.specs.Prelude.{max, nat_lt}
 use Rattle.std.specs.List.{list_all}
 use Rattle.std.proofs.lemmas.Bool.{and_parts}
 use Rattle.serde_json.specs.Data.{depth, items_depth}
@@ -12,12 +12,14 @@ use Rattle.check_rules.specs.declared.standing.Kind.TheVariants as kind
 use Rattle.check_rules.specs.declared.standing.Standing.{Standing}
 use Rattle.check_rules.specs.declared.state.State as rules
 use Rattle.check_rules.specs.declared.state.State.TheVariants as state
+use Rattle.check_rules.proofs.Cases.{each_state}
 use Rattle.check_rules.specs.State.{is_of_sort}
-use Rattle.check_saved.specs.Reading.{draft_of, in_this_format, letters_in, object_of, objects_from, run_of, scheduling_of, standing_of, time_of}
+use Rattle.check_saved.specs.Reading.{draft_of, in_this_format, lettered_object, letters_in, object_of, objects_from, run_of, scheduling_of, standing_of, standing_with, time_of}
 use Rattle.check_saved.specs.Saved.{Saved, SavedObject}
 use Rattle.check_saved.specs.Scheduling.{OpenRun, Scheduling}
 use Rattle.check_saved.specs.Tree.{object_tree, objects_tree, run_tree, saved_tree, time_tree}
-use Rattle.check_saved.specs.Words.{are_letters, flapping_of_word, flapping_word, is_letter, kind_of_word, kind_word, letters_of, result_letter, result_of_letter, results_of_letters, state_of_word, state_word}
+use Rattle.check_rules.specs.Words.{is_letter, kind_word, lettered_state, state_letter, state_word, worded_kind, worded_state}
+use Rattle.check_saved.specs.Words.{are_letters, flapping_of_word, flapping_word, letters_of, results_of_letters}
 
 -- ---- no floats
 
@@ -78,16 +80,10 @@ saved_depth saved =
 
 -- ---- what was written is what is read
 
-state_back : (s : rules.State) → state_of_word (state_word s) ≡ Some s
-state_back state.Ok = refl
-state_back state.Warning = refl
-state_back state.Critical = refl
-state_back state.Unknown = refl
-state_back state.Up = refl
-state_back state.Down = refl
-state_back state.Unreachable = refl
+state_back : (s : rules.State) → worded_state (state_word s) ≡ Some s
+state_back = each_state (λ s. worded_state (state_word s) ≡ Some s) refl refl refl refl refl refl refl
 
-kind_back : (k : Kind) → kind_of_word (kind_word k) ≡ Some k
+kind_back : (k : Kind) → worded_kind (kind_word k) ≡ Some k
 kind_back kind.Soft = refl
 kind_back kind.Hard = refl
 
@@ -103,20 +99,17 @@ run_back : (run : Option OpenRun) → run_of (run_tree run) ≡ Some run
 run_back None = refl
 run_back (Some run) = refl
 
-letter_is_one : (s : rules.State) → is_letter (result_letter s) ≡ true
-letter_is_one state.Ok = refl
-letter_is_one state.Warning = refl
-letter_is_one state.Critical = refl
-letter_is_one state.Unknown = refl
-letter_is_one state.Up = refl
-letter_is_one state.Down = refl
-letter_is_one state.Unreachable = refl
+-- the letter of a result is one, and a byte of ASCII
+pub letter_fits : (s : rules.State) → (is_letter (state_letter s) ≡ true) × (nat_lt (state_letter s) 128 ≡ true)
+letter_fits =
+    each_state (λ s. (is_letter (state_letter s) ≡ true) × (nat_lt (state_letter s) 128 ≡ true))
+    (refl, refl) (refl, refl) (refl, refl) (refl, refl) (refl, refl) (refl, refl) (refl, refl)
 
 letters_are : (results : List rules.State) → are_letters (letters_of results) ≡ true
 letters_are [] = refl
-letters_are (s ∷ ss) = rw (letter_is_one s) (letters_are ss)
+letters_are (s ∷ ss) = rw ((letter_fits s).0) (letters_are ss)
 
-letter_back : (host : Bool) (s : rules.State) → is_of_sort host s ≡ true → result_of_letter host (result_letter s) ≡ s
+letter_back : (host : Bool) (s : rules.State) → is_of_sort host s ≡ true → lettered_state host (state_letter s) ≡ s
 letter_back true state.Ok e = cc
 letter_back true state.Warning e = cc
 letter_back true state.Critical e = cc
@@ -141,7 +134,7 @@ letters_back host (s ∷ ss) e =
 abbrev standing_from : Option Bool → Option rules.State → Option Kind → Option ℕ → Option rules.State → Option Bool → Option Standing
 standing_from c s k a l f =
     c >=> λ checked. (s >=> λ state. (k >=> λ kind. (a >=> λ attempt. (l >=> λ last_hard. (f >=> λ flapping.
-    Some (record { checked = checked; state = state; kind = kind; attempt = attempt; last_hard = last_hard; flapping = flapping }))))))
+    Some (standing_with checked state kind attempt last_hard flapping))))))
 
 standing_there : (s : Standing) (state last_hard : Option rules.State) (k : Option Kind) (f : Option Bool) → state ≡ Some s.state → k ≡ Some s.kind
     → last_hard ≡ Some s.last_hard → f ≡ Some s.flapping → standing_from (Some s.checked) state k (Some s.attempt) last_hard f ≡ Some s
@@ -151,7 +144,7 @@ standing_back : (o : SavedObject) → standing_of (object_tree o) ≡ Some o.sta
 unfolding standing_of
 standing_back o =
     let s = o.standing in
-    standing_there s (state_of_word (state_word s.state)) (state_of_word (state_word s.last_hard)) (kind_of_word (kind_word s.kind))
+    standing_there s (worded_state (state_word s.state)) (worded_state (state_word s.last_hard)) (worded_kind (kind_word s.kind))
     (flapping_of_word (flapping_word s.flapping)) (state_back s.state) (kind_back s.kind) (state_back s.last_hard) (flapping_back s.flapping)
 
 abbrev scheduling_from : Option (Option ℕ) → Option (Option OpenRun) → Bool → Bool → Option Scheduling
@@ -177,15 +170,7 @@ letters_there o = ap (letters_or_none (letters_of o.results)) (letters_are o.res
 abbrev object_from : List ℕ → Option Standing → Option (List ℕ) → Option Scheduling → ℕ → ℕ → Bool → Option SavedObject
 object_from n s l t i m e =
     Some n >=> λ name. (s >=> λ standing. (l >=> λ letters. (t >=> λ scheduling. (Some i >=> λ interval. (Some m >=> λ max_attempts. (Some e >=> λ setup_enabled.
-    Some (record {
-      name = name;
-      standing = standing;
-      results = results_of_letters (is_host_name name) letters;
-      scheduling = scheduling;
-      interval = interval;
-      max_attempts = max_attempts;
-      setup_enabled = setup_enabled;
-    })))))))
+    Some (lettered_object name standing letters scheduling interval max_attempts setup_enabled)))))))
 
 object_there : (o : SavedObject) (s : Option Standing) (l : Option (List ℕ)) (t : Option Scheduling) → s ≡ Some o.standing → l ≡ Some (letters_of o.results)
     → t ≡ Some o.scheduling → results_of_letters (is_host_name o.name) (letters_of o.results) ≡ o.results

@@ -5,7 +5,8 @@ use Rattle.check_rules.specs.declared.standing.Standing.{Standing}
 use Rattle.check_saved.specs.Saved.{SavedObject}
 use Rattle.check_saved.specs.Scheduling.{Scheduling}
 use Rattle.check_saved.specs.Tree.{number_tree, run_tree, time_tree}
-use Rattle.check_saved.specs.Words.{flapping_word, kind_word, state_word}
+use Rattle.check_rules.specs.Words.{kind_word, state_word}
+use Rattle.check_saved.specs.Words.{flapping_word}
 
 unfoldable pub state_members : Standing → Members → Members
 state_members s ms =

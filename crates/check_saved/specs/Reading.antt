@@ -6,13 +6,15 @@ use Rattle.serde_json.specs.Find.{get, as_bool, as_null, as_str, as_array}
 use Rattle.check_documents.specs.Tree.{has_only, whole_number, ◌>=>◌}
 use Rattle.check_drafts.specs.Agreement.{◌>>=◌}
 use Rattle.check_drafts.specs.Name.{is_host_name}
+use Rattle.check_rules.specs.declared.standing.Kind.{Kind}
 use Rattle.check_rules.specs.declared.standing.Standing.{Standing}
 use Rattle.check_rules.specs.declared.state.State as rules
 use Rattle.check_saved.specs.declared.fault.SavedFault.{SavedFault}
 use Rattle.check_saved.specs.declared.fault.SavedFault.TheVariants as faults
 use Rattle.check_saved.specs.Saved.{Saved, SavedObject}
 use Rattle.check_saved.specs.Scheduling.{OpenRun, Scheduling}
-use Rattle.check_saved.specs.Words.{are_letters, flapping_of_word, kind_of_word, results_of_letters, state_of_word}
+use Rattle.check_rules.specs.Words.{worded_kind, worded_state}
+use Rattle.check_saved.specs.Words.{are_letters, flapping_of_word, results_of_letters}
 
 -- ---- members by their names
 
@@ -26,7 +28,7 @@ abbrev pub switch_in : List ℕ → Data → Option Bool
 switch_in name d = option_and_then as_bool (get name d)
 
 abbrev pub state_in : List ℕ → Data → Option rules.State
-state_in name d = text_in name d >=> state_of_word
+state_in name d = text_in name d >=> worded_state
 
 -- null is no time
 abbrev pub time_of : Data → Option (Option ℕ)
@@ -48,15 +50,20 @@ run_of d = if is_some (as_null d) then Some None else (open_run_of d >=> λ run.
 
 -- ---- an object
 
+-- a standing of which this is said
+abbrev pub standing_with : Bool → rules.State → Kind → ℕ → rules.State → Bool → Standing
+standing_with checked state kind attempt last_hard flapping =
+    record { checked = checked; state = state; kind = kind; attempt = attempt; last_hard = last_hard; flapping = flapping }
+
 unfoldable pub standing_of : Data → Option Standing
 standing_of d =
     (switch_in (codes "checked") d >=> λ checked.
     (state_in (codes "state") d >=> λ state.
-    (text_in (codes "kind") d >=> kind_of_word >=> λ kind.
+    (text_in (codes "kind") d >=> worded_kind >=> λ kind.
     (number_in (codes "attempt") d >=> λ attempt.
     (state_in (codes "last_hard_state") d >=> λ last_hard.
     (text_in (codes "flapping") d >=> flapping_of_word >=> λ flapping.
-    Some (record { checked = checked; state = state; kind = kind; attempt = attempt; last_hard = last_hard; flapping = flapping })))))))
+    Some (standing_with checked state kind attempt last_hard flapping)))))))
 
 unfoldable pub scheduling_of : Data → Option Scheduling
 scheduling_of d =
@@ -76,6 +83,18 @@ object_members =
 abbrev pub letters_in : Data → Option (List ℕ)
 letters_in d = text_in (codes "results") d >=> λ letters. (if are_letters letters then Some letters else None)
 
+-- what is saved of an object of which this is said, with the letters of its results
+abbrev pub lettered_object : List ℕ → Standing → List ℕ → Scheduling → ℕ → ℕ → Bool → SavedObject
+lettered_object name standing letters scheduling interval max_attempts setup_enabled = record {
+  name = name;
+  standing = standing;
+  results = results_of_letters (is_host_name name) letters;
+  scheduling = scheduling;
+  interval = interval;
+  max_attempts = max_attempts;
+  setup_enabled = setup_enabled;
+}
+
 unfoldable pub object_of : Data → Option SavedObject
 object_of d = if has_only object_members d then
     (text_in (codes "name") d >=> λ name.
@@ -85,15 +104,7 @@ object_of d = if has_only object_members d then
     (number_in (codes "check_interval") d >=> λ interval.
     (number_in (codes "max_check_attempts") d >=> λ max_attempts.
     (switch_in (codes "enabled_in_setup") d >=> λ setup_enabled.
-    Some (record {
-      name = name;
-      standing = standing;
-      results = results_of_letters (is_host_name name) letters;
-      scheduling = scheduling;
-      interval = interval;
-      max_attempts = max_attempts;
-      setup_enabled = setup_enabled;
-    }))))))))
+    Some (lettered_object name standing letters scheduling interval max_attempts setup_enabled))))))))
     else None
 
 -- the objects of a list from the one at index i on, each in its shape; else the first that isn't

@@ -1,13 +1,8 @@
 -- Refusals of a saved state, and how a function of the code agrees with what the definitions say of them.
-use Rattle.std.specs.Prelude.{ℕ, Option, Some, None, Result, Ok, Err}
+use Rattle.std.specs.Prelude.{Option, Some, None, Result}
 use Rattle.check_drafts.specs.Agreement as agreement
 use Rattle.check_saved.specs.declared.fault.SavedFault.{SavedFault}
 use Rattle.check_saved.specs.declared.fault.SavedFault.TheVariants as faults
-
--- a refusal at the index that is found, or none
-abbrev pub refused_at : (ℕ → SavedFault) → Option ℕ → Result (Unit {0}) SavedFault
-refused_at fault None = Ok tt
-refused_at fault (Some i) = Err (fault i)
 
 -- the refusal that an error of the code is: each is one, but that the code is out of memory
 abbrev pub refusal : SavedFault → Option SavedFault

@@ -2,7 +2,7 @@
 use Rattle.std.specs.Prelude.{ℕ, ◌^◌, ◌<◌, ◌==◌, ◌&&◌, ◌||◌, Bool, true, false, not, List, length, map, position, min, Option, Some, None, option_map}
 use Rattle.std.specs.Prelude.{Result, Ok, Err, bytes_eq, nat_le, nat_lt, if◌then◌else◌}
 use Rattle.std.specs.List.{after_first, before_first, list_all}
-use Rattle.check_drafts.specs.Agreement.{◌>>=◌}
+use Rattle.check_drafts.specs.Agreement.{◌>>=◌, refused_at}
 use Rattle.check_drafts.specs.Keys.{first_repeat}
 use Rattle.check_drafts.specs.Name.{is_host_name, is_name}
 use Rattle.check_rules.specs.declared.standing.Kind.{Kind}
@@ -14,7 +14,6 @@ use Rattle.check_rules.specs.State.{is_of_sort, is_problem}
 use Rattle.check_saved.specs.declared.fault.SavedFault.{SavedFault}
 use Rattle.check_saved.specs.declared.fault.SavedFault.TheVariants as faults
 use Rattle.check_saved.specs.Saved.{Saved, SavedObject}
-use Rattle.check_saved.specs.SavedFault.{refused_at}
 use Rattle.check_saved.specs.Scheduling.{OpenRun, is_in_time, is_timed_if_forced}
 
 -- ---- how many

@@ -23,17 +23,11 @@ pub(crate) struct StandingDraft {
 
 impl Model for StandingDraft {
     ghost use Rattle.check_rules.specs.declared.standing.Standing as rules;
+    ghost use Rattle.check_saved.specs.Reading.{standing_with};
 
     ghost Value = { rules.Standing };
 
-    ghost view = { λ s. record {
-      checked = s.checked;
-      state = s.state;
-      kind = s.kind;
-      attempt = s.attempt;
-      last_hard = s.last_hard;
-      flapping = s.flapping;
-    } };
+    ghost view = { λ s. standing_with s.checked s.state s.kind s.attempt s.last_hard s.flapping };
 
     ghost inverse = { λ s. record {
       checked = s.checked;

@@ -6,7 +6,6 @@ ghost use Rattle.serde_json.specs.View.{view};
 ghost use Rattle.check_documents.specs.Tree.{has_only};
 ghost use Rattle.check_saved.specs.Reading.{number_in, state_in, switch_in, text_in};
 
-use crate::words::state_of_word;
 use check_rules::State;
 use serde_json::{Map, Value};
 
@@ -59,5 +58,5 @@ pub(crate) fn switch_in(value: &Value, name: &str) -> Option<bool>
 pub(crate) fn state_in(value: &Value, name: &str) -> Option<State>
     ensures { result ≡ state_in name.now (view value.now) }
 {
-    state_of_word(text_in(value, name)?)
+    State::worded(text_in(value, name)?)
 }

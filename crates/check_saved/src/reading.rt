@@ -10,7 +10,8 @@ use crate::fault::SavedFault;
 use crate::letters::are_letters;
 use crate::members::{has_only, number_in, state_in, switch_in, text_in};
 use crate::saved::SavedRun;
-use crate::words::{flapping_of_word, kind_of_word};
+use crate::words::flapping_of_word;
+use check_rules::Kind;
 use serde_json::Value;
 use std::alloc::Global;
 
@@ -112,7 +113,7 @@ fn read_standing(value: &Value) -> Option<StandingDraft>
     Some(StandingDraft {
         checked: switch_in(value, "checked")?,
         state: state_in(value, "state")?,
-        kind: kind_of_word(text_in(value, "kind")?)?,
+        kind: Kind::worded(text_in(value, "kind")?)?,
         attempt: number_in(value, "attempt")?,
         last_hard: state_in(value, "last_hard_state")?,
         flapping: flapping_of_word(text_in(value, "flapping")?)?,

@@ -7,7 +7,7 @@ ghost use Rattle.check_saved.specs.Tree.{object_tree, run_tree, saved_tree};
 
 use crate::letters::letters_of;
 use crate::saved::{Saved, SavedObject, SavedRun};
-use crate::words::{flapping_word, kind_word, state_word};
+use crate::words::flapping_word;
 use check_rules::Standing;
 use serde_json::{Map, Value, json, put};
 use std::alloc::{AllocError, Global};
@@ -91,19 +91,19 @@ fn put_states(
         members,
         alloc,
         "state",
-        Value::try_from_str(alloc, state_word(standing.state))?,
+        Value::try_from_str(alloc, standing.state.word())?,
     )?;
     put(
         members,
         alloc,
         "last_hard_state",
-        Value::try_from_str(alloc, state_word(standing.last_hard))?,
+        Value::try_from_str(alloc, standing.last_hard.word())?,
     )?;
     put(
         members,
         alloc,
         "kind",
-        Value::try_from_str(alloc, kind_word(standing.kind))?,
+        Value::try_from_str(alloc, standing.kind.word())?,
     )
 }
 

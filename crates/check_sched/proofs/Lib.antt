@@ -12,6 +12,7 @@ pub mod OrderedLaws
 pub mod OutLaws
 pub mod PendingLaws
 pub mod PublicLaws
+pub mod ReplyCases
 pub mod ReplyLaws
 pub mod ReportLaws
 pub mod ResultsLaws

@@ -1,6 +1,6 @@
 -- Laws of the places of objects in what was saved.
-use Rattle.std.proofs.Common.{◌≡◌, ◌≢◌, ℕ, ◌+◌, ◌<◌, ◌==◌, Bool, true, false, List, [], ◌∷◌, length, drop, get_or, set, replicate, bytes_eq}
-use Rattle.std.proofs.Common.{Option, Some, None, refl, sym, ap, ◌∙◌, arith}
+use Rattle.std.proofs.Common.{◌≡◌, ◌≢◌, ℕ, ◌+◌, ◌-◌, ◌<◌, ◌≤◌, ◌==◌, Bool, true, false, List, [], ◌∷◌, length, drop, get_or, set, replicate, bytes_eq}
+use Rattle.std.proofs.Common.{Option, Some, None, refl, sym, ap, ◌∙◌, subst, arith}
 use Rattle.std.specs.Prelude.{find, option_and_then, slice_get}
 use Rattle.std.specs.List.{list_any}
 use Rattle.std.proofs.lemmas.Bool.{eqb-false, eqb-true}
@@ -63,6 +63,14 @@ places_none c objects = record {
   one_each = length-replicate (object_count c) None;
   found = λ n l. ap (option_and_then (slice_get objects)) (get_or-replicate (object_count c) n None None l);
 }
+
+-- what holds of the places from one on is what holds behind the one before it
+pub one_before : (c : Configuration) (objects : List SavedObject) (place : ℕ) (places : List (Option ℕ)) → 0 < place → place ≤ length objects
+    → ArePlaces c objects (drop place objects) places
+    → record { there : place - 1 < length objects; was : ArePlaces c objects (drop (place - 1 + 1) objects) places }
+one_before c objects place places some within are =
+    let next : place ≡ place - 1 + 1 = omega (arith, some) in
+    record { there = omega (arith, some, within); was = subst (λ k. ArePlaces c objects (drop k objects) places) next are }
 
 -- one more that the setup doesn't have
 pub places_past : (c : Configuration) (k : ℕ) (objects : List SavedObject) (x : SavedObject) (places : List (Option ℕ)) → IsSetup c → k < length objects

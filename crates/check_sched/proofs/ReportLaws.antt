@@ -4,7 +4,7 @@ use Rattle.std.proofs.Common.{Some, None, Ok, option_map, refl, sym, ap, subst, 
 use Rattle.std.specs.Prelude.{is_some, slice_get, unwrap_or}
 use Rattle.std.specs.Option.{option_map_or}
 use Rattle.std.proofs.lemmas.Bool.Decides.{nat_tests}
-use Rattle.std.proofs.lemmas.Option.{slice_get-get_or, slice_get_read}
+use Rattle.std.proofs.lemmas.Option.{slice_get-get_or, slice_get_read, slice_get_within}
 use Rattle.std.proofs.lemmas.Bool.{and_parts, and_from}
 use Rattle.check_drafts.specs.declared.object.Object.{Object}
 use Rattle.check_objects.specs.Configuration.{Configuration, Named, objects_of, object_count, host_of, IsSetup, is_object_in_range}
@@ -35,6 +35,10 @@ use Rattle.check_sched.proofs.OutLaws.{numbered_kept, once_kept, timed_if, timed
 use Rattle.check_sched.proofs.KeptLaws.{kept_are_results}
 use Rattle.check_sched.proofs.UpdateLaws.{length-update_at, all-update_at, all-update_at_place, each-changed_at, each-update_at, all_at_place, none_there}
 use Rattle.check_sched.specs.Report.{interval_after, is_host_up, judged, next_after}
+
+-- an object that is scheduled is one of the setup's
+pub is_an_object : (s : State) (n : ℕ) (o : Scheduling) → length s.objects ≡ object_count s.setup → slice_get s.objects n ≡ Some o → n < object_count s.setup
+is_an_object s n o each e = let there = slice_get_within s.objects n o e in omega (arith, there, each)
 
 -- ---- the limits of an object
 

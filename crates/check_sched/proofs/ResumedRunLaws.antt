@@ -27,6 +27,7 @@ use Rattle.check_sched.proofs.EachLaws.{name_is, slice_each}
 use Rattle.check_sched.proofs.OutLaws.{run_in}
 use Rattle.check_sched.proofs.ResumedLaws.{freed}
 use Rattle.check_sched.proofs.RunLaws.{runs_count, taken_after, taken_number}
+use Rattle.check_sched.proofs.ReplyCases.{each_reply}
 use Rattle.check_sched.proofs.SavedLaws.{attempts_at}
 use Rattle.check_spread.specs.Spread.{initial_times}
 
@@ -42,14 +43,9 @@ abbrev counted_once : Bool → ℕ
 counted_once b = cond b 1 0
 
 takes_it : (object run : ℕ) (r : Reply) → begins_by object run r ≡ true → takes_by r ≡ true
-takes_it object run (reply.Taken o n) e = refl
-takes_it object run (reply.PutOff o until) e = cc
-takes_it object run (reply.Idle next) e = cc
-takes_it object run reply.AtLimit e = cc
-takes_it object run (reply.Standing standing changed next) e = cc
-takes_it object run (reply.Freed next) e = cc
-takes_it object run reply.Done e = cc
-takes_it object run (reply.Refused why) e = cc
+takes_it object run =
+    each_reply (λ r. begins_by object run r ≡ true → takes_by r ≡ true)
+    (λ o n e. refl) (λ o until e. cc) (λ next e. cc) (λ e. cc) (λ standing changed next e. cc) (λ next e. cc) (λ e. cc) (λ why e. cc)
 
 -- none that was handed out has a number above the count
 pub runs_counted : (s : State) (front back : List (Entry Call Reply)) (e : Entry Call Reply) (object run : ℕ)

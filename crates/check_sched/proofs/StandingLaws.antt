@@ -2,7 +2,6 @@
 use Rattle.std.proofs.Common.{◌≡◌, ℕ, ◌+◌, ◌-◌, ◌<◌, ◌≤◌, Bool, true, false, cond, List, [], ◌∷◌, length, Option, Some, None, refl, sym, subst, ◌∙◌, arith}
 use Rattle.std.specs.Prelude.{option_map, slice_get, nat_lt, unwrap_or}
 use Rattle.std.proofs.lemmas.Bool.Decides.{nat_tests}
-use Rattle.std.proofs.lemmas.Option.{slice_get_within}
 use Rattle.ticket_steps.specs.declared.kept.Entry.{Entry}
 use Rattle.ticket_steps.specs.History.{replay}
 use Rattle.check_objects.specs.Configuration.{Configuration, IsSetup, Service, host_count, object_count, parents_of}
@@ -25,7 +24,7 @@ use Rattle.check_sched.specs.State.{State, IsState, IsStandingOf, is_host, openi
 use Rattle.check_sched.specs.Step.{found_in, judged_in, step, update_at}
 use Rattle.check_sched.proofs.OpeningLaws.{count_is, first_standings, length-objects_at, length-opening_standings}
 use Rattle.check_sched.proofs.OperatorLaws.{abandon_cases, enable_cases, reschedule_cases, status_cases}
-use Rattle.check_sched.proofs.ReportLaws.{judged_is_standing, report_cases}
+use Rattle.check_sched.proofs.ReportLaws.{is_an_object, judged_is_standing, report_cases}
 use Rattle.check_sched.proofs.StepLaws.{step_keeps}
 use Rattle.check_sched.proofs.TakeLaws.{take_cases}
 use Rattle.check_sched.proofs.UpdateLaws.{each-update_at, length-update_at, none_there}
@@ -101,8 +100,7 @@ step_good s (call.Take now) good =
 step_good s (call.Report n run c) good =
     report_cases (λ a. IsGood a.0) n run c s (λ why. good)
     (λ o r e f.
-    let in_objects = slice_get_within s.objects n o e in
-    let there : n < object_count s.setup = let each = good.one_each in omega (arith, in_objects, each) in
+    let there = is_an_object s n o good.one_each e in
     let found = found_in s n c in
     record {
       setup = good.setup;

@@ -5,7 +5,6 @@ use Rattle.std.specs.Option.{option_map_or}
 use Rattle.std.proofs.Math.Nat.{mul-le-mul}
 use Rattle.std.proofs.lemmas.Bool.Decides.{nat_tests}
 use Rattle.std.proofs.lemmas.Bool.{and_from, and_parts}
-use Rattle.std.proofs.lemmas.Option.{slice_get_within}
 use Rattle.ticket_steps.specs.declared.kept.Entry.{Entry}
 use Rattle.ticket_steps.specs.History.{replay, IsLegal}
 use Rattle.check_objects.specs.Configuration.{Configuration, IsSetup, Named, objects_of, object_count}
@@ -27,7 +26,7 @@ use Rattle.check_sched.proofs.EligibleLaws.{eligible_open}
 use Rattle.check_sched.proofs.FromStateLaws.{started, step_started}
 use Rattle.check_sched.proofs.OperatorLaws.{abandon_cases, enable_cases, reschedule_cases, status_cases, with_object_is_state}
 use Rattle.check_sched.proofs.OutLaws.{timed_if}
-use Rattle.check_sched.proofs.ReportLaws.{check_in_range, interval_bound, judged_is_standing, next_already, next_of_state, object_in_range, report_cases}
+use Rattle.check_sched.proofs.ReportLaws.{check_in_range, interval_bound, is_an_object, judged_is_standing, next_already, next_of_state, object_in_range, report_cases}
 use Rattle.check_sched.proofs.ReportLaws.{reported_is_state, standing_of_state, start_of_state, time_by}
 use Rattle.check_sched.proofs.SavedLaws.{resumed_same}
 use Rattle.check_sched.proofs.StandingLaws.{found_sort}
@@ -102,8 +101,7 @@ step_is_state s (call.Take now) is =
 step_is_state s (call.Report n run c) is =
     report_cases (λ a. IsState a.0) n run c s (λ why. is)
     (λ o r e f.
-    let in_objects = slice_get_within s.objects n o e in
-    let there : n < object_count s.setup = let each = is.one_each in omega (arith, in_objects, each) in
+    let there = is_an_object s n o is.one_each e in
     let found = found_in s n c in
     let standing = judged_in s n found in
     let already = next_of_state s n o is e in

@@ -1,7 +1,7 @@
 -- The board: what a state shows to those who read it without the lock, a word for each object.
 use Rattle.std.specs.Prelude.{ℕ, List, length, map, Option, Some, None}
 use Rattle.std.specs.List.{range_with_len}
-use Rattle.check_rules.specs.Board.{code_of}
+use Rattle.check_rules.specs.Board.{encoded}
 use Rattle.check_sched.specs.declared.call.Call.{Call}
 use Rattle.check_sched.specs.declared.call.Call.TheVariants as call
 use Rattle.check_sched.specs.declared.call.Reply.{Reply}
@@ -11,7 +11,7 @@ use Rattle.check_sched.specs.Step.{step}
 
 -- the words of the standings of all objects, in the order of their numbers
 abbrev pub board_of : State → List ℕ
-board_of s = map (λ number. code_of (standing_at s.standings number)) (range_with_len 0 (length s.objects))
+board_of s = map (λ number. encoded (standing_at s.standings number)) (range_with_len 0 (length s.objects))
 
 -- The place at which an answered call is posted: the object's number for a report that was answered by the object's standing. No other call
 -- is posted.

@@ -9,7 +9,7 @@ use Rattle.std.proofs.lemmas.Option.{slice_get_within}
 use Rattle.check_queue.specs.Order.{least}
 use Rattle.check_rules.specs.declared.state.Code.{Code}
 use Rattle.check_rules.specs.declared.standing.Standing.{Standing}
-use Rattle.check_rules.specs.Board.{code_of}
+use Rattle.check_rules.specs.Board.{encoded}
 use Rattle.check_rules.specs.Standing.{pending_standing}
 use Rattle.check_sched.specs.declared.call.Call.{Call}
 use Rattle.check_sched.specs.declared.call.Call.TheVariants as call
@@ -60,7 +60,7 @@ known_is n s o e = known_by (slice_get s.objects n) o e
 -- ---- a board, place by place
 
 abbrev pub word_in : List Standing → ℕ → ℕ
-word_in standings number = code_of (standing_at standings number)
+word_in standings number = encoded (standing_at standings number)
 
 abbrev pub words_of : List Standing → ℕ → List ℕ
 words_of standings count = map (word_in standings) (range_with_len 0 count)
@@ -104,7 +104,7 @@ one_word f g count n h =
 word_apart : (n k : ℕ) (standing : Standing) (standings : List Standing) → n ≢ k
     → word_in (update_at n (λ before. standing) standings) k ≡ word_in standings k
 word_apart n k standing standings apart =
-    ap (λ found. code_of (unwrap_or found (pending_standing true))) (update_at_apart n k (λ before. standing) standings apart)
+    ap (λ found. encoded (unwrap_or found (pending_standing true))) (update_at_apart n k (λ before. standing) standings apart)
 
 -- one standing that changes leaves all words but its own
 reported_words : (n : ℕ) (f : Scheduling → Scheduling) (standing : Standing) (objects : List Scheduling) (standings : List Standing)

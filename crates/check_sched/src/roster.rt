@@ -29,11 +29,9 @@ pub(crate) struct Roster {
 }
 
 impl Model for Roster {
-    ghost use Rattle.check_sched.specs.Roster.{RosterState};
+    ghost use Rattle.check_sched.specs.Roster.{RosterState, roster_of, IsKept};
 
     ghost Value = { RosterState };
-
-    ghost use Rattle.check_sched.specs.Roster.{roster_of, IsKept};
 
     ghost view = { roster_of };
 

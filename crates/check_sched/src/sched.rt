@@ -16,7 +16,7 @@ use crate::object_state::{Change, ObjectState};
 use crate::results::Results;
 use crate::roster::Roster;
 use check_objects::Setup;
-use check_rules::{Standing, code, pending};
+use check_rules::{Standing, encode, pending};
 use check_saved::SavedRun;
 use check_spread::{LAST_MOMENT, LAST_TIME, initial_times};
 use std::alloc::{AllocError, Global};
@@ -48,10 +48,9 @@ pub struct Sched {
 
 impl Model for Sched {
     ghost use Rattle.check_sched.specs.State.{State};
+    ghost use Rattle.check_sched.specs.Sched.{state_of, IsKept};
 
     ghost Value = { State };
-
-    ghost use Rattle.check_sched.specs.Sched.{state_of, IsKept};
 
     ghost view = { state_of };
 
@@ -169,13 +168,13 @@ impl Sched {
         self.setup.len() as u32
     }
 
-    /// The word of its board for the object with this number: the [`code`] of the object's standing,
-    /// which [`decode`](check_rules::decode) reads.
+    /// The word of its board for the object with this number: the object's standing, [`encode`]d, which
+    /// [`decode`](check_rules::decode) reads.
     pub fn word(&self, number: u32) -> u64
         requires { number < length (board_of self.now) }
         ensures { result ≡ slice_index (board_of self.now) number }
     {
-        code(self.standings[number as usize])
+        encode(self.standings[number as usize])
     }
 
     /// At which place of the board the call is posted, if it is made now: a report that will be

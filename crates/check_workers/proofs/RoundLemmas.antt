@@ -9,6 +9,7 @@ use Rattle.check_sched.specs.declared.call.Call.TheVariants as call
 use Rattle.check_sched.specs.declared.call.Reply.{Reply}
 use Rattle.check_sched.specs.declared.call.Reply.TheVariants as reply
 use Rattle.check_desk.specs.Desks.{HasRecorded}
+use Rattle.check_sched.proofs.ReplyCases.{each_reply}
 use Rattle.check_workers.specs.declared.round.Progress.{Progress}
 use Rattle.check_workers.specs.declared.round.Progress.TheVariants as progress
 use Rattle.check_workers.specs.declared.tally.Tally.{Tally}
@@ -69,24 +70,15 @@ came_taken allows now object run room before mid after t u (progress.Stopped sto
 
 -- a take that began no run
 no_run : (allows : ℕ → ℕ → ℕ → Code → Type 0) (now : ℕ) (r : Reply) → ((object run : ℕ) → r ≡ reply.Taken object run → ⊥) → IsResult allows now r None
-no_run allows now (reply.Taken object run) h = h object run refl
-no_run allows now (reply.PutOff object until) h = refl
-no_run allows now (reply.Idle next) h = refl
-no_run allows now reply.AtLimit h = refl
-no_run allows now (reply.Standing standing changed next) h = refl
-no_run allows now (reply.Freed next) h = refl
-no_run allows now reply.Done h = refl
-no_run allows now (reply.Refused why) h = refl
+no_run allows now =
+    each_reply (λ r. ((object run : ℕ) → r ≡ reply.Taken object run → ⊥) → IsResult allows now r None)
+    (λ object run h. h object run refl) (λ object until h. refl) (λ next h. refl) (λ h. refl) (λ standing changed next h. refl) (λ next h. refl) (λ h. refl) (λ why h. refl)
 
 untaken : (number : ℕ) (r : Reply) → ((object run : ℕ) → r ≡ reply.Taken object run → ⊥) → report_entries number r None ≡ []
-untaken number (reply.Taken object run) h = absurd (h object run refl)
-untaken number (reply.PutOff object until) h = refl
-untaken number (reply.Idle next) h = refl
-untaken number reply.AtLimit h = refl
-untaken number (reply.Standing standing changed next) h = refl
-untaken number (reply.Freed next) h = refl
-untaken number reply.Done h = refl
-untaken number (reply.Refused why) h = refl
+untaken number =
+    each_reply (λ r. ((object run : ℕ) → r ≡ reply.Taken object run → ⊥) → report_entries number r None ≡ [])
+    (λ object run h. absurd (h object run refl)) (λ object until h. refl) (λ next h. refl) (λ h. refl) (λ standing changed next h. refl) (λ next h. refl) (λ h. refl)
+    (λ why h. refl)
 
 pub came_other : (allows : ℕ → ℕ → ℕ → Code → Type 0) (now : ℕ) (r : Reply) (before after : Caller Call Reply) (t : Tally)
     → ((object run : ℕ) → r ≡ reply.Taken object run → ⊥)

@@ -15,6 +15,7 @@ use Rattle.check_rules.specs.declared.state.Code.{Code}
 use Rattle.check_sched.specs.declared.call.Call.{Call}
 use Rattle.check_sched.specs.declared.call.Reply.{Reply}
 use Rattle.check_sched.specs.declared.call.Reply.TheVariants as reply
+use Rattle.check_sched.proofs.ReplyCases.{each_reply}
 use Rattle.check_workers.specs.declared.round.Progress.{Progress}
 use Rattle.check_workers.specs.declared.round.Progress.TheVariants as progress
 use Rattle.check_workers.specs.declared.tally.Stop.{Stop}
@@ -183,18 +184,20 @@ both_append es fs =
     let r = ap (λ v. v.reports) (tally_append es fs [] []) in
     omega arith
 
+both_taken : (number now object run : ℕ) (result : Option (Code × Reply))
+    → both_with (round_entries number (record { now = now; reply = reply.Taken object run; result = result })) ≡ length
+    (round_entries number (record { now = now; reply = reply.Taken object run; result = result }))
+both_taken number now object run (Some (code, answer)) = refl
+both_taken number now object run None = refl
+
 both_round : (number now : ℕ) (r : Reply) (result : Option (Code × Reply))
     → both_with (round_entries number (record { now = now; reply = r; result = result })) ≡ length
     (round_entries number (record { now = now; reply = r; result = result }))
-both_round number now (reply.Taken object run) (Some (code, answer)) = refl
-both_round number now (reply.Taken object run) None = refl
-both_round number now (reply.PutOff object until) result = refl
-both_round number now (reply.Idle next) result = refl
-both_round number now reply.AtLimit result = refl
-both_round number now (reply.Standing standing changed next) result = refl
-both_round number now (reply.Freed next) result = refl
-both_round number now reply.Done result = refl
-both_round number now (reply.Refused why) result = refl
+both_round number now r =
+    each_reply (λ r. (result : Option (Code × Reply))
+    → both_with (round_entries number (record { now = now; reply = r; result = result })) ≡ length (round_entries number (record { now = now; reply = r; result = result })))
+    (both_taken number now) (λ object until result. refl) (λ next result. refl) (λ result. refl) (λ standing changed next result. refl) (λ next result. refl)
+    (λ result. refl) (λ why result. refl) r
 
 both_rounds : (number : ℕ) (rounds : List Round) → both_with (rounds_entries number rounds) ≡ length (rounds_entries number rounds)
 both_rounds number [] = refl

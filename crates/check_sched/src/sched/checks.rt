@@ -13,7 +13,7 @@ use crate::call::{Call, Refusal, Reply};
 use crate::candidate::{Candidate, if_due};
 use crate::object_state::{Change, Run};
 use crate::report::{flap_thresholds, is_changed, judged, next_after, put_off_until, state_found};
-use check_rules::{Code, Standing, blocked, code};
+use check_rules::{Code, Standing, blocked};
 use check_spread::{LAST_MOMENT, LAST_TIME};
 
 impl Sched {

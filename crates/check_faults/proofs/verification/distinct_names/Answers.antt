@@ -3,8 +3,7 @@ use Rattle.std.specs.List.{list_any}
 use Rattle.check_drafts.specs.declared.error.LoadError.TheVariants as errors
 use Rattle.check_drafts.specs.Keys.{names_of}
 use Rattle.check_drafts.specs.Drafted.{host}
-use Rattle.check_drafts.specs.Agreement.{◌>>=◌}
-use Rattle.check_drafts.specs.LoadError.{refused_at}
+use Rattle.check_drafts.specs.Agreement.{◌>>=◌, refused_at}
 use Rattle.check_drafts.specs.Place.{host_at}
 use Rattle.check_drafts.proofs.ListLemmas.{dropped_as, one_key_more}
 use Rattle.check_faults.proofs.VerificationLemmas.{repeat_here, repeat_later, keys_later, was_known, was_new}

@@ -3,7 +3,7 @@ use Rattle.std.specs.List.{list_any}
 use Rattle.check_drafts.specs.declared.error.LoadError.TheVariants as errors
 use Rattle.check_drafts.specs.Keys.{key_of, same_key}
 use Rattle.check_drafts.specs.Drafted.{service}
-use Rattle.check_drafts.specs.LoadError.{refused_at}
+use Rattle.check_drafts.specs.Agreement.{refused_at}
 use Rattle.check_drafts.specs.Place.{service_at}
 use Rattle.check_drafts.proofs.PastEnds.{no_service}
 use Rattle.check_drafts.proofs.ListLemmas.{dropped_at, one_key_more}

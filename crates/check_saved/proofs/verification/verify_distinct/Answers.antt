@@ -2,7 +2,7 @@ use Rattle.std.proofs.Common.{rules, ap, ◌∙◌, bytes_eq, map}
 use Rattle.check_drafts.proofs.RepeatLemmas.{first_repeat_is}
 use Rattle.check_saved.proofs.RepeatLemmas.{name_here, name_later}
 use Rattle.check_saved.specs.declared.fault.SavedFault.TheVariants as faults
-use Rattle.check_saved.specs.SavedFault.{refused_at}
+use Rattle.check_drafts.specs.Agreement.{refused_at}
 use Rattle.check_saved.proofs.verification.verify_distinct.Goals as goal
 
 pub loop-index-init : goal.loop-index-init

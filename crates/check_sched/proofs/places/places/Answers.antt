@@ -3,7 +3,7 @@ use Rattle.std.proofs.lemmas.List.{drop_all}
 use Rattle.check_objects.specs.Configuration.{number_of}
 use Rattle.check_saved.specs.Saved.{SavedObject}
 use Rattle.check_sched.specs.Places.{ArePlaces}
-use Rattle.check_sched.proofs.PlacesLaws.{places_more, places_none, places_past}
+use Rattle.check_sched.proofs.PlacesLaws.{one_before, places_more, places_none, places_past}
 use Rattle.check_sched.proofs.places.places.Goals as goal
 
 pub loop-place-init : goal.loop-place-init
@@ -16,28 +16,20 @@ loop-place-init c =
 
 pub loop-place-preserved-in-Some : goal.loop-place-preserved-in-Some
 loop-place-preserved-in-Some c =
-    let setup = c.args.setup.now in
-    let objects = c.objects-objects.result.now in
-    let k = c.loop-place.place - 1 in
-    let next : c.loop-place.place ≡ k + 1 = omega (arith, c.loop-place-test.true) in
-    let there : k < length objects = omega (arith, c.loop-place-test.true, c.loop-place.auto.place) in
-    let was = subst (λ j. ArePlaces setup objects (drop j objects) c.loop-place.places.items) next c.loop-place.invariant in
+    let l = c.loop-place in
+    let one = one_before c.args.setup.now c.objects-objects.result.now l.place l.places.items (omega (arith, c.loop-place-test.true)) (omega (arith, l.auto.place)) l.invariant in
     let name = c.deref.ensures ∙ ap (λ (x : SavedObject). x.name) c.object.view_is in
-    let number = ap (number_of setup) (sym name) ∙ sym c.number.ensures ∙ c.in-Some.is in
-    places_more setup k c.in-Some.number objects c.index-objects-place.result c.loop-place.places.items c.len.ensures.setup there
-    c.index-objects-place.is number was
+    let number = ap (number_of c.args.setup.now) (sym name) ∙ sym c.number.ensures ∙ c.in-Some.is in
+    places_more c.args.setup.now (l.place - 1) c.in-Some.number _ c.index-objects-place.result l.places.items c.len.ensures.setup one.there
+    c.index-objects-place.is number one.was
 
 pub loop-place-preserved : goal.loop-place-preserved
 loop-place-preserved c =
-    let setup = c.args.setup.now in
-    let objects = c.objects-objects.result.now in
-    let k = c.loop-place.place - 1 in
-    let next : c.loop-place.place ≡ k + 1 = omega (arith, c.loop-place-test.true) in
-    let there : k < length objects = omega (arith, c.loop-place-test.true, c.loop-place.auto.place) in
-    let was = subst (λ j. ArePlaces setup objects (drop j objects) c.loop-place.places.items) next c.loop-place.invariant in
+    let l = c.loop-place in
+    let one = one_before c.args.setup.now c.objects-objects.result.now l.place l.places.items (omega (arith, c.loop-place-test.true)) (omega (arith, l.auto.place)) l.invariant in
     let name = c.deref.ensures ∙ ap (λ (x : SavedObject). x.name) c.object.view_is in
-    let none = ap (number_of setup) (sym name) ∙ sym c.number.ensures ∙ c.in_default.is in
-    places_past setup k objects c.index-objects-place.result c.loop-place.places.items c.len.ensures.setup there c.index-objects-place.is none was
+    let none = ap (number_of c.args.setup.now) (sym name) ∙ sym c.number.ensures ∙ c.in_default.is in
+    places_past c.args.setup.now (l.place - 1) _ c.index-objects-place.result l.places.items c.len.ensures.setup one.there c.index-objects-place.is none one.was
 
 pub returns : goal.returns
 returns c =

@@ -19,12 +19,11 @@ resumed_ring-requires c =
 pub loop-number-preserved : goal.loop-number-preserved
 loop-number-preserved c =
     let setup = c.args.setup.now in
-    let saved = c.args.saved.now in
     let n = c.loop-number.number in
     let there : n < object_count setup = omega arith in
-    one_each setup (λ p. results_of (saved_named saved p.1.name)) n c.loop-number.rings.items _
+    one_each setup (λ p. results_of (saved_named c.args.saved.now p.1.name)) n c.loop-number.rings.items _
     _ there c.in_ok-push.ensures.items c.loop-number.invariant
-    (λ o e. results_seen setup saved n o _ _ e (c.kept-kept.ensures setup c.requires.places there) c.in_ok-resumed_ring.ensures)
+    (λ o e. results_seen setup c.args.saved.now n o _ _ e (c.kept-kept.ensures setup c.requires.places there) c.in_ok-resumed_ring.ensures)
 
 pub returns : goal.returns
 returns c =
