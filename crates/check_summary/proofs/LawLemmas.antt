@@ -1,6 +1,6 @@
 -- What the figures of a summary are worth.
 use Rattle.std.proofs.Common.{◌≡◌, ℕ, zero, suc, ◌+◌, ◌<◌, ◌≤◌, ◌==◌, ◌&&◌, Bool, true, false, not, cond, List, [], ◌∷◌, ◌++◌, length, map, take, drop}
-use Rattle.std.proofs.Common.{Option, Some, None, option_map, refl, sym, ap, ◌∙◌, inl, inr, arith, le_refl}
+use Rattle.std.proofs.Common.{Option, Some, None, option_map, refl, sym, ap, ◌∙◌, ◌⊎◌, inl, inr, arith, le_refl}
 use Rattle.std.specs.Prelude.{IfSome, min, max}
 use Rattle.std.specs.List.{Contains, enumerate_from}
 use Rattle.std.proofs.lemmas.Bool.{cases_lt}
@@ -17,8 +17,8 @@ use Rattle.link_order.proofs.ChainLemmas.{some_below}
 use Rattle.check_summary.specs.declared.spans.Span.{Span}
 use Rattle.check_summary.specs.declared.summary.Summary.{Summary}
 use Rattle.check_summary.specs.Chains.{greatest_to, has_chain, longest_chain, IsReached}
-use Rattle.check_summary.specs.Summary.{chains_in, earliest, is_disabled, lacks_interval, later, latest, links_in, reasons_among, sooner, span_of, summary_of}
-use Rattle.check_summary.specs.Worth.{moved, moved_span, reasons_count, IsLeast, IsGreatest}
+use Rattle.check_summary.specs.Summary.{chains_in, earliest, is_disabled, lacks_interval, later, latest, picked, reasons_among, sooner, span_of, summary_of, with_spans}
+use Rattle.check_summary.specs.Worth.{moved, moved_span, reasons_count, IsFirstBy, IsLeast, IsGreatest}
 use Rattle.check_summary.proofs.DepthLemmas.{none_below, shallow_by, shallow_longer}
 
 -- ---- a later start
@@ -56,23 +56,19 @@ initial_moved c start delay =
     ∙ ap (λ l. map (move delay) (first_times (host_spread c start) (host_objects c)) ++ l) services
     ∙ sym (map-append (move delay) (first_times (host_spread c start) (host_objects c)) (first_times (service_spread c start) (service_objects c)))
 
-sooner_moved : (delay : ℕ) (t u : Option ℕ) → sooner (move delay t) (move delay u) ≡ move delay (sooner t u)
-sooner_moved delay None u = refl
-sooner_moved delay (Some t) None = refl
-sooner_moved delay (Some t) (Some u) = let e : min (t + delay) (u + delay) ≡ min t u + delay = omega arith in ap Some e
-
-later_moved : (delay : ℕ) (t u : Option ℕ) → later (move delay t) (move delay u) ≡ move delay (later t u)
-later_moved delay None u = refl
-later_moved delay (Some t) None = refl
-later_moved delay (Some t) (Some u) = let e : max (t + delay) (u + delay) ≡ max t u + delay = omega arith in ap Some e
+picked_moved : (pick : ℕ → ℕ → ℕ) (delay : ℕ) → ((t u : ℕ) → pick (t + delay) (u + delay) ≡ pick t u + delay) → (t u : Option ℕ)
+    → picked pick (move delay t) (move delay u) ≡ move delay (picked pick t u)
+picked_moved pick delay h None u = refl
+picked_moved pick delay h (Some t) None = refl
+picked_moved pick delay h (Some t) (Some u) = ap Some (h t u)
 
 earliest_moved : (delay : ℕ) (ts : List (Option ℕ)) → earliest (map (move delay) ts) ≡ move delay (earliest ts)
 earliest_moved delay [] = refl
-earliest_moved delay (t ∷ ts) = ap (λ e. sooner (move delay t) e) (earliest_moved delay ts) ∙ sooner_moved delay t (earliest ts)
+earliest_moved delay (t ∷ ts) = ap (λ e. sooner (move delay t) e) (earliest_moved delay ts) ∙ picked_moved min delay (λ a b. omega arith) t (earliest ts)
 
 latest_moved : (delay : ℕ) (ts : List (Option ℕ)) → latest (map (move delay) ts) ≡ move delay (latest ts)
 latest_moved delay [] = refl
-latest_moved delay (t ∷ ts) = ap (λ e. later (move delay t) e) (latest_moved delay ts) ∙ later_moved delay t (latest ts)
+latest_moved delay (t ∷ ts) = ap (λ e. later (move delay t) e) (latest_moved delay ts) ∙ picked_moved max delay (λ a b. omega arith) t (latest ts)
 
 -- a span by its two ends
 abbrev pub span_by : Option ℕ → Option ℕ → Span
@@ -82,21 +78,6 @@ span_moved : (delay : ℕ) (ts us : List (Option ℕ)) → us ≡ map (move dela
 span_moved delay ts us e =
     ap span_of e ∙ ap (λ x. span_by x (latest (map (move delay) ts))) (earliest_moved delay ts)
     ∙ ap (λ x. span_by (move delay (earliest ts)) x) (latest_moved delay ts)
-
--- the figures of a setup with these spans
-abbrev pub with_spans : Configuration → Span → Span → Summary
-with_spans c host_span service_span = record {
-  hosts = length c.hosts;
-  services = length c.services;
-  links = links_in c;
-  reasons = reasons_among (all_objects c);
-  chains = chains_in c;
-  host_delay = c.options.host_inter_check_delay_method;
-  host_span = host_span;
-  service_delay = c.options.service_inter_check_delay_method;
-  service_span = service_span;
-  interleave_factor = factor_by c.options.service_interleave_factor (length c.services) (length c.hosts);
-}
 
 pub summary_moved : (c : Configuration) (start delay : ℕ) → summary_of c (start + delay) ≡ moved delay (summary_of c start)
 summary_moved c start delay =
@@ -116,65 +97,52 @@ contains_more t u ts h = (suc h.0, (let l : h.0 < length ts = h.1 in omega arith
 none_below_all : (t : Option ℕ) (f : ℕ → Type 0) → t ≡ None → IfSome t f
 none_below_all t f e = rw e tt
 
-sooner_still : (time : Option ℕ) (a b : ℕ) → b ≤ a → IfSome time (λ t. a ≤ t) → IfSome time (λ t. b ≤ t)
-sooner_still None a b h i = tt
-sooner_still (Some t) a b h i = omega (arith, i)
+still : (time : Option ℕ) (P Q : ℕ → Type 0) → ((u : ℕ) → P u → Q u) → IfSome time P → IfSome time Q
+still None P Q h i = tt
+still (Some u) P Q h i = h u i
 
-later_still : (time : Option ℕ) (a b : ℕ) → a ≤ b → IfSome time (λ t. t ≤ a) → IfSome time (λ t. t ≤ b)
-later_still None a b h i = tt
-later_still (Some t) a b h i = omega (arith, i)
+-- of two times either the second is picked, and stands so to the first, or the first, and stands so to all to which the second does
+abbrev Picks : (ℕ → ℕ → Type 0) → (ℕ → ℕ → ℕ) → Type 0
+Picks stands pick = (t e : ℕ) → ((pick t e ≡ e) × stands e t) ⊎ ((pick t e ≡ t) × ((u : ℕ) → stands e u → stands t u))
 
-least_with : (t e : Option ℕ) (ts : List (Option ℕ)) → IsLeast ts e → IsLeast (t ∷ ts) (sooner t e)
-least_with None None ts h = All-cons (λ time. time ≡ None) None ts refl h
-least_with None (Some e) ts h = (contains_more None (Some e) ts h.0, All-cons (λ time. IfSome time (λ t. e ≤ t)) None ts tt h.1)
-least_with (Some t) None ts h = (
+first_with : (stands : ℕ → ℕ → Type 0) (pick : ℕ → ℕ → ℕ) → ((t : ℕ) → stands t t) → Picks stands pick → (t e : Option ℕ) (ts : List (Option ℕ))
+    → IsFirstBy stands ts e → IsFirstBy stands (t ∷ ts) (picked pick t e)
+first_with stands pick itself picks None None ts h = All-cons (λ time. time ≡ None) None ts refl h
+first_with stands pick itself picks None (Some e) ts h = (contains_more None (Some e) ts h.0, All-cons (λ time. IfSome time (stands e)) None ts tt h.1)
+first_with stands pick itself picks (Some t) None ts h = (
   (0, omega arith, refl),
-  All-cons (λ time. IfSome time (λ u. t ≤ u)) (Some t) ts (le_refl t)
-      (All-weaker (λ time. time ≡ None) (λ time. IfSome time (λ u. t ≤ u)) (λ time e. none_below_all time (λ u. t ≤ u) e) ts h),
+  All-cons (λ time. IfSome time (stands t)) (Some t) ts (itself t)
+      (All-weaker (λ time. time ≡ None) (λ time. IfSome time (stands t)) (λ time e. none_below_all time (stands t) e) ts h),
 )
-least_with (Some t) (Some e) ts h = elim (cases_lt e t) [
-  | inl l ↦
-      let same : min t e ≡ e = omega arith in
-      rw same
-      (contains_more (Some t) (Some e) ts h.0, All-cons (λ time. IfSome time (λ u. e ≤ u)) (Some t) ts (omega arith) h.1)
+first_with stands pick itself picks (Some t) (Some e) ts h = elim (picks t e) [
+  | inl l ↦ rw (l.0) (contains_more (Some t) (Some e) ts h.0, All-cons (λ time. IfSome time (stands e)) (Some t) ts l.1 h.1)
   | inr g ↦
-      let same : min t e ≡ t = omega arith in
-      rw same (
+      rw (g.0) (
         (0, omega arith, refl),
-        All-cons (λ time. IfSome time (λ u. t ≤ u)) (Some t) ts (le_refl t)
-            (All-weaker (λ time. IfSome time (λ u. e ≤ u)) (λ time. IfSome time (λ u. t ≤ u)) (λ time i. sooner_still time e t g i) ts h.1),
+        All-cons (λ time. IfSome time (stands t)) (Some t) ts (itself t)
+            (All-weaker (λ time. IfSome time (stands e)) (λ time. IfSome time (stands t)) (λ time i. still time (stands e) (stands t) g.1 i) ts h.1),
       )
+]
+
+least_picks : Picks (λ a b. a ≤ b) min
+least_picks t e = elim (cases_lt e t) [
+  | inl l ↦ inl (omega arith, omega arith)
+  | inr g ↦ inr (omega arith, λ u h. omega (arith, g, h))
+]
+
+greatest_picks : Picks (λ a b. b ≤ a) max
+greatest_picks t e = elim (cases_lt t e) [
+  | inl l ↦ inl (omega arith, omega arith)
+  | inr g ↦ inr (omega arith, λ u h. omega (arith, g, h))
 ]
 
 pub earliest_is_least : (ts : List (Option ℕ)) → IsLeast ts (earliest ts)
 earliest_is_least [] = All-nil (λ time. time ≡ None)
-earliest_is_least (t ∷ ts) = least_with t (earliest ts) ts (earliest_is_least ts)
-
-greatest_with : (t e : Option ℕ) (ts : List (Option ℕ)) → IsGreatest ts e → IsGreatest (t ∷ ts) (later t e)
-greatest_with None None ts h = All-cons (λ time. time ≡ None) None ts refl h
-greatest_with None (Some e) ts h = (contains_more None (Some e) ts h.0, All-cons (λ time. IfSome time (λ t. t ≤ e)) None ts tt h.1)
-greatest_with (Some t) None ts h = (
-  (0, omega arith, refl),
-  All-cons (λ time. IfSome time (λ u. u ≤ t)) (Some t) ts (le_refl t)
-      (All-weaker (λ time. time ≡ None) (λ time. IfSome time (λ u. u ≤ t)) (λ time e. none_below_all time (λ u. u ≤ t) e) ts h),
-)
-greatest_with (Some t) (Some e) ts h = elim (cases_lt t e) [
-  | inl l ↦
-      let same : max t e ≡ e = omega arith in
-      rw same
-      (contains_more (Some t) (Some e) ts h.0, All-cons (λ time. IfSome time (λ u. u ≤ e)) (Some t) ts (omega arith) h.1)
-  | inr g ↦
-      let same : max t e ≡ t = omega arith in
-      rw same (
-        (0, omega arith, refl),
-        All-cons (λ time. IfSome time (λ u. u ≤ t)) (Some t) ts (le_refl t)
-            (All-weaker (λ time. IfSome time (λ u. u ≤ e)) (λ time. IfSome time (λ u. u ≤ t)) (λ time i. later_still time e t g i) ts h.1),
-      )
-]
+earliest_is_least (t ∷ ts) = first_with (λ a b. a ≤ b) min le_refl least_picks t (earliest ts) ts (earliest_is_least ts)
 
 pub latest_is_greatest : (ts : List (Option ℕ)) → IsGreatest ts (latest ts)
 latest_is_greatest [] = All-nil (λ time. time ≡ None)
-latest_is_greatest (t ∷ ts) = greatest_with t (latest ts) ts (latest_is_greatest ts)
+latest_is_greatest (t ∷ ts) = first_with (λ a b. b ≤ a) max le_refl greatest_picks t (latest ts) ts (latest_is_greatest ts)
 
 -- ---- the reasons
 

@@ -44,17 +44,19 @@ reasons_among objects =
 
 -- ---- the first and the last of the first checks
 
+-- the one of two times that is picked, where there are such
+abbrev pub picked : (ℕ → ℕ → ℕ) → Option ℕ → Option ℕ → Option ℕ
+picked pick None u = u
+picked pick (Some t) None = Some t
+picked pick (Some t) (Some u) = Some (pick t u)
+
 -- the sooner of two times, where there are such
 abbrev pub sooner : Option ℕ → Option ℕ → Option ℕ
-sooner None u = u
-sooner (Some t) None = Some t
-sooner (Some t) (Some u) = Some (min t u)
+sooner t u = picked min t u
 
 -- the later of two times, where there are such
 abbrev pub later : Option ℕ → Option ℕ → Option ℕ
-later None u = u
-later (Some t) None = Some t
-later (Some t) (Some u) = Some (max t u)
+later t u = picked max t u
 
 -- the least of the times that there are
 abbrev pub earliest : List (Option ℕ) → Option ℕ
@@ -71,17 +73,21 @@ span_of times = record { first = earliest times; last = latest times }
 
 -- ---- all of it
 
--- what is told of a setup whose scheduling begins at this moment
-abbrev pub summary_of : Configuration → ℕ → Summary
-summary_of c start = record {
+-- what is told of a setup whose first checks have these spans
+abbrev pub with_spans : Configuration → Span → Span → Summary
+with_spans c host_span service_span = record {
   hosts = length c.hosts;
   services = length c.services;
   links = links_in c;
   reasons = reasons_among (all_objects c);
   chains = chains_in c;
   host_delay = c.options.host_inter_check_delay_method;
-  host_span = span_of (take (host_count c) (initial_times c start));
+  host_span = host_span;
   service_delay = c.options.service_inter_check_delay_method;
-  service_span = span_of (drop (host_count c) (initial_times c start));
+  service_span = service_span;
   interleave_factor = factor_by c.options.service_interleave_factor (length c.services) (length c.hosts);
 }
+
+-- what is told of a setup whose scheduling begins at this moment
+abbrev pub summary_of : Configuration → ℕ → Summary
+summary_of c start = with_spans c (span_of (take (host_count c) (initial_times c start))) (span_of (drop (host_count c) (initial_times c start)))

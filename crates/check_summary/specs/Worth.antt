@@ -27,15 +27,18 @@ moved delay s = record {
 
 -- ---- a span
 
+-- it is one of the times, and stands so to each of them; where it is none there is no time
+abbrev pub IsFirstBy : (ℕ → ℕ → Type 0) → List (Option ℕ) → Option ℕ → Type 0
+IsFirstBy stands times None = All (λ time. time ≡ None) times
+IsFirstBy stands times (Some first) = Contains times (Some first) × All (λ time. IfSome time (stands first)) times
+
 -- it is one of the times, and none is less; where it is none there is no time
 abbrev pub IsLeast : List (Option ℕ) → Option ℕ → Type 0
-IsLeast times None = All (λ time. time ≡ None) times
-IsLeast times (Some least) = Contains times (Some least) × All (λ time. IfSome time (λ t. least ≤ t)) times
+IsLeast times least = IsFirstBy (λ a b. a ≤ b) times least
 
 -- it is one of the times, and none is greater; where it is none there is no time
 abbrev pub IsGreatest : List (Option ℕ) → Option ℕ → Type 0
-IsGreatest times None = All (λ time. time ≡ None) times
-IsGreatest times (Some greatest) = Contains times (Some greatest) × All (λ time. IfSome time (λ t. t ≤ greatest)) times
+IsGreatest times greatest = IsFirstBy (λ a b. b ≤ a) times greatest
 
 -- ---- the reasons
 
