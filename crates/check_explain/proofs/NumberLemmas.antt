@@ -1,6 +1,7 @@
 -- A good document has whole numbers alone: each member of each object is read, and where a number is read it is a whole one.
 use Rattle.std.proofs.Common.{◌≡◌, ℕ, ◌+◌, List, [], ◌∷◌, Option, Some, None, Bool, true, false, cond, ◌&&◌, ◌||◌, bytes_eq, Result, Ok, Err, refl, sym, ap, ◌∙◌, subst}
-use Rattle.std.specs.Prelude.{codes, ok_or, option_and_then}
+use Rattle.std.specs.Prelude.{codes, ok_or, option_and_then, ℤ, Float}
+use Rattle.std.proofs.lemmas.Bool.{and_parts, or_parts}
 use Rattle.std.proofs.lemmas.Slice.Eq.{bytes_eq-Decides}
 use Rattle.serde_json.specs.Data.{unsigned, negative, float, Data, null, boolean, number, string, array, object, Items, no_items, item, Members, no_members, member}
 use Rattle.serde_json.specs.Find.{get, get_member, as_bool, as_str, as_array}
@@ -20,41 +21,12 @@ use Rattle.check_drafts.specs.Place.{the_options, the_hosts, host_at, the_servic
 use Rattle.check_documents.specs.Criteria.{criteria_of}
 use Rattle.check_documents.specs.Tree.{tree_of, is_among, only_members, has_only, whole_number, member_or, texts_of, texts_in, ◌>=>◌}
 use Rattle.check_documents.specs.Reading.{items_from, list_of, check_draft, host_members, host_draft, service_members, service_draft, dependency_members, dependency_draft, service_letters, host_letters, option_members, delay_method, interleave_factor, options_but_thresholds, with_thresholds, options_of, document_members, dependencies_in, drafts_of}
+use Rattle.check_documents.proofs.ReadLemmas.{from_ok_or, guarded, guarded_ok, linked, next}
 use Rattle.check_numbers.specs.Configuration.{Configuration}
 use Rattle.check_objects.specs.Setup.{setup_of, setup_of_tree}
 use Rattle.check_explain.specs.Numbers.{has_other_number, items_have_other, members_have_other}
 use Rattle.check_explain.proofs.KeyLemmas.{IsSorted, AreSorted, HasSorted, OrSorted, found_behind, found_first, sorted_get, tree_is_sorted}
 use Rattle.check_explain.proofs.LineLemmas.{setup_by_tree, short_document}
-
--- ---- what a reading was made of
-
-and_first : (a b : Bool) → a && b ≡ true → a ≡ true
-and_first true b e = refl
-and_first false b e = cc
-
-and_second : (a b : Bool) → a && b ≡ true → b ≡ true
-and_second true b e = e
-and_second false b e = cc
-
-linked : {A B : Type 0} (o : Option A) (f : A → Option B) (b : B) (P : Type 0) → ((a : A) → o ≡ Some a → f a ≡ Some b → P) → (o >=> f) ≡ Some b → P
-linked None f b P h e = cc
-linked (Some a) f b P h e = h a refl e
-
-guarded : {A : Type 0} (b : Bool) (o : Option A) (a : A) (P : Type 0) → (b ≡ true → o ≡ Some a → P) → cond b o None ≡ Some a → P
-guarded true o a P h e = h refl e
-guarded false o a P h e = cc
-
-next : {A B E : Type 0} (r : Result A E) (f : A → Result B E) (b : B) (P : Type 0) → ((a : A) → r ≡ Ok a → f a ≡ Ok b → P) → (r >>= f) ≡ Ok b → P
-next (Ok a) f b P h e = h a refl e
-next (Err x) f b P h e = cc
-
-guarded_ok : {A E : Type 0} (b : Bool) (r : Result A E) (x : E) (a : A) (P : Type 0) → (b ≡ true → r ≡ Ok a → P) → cond b r (Err x) ≡ Ok a → P
-guarded_ok true r x a P h e = h refl e
-guarded_ok false r x a P h e = cc
-
-from_ok_or : {A E : Type 0} (o : Option A) (x : E) (a : A) → ok_or o x ≡ Ok a → o ≡ Some a
-from_ok_or None x a e = cc
-from_ok_or (Some b) x a e = cc
 
 -- ---- members by name
 
@@ -81,8 +53,8 @@ members_whole : (names : List (List ℕ)) (ms : Members) → HasSorted ms → on
     → ((k : List ℕ) (d : Data) → is_among names k ≡ true → get_member k ms ≡ Some d → has_other_number d ≡ false) → members_have_other ms ≡ false
 members_whole names no_members s only each = refl
 members_whole names (member l d ms) s only each =
-    let first : has_other_number d ≡ false = each l d (and_first (is_among names l) (only_members names ms) only) (found_first l d ms) in
-    let rest : members_have_other ms ≡ false = members_whole names ms s.2 (and_second (is_among names l) (only_members names ms) only)
+    let first : has_other_number d ≡ false = each l d (and_parts (is_among names l) (only_members names ms) only).0 (found_first l d ms) in
+    let rest : members_have_other ms ≡ false = members_whole names ms s.2 (and_parts (is_among names l) (only_members names ms) only).1
     (λ k e among h. each k e among (found_behind k l d e ms s.0 h)) in
     rw (first, rest) refl
 
@@ -97,51 +69,32 @@ object_whole names (object ms) s only each = members_whole names ms s only (λ k
 
 -- ---- single values
 
+-- what is read of whole numbers, texts and switches alone
+read_whole : {A : Type 0} (parse : Data → Option A) → ((z : ℤ) → parse (number (negative z)) ≡ None) → ((x : Float) → parse (number (float x)) ≡ None)
+    → ((ds : Items) → parse (array ds) ≡ None) → ((ms : Members) → parse (object ms) ≡ None) → (d : Data) (a : A) → parse d ≡ Some a → has_other_number d ≡ false
+read_whole parse sign point list members null a e = refl
+read_whole parse sign point list members (boolean b) a e = refl
+read_whole parse sign point list members (number (unsigned n)) a e = refl
+read_whole parse sign point list members (number (negative z)) a e = let no : None ≡ Some a = sym (sign z) ∙ e in cc
+read_whole parse sign point list members (number (float x)) a e = let no : None ≡ Some a = sym (point x) ∙ e in cc
+read_whole parse sign point list members (string s) a e = refl
+read_whole parse sign point list members (array ds) a e = let no : None ≡ Some a = sym (list ds) ∙ e in cc
+read_whole parse sign point list members (object ms) a e = let no : None ≡ Some a = sym (members ms) ∙ e in cc
+
 whole_whole : (d : Data) (n : ℕ) → whole_number d ≡ Some n → has_other_number d ≡ false
-whole_whole null n e = refl
-whole_whole (boolean b) n e = refl
-whole_whole (number (unsigned m)) n e = refl
-whole_whole (number (negative z)) n e = cc
-whole_whole (number (float x)) n e = cc
-whole_whole (string s) n e = refl
-whole_whole (array ds) n e = cc
-whole_whole (object ms) n e = cc
+whole_whole = read_whole whole_number (λ z. refl) (λ x. refl) (λ ds. refl) (λ ms. refl)
 
 text_whole : (d : Data) (t : List ℕ) → as_str d ≡ Some t → has_other_number d ≡ false
-text_whole null t e = refl
-text_whole (boolean b) t e = refl
-text_whole (number n) t e = cc
-text_whole (string s) t e = refl
-text_whole (array ds) t e = cc
-text_whole (object ms) t e = cc
+text_whole = read_whole as_str (λ z. refl) (λ x. refl) (λ ds. refl) (λ ms. refl)
 
 switch_whole : (d : Data) (b : Bool) → as_bool d ≡ Some b → has_other_number d ≡ false
-switch_whole null b e = refl
-switch_whole (boolean c) b e = refl
-switch_whole (number n) b e = cc
-switch_whole (string s) b e = refl
-switch_whole (array ds) b e = cc
-switch_whole (object ms) b e = cc
+switch_whole = read_whole as_bool (λ z. refl) (λ x. refl) (λ ds. refl) (λ ms. refl)
 
 method_whole : (d : Data) (m : DelayMethod) → delay_method d ≡ Some m → has_other_number d ≡ false
-method_whole null m e = refl
-method_whole (boolean c) m e = refl
-method_whole (number (unsigned n)) m e = refl
-method_whole (number (negative z)) m e = cc
-method_whole (number (float x)) m e = cc
-method_whole (string s) m e = refl
-method_whole (array ds) m e = cc
-method_whole (object ms) m e = cc
+method_whole = read_whole delay_method (λ z. refl) (λ x. refl) (λ ds. refl) (λ ms. refl)
 
 factor_whole : (d : Data) (f : InterleaveFactor) → interleave_factor d ≡ Some f → has_other_number d ≡ false
-factor_whole null f e = refl
-factor_whole (boolean c) f e = refl
-factor_whole (number (unsigned n)) f e = refl
-factor_whole (number (negative z)) f e = cc
-factor_whole (number (float x)) f e = cc
-factor_whole (string s) f e = refl
-factor_whole (array ds) f e = cc
-factor_whole (object ms) f e = cc
+factor_whole = read_whole interleave_factor (λ z. refl) (λ x. refl) (λ ds. refl) (λ ms. refl)
 
 texts_whole : (ds : Items) (ts : List (List ℕ)) → texts_of ds ≡ Some ts → items_have_other ds ≡ false
 texts_whole no_items ts e = refl
@@ -348,14 +301,6 @@ whole_numbers document d c good is =
 
 -- ---- floats
 
-or_first : (a b : Bool) → a || b ≡ false → a ≡ false
-or_first true b e = cc
-or_first false b e = refl
-
-or_second : (a b : Bool) → a || b ≡ false → b ≡ false
-or_second true b e = cc
-or_second false b e = e
-
 -- where each number is a whole one, there is no float
 mutual
   pub no_float : (d : Data) → has_other_number d ≡ false → has_float d ≡ false
@@ -371,13 +316,13 @@ mutual
   no_float_items : (ds : Items) → items_have_other ds ≡ false → items_have_float ds ≡ false
   no_float_items no_items e = refl
   no_float_items (item d ds) e =
-      let one : has_float d ≡ false = no_float d (or_first (has_other_number d) (items_have_other ds) e) in
-      let others : items_have_float ds ≡ false = no_float_items ds (or_second (has_other_number d) (items_have_other ds) e) in
+      let one : has_float d ≡ false = no_float d (or_parts (has_other_number d) (items_have_other ds) e).0 in
+      let others : items_have_float ds ≡ false = no_float_items ds (or_parts (has_other_number d) (items_have_other ds) e).1 in
       rw (one, others) refl
 
   no_float_members : (ms : Members) → members_have_other ms ≡ false → members_have_float ms ≡ false
   no_float_members no_members e = refl
   no_float_members (member k d ms) e =
-      let one : has_float d ≡ false = no_float d (or_first (has_other_number d) (members_have_other ms) e) in
-      let others : members_have_float ms ≡ false = no_float_members ms (or_second (has_other_number d) (members_have_other ms) e) in
+      let one : has_float d ≡ false = no_float d (or_parts (has_other_number d) (members_have_other ms) e).0 in
+      let others : members_have_float ms ≡ false = no_float_members ms (or_parts (has_other_number d) (members_have_other ms) e).1 in
       rw (one, others) refl

@@ -1,6 +1,8 @@
 -- How the explanation of a refused document begins: with the place of the fault, the name that stands there, and the member or the
 -- name that is at fault.
-use Rattle.std.specs.Prelude.{ℕ, ◌≡◌, ◌||◌, Bool, false, not, List, [], ◌∷◌, ◌++◌, Option, Some, None, bytes_eq, codes, decimal, find, option_and_then, option_map, slice_get}
+use Rattle.std.specs.Prelude.{ℕ, ◌≡◌, ◌==◌, ◌&&◌, ◌||◌, Bool, false, not, List, [], ◌∷◌, ◌++◌, Option, Some, None, bytes_eq, codes, decimal, find, length, nat_lt, option_and_then, option_map}
+use Rattle.std.specs.Prelude.{position, slice_get, if◌then◌else◌}
+use Rattle.std.specs.List.{after_first, before_first, position_or_len}
 use Rattle.serde_json.specs.Data.{Data, Items, no_items, item, Members}
 use Rattle.serde_json.specs.Find.{as_array, as_object, as_str, get}
 use Rattle.check_drafts.specs.declared.place.Place.{Place}
@@ -126,6 +128,56 @@ abbrev pub host_role : Part → List ℕ
 host_role part.Services = codes "host "
 host_role p = codes "parent "
 
+-- ---- the name that stood before
+
+-- some items as a list
+abbrev pub items_list : Items → List Data
+items_list no_items = []
+items_list (item d ds) = d ∷ items_list ds
+
+-- whether there are two texts, and they are these
+abbrev pub are_texts : List ℕ × List ℕ → Option (List ℕ × List ℕ) → Bool
+are_texts pair None = false
+are_texts pair (Some found) = bytes_eq found.0 pair.0 && bytes_eq found.1 pair.1
+
+-- the host and the description of a service
+abbrev pub service_pair : Data → Option (List ℕ × List ℕ)
+service_pair d = texts_in (codes "host") (codes "description") d
+
+-- the index of the first service that has the host and the description of this one, or of the first host that has the name of this one
+abbrev pub first_like : Data → Part → Data → Option ℕ
+first_like tree part.Services d = option_and_then (λ pair. position (λ other. are_texts pair (service_pair other)) (items_list (items_at tree part.Services))) (service_pair d)
+first_like tree p d = option_and_then (λ name. position (λ other. is_text name (text_in (codes "name") other)) (items_list (items_at tree p))) (text_in (codes "name") d)
+
+-- the place that has a name already, where there is one
+abbrev pub like_text : Part → Option ℕ → List ℕ
+like_text p None = []
+like_text p (Some index) = part_text p (Some index)
+
+-- ---- the end that isn't there
+
+abbrev pub is_semicolon : ℕ → Bool
+is_semicolon b = b == 59
+
+-- whether a service has this full name, which the first semicolon in it parts
+abbrev pub is_service : Data → List ℕ → Bool
+is_service tree name = if nat_lt (position_or_len is_semicolon name) (length name)
+    then any_item (λ service. are_texts (before_first is_semicolon name, after_first is_semicolon name) (service_pair service)) (items_at tree part.Services)
+    else false
+
+-- whether a dependency of this part can have an object of this name at an end
+abbrev pub is_end : Data → Part → List ℕ → Bool
+is_end tree part.HostDependencies name = is_host tree name
+is_end tree p name = is_service tree name
+
+-- of the ends of a dependency the first that isn't there, or the master
+abbrev pub end_text : Data → Part → List ℕ × List ℕ → List ℕ
+end_text tree p ends = if is_end tree p ends.0 then codes "master " ++ shown ends.1 else codes "dependent " ++ shown ends.0
+
+abbrev pub unknown_end : Data → Part → Option (List ℕ × List ℕ) → List ℕ
+unknown_end tree p None = []
+unknown_end tree p (Some ends) = end_text tree p ends
+
 -- ---- how an explanation begins
 
 abbrev pub place_of : Fault → Option Place
@@ -143,6 +195,8 @@ subject_in tree d (fault.shape p w) = misshapen d w
 subject_in tree d (fault.range p w) = shown (stray_member w)
 subject_in tree d (fault.bad_name p) = shown (misnamed_member p.part)
 subject_in tree d (fault.unknown_host p) = named (host_role p.part) (unknown_host tree p.part d)
+subject_in tree d (fault.duplicate p) = like_text p.part (first_like tree p.part d)
+subject_in tree d (fault.unknown_master p) = unknown_end tree p.part (texts_in (codes "dependent") (codes "master") d)
 subject_in tree d other = []
 
 abbrev pub subject_by : Data → Fault → Option Data → List ℕ

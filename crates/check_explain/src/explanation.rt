@@ -10,8 +10,8 @@ use crate::counts::push_count;
 use crate::cycle::{push_dependency_cycle, push_parent_cycle};
 use crate::line::Line;
 use crate::names::{
-    misnamed_member, push_bad_name, push_duplicate, push_unknown_end, push_unknown_host,
-    push_unknown_name,
+    misnamed_member, push_bad_name, push_duplicate, push_end_name, push_like, push_unknown_end,
+    push_unknown_host, push_unknown_name,
 };
 use crate::no_fault::push_no_fault;
 use crate::places::push_place;
@@ -159,7 +159,9 @@ fn push_subject(
         Fault::Shape(_, shape) => push_misshapen(line, value, shape),
         Fault::Range(_, range) => line.push_text(stray_member(range)),
         Fault::BadName(place) => line.push_text(misnamed_member(place.part)),
+        Fault::Duplicate(place) => push_like(line, tree, value, place.part),
         Fault::UnknownHost(place) => push_unknown_name(line, tree, value, place.part),
+        Fault::UnknownMaster(place) => push_end_name(line, tree, value, place.part),
         _ => Ok(()),
     }
 }

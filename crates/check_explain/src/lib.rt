@@ -1,3 +1,4 @@
+#![tactic(auto)]
 //! A setup document as a reader sees it: its places, the explanation of its fault, its line.
 //!
 //! [`explain`] says in plain words why a document is refused: at which place, by the name that stands
@@ -10,7 +11,6 @@
 //! `links`) the faults by sort, `explanation` puts them together; `document_line` writes the line of a
 //! document, and `laws` says what is so of every good one; `schema` writes the schema, over `layout`,
 //! which lays JSON text out.
-#![tactic(auto)]
 
 mod counts;
 mod cycle;

@@ -1,10 +1,11 @@
 //! Faults of names: bad ones, repeated ones, and names of what isn't there.
-ghost use Rattle.std.specs.Prelude.{◌≡◌, ◌++◌, [], false, OnOk, codes, option_and_then, option_map};
+ghost use Rattle.std.specs.Prelude.{◌≡◌, ◌++◌, [], false, OnOk, codes, option_and_then, option_map, position};
 ghost use Rattle.std.specs.List.{list_any};
 ghost use Rattle.serde_json.specs.Find.{as_array, get};
 ghost use Rattle.serde_json.specs.View.{items_view, view};
 ghost use Rattle.check_documents.specs.Places.{or_no_items};
-ghost use Rattle.check_explain.specs.Explanation.{first_unknown, host_role, is_host, is_text, misnamed_member, named};
+ghost use Rattle.check_explain.specs.Explanation.{are_texts, first_like, first_unknown, host_role, is_end, is_host, is_service, is_text, like_text, misnamed_member, named};
+ghost use Rattle.check_explain.specs.Explanation.{service_pair, texts_in, unknown_end};
 ghost use Rattle.check_explain.specs.Explanation.{text_before, text_in, texts_among, unknown_host};
 ghost use Rattle.check_explain.specs.Feeds.{has_feed};
 
@@ -67,7 +68,23 @@ fn push_bad_byte(line: &mut Line, byte: u8) -> Result<(), AllocError> {
 
 // ---- repeats
 
-/// Appends which earlier host or service has the name of the one at a place.
+/// Appends which host or service has the name of this one already, where one has.
+pub(crate) fn push_like(
+    line: &mut Line,
+    tree: &Value,
+    item: &Value,
+    part: Part,
+) -> Result<(), AllocError>
+    ensures { OnOk result (line.new
+        ≡ line.old ++ like_text part (first_like (view tree.now) part (view item.now))) }
+{
+    match first_like(tree, item, part) {
+        Some(index) => push_part_and_index(line, part, Some(index)),
+        None => Ok(()),
+    }
+}
+
+/// Appends that an earlier host or service has the name of the one at a place.
 pub(crate) fn push_duplicate(
     line: &mut Line,
     tree: &Value,
@@ -75,10 +92,7 @@ pub(crate) fn push_duplicate(
     place: Place,
 ) -> Result<(), AllocError> {
     match first_like(tree, item, place.part) {
-        Some(index) if is_earlier(index, place) => {
-            push_part_and_index(line, place.part, Some(index))?;
-            line.push_words(repeated(place.part))
-        }
+        Some(index) if is_earlier(index, place) => line.push_words(repeated(place.part)),
         _ => push_no_fault(line),
     }
 }
@@ -99,18 +113,62 @@ fn repeated(part: Part) -> &'static str {
 }
 
 /// The index of the first host or service that has the name of this one.
-fn first_like(tree: &Value, item: &Value, part: Part) -> Option<usize> {
-    items(tree, part)
-        .iter()
-        .position(|other| are_alike(other, item, part))
+fn first_like(tree: &Value, item: &Value, part: Part) -> Option<usize>
+    ensures { result ≡ first_like (view tree.now) part (view item.now) }
+{
+    match part {
+        Part::Services => first_pair(items(tree, part), texts_of(item, "host", "description")),
+        _ => first_name(items(tree, part), text_of(item, "name")),
+    }
 }
 
-fn are_alike(one: &Value, other: &Value, part: Part) -> bool {
-    match part {
-        Part::Services => {
-            texts_of(one, "host", "description") == texts_of(other, "host", "description")
-        }
-        _ => text_of(one, "name") == text_of(other, "name"),
+/// The index of the first service of this host and description, where there are such texts.
+fn first_pair(services: &[Value], pair: Option<(&str, &str)>) -> Option<usize>
+    ensures { result ≡ option_and_then
+        (λ pair. position (λ other. are_texts pair (service_pair (view other))) services.now)
+        (option_map (λ pair. (pair.0.now, pair.1.now)) pair.entry) }
+{
+    match pair {
+        Some((host, description)) => pair_at(services, host, description),
+        None => None,
+    }
+}
+
+fn pair_at(services: &[Value], host: &str, description: &str) -> Option<usize>
+    ensures { result ≡ position
+        (λ other. are_texts (host.now, description.now) (service_pair (view other))) services.now }
+{
+    services
+        .iter()
+        .position(|other| is_pair(other, host, description))
+}
+
+/// The index of the first host of this name, where there is such a text.
+fn first_name(hosts: &[Value], name: Option<&str>) -> Option<usize>
+    ensures { result ≡ option_and_then
+        (λ name. position (λ other. is_text name (text_in (codes "name") (view other))) hosts.now)
+        (option_map (λ name. name.now) name.entry) }
+{
+    match name {
+        Some(name) => name_at(hosts, name),
+        None => None,
+    }
+}
+
+fn name_at(hosts: &[Value], name: &str) -> Option<usize>
+    ensures { result ≡ position
+        (λ other. is_text name.now (text_in (codes "name") (view other))) hosts.now }
+{
+    hosts.iter().position(|other| has_text(other, "name", name))
+}
+
+/// Whether the host and the description of a service are these.
+fn is_pair(service: &Value, host: &str, description: &str) -> bool
+    ensures { result ≡ are_texts (host.now, description.now) (service_pair (view service.now)) }
+{
+    match texts_of(service, "host", "description") {
+        Some(found) => found.0 == host && found.1 == description,
+        None => false,
     }
 }
 
@@ -231,17 +289,51 @@ fn has_text(item: &Value, member: &str, text: &str) -> bool
 }
 
 /// Whether there is a service of this full name.
-fn is_service(tree: &Value, name: &str) -> bool {
-    let Some(pair) = name.split_once(';') else {
-        return false;
-    };
-    items(tree, Part::Services).iter().any(|service| texts_of(service, "host", "description")
-        == Some(pair))
+fn is_service(tree: &Value, name: &str) -> bool
+    ensures { result ≡ is_service (view tree.now) name.now }
+{
+    match name.split_once(';') {
+        Some((host, description)) => { have_pair(items(tree, Part::Services), host, description) }
+        None => false,
+    }
+}
+
+/// Whether one of these services has this host and description.
+fn have_pair(services: &[Value], host: &str, description: &str) -> bool
+    ensures { result ≡ list_any
+        (λ service. are_texts (host.now, description.now) (service_pair (view service)))
+        services.now }
+{
+    services
+        .iter()
+        .any(|service| is_pair(service, host, description))
 }
 
 // ---- ends that aren't there
 
 /// Appends which end of a dependency isn't there, or is of the other sort.
+pub(crate) fn push_end_name(
+    line: &mut Line,
+    tree: &Value,
+    item: &Value,
+    part: Part,
+) -> Result<(), AllocError>
+    ensures { OnOk result (line.new ≡ line.old ++ unknown_end (view tree.now) part
+        (texts_in (codes "dependent") (codes "master") (view item.now))) }
+{
+    match texts_of(item, "dependent", "master") {
+        Some((dependent, master)) => {
+            if is_end(tree, dependent, part) {
+                line.push_named("master ", master)
+            } else {
+                line.push_named("dependent ", dependent)
+            }
+        }
+        None => Ok(()),
+    }
+}
+
+/// Appends what is wrong with the end that isn't there.
 pub(crate) fn push_unknown_end(
     line: &mut Line,
     tree: &Value,
@@ -250,37 +342,32 @@ pub(crate) fn push_unknown_end(
 ) -> Result<(), AllocError> {
     match texts_of(item, "dependent", "master") {
         Some((dependent, master)) => {
-            if !is_end(tree, dependent, part) {
-                push_end(line, tree, "dependent ", dependent, part)
+            let name = if is_end(tree, dependent, part) {
+                master
             } else {
-                push_end(line, tree, "master ", master, part)
-            }
+                dependent
+            };
+            line.push_words(no_end(tree, name, part))
         }
         None => push_no_fault(line),
     }
 }
 
 /// Whether a name is that of an object which a dependency of this part can have at an end.
-fn is_end(tree: &Value, name: &str, part: Part) -> bool {
+fn is_end(tree: &Value, name: &str, part: Part) -> bool
+    ensures { result ≡ is_end (view tree.now) part name.now }
+{
     match part {
         Part::HostDependencies => is_host(tree, name),
         _ => is_service(tree, name),
     }
 }
 
-fn push_end(
-    line: &mut Line,
-    tree: &Value,
-    role: &str,
-    name: &str,
-    part: Part,
-) -> Result<(), AllocError> {
-    line.push_words(role)?;
-    line.push_text(name)?;
-    line.push_words(match part {
+fn no_end(tree: &Value, name: &str, part: Part) -> &'static str {
+    match part {
         Part::HostDependencies => no_host(tree, name),
         _ => no_service(tree, name),
-    })
+    }
 }
 
 fn no_host(tree: &Value, name: &str) -> &'static str {
