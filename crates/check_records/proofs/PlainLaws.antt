@@ -8,13 +8,13 @@ use Rattle.check_drafts.specs.declared.error.LoadError.TheVariants as load
 use Rattle.check_drafts.specs.declared.place.Place.{Place}
 use Rattle.check_drafts.specs.declared.place.Part.{Part}
 use Rattle.check_drafts.specs.declared.place.Part.TheVariants as part
+use Rattle.check_drafts.specs.Place.{part_number}
 use Rattle.check_rules.specs.declared.standing.Kind.{Kind}
 use Rattle.check_rules.specs.declared.standing.Kind.TheVariants as kind
 use Rattle.check_rules.specs.declared.standing.Standing.{Standing}
 use Rattle.check_rules.specs.declared.state.Code.{Code}
 use Rattle.check_rules.specs.declared.state.Code.TheVariants as code
 use Rattle.check_rules.specs.declared.state.State.{State}
-use Rattle.check_rules.specs.declared.state.State.TheVariants as state
 use Rattle.check_sched.specs.declared.call.Call.{Call}
 use Rattle.check_sched.specs.declared.call.Call.TheVariants as call
 use Rattle.check_sched.specs.declared.call.Reply.{Reply}
@@ -27,7 +27,8 @@ use Rattle.check_records.specs.declared.plain.PlainRefusal.{PlainRefusal}
 use Rattle.check_records.specs.Plain.{call_back, code_back, kind_back, part_back, place_back, refusal_back, reply_back, standing_back, state_back, time_back}
 use Rattle.check_records.specs.Plain.{HasByteAttempt, IsNoCall, IsNoEntry, IsNoRefusal, IsNoReply}
 use Rattle.check_rules.specs.Numbers.{code_number, kind_number, state_number}
-use Rattle.check_records.specs.Plain.{flag, has_time, part_number, time_or_0}
+use Rattle.check_rules.proofs.Cases.{each_state}
+use Rattle.check_records.specs.Plain.{flag, has_time, time_or_0}
 use Rattle.check_records.specs.Plain.{plain_call, plain_entry, plain_refusal, plain_reply, plain_standing, refusal_at}
 
 -- what can be read back tells values apart
@@ -47,13 +48,7 @@ code_is code.Critical = refl
 code_is code.Unknown = refl
 
 state_is : (s : State) → state_back (state_number s) ≡ s
-state_is state.Ok = refl
-state_is state.Warning = refl
-state_is state.Critical = refl
-state_is state.Unknown = refl
-state_is state.Up = refl
-state_is state.Down = refl
-state_is state.Unreachable = refl
+state_is = each_state (λ s. state_back (state_number s) ≡ s) refl refl refl refl refl refl refl
 
 kind_is : (k : Kind) → kind_back (kind_number k) ≡ k
 kind_is kind.Soft = refl

@@ -6,6 +6,7 @@ use Rattle.check_drafts.specs.declared.error.LoadError.TheVariants as load
 use Rattle.check_drafts.specs.declared.place.Place.{Place}
 use Rattle.check_drafts.specs.declared.place.Part.{Part}
 use Rattle.check_drafts.specs.declared.place.Part.TheVariants as part
+use Rattle.check_drafts.specs.Place.{numbered_part, part_number}
 use Rattle.check_rules.specs.declared.standing.Kind.{Kind}
 use Rattle.check_rules.specs.declared.standing.Kind.TheVariants as kind
 use Rattle.check_rules.specs.declared.standing.Standing.{Standing}
@@ -96,14 +97,6 @@ plain_entry e = record { caller = e.pass; call = plain_call e.call; reply = plai
 
 -- ---- refusals of a document
 
-abbrev pub part_number : Part → ℕ
-part_number part.Document = 1
-part_number part.Options = 2
-part_number part.Hosts = 3
-part_number part.Services = 4
-part_number part.ServiceDependencies = 5
-part_number part.HostDependencies = 6
-
 -- a refusal of this kind that has no place
 abbrev pub refusal_nowhere : ℕ → PlainRefusal
 refusal_nowhere kind = record { kind = kind; part = 0; has_index = 0; index = 0 }
@@ -141,8 +134,7 @@ abbrev pub time_back : ℕ → ℕ → Option ℕ
 time_back has time = cond (has == 0) None (Some time)
 
 abbrev pub part_back : ℕ → Part
-part_back n = cond (n == 1) part.Document (cond (n == 2) part.Options (cond (n == 3) part.Hosts (cond (n == 4) part.Services
-    (cond (n == 5) part.ServiceDependencies part.HostDependencies))))
+part_back n = unwrap_or (numbered_part n) part.HostDependencies
 
 abbrev pub standing_back : PlainStanding → Standing
 standing_back p = record {

@@ -1,8 +1,8 @@
-//! The numbers of switches, parts and refusals of calls, and what has each number. Codes, states and
-//! kinds have theirs in check_rules.
+//! The numbers of switches and refusals of calls, and what has each number. Parts have theirs in
+//! check_drafts; codes, states and kinds in check_rules.
 
 ghost use Rattle.std.specs.Prelude.{◌≡◌};
-ghost use Rattle.check_records.specs.Plain.{code_of, flag, flag_of, part_number, refusal_number};
+ghost use Rattle.check_records.specs.Plain.{code_of, flag, flag_of, refusal_number};
 ghost use Rattle.check_records.specs.Plain.{code_back, kind_back, part_back, state_back};
 
 use check_drafts::Part;
@@ -47,20 +47,6 @@ pub(crate) fn refusal_number(refusal: Refusal) -> u32
     }
 }
 
-/// The part of a document, as a number.
-pub(crate) fn part_number(part: Part) -> u32
-    ensures { result ≡ part_number part }
-{
-    match part {
-        Part::Document => 1,
-        Part::Options => 2,
-        Part::Hosts => 3,
-        Part::Services => 4,
-        Part::ServiceDependencies => 5,
-        Part::HostDependencies => 6,
-    }
-}
-
 /// What a check returned, where the number is one of those.
 pub(crate) fn code_back(number: u32) -> Code
     ensures { result ≡ code_back number }
@@ -95,12 +81,8 @@ pub(crate) fn kind_back(number: u32) -> Kind
 pub(crate) fn part_back(number: u32) -> Part
     ensures { result ≡ part_back number }
 {
-    match number {
-        1 => Part::Document,
-        2 => Part::Options,
-        3 => Part::Hosts,
-        4 => Part::Services,
-        5 => Part::ServiceDependencies,
-        _ => Part::HostDependencies,
+    match Part::numbered(number) {
+        Some(part) => part,
+        None => Part::HostDependencies,
     }
 }

@@ -7,7 +7,7 @@ ghost use Rattle.std.specs.Prelude.{◌≡◌};
 ghost use Rattle.check_records.specs.Plain.{has_time, time_or_0};
 ghost use Rattle.check_records.specs.Plain.{plain_call, plain_entry, plain_refusal, plain_reply, plain_standing, refusal_at, refusal_nowhere, with_time};
 
-use crate::numbers::{flag, part_number, refusal_number};
+use crate::numbers::{flag, refusal_number};
 use check_drafts::{LoadError, Place};
 use check_rules::Standing;
 use check_sched::{Call, Reply};
@@ -298,7 +298,7 @@ fn refusal_at(kind: u32, place: Place) -> PlainRefusal
     };
     PlainRefusal {
         kind,
-        part: part_number(place.part),
+        part: place.part.number(),
         has_index,
         index,
     }
