@@ -148,29 +148,34 @@ check_whole d c e =
     ))
     last) later) more) e
 
+-- an item that has two members besides those that say how it is checked
+item_whole : {A B X : Type 0} (one other : List ℕ) (d : Data) (first : Option A) (second : Option B) (make : A → B → CheckDraft → X) (x : X)
+    → ((a : A) → first ≡ Some a → IsWhole (get one d)) → ((b : B) → second ≡ Some b → IsWhole (get other d)) → IsSorted d
+    → let names = one ∷ other ∷ codes "check_interval" ∷ codes "retry_interval" ∷ codes "max_check_attempts" ∷ codes "enabled" ∷ [] in
+    cond (has_only names d) (first >=> λ a. (second >=> λ b. (check_draft d >=> λ c. Some (make a b c)))) None ≡ Some x → has_other_number d ≡ false
+item_whole one other d first second make x h k s e =
+    let names = one ∷ other ∷ codes "check_interval" ∷ codes "retry_interval" ∷ codes "max_check_attempts" ∷ codes "enabled" ∷ [] in
+    guarded (has_only names d) _ x (has_other_number d ≡ false) (λ only members.
+    linked first _ x (has_other_number d ≡ false) (λ a is more.
+    linked second _ x (has_other_number d ≡ false) (λ b then later.
+    linked (check_draft d) _ x (has_other_number d ≡ false) (λ check third last.
+    let checked = check_whole d check third in
+    object_whole names d s only (h a is, (k b then, (checked.0, (checked.1, (checked.2, (checked.3, tt)))))))
+    later) more) members) e
+
 host_whole : (d : Data) (h : HostDraft) → IsSorted d → host_draft d ≡ Some h → has_other_number d ≡ false
 unfolding host_draft
 host_whole d h s e =
-    guarded (has_only host_members d) _ h (has_other_number d ≡ false) (λ only members.
-    linked (option_and_then as_str (get (codes "name") d)) _ h (has_other_number d ≡ false) (λ name first more.
-    linked (texts_in (get (codes "parents") d)) _ h (has_other_number d ≡ false) (λ parents second later.
-    linked (check_draft d) _ h (has_other_number d ≡ false) (λ check third last.
-    let checked = check_whole d check third in
-    object_whole host_members d s only
-    (wanted_whole as_str name _ text_whole first, (parents_whole _ parents second, (checked.0, (checked.1, (checked.2, (checked.3, tt)))))))
-    later) more) members) e
+    item_whole (codes "name") (codes "parents") d (option_and_then as_str (get (codes "name") d)) (texts_in (get (codes "parents") d))
+    (λ name parents check. record { name = name; parents = parents; check = check }) h (λ name is. wanted_whole as_str name _ text_whole is)
+    (λ parents is. parents_whole _ parents is) s e
 
 service_whole : (d : Data) (x : ServiceDraft) → IsSorted d → service_draft d ≡ Some x → has_other_number d ≡ false
 unfolding service_draft
 service_whole d x s e =
-    guarded (has_only service_members d) _ x (has_other_number d ≡ false) (λ only members.
-    linked (option_and_then as_str (get (codes "host") d)) _ x (has_other_number d ≡ false) (λ host first more.
-    linked (option_and_then as_str (get (codes "description") d)) _ x (has_other_number d ≡ false) (λ description second later.
-    linked (check_draft d) _ x (has_other_number d ≡ false) (λ check third last.
-    let checked = check_whole d check third in
-    object_whole service_members d s only
-    (wanted_whole as_str host _ text_whole first, (wanted_whole as_str description _ text_whole second, (checked.0, (checked.1, (checked.2, (checked.3, tt)))))))
-    later) more) members) e
+    item_whole (codes "host") (codes "description") d (option_and_then as_str (get (codes "host") d)) (option_and_then as_str (get (codes "description") d))
+    (λ host description check. record { host = host; description = description; check = check }) x (λ host is. wanted_whole as_str host _ text_whole is)
+    (λ description is. wanted_whole as_str description _ text_whole is) s e
 
 dependency_whole : (letters : List (List ℕ)) (d : Data) (x : DependencyDraft) → IsSorted d → dependency_draft letters d ≡ Some x → has_other_number d ≡ false
 unfolding dependency_draft

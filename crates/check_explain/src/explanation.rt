@@ -38,7 +38,7 @@ pub fn explain(alloc: Global, document: &[u8], fault: Fault) -> Result<String, A
     Ok(line.into_text())
 }
 
-/// Appends why a document was refused.
+/// Appends why a document was refused: its fault, or where reading it stops.
 fn push_explanation(
     alloc: Global,
     line: &mut Line,
@@ -50,7 +50,10 @@ fn push_explanation(
     match fault {
         Fault::TooLong => push_too_long(line),
         Fault::Memory => line.push_words("memory ran out; that says nothing of the document"),
-        _ => push_read(alloc, line, document, fault),
+        _ => match Value::from_slice(alloc, document) {
+            Ok(tree) => push_fault(alloc, line, &tree, fault),
+            Err(error) => push_unread(line, error),
+        },
     }
 }
 
@@ -59,21 +62,6 @@ fn push_too_long(line: &mut Line) -> Result<(), AllocError> {
     line.push_words("the document has more than ")?;
     line.push_number(MAX_DOCUMENT_BYTES as u64)?;
     line.push_words(" bytes")
-}
-
-/// Appends the fault of a document, or where reading it stops.
-fn push_read(
-    alloc: Global,
-    line: &mut Line,
-    document: &[u8],
-    fault: Fault,
-) -> Result<(), AllocError>
-    ensures { OnOk result (line.old ≡ [] → IsOfFault document.now (seen fault) line.new) }
-{
-    match Value::from_slice(alloc, document) {
-        Ok(tree) => push_fault(alloc, line, &tree, fault),
-        Err(error) => push_unread(line, error),
-    }
 }
 
 /// Appends where reading a document stops that is no JSON.

@@ -1,11 +1,24 @@
 use Rattle.std.proofs.Common.{ap}
+use Rattle.std.proofs.lemmas.Result.{on_ok_weaker}
+use Rattle.serde_json.specs.View.{view}
 use Rattle.check_drafts.specs.Fault.{seen}
 use Rattle.check_drafts.specs.declared.fault.Fault.{Fault}
 use Rattle.check_explain.specs.Explanation.{place_of}
-use Rattle.check_explain.proofs.HeadLemmas.{always, of_nowhere}
+use Rattle.check_explain.proofs.HeadLemmas.{always, of_fault, of_none, of_nowhere}
 use Rattle.check_explain.proofs.explanation.push_explanation.Goals as goal
 
 pub returns-in-TooLong : goal.returns-in-TooLong
 returns-in-TooLong c =
     always c.push_too_long.result _
     (λ none. of_nowhere c.args.document.now (seen c.args.fault) c.push_too_long.new.line (ap (λ (f : Fault). place_of (seen f)) c.in-TooLong.is))
+
+pub returns-in-Ok : goal.returns-in-Ok
+returns-in-Ok c =
+    on_ok_weaker c.push_fault.result
+    (of_fault c.args.document.now (seen c.args.fault) (view c.in-Ok.tree) c.args.line.now c.push_fault.new.line c.in-Ok.ensures.ok.0 c.in-Ok.ensures.ok.1)
+    c.push_fault.ensures
+
+pub returns-in-Err : goal.returns-in-Err
+returns-in-Err c =
+    on_ok_weaker c.push_unread.result
+    (λ other none. of_none c.args.document.now (seen c.args.fault) c.push_unread.new.line (c.in-Err.ensures.err other)) c.push_unread.ensures
