@@ -1,12 +1,12 @@
 -- A run that is cut behind some of its lines, saved there, and gone on from over the same setup.
-use Rattle.std.proofs.Common.{◌≡◌, ℕ, ◌+◌, ◌*◌, ◌<◌, ◌≤◌, ◌^◌, Bool, true, false, cond, List, [], ◌∷◌, ◌++◌, length, map, Option, Some, None, option_map, Result, Ok, Err}
-use Rattle.std.proofs.Common.{zero, suc, refl, sym, subst, ap, ◌∙◌, arith, append_assoc, append-nil, length-append, mul-le-mul, IsUtf8}
+use Rattle.std.proofs.Common.{◌≡◌, ℕ, ◌+◌, ◌*◌, ◌<◌, ◌≤◌, ◌^◌, Bool, true, false, cond, List, [], ◌∷◌, ◌++◌, length, map, Option, Some, None, Result, Ok, Err}
+use Rattle.std.proofs.Common.{zero, suc, refl, sym, subst, ap, ◌∙◌, arith, append_assoc, append-nil, length-append, mul-le-mul}
 use Rattle.std.proofs.lemmas.List.{length-map}
 use Rattle.std.specs.List.{enumerate_from}
 use Rattle.std.proofs.lemmas.Str.{is_utf8-from_IsUtf8}
 use Rattle.json.proofs.Printed.Utf8.{IsUtf8-are_ascii}
 use Rattle.json.specs.Print.{escape_byte}
-use Rattle.std.specs.Prelude.{codes, nat_lt, ok_or, slice_get, unwrap_or}
+use Rattle.std.specs.Prelude.{codes, nat_lt, ok_or, slice_get}
 use Rattle.std.proofs.lemmas.Bool.Decides.{nat_tests}
 use Rattle.serde_json.specs.Data.{Data, Items, array, item, no_items, string}
 use Rattle.serde_json.specs.Read.{read}
@@ -19,7 +19,7 @@ use Rattle.check_spread.specs.Spread.{first_times, host_objects, host_spread, in
 use Rattle.check_spread.proofs.BoundLemmas.{first_times_below}
 use Rattle.check_spread.proofs.TimesLemmas.{length-first_times}
 use Rattle.check_drafts.specs.Agreement.{◌>>=◌}
-use Rattle.check_saved.specs.Saved.{IsSaved, Saved, SavedObject}
+use Rattle.check_saved.specs.Saved.{Saved, SavedObject}
 use Rattle.check_saved.specs.Text.{saved_of_text, saved_text}
 use Rattle.check_saved.specs.Written.{IsWritable, IsWritableObject}
 use Rattle.check_saved.proofs.InverseLemmas.{inverse}

@@ -1,5 +1,5 @@
 -- A whole conversation that goes on from what was saved, and what its faults leave.
-use Rattle.std.proofs.Common.{◌≡◌, ℕ, suc, ◌+◌, ◌==◌, ◌<◌, ◌≤◌, Bool, true, false, cond, List, [], ◌∷◌, ◌++◌, length, take, Option, Result, Ok, Err, refl, sym, ap, ◌∙◌}
+use Rattle.std.proofs.Common.{◌≡◌, ℕ, suc, ◌==◌, ◌<◌, ◌≤◌, Bool, true, false, cond, List, [], ◌∷◌, ◌++◌, length, take, Option, Result, Ok, Err, refl, sym, ap, ◌∙◌}
 use Rattle.std.proofs.Common.{arith, inl, inr, ◌⊎◌, append_assoc, append-nil, length-append, length-take, subst}
 use Rattle.std.specs.Prelude.{IfOk, OnOk, IfErr, nat_lt}
 use Rattle.std.specs.Io.KnownBytes.{Appends, Consumes, IsAtEnd, Keeps}
@@ -35,8 +35,8 @@ use Rattle.check_drive.specs.declared.drive.Outcome.TheVariants as outcome
 use Rattle.check_drive.specs.Drive.{IsInput, outcome_by}
 use Rattle.check_sched.specs.State.{State}
 use Rattle.check_drive.specs.Live.{AfterAll, AfterLater, AfterLines, HasReadResumed, IsLiveResumedOnInput, LeavesText, ReadBehind, ReadResumedBy, WentOn, live_resumed_outcome, saved_in}
-use Rattle.check_drive.proofs.LiveLemmas.{TalkEnded, appended_none, end_input, input_all, input_on, leaves_before, leaves_kept, leaves_none, live_failed}
-use Rattle.check_drive.proofs.LiveLemmas.{behind_few, lines_few, not_long, refused_stays, rest_input, rest_none, rest_of, setup_is, setup_refused, written_err, written_if, written_ok, wrote_behind}
+use Rattle.check_drive.proofs.LiveLemmas.{TalkEnded, appended_none, end_input, input_all, input_on, leaves_before, leaves_kept, live_failed}
+use Rattle.check_drive.proofs.LiveLemmas.{behind_few, lines_few, not_long, refused_stays, rest_input, rest_of, setup_is, setup_refused, written_err, written_if, written_ok, wrote_behind}
 
 -- ---- what is kept of line 2
 

@@ -1,11 +1,11 @@
 -- The texts of a tree that is read from UTF-8 are UTF-8.
-use Rattle.std.proofs.Common.{◌≡◌, ℕ, zero, suc, ◌+◌, ◌*◌, ◌-◌, ◌<◌, ◌≤◌, ◌==◌, ◌||◌, ◌&&◌, Bool, true, false, cond, List, [], ◌∷◌, ◌++◌, length, length-append, get_or, take, drop, Option, Some, None, option_and_then, option_map, IsUtf8, refl, sym, ap, ◌∙◌, subst, arith, nat_lt, append_assoc, append-nil, inl, inr, ◌⊎◌}
-use Rattle.std.specs.Prelude.{nat_le, encode_utf8}
+use Rattle.std.proofs.Common.{◌≡◌, ℕ, zero, suc, ◌+◌, ◌*◌, ◌<◌, ◌==◌, ◌||◌, ◌&&◌, Bool, true, false, cond, List, [], ◌∷◌, ◌++◌, length, length-append, get_or, take, drop, Option, Some, None, option_and_then, option_map, IsUtf8, refl, sym, ap, ◌∙◌, subst, arith, nat_lt, append_assoc, append-nil, inl, inr, ◌⊎◌}
+use Rattle.std.specs.Prelude.{encode_utf8}
 use Rattle.std.proofs.lemmas.Bool.{and_parts, cases_lt, ltb-true}
 use Rattle.std.proofs.lemmas.Bool.Decides.{nat_tests}
-use Rattle.std.proofs.lemmas.Str.{IsUtf8-append, IsUtf8-nil, IsUtf8-encode, IsUtf8-past_char, IsUtf8-take, IsUtf8-drop, IsCharBoundary-after_ascii, IsCharBoundary-before_ascii, encode_ascii}
-use Rattle.std.specs.Char.{digit_value, is_digit, IsScalar}
-use lib.Utf8.{scalar, scalars, encode, encodes, low_scalar}
+use Rattle.std.proofs.lemmas.Str.{IsUtf8-append, IsUtf8-encode, IsUtf8-past_char, IsUtf8-take, IsUtf8-drop, IsCharBoundary-after_ascii, IsCharBoundary-before_ascii, encode_ascii}
+use Rattle.std.specs.Char.{digit_value, is_digit}
+use lib.Utf8.{scalar, encode, low_scalar}
 use Rattle.json.specs.Text.{code_unit, short_escape, is_high_surrogate, is_low_surrogate, surrogate_pair, Within, plain, after_backslash, after_u, after_high, prepend, content}
 use Rattle.json.specs.Token.{Token, begin_object, end_object, begin_array, end_array, key, string, number, boolean, null, bad}
 use Rattle.json.specs.Word.{after_number, ends_word, head, is_operator, is_space, literal, number_before, word}

@@ -58,13 +58,17 @@ pub time_is : (t : Option ℕ) → time_back (has_time t) (time_or_0 t) ≡ t
 time_is (Some time) = refl
 time_is None = refl
 
+each_part : (P : Part → Type 0) → P part.Document → P part.Options → P part.Hosts → P part.Services → P part.ServiceDependencies → P part.HostDependencies
+    → (p : Part) → P p
+each_part P document options hosts services between among part.Document = document
+each_part P document options hosts services between among part.Options = options
+each_part P document options hosts services between among part.Hosts = hosts
+each_part P document options hosts services between among part.Services = services
+each_part P document options hosts services between among part.ServiceDependencies = between
+each_part P document options hosts services between among part.HostDependencies = among
+
 part_is : (p : Part) → part_back (part_number p) ≡ p
-part_is part.Document = refl
-part_is part.Options = refl
-part_is part.Hosts = refl
-part_is part.Services = refl
-part_is part.ServiceDependencies = refl
-part_is part.HostDependencies = refl
+part_is = each_part (λ p. part_back (part_number p) ≡ p) refl refl refl refl refl refl
 
 -- ---- the structs
 

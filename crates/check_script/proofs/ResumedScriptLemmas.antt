@@ -1,5 +1,5 @@
 -- A document, what was saved, and the lines after them.
-use Rattle.std.proofs.Common.{◌≡◌, ℕ, ◌≤◌, List, Result, Ok, refl, ap, map, ◌∙◌}
+use Rattle.std.proofs.Common.{◌≡◌, ℕ, List, Ok, refl, ap, map, ◌∙◌}
 use Rattle.std.proofs.lemmas.List.{map-id}
 use Rattle.check_objects.specs.Configuration.{Configuration}
 use Rattle.check_objects.specs.Setup.{setup_of}

@@ -1,6 +1,6 @@
 -- How long a full name is at most.
-use Rattle.std.proofs.Common.{◌≡◌, ℕ, get_or, ◌+◌, ◌<◌, ◌≤◌, Bool, true, List, [], ◌∷◌, ◌++◌, map, length, Some, None, Option, sym, ap, ◌∙◌, refl, subst, arith}
-use Rattle.std.specs.Prelude.{nat_lt, nat_le, unwrap_or, option_map, slice_get, All}
+use Rattle.std.proofs.Common.{◌≡◌, ℕ, get_or, ◌+◌, ◌<◌, ◌≤◌, Bool, true, List, [], ◌∷◌, map, length, Some, None, Option, ap, ◌∙◌, refl, arith}
+use Rattle.std.specs.Prelude.{nat_lt, nat_le, unwrap_or, option_map, slice_get}
 use Rattle.std.specs.List.{list_all}
 use Rattle.std.proofs.lemmas.Bool.{ltb-true}
 use Rattle.std.proofs.lemmas.Bool.Decides.{nat_tests}
@@ -8,7 +8,7 @@ use Rattle.std.proofs.lemmas.List.{length-append}
 use Rattle.std.proofs.lemmas.List.Folds.{list_all-append, list_all-map}
 use Rattle.std.proofs.lemmas.List.Sums.{AllPass-from_list_all, list_all-from_AllPass}
 use Rattle.check_drafts.specs.Name.{full_name, is_name}
-use Rattle.check_numbers.specs.Configuration.{Configuration, Host, Service, IsSetup, Named, host_count, name_of, named_host, named_service, objects_of, pair_of}
+use Rattle.check_numbers.specs.Configuration.{Configuration, Service, IsSetup, Named, host_count, name_of, named_host, named_service, objects_of, pair_of}
 use Rattle.check_numbers.proofs.NameLemmas.{all_passes, item_at, name_of_host}
 
 abbrev is_short : List ℕ → Bool

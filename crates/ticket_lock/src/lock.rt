@@ -14,7 +14,7 @@ use crate::plays::{
     After, Count, Draws, Gathers, Glances, Leaves, Looks, Posts, SecondLoad, Splits,
 };
 use crate::tokens::{Hold, Seat, TableSeat, Turn};
-use crate::views::{LockRule, Opening, View};
+use crate::views::{LockRule, TableStart, View};
 use atomic_table::{Refused, Table};
 use std::alloc::Global;
 use std::marker::Brand;
@@ -24,7 +24,7 @@ use ticket_steps::{DRAWS, Kept};
 type LockTable<K> = Table<
     Option<K>,
     View<K, <K as Kept>::Call, <K as Kept>::Reply>,
-    Opening<K>,
+    TableStart<K>,
     LockRule<K>,
     Global,
 >;
@@ -98,7 +98,7 @@ impl<K: Kept> TicketLock<K> {
         ensures seat { IfOk result (λ made. seat_of made.1 ≡ first_caller numbers draws) }
         ensures refused { IfErr result (λ back. back ≡ book) }
     {
-        let opening = Opening {
+        let opening = TableStart {
             book: Snapshot::of(&book),
             numbers,
             draws,

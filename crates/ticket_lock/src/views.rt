@@ -1,6 +1,6 @@
 //! What the seats of the table know, and the rule of the table.
 //!
-//! No value of these types is made but of `Opening`: views are the data that the rule speaks of.
+//! No value of these types is made but of `TableStart`: views are the data that the rule speaks of.
 ghost use Rattle.std.specs.Prelude.{◌≡◌};
 ghost use Rattle.ticket_lock.specs.Boards.{board_length};
 ghost use Rattle.ticket_lock.specs.Rule.{IsRuled};
@@ -42,7 +42,7 @@ pub struct View<K, C, R> {
 
 /// What the table is told when it is made.
 #[derive(Drop)]
-pub struct Opening<K: Kept> {
+pub struct TableStart<K: Kept> {
     pub book: Snapshot<K>,
     pub numbers: u32,
     pub draws: u32,
@@ -56,7 +56,7 @@ pub struct LockRule<K> {
     marker: PhantomData<K>,
 }
 
-impl<K: Kept> TableRule<Option<K>, View<K, K::Call, K::Reply>, Opening<K>> for LockRule<K> {
+impl<K: Kept> TableRule<Option<K>, View<K, K::Call, K::Reply>, TableStart<K>> for LockRule<K> {
     ghost holds = { λ opening. IsRuled K.Kept
         (record { book = opening.book.value; numbers = opening.numbers; draws = opening.draws }) };
 
