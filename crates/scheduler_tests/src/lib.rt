@@ -7,6 +7,8 @@
 #[cfg(test)]
 mod queue;
 #[cfg(test)]
+mod resuming;
+#[cfg(test)]
 mod rules;
 #[cfg(test)]
 mod saved;
