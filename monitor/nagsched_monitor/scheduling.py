@@ -149,10 +149,15 @@ class Scheduling:
         """Keeps these calls, with what else is to be written, and makes them. Where nothing can be kept none is made: `NotStored`."""
         return self._make([(self.part_of(call), call, words) for call, words in asked], writes)
 
-    def take(self, part: int, count: int) -> List[Answer]:
-        """Takes so many checks of a part."""
-        moment = self._clock.moment()
-        return self._make([(part, Take(moment), None)] * count, ())
+    def make_by_part(self, asked: Sequence[Tuple[int, Call, Optional[str]]]) -> List[Tuple[Call, Answer]]:
+        """The same for calls with their parts. Those of one part are made in their order, one part after the other."""
+        ordered = sorted(asked, key=lambda each: each[0])
+        return list(zip([call for _, call, _ in ordered], self._make(ordered, ())))
+
+    def take(self, part: int) -> Answer:
+        """Takes one check of a part."""
+        (answer,) = self._make([(part, Take(self._clock.moment()), None)], ())
+        return answer
 
     def _make(self, asked: Sequence[Tuple[int, Call, Optional[str]]], writes: Sequence[Write]) -> List[Answer]:
         if not asked and not writes and not self._later:
