@@ -10,9 +10,9 @@ from typing import Any, Callable, Dict, List, Protocol, Sequence, Tuple, Union
 
 READ_BYTES = 65_536
 MODULE = "nagsched_monitor.plugins"
-# The folder of the package, and the runner in C that may lie in it.
+# The folder of the package, and where the runner in C may lie: installed, or built in the tree.
 FOLDER = pathlib.Path(__file__).resolve().parent.parent
-COMPILED = FOLDER / "nagsched-runner"
+COMPILED = (FOLDER / "nagsched-runner", FOLDER / "out/nagsched-runner")
 
 
 @dataclass(frozen=True)
@@ -81,7 +81,8 @@ def runner_words() -> List[str]:
     given = os.environ.get("NAGSCHED_RUNNER")
     if given is not None:
         return [given]
-    return [str(COMPILED)] if os.access(COMPILED, os.X_OK) else [sys.executable, "-m", MODULE]
+    built = [str(file) for file in COMPILED if os.access(file, os.X_OK)]
+    return built[:1] or [sys.executable, "-m", MODULE]
 
 
 @functools.lru_cache(maxsize=None)
