@@ -69,9 +69,12 @@ static void kill_plugin(const struct plugin *plugin) {
     kill(-plugin->process, SIGKILL); /* it may have ended just now */
 }
 
-static void forget(struct plugin *plugin) {
+/* Its files are no longer awaited when they are closed: a process that is being started holds them too for a moment, and they would be reported on and on. */
+static void forget(const struct runner *runner, struct plugin *plugin) {
     plugin->before->behind = plugin->behind;
     plugin->behind->before = plugin->before;
+    epoll_ctl(runner->poll, EPOLL_CTL_DEL, plugin->end, NULL);
+    epoll_ctl(runner->poll, EPOLL_CTL_DEL, plugin->pipe, NULL);
     close(plugin->end);
     close(plugin->pipe);
     text_free(&plugin->output);
@@ -99,7 +102,7 @@ static void finish(struct runner *runner, struct plugin *plugin) {
     int code = WIFEXITED(status) ? WEXITSTATUS(status) : WTERMSIG(status);
     const char *end = plugin->is_killed ? "limit" : WIFEXITED(status) ? "exited" : "signal";
     answer(runner, plugin->job, code, end, plugin->output.length == 0 ? "" : plugin->output.bytes, plugin->output.length);
-    forget(plugin);
+    forget(runner, plugin);
 }
 
 /* ---- starting one */
@@ -225,7 +228,7 @@ static void kill_late_ones(struct runner *runner) {
         if (plugin->is_killed) {
             const char *words = "it can't be killed";
             answer(runner, plugin->job, 0, "limit", words, strlen(words));
-            forget(plugin);
+            forget(runner, plugin);
         } else {
             kill_plugin(plugin);
             plugin->is_killed = true;
