@@ -116,7 +116,7 @@ formats((TOP / "docs/FORMATS.md").read_text())
 helped((TOP / "docs/FORMATS.md").read_text())
 nagios((TOP / "docs/NAGIOS.md").read_text())
 readme((TOP / "README.md").read_text())
-commands.check(PROGRAM, [TOP / "README.md", *sorted((TOP / "docs").glob("*.md")), TOP / "conformance/README.md"], compare)
+commands.check(PROGRAM, [TOP / "README.md", *sorted((TOP / "docs").rglob("*.md")), TOP / "conformance/README.md"], compare)
 compare("FILES.md, by .ci/map.py", 0, subprocess.run([sys.executable, TOP / ".ci/map.py", "--check"]).returncode)
 for example in wrong:
     print(example)
