@@ -252,9 +252,10 @@ class Engine:
         """A passive result, which was stored."""
         self._passive.expect(result)
 
-    def reload(self, site: Site) -> None:
-        """Goes on with another site; what runs goes on. A site that can't be taken over changes nothing."""
-        self.scheduling.reload(site)
+    def reload(self, site: Site) -> List[str]:
+        """Goes on with another site; what runs goes on. A site that can't be taken over changes nothing. Returns what changes of objects that stay."""
+        changed = self.scheduling.reload(site)
         self.site = site
         self._sooner.become(site)
         self._minute = self._last_turn = None
+        return changed

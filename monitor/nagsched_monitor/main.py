@@ -131,13 +131,15 @@ class Monitor:
         """Reads the site anew, and goes on with it; where it is bad the old one goes on."""
         site = read_site(self._folder, self._program)
         before = self.scheduling.known.objects
-        self.engine.reload(site)
+        changed = self.engine.reload(site)
         self.site = site
         new, dropped = sorted(set(site.objects) - set(before)), sorted(set(before) - set(site.objects))
         for word, names in (("new", new), ("dropped", dropped)):
             for name in names:
                 self.log(f"{word}: {name}")
-        return {"done": "reload", "new": new, "dropped": dropped}
+        for line in changed:
+            self.log(line)
+        return {"done": "reload", "new": new, "dropped": dropped, "changed": changed}
 
     def _reload_by_signal(self) -> None:
         try:
@@ -196,7 +198,7 @@ def printed(answer: Dict[str, Any]) -> str:
     """An answer in words."""
     if "objects" not in answer:
         others = [f"{word}: {name}" for word in ("new", "dropped") for name in answer.get(word, ())]
-        return "\n".join([f"{answer['done']}: {answer.get('name', 'done')}", *others])
+        return "\n".join([f"{answer['done']}: {answer.get('name', 'done')}", *others, *answer.get("changed", ())])
     lines = []
     for it in answer["objects"]:
         marks = "".join(word for word, there in ((" FLAPPING", it["flapping"]), (" out", it["out"]), (" off", not it["on"])) if there)
