@@ -10,7 +10,7 @@ import subprocess
 import tempfile
 
 TOP = pathlib.Path(__file__).resolve().parent.parent
-SCRIPT = r"(?:(?:tools|bench|tests|\.ci|examples)/\w+\.(?:py|sh)|conformance/check|\.ci/run|monitor/nagsched-monitor)"
+SCRIPT = r"(?:(?:tools|bench|tests|\.ci|examples)/\w+\.(?:py|sh)|conformance/check|\.ci/run|monitor/nagsched-monitor|monitor/build_runner\.sh)"
 BEGINS = rf"(?:nagsched|crates/nagsched/out/nagsched|nagios4|bash|cc|\(cd|{SCRIPT})"
 LINE = re.compile(rf"^(?: {{4}}|\$ )?({BEGINS}(?: .*)?)$", re.M)
 SPAN = re.compile(rf"`({BEGINS} [^`\n]*|{SCRIPT})`")
@@ -22,6 +22,7 @@ FILES = {"setup.json": "setup", "my.setup.json": "setup", "input": "office.txt",
 OFFICE, PICTURE = ((TOP / file).read_text(encoding="utf-8") for file in ("examples/office.out", "docs/office.svg"))
 SETUP = (TOP / "examples/office.txt").read_text(encoding="utf-8").split("\n", 1)[0]
 LINE_OF_SETUP = json.dumps(json.loads(SETUP), sort_keys=True, separators=(",", ":"), ensure_ascii=False) + "\n"
+VERSION = (TOP / "VERSION").read_text(encoding="utf-8").strip()
 GOOD = f"setup ok\nhosts {len(json.loads(SETUP)['hosts'])}\n"
 RUN = {
     "crates/nagsched/out/nagsched < examples/office.txt": ("", OFFICE),
@@ -33,6 +34,7 @@ RUN = {
     "nagsched run < input": ("", OFFICE),
     "nagsched run --workers 2": ("", "refused words\n"),
     "nagsched --help": ("", "Schedules the active checks"),
+    "nagsched --version": ("", f"nagsched {VERSION}\n"),
     "tools/timeline.py INPUT OUTPUT > picture.svg": ("picture.svg", PICTURE[: PICTURE.index("office.txt")]),
     "tools/timeline.py examples/office.txt examples/office.out > docs/office.svg": ("docs/office.svg", PICTURE),
 }
@@ -40,6 +42,10 @@ RUN = {
 IN_THE_GATE = {
     "crates/nagsched/out/nagsched live": ".ci/pages.py",
     "crates/nagsched/out/nagsched drill --workers 1 < examples/drill.txt": ".ci/pages.py",
+    "nagsched run --resume": ".ci/resume.py",
+    "nagsched live --resume": ".ci/resume.py",
+    "nagsched live --resume --start NOW": ".ci/resume.py",
+    "nagsched check --resume": ".ci/resume.py",
     "conformance/check PROGRAM": ".ci/run",
     "cc -IPREFIX/include program.c PREFIX/lib/libnagsched.a -lpthread": ".ci/c_library.py",
     "cc program.c $(pkg-config --cflags --libs PREFIX/lib/pkgconfig/nagsched.pc) -lpthread": ".ci/c_library.py",
@@ -55,6 +61,7 @@ IN_THE_GATE = {
     "examples/alert_change.py": ".ci/monitor.py",
     "examples/monitor.py": ".ci/monitor.py",
     "examples/monitor.py setup.json commands.json": ".ci/monitor.py",
+    "monitor/build_runner.sh": ".ci/monitor.py",
     "monitor/nagsched-monitor": ".ci/monitor.py",
     "monitor/nagsched-monitor office": ".ci/monitor.py",
     'monitor/nagsched-monitor --on-change "examples/mail_change.py monitor@example.org oncall@example.org" office': ".ci/monitor.py",

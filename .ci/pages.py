@@ -60,7 +60,11 @@ def formats(page):
         compare(example, told + "\n", output(lines))
     whole = block_after(page, "### A whole setup")
     compare("the figures of the whole setup", block_after(page, "has these figures with"), output([whole.rstrip()], "check", "--start", "1000"))
-    explained = page[page.index("#### Explanations"):page.index("## Refusals of the input")]
+    saved = page[page.index("## Saved states"):page.index("### Members")]
+    given, answers, resumed, later = re.findall(r"```\n(.*?)```", saved, re.S)
+    compare("a state that is saved", answers, output(given.splitlines()))
+    compare("a state that is gone on from", later, output(resumed.splitlines(), "run", "--resume"))
+    explained = page[page.index("#### Explanations"):page.index("## Saved states")]
     for example, told in re.findall(r"`({[^`]*)`: `([^`]*)`", explained):
         refused, _, explanation = output([example], "check").partition("\n")
         compare(f"an explanation: {example}", told + "\n", explanation)
@@ -112,7 +116,7 @@ formats((TOP / "docs/FORMATS.md").read_text())
 helped((TOP / "docs/FORMATS.md").read_text())
 nagios((TOP / "docs/NAGIOS.md").read_text())
 readme((TOP / "README.md").read_text())
-commands.check(PROGRAM, [TOP / "README.md", *sorted((TOP / "docs").glob("*.md")), TOP / "conformance/README.md"], compare)
+commands.check(PROGRAM, [TOP / "README.md", *sorted((TOP / "docs").rglob("*.md")), TOP / "conformance/README.md"], compare)
 compare("FILES.md, by .ci/map.py", 0, subprocess.run([sys.executable, TOP / ".ci/map.py", "--check"]).returncode)
 for example in wrong:
     print(example)

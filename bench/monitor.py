@@ -3,10 +3,12 @@
 
     bench/monitor.py PROGRAM [RATE..]      by hand; wants cc, and Debian's package nagios4-core, which it fetches and unpacks into a temporary folder
 
-For each rate (18, 200, 800 and 2,000 checks due a second) both run the same services for SECONDS, one after the other: each service every ten seconds, with a
-plugin in C that ends at once. Latency is how late a check starts, in milliseconds: of Nagios as its status file has it, of the monitor by the calls that it
-kept. Processor time is that of all processes but plugins, in milliseconds a check.
+For each rate (18, 200, 500, 800 and 2,000 checks due a second) both run the same services for SECONDS, one after the other: each service every ten seconds,
+with a plugin in C that ends at once. At 500 the monitor also runs with a disk whose sync takes ten milliseconds more. Latency is how late a check starts, in
+milliseconds: of Nagios as its status file has it, of the monitor by the calls that it kept. Processor time is that of all processes but plugins, in milliseconds
+a check. Restart is how long the monitor takes from its start until it answers, reload how long its word `reload` takes, both over the site of that rate.
 """
+import functools
 import json
 import os
 import pathlib
@@ -20,8 +22,10 @@ import time
 
 TOP = pathlib.Path(__file__).resolve().parent.parent
 SECONDS, INTERVAL = 40, 10
-RATES = (18, 200, 800, 2000)
+RATES = (18, 200, 500, 800, 2000)
+SLOW = 500
 MOST_IN_A_PART = 4000
+MONITOR = TOP / "monitor/nagsched-monitor"
 PLUGIN = r"""
 #include <fcntl.h>
 #include <stdio.h>
@@ -68,9 +72,9 @@ def usage(process):
     return ticks / os.sysconf("SC_CLK_TCK"), pages * os.sysconf("SC_PAGE_SIZE") / 1e6
 
 
-def watched(command, count, status):
+def watched(command, count, status, environment=None):
     """Runs a command for so long: checks, processor seconds and megabytes over the second half, and the text of its status file at the end."""
-    running = subprocess.Popen([str(word) for word in command], stdout=subprocess.DEVNULL, stderr=subprocess.DEVNULL)
+    running = subprocess.Popen([str(word) for word in command], stdout=subprocess.DEVNULL, stderr=subprocess.DEVNULL, env=environment)
     time.sleep(SECONDS / 2)
     before, made, begin = usage(running.pid), count.stat().st_size, time.monotonic()
     time.sleep(SECONDS / 2)
@@ -115,14 +119,14 @@ def nagios(work, binary, plugin, rate):
     (folder / "count").touch()
     figures, text = watched([binary, folder / "nagios.cfg"], folder / "count", folder / "status")
     late = [float(line.partition("=")[2]) * 1000 for line in text.splitlines() if line.strip().startswith("check_latency=")]
-    return figures, percentiles(late)
+    return figures, percentiles(late), ""
 
 
 # ---- the monitor
 
 
-def monitor(work, program, plugin, rate):
-    folder = work / f"monitor-{rate}"
+def monitor(work, program, plugin, rate, environment=None):
+    folder = work / f"monitor-{rate}{'' if environment is None else '-slow'}"
     folder.mkdir()
     names = names_of(rate)
     parts = [names[first : first + MOST_IN_A_PART] for first in range(0, len(names), MOST_IN_A_PART)]
@@ -136,8 +140,27 @@ def monitor(work, program, plugin, rate):
     (folder / "commands.json").write_text(json.dumps(commands))
     (folder / "monitor.json").write_text(json.dumps({"slots": 500}))
     (folder / "count").touch()
-    figures, _ = watched([sys.executable, TOP / "monitor/nagsched-monitor", "--program", program, folder], folder / "count", folder / "none")
-    return figures, percentiles(late_of(folder, program))
+    figures, _ = watched([sys.executable, MONITOR, "--program", program, folder], folder / "count", folder / "none", environment)
+    late = percentiles(late_of(folder, program))
+    return figures, late, restarted(folder, program)
+
+
+def restarted(folder, program):
+    """How many seconds a restart and a reload take."""
+    begin = time.monotonic()
+    running = subprocess.Popen([sys.executable, MONITOR, "--program", program, folder], stdout=subprocess.DEVNULL, stderr=subprocess.DEVNULL)
+    while asked(folder, "status", "h1").returncode:
+        time.sleep(0.01)
+    restart, begin = time.monotonic() - begin, time.monotonic()
+    asked(folder, "reload").check_returncode()
+    reload = time.monotonic() - begin
+    running.send_signal(signal.SIGTERM)
+    running.wait(timeout=60)
+    return f"{restart:8.2f} {reload:7.2f}"
+
+
+def asked(folder, *words):
+    return subprocess.run([sys.executable, MONITOR, folder, *words], stdout=subprocess.DEVNULL, stderr=subprocess.DEVNULL, check=False)
 
 
 def late_of(folder, program):
@@ -169,12 +192,17 @@ def main(program, *rates):
         subprocess.run(["cc", "-O2", "-static", "-o", plugin, work / "plugin.c"], check=True)
         subprocess.run(["apt-get", "download", "nagios4-core"], cwd=work, check=True, stdout=subprocess.DEVNULL, stderr=subprocess.DEVNULL)
         subprocess.run(["dpkg", "-x", next(work.glob("nagios4-core*.deb")), work / "nagios"], check=True)
-        print(f"{'due a second':>14} {'':10} {'checks a second':>16} {'median ms':>10} {'95th ms':>8} {'CPU ms a check':>15} {'MB':>6}")
+        shim = work / "slow_sync.so"
+        subprocess.run(["cc", "-shared", "-fPIC", "-o", shim, TOP / "monitor/tests/slow_sync.c", "-ldl"], check=True)
+        slow = {**os.environ, "LD_PRELOAD": str(shim)}
+        print(f"{'due a second':>14} {'':10} {'checks a second':>16} {'median ms':>10} {'95th ms':>8} {'CPU ms a check':>15} {'MB':>6} {'restart s':>9} {'reload s':>8}")
         for rate in [int(rate) for rate in rates] or RATES:
             sides = {"Nagios": (nagios, work / "nagios/usr/sbin/nagios4"), "monitor": (monitor, program)}
+            if rate == SLOW:
+                sides["slow disk"] = (functools.partial(monitor, environment=slow), program)
             for who, (ran, binary) in sides.items():
-                (a_second, cost, megabytes), (median, late) = ran(work, binary, plugin, rate)
-                print(f"{rate:>14} {who:10} {a_second:>16.1f} {median:>10.1f} {late:>8.1f} {cost:>15.2f} {megabytes:>6.0f}", flush=True)
+                (a_second, cost, megabytes), (median, late), rest = ran(work, binary, plugin, rate)
+                print(f"{rate:>14} {who:10} {a_second:>16.1f} {median:>10.1f} {late:>8.1f} {cost:>15.2f} {megabytes:>6.0f} {rest}", flush=True)
 
 
 if __name__ == "__main__":

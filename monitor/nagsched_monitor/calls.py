@@ -1,4 +1,5 @@
 """The calls that are made of the scheduler, each a line of JSON, and its answers, each a line of words."""
+import functools
 import json
 from dataclasses import dataclass
 from typing import Optional, Union
@@ -62,7 +63,9 @@ class Status:
 Call = Union[Take, Report, Abandon, Reschedule, Enable, Status]
 
 
+@functools.lru_cache(maxsize=None)
 def quoted(name: str) -> str:
+    """A name as JSON has it. The names of a site are few, and each comes with every call."""
     return json.dumps(name, ensure_ascii=False)
 
 

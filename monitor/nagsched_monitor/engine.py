@@ -3,9 +3,9 @@
 Clock, runners and database are its parameters, so that a day can be simulated in seconds.
 """
 import collections
-from typing import Callable, Counter, Deque, Dict, List, Mapping, Optional, Set, Tuple
+from typing import Callable, Counter, Deque, Dict, List, Mapping, Optional, Sequence, Set, Tuple
 
-from .calls import Abandon, Answer, Call, Enable, PutOff, Refused, Report, Reschedule, Standing, Taken
+from .calls import Abandon, Answer, Call, Enable, PutOff, Refused, Report, Reschedule, Standing, Take, Taken
 from .clock import Clock
 from .faults import ConversationEnded, NotStored
 from .known import Known
@@ -75,20 +75,23 @@ class Engine:
             self._last_turn = None
             self._opened = now
             return now
+        finally:
+            self._runners.flush()
         first = self.scheduling.known.first()
         return now + LONGEST_WAIT if first is None else min(first, now + LONGEST_WAIT)
 
     def _turn(self, now: int) -> None:
         begun = self._follow_periods()
-        self._report()
+        is_behind_pause = self._last_turn is None or now - self._last_turn > PAUSE
+        # What is overdue is spread before it is taken.
+        self._exchange({} if begun or is_behind_pause else self.scheduling.known.all_due(now))
         self._sooner.make()
         self._passive.deliver()
         self._see_to_freshness(now)
-        if self._last_turn is None or now - self._last_turn > PAUSE:
-            begun = list(self.scheduling.known.objects.values())
         self._last_turn = now
-        self._sooner.spread(begun, now)
-        self._take(now)
+        self._sooner.spread(list(self.scheduling.known.objects.values()) if is_behind_pause else begun, now)
+        while self._exchange(self.scheduling.known.all_due(now)):
+            pass
         self.scheduling.flush()
         if now - self._last_save[0] >= SAVE_AFTER or self.store.last_call - self._last_save[1] >= SAVE_CALLS:
             self.save()
@@ -128,25 +131,47 @@ class Engine:
                 self._sooner.want(Reschedule(known.name, now, True))
         self._sooner.make()
 
-    # ---- takes
+    # ---- results and takes
 
-    def _take(self, now: int) -> None:
-        """Takes what is due, as far as there are free slots."""
-        for part in range(len(self.site.setups)):
-            while True:
-                due = self.scheduling.known.due(part, now)
-                count = min(len(due), self.site.options.slots - self.out())
-                if count <= 0 or not self._take_some(part, count):
-                    break
+    def _exchange(self, due: Mapping[int, Set[str]]) -> bool:
+        """Reports the results that have come, and takes what is due as far as there are free slots; all of it is kept by one sync.
 
-    def _take_some(self, part: int, count: int) -> bool:
-        """Takes so many checks of a part; False where there was none to take."""
-        before = {name: self.scheduling.known.objects[name].next for name in self.scheduling.known.due(part, self._clock.moment())}
-        answers = self.scheduling.take(part, count)
-        for answer in answers:
+        What can't be kept stays here. True where something was taken or put off."""
+        events = [event for event in self._results if self._is_awaited(event)]
+        asked: List[Tuple[int, Call, Optional[str]]] = []
+        for event in events:
+            call, words = self._ended(event)
+            asked.append((self.scheduling.part_of(call), call, words))
+        asked += self._takes(due, self.site.options.slots - self.out() + len(events))
+        known = self.scheduling.known.objects
+        before = {event.job.name: known[event.job.name].standing for event in events}
+        times = {name: known[name].next for names in due.values() for name in names}
+        answers = self.scheduling.make_by_part(asked)
+        self._drop_results()
+        self._count_lost(events)
+        for call, answer in answers:
             if isinstance(answer, Taken):
-                self._start(answer, before.get(answer.name))
-        return any(isinstance(answer, (Taken, PutOff)) for answer in answers)
+                self._start(answer, times.get(answer.name))
+            elif isinstance(call, (Report, Abandon)):
+                self._reported(self._jobs.pop((call.name, call.run)), answer, before[call.name])
+        return any(isinstance(answer, (Taken, PutOff)) for _, answer in answers)
+
+    def _takes(self, due: Mapping[int, Set[str]], free: int) -> List[Tuple[int, Call, Optional[str]]]:
+        """A take for each check that is due and has a free slot."""
+        takes: List[Tuple[int, Call, Optional[str]]] = []
+        moment = self._clock.moment()
+        for part, names in due.items():
+            count = max(0, min(len(names), free - len(takes)))
+            takes += [(part, Take(moment), None)] * count
+        return takes
+
+    def _drop_results(self) -> None:
+        """Lets go of the results that were made known; one that nobody waits for any more is named."""
+        for event in self._results:
+            if not self._is_awaited(event):
+                self._jobs.pop((event.job.name, event.job.run), None)
+                self._log(f"{event.job.name}: the result of run {event.job.run} is dropped: it was given up, or the object isn't part of the site any more")
+        self._results.clear()
 
     def _start(self, taken: Taken, due: Optional[int]) -> None:
         """Runs the plugin of a check that was taken."""
@@ -162,23 +187,6 @@ class Engine:
         else:
             self._runners.start(job)
 
-    # ---- results
-
-    def _report(self) -> None:
-        """Reports the results that have come, and gives up what is lost. What can't be kept stays here."""
-        while self._results:
-            events = [event for event in self._results if self._is_awaited(event)]
-            before = {event.job.name: self.scheduling.known.objects[event.job.name].standing for event in events}
-            answers = self.scheduling.make([self._ended(event) for event in events])
-            for event in self._results:
-                if not self._is_awaited(event):
-                    self._jobs.pop((event.job.name, event.job.run), None)
-                    self._log(f"{event.job.name}: the result of run {event.job.run} is dropped: it was given up, or the object isn't part of the site any more")
-            self._results.clear()
-            for event, answer in zip(events, answers):
-                self._jobs.pop((event.job.name, event.job.run), None)
-                self._reported(event.job, answer, before[event.job.name])
-
     def _is_awaited(self, event: Event) -> bool:
         """Whether a check still runs, and its object is part of the site."""
         return (event.job.name, event.job.run) in self._jobs and event.job.name in self.scheduling.known.objects
@@ -187,13 +195,19 @@ class Engine:
         """The call by which a check ends, and the plugin's words. A check whose runner ended is given up, and at last UNKNOWN."""
         job = event.job
         if isinstance(event, Finished):
-            self._lost.pop(job.name, None)
             code, words = verdict(event, self.site.objects[job.name].is_host(), self.site.options.timeout_code)
             return Report(job.name, job.run, code), words
-        self._lost[job.name] += 1
-        if self._lost[job.name] > MOST_LOST:
-            return Report(job.name, job.run, UNKNOWN), f"its runner ended {self._lost[job.name]} times"
+        if self._lost[job.name] == MOST_LOST:
+            return Report(job.name, job.run, UNKNOWN), f"its runner ended {MOST_LOST + 1} times"
         return Abandon(job.name, job.run, self._clock.moment()), None
+
+    def _count_lost(self, events: Sequence[Event]) -> None:
+        """Counts how often in a row a check's runner ended before it."""
+        for event in events:
+            if isinstance(event, Finished) or self._lost[event.job.name] == MOST_LOST:
+                self._lost.pop(event.job.name, None)
+            else:
+                self._lost[event.job.name] += 1
 
     def _reported(self, job: Job, answer: Answer, before: Optional[Standing]) -> None:
         """What follows from a result."""
@@ -238,9 +252,10 @@ class Engine:
         """A passive result, which was stored."""
         self._passive.expect(result)
 
-    def reload(self, site: Site) -> None:
-        """Goes on with another site; what runs goes on. A site that can't be taken over changes nothing."""
-        self.scheduling.reload(site)
+    def reload(self, site: Site) -> List[str]:
+        """Goes on with another site; what runs goes on. A site that can't be taken over changes nothing. Returns what changes of objects that stay."""
+        changed = self.scheduling.reload(site)
         self.site = site
         self._sooner.become(site)
         self._minute = self._last_turn = None
+        return changed

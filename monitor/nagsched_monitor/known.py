@@ -105,8 +105,10 @@ class AllKnown:
     def _set_due(self, known: Known) -> None:
         self._due[known.watched.part].set(known.name, known.waits_until())
 
-    def due(self, part: int, moment: int) -> Set[str]:
-        return self._due[part].now(moment) if part in self._due else set()
+    def all_due(self, moment: int) -> Dict[int, Set[str]]:
+        """The objects whose time has come, by their parts."""
+        due = {part: due.now(moment) for part, due in self._due.items()}
+        return {part: names for part, names in due.items() if names}
 
     def first(self) -> Optional[int]:
         """The least time for which an object waits that isn't due yet."""

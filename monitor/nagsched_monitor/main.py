@@ -23,8 +23,8 @@ from .store import DropChangesBefore, Store
 
 DAY = 86_400
 BUSY_WAIT = 100
-# From one turn to the next at least, in seconds: what comes meanwhile is kept by one sync.
-BETWEEN_TURNS = 0.01
+# From one turn to the next at least, in seconds: what comes meanwhile is kept by one sync, which is what a turn costs most for.
+BETWEEN_TURNS = 0.05
 
 
 class Monitor:
@@ -71,22 +71,29 @@ class Monitor:
             if self._is_reload_wanted:
                 self._is_reload_wanted = False
                 self._reload_by_signal()
-            wait = max(0, wanted - self.clock.moment())
-            self._wait(min(wait, BUSY_WAIT) if self._notifier.is_busy() else wait)
-            rest = begun + BETWEEN_TURNS - time.monotonic()
-            if rest > 0:
-                time.sleep(rest)
-                self._wait(0)
+            self._rest(begun, min(wanted, self.clock.moment() + BUSY_WAIT) if self._notifier.is_busy() else wanted)
 
-    def _wait(self, milliseconds: int) -> None:
-        """Waits so long for something to come, and reads what came."""
-        for key, _ in self._selector.select(milliseconds / 1000):
+    def _rest(self, begun: float, wanted: int) -> None:
+        """Waits for the next turn: until the moment for which it is wanted, or until something has come, and what comes soon after it."""
+        came = self._wait(max(0, wanted - self.clock.moment()))
+        now = time.monotonic()
+        left = max(0, wanted - self.clock.moment()) / 1000
+        rest = max(begun + BETWEEN_TURNS - now, min(BETWEEN_TURNS, left) if came else 0)
+        if rest > 0:
+            time.sleep(rest)
+            self._wait(0)
+
+    def _wait(self, milliseconds: int) -> bool:
+        """Waits so long for something to come, and reads what came; False where nothing did."""
+        ready = self._selector.select(milliseconds / 1000)
+        for key, _ in ready:
             if key.data is not None:
                 key.data.recv(4096)  # a signal came
             elif self.control.owns(key.fd):
                 self.control.read(key.fd)
             elif key.fd in self._watched:
                 self.runners.read(key.fd)
+        return bool(ready)
 
     def _watch(self, file: int) -> None:
         self._watched.add(file)
@@ -124,13 +131,15 @@ class Monitor:
         """Reads the site anew, and goes on with it; where it is bad the old one goes on."""
         site = read_site(self._folder, self._program)
         before = self.scheduling.known.objects
-        self.engine.reload(site)
+        changed = self.engine.reload(site)
         self.site = site
         new, dropped = sorted(set(site.objects) - set(before)), sorted(set(before) - set(site.objects))
         for word, names in (("new", new), ("dropped", dropped)):
             for name in names:
                 self.log(f"{word}: {name}")
-        return {"done": "reload", "new": new, "dropped": dropped}
+        for line in changed:
+            self.log(line)
+        return {"done": "reload", "new": new, "dropped": dropped, "changed": changed}
 
     def _reload_by_signal(self) -> None:
         try:
@@ -189,7 +198,7 @@ def printed(answer: Dict[str, Any]) -> str:
     """An answer in words."""
     if "objects" not in answer:
         others = [f"{word}: {name}" for word in ("new", "dropped") for name in answer.get(word, ())]
-        return "\n".join([f"{answer['done']}: {answer.get('name', 'done')}", *others])
+        return "\n".join([f"{answer['done']}: {answer.get('name', 'done')}", *others, *answer.get("changed", ())])
     lines = []
     for it in answer["objects"]:
         marks = "".join(word for word, there in ((" FLAPPING", it["flapping"]), (" out", it["out"]), (" off", not it["on"])) if there)

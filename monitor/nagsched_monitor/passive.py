@@ -57,7 +57,7 @@ class Passive:
     def _take(self, known: Known) -> bool:
         """Takes until this object is taken. What else is taken is run."""
         for _ in range(MOST_TAKES):
-            (answer,) = self._scheduling.take(known.watched.part, 1)
+            answer = self._scheduling.take(known.watched.part)
             if isinstance(answer, Taken):
                 if answer.name == known.name:
                     return True

@@ -1,6 +1,5 @@
 """The rows of a site's database: its tables, what a row says, and the checksum of one."""
 import hashlib
-import json
 from dataclasses import dataclass
 from typing import Dict, Optional, Sequence, Union
 
@@ -63,5 +62,4 @@ class KeptChange:
 
 
 def checksum_of(table: str, number: int, cells: Sequence[Cell]) -> str:
-    texts = [cell.hex() if isinstance(cell, bytes) else cell for cell in cells]
-    return hashlib.blake2b(json.dumps([table, number, *texts]).encode(), digest_size=8).hexdigest()
+    return hashlib.blake2b(ascii((table, number, *cells)).encode(), digest_size=8).hexdigest()

@@ -1,13 +1,18 @@
 """The runner processes of a monitor. One that ends is started anew, and what it ran is reported as lost."""
+import functools
 import json
 import os
+import pathlib
 import subprocess
 import sys
 from dataclasses import dataclass, field
-from typing import Any, Callable, Dict, List, Protocol, Sequence, Union
+from typing import Any, Callable, Dict, List, Protocol, Sequence, Tuple, Union
 
 READ_BYTES = 65_536
 MODULE = "nagsched_monitor.plugins"
+# The folder of the package, and where the runner in C may lie: installed, or built in the tree.
+FOLDER = pathlib.Path(__file__).resolve().parent.parent
+COMPILED = (FOLDER / "nagsched-runner", FOLDER / "out/nagsched-runner")
 
 
 @dataclass(frozen=True)
@@ -44,7 +49,10 @@ class Runners(Protocol):
     """What the engine asks of those who run plugins."""
 
     def start(self, job: Job) -> None:
-        """Begins to run a plugin."""
+        """Has a plugin run, from the next `flush` on."""
+
+    def flush(self) -> None:
+        """Hands on the jobs that were started."""
 
     def events(self) -> List[Event]:
         """What has come since it was asked last."""
@@ -57,6 +65,7 @@ class Process:
     process: "subprocess.Popen[bytes]"
     jobs: Dict[int, Job] = field(default_factory=dict)
     unread: bytes = b""
+    unsent: bytes = b""
 
     def reads_from(self) -> int:
         assert self.process.stdin is not None
@@ -67,11 +76,27 @@ class Process:
         return self.process.stdout.fileno()
 
 
+def runner_words() -> List[str]:
+    """The command of a runner: the one in C where it was built, else the one in Python. The two answer alike."""
+    given = os.environ.get("NAGSCHED_RUNNER")
+    if given is not None:
+        return [given]
+    built = [str(file) for file in COMPILED if os.access(file, os.X_OK)]
+    return built[:1] or [sys.executable, "-m", MODULE]
+
+
+@functools.lru_cache(maxsize=None)
+def command_line(words: Tuple[str, ...], limit: float) -> bytes:
+    """The members of a job behind its number."""
+    return json.dumps({"words": words, "limit": limit})[1:].encode()
+
+
 class RunnerProcesses:
-    """Runners, one a processor. The caller waits for `files` to be readable, and calls `read` then."""
+    """Runners, one a processor. The caller watches the files that it is handed, and calls `read` where one can be read."""
 
     def __init__(self, count: int, log: Callable[[str], None], watch: Callable[[int], None], unwatch: Callable[[int], None]) -> None:
         self._log, self._watch, self._unwatch = log, watch, unwatch
+        self._words = runner_words()
         self._events: List[Event] = []
         self._number = 0
         self._processes: Dict[int, Process] = {}
@@ -79,9 +104,8 @@ class RunnerProcesses:
             self._begin()
 
     def _begin(self) -> Process:
-        environment = {**os.environ, "PYTHONPATH": os.path.dirname(os.path.dirname(os.path.abspath(__file__)))}
-        words = [sys.executable, "-m", MODULE]
-        process = Process(subprocess.Popen(words, stdin=subprocess.PIPE, stdout=subprocess.PIPE, env=environment, bufsize=0))
+        environment = {**os.environ, "PYTHONPATH": str(FOLDER)}
+        process = Process(subprocess.Popen(self._words, stdin=subprocess.PIPE, stdout=subprocess.PIPE, env=environment, bufsize=0))
         os.set_blocking(process.writes_to(), False)
         self._processes[process.writes_to()] = process
         self._watch(process.writes_to())
@@ -91,12 +115,16 @@ class RunnerProcesses:
         self._number += 1
         process = min(self._processes.values(), key=lambda process: len(process.jobs))
         process.jobs[self._number] = job
-        line = json.dumps({"job": self._number, "words": list(job.words), "limit": job.limit}).encode() + b"\n"
-        try:
-            while line:
-                line = line[os.write(process.reads_from(), line) :]
-        except BrokenPipeError:
-            self._restart(process)
+        process.unsent += b'{"job":%d,%s\n' % (self._number, command_line(tuple(job.words), job.limit))
+
+    def flush(self) -> None:
+        """Hands on the jobs that were started, with one write for each runner."""
+        for process in [process for process in self._processes.values() if process.unsent]:
+            try:
+                while process.unsent:
+                    process.unsent = process.unsent[os.write(process.reads_from(), process.unsent) :]
+            except BrokenPipeError:
+                self._restart(process)
 
     def read(self, file: int) -> None:
         """Reads the results of a runner."""

@@ -1,5 +1,6 @@
 """The schedulers of a site, one a part: each call is kept before it is made, and what the answers say is known."""
 import itertools
+import subprocess
 import time
 from typing import Callable, Dict, List, Optional, Sequence, Tuple
 
@@ -20,6 +21,15 @@ SAY_EVERY = 1.0
 # A call, and the words of the plugin that it reports.
 Asked = Tuple[Call, Optional[str]]
 Changed = Callable[[KeptChange, Optional[Standing]], None]
+
+
+def carried(program: str, setup: bytes, saved: bytes) -> List[str]:
+    """What a setup changes of the saved objects that it keeps, a line each. Where one of the two is refused it is a fault, and nothing has changed."""
+    ran = subprocess.run([program, "check", "--resume"], input=setup + b"\n" + saved + b"\n", stdout=subprocess.PIPE, check=False)
+    lines = ran.stdout.decode(errors="replace").splitlines()
+    if ran.returncode:
+        raise MonitorFault(f"the saved state can't be taken over: {'; '.join(lines)}")
+    return [line for line in lines if line.startswith(("changed ", "given_up ")) and line != "given_up 0"]
 
 
 class Scheduling:
@@ -90,6 +100,8 @@ class Scheduling:
                 f"part {generation.part + 1} has another setup than the one that was kept, and this nagsched saves no states: "
                 "move monitor.db away to begin anew"
             )
+        for line in carried(self._program, setup, saved):
+            self._log(line)
         self._begin(Generation(generation.part, setup, self._clock.moment(), saved, self._store.last_call))
         self._read_saved([generation.part])
 
@@ -109,12 +121,15 @@ class Scheduling:
             for call, answer in zip(calls, conversation.ask(calls)):
                 self.known.hear(call, answer)
 
-    def reload(self, site: Site) -> None:
-        """Goes on with another site. Parts whose setup is another are saved, and gone on with over it; where that can't be the old site stays."""
+    def reload(self, site: Site) -> List[str]:
+        """Goes on with another site. Parts whose setup is another are saved, and gone on with over it; where that can't be the old site stays.
+
+        Returns what the setups change of objects that stay, a line each."""
         others = {part: setup for part, setup in enumerate(site.setups) if list(self.site.setups[part : part + 1]) != [setup]}
         saved = {part: self._conversations[part].save() for part in others if part in self._conversations}
         if None in saved.values():
             raise MonitorFault("another setup is taken over from a saved state, and this nagsched saves none: stop, and move monitor.db away to begin anew")
+        changed = [line for part, state in saved.items() if state is not None for line in carried(self._program, others[part], state)]
         self.flush()
         self.site = site
         for part in [part for part in self._conversations if part >= len(site.setups) or part in others]:
@@ -124,6 +139,7 @@ class Scheduling:
         self.known.become(site.objects)
         self._read_saved(list(others))
         self._ask_unknown()
+        return changed
 
     def _read_saved(self, parts: Sequence[int]) -> None:
         """Reads from the state of a scheduler what its answers don't say: switches, forced marks and runs."""
@@ -149,10 +165,15 @@ class Scheduling:
         """Keeps these calls, with what else is to be written, and makes them. Where nothing can be kept none is made: `NotStored`."""
         return self._make([(self.part_of(call), call, words) for call, words in asked], writes)
 
-    def take(self, part: int, count: int) -> List[Answer]:
-        """Takes so many checks of a part."""
-        moment = self._clock.moment()
-        return self._make([(part, Take(moment), None)] * count, ())
+    def make_by_part(self, asked: Sequence[Tuple[int, Call, Optional[str]]]) -> List[Tuple[Call, Answer]]:
+        """The same for calls with their parts. Those of one part are made in their order, one part after the other."""
+        ordered = sorted(asked, key=lambda each: each[0])
+        return list(zip([call for _, call, _ in ordered], self._make(ordered, ())))
+
+    def take(self, part: int) -> Answer:
+        """Takes one check of a part."""
+        (answer,) = self._make([(part, Take(self._clock.moment()), None)], ())
+        return answer
 
     def _make(self, asked: Sequence[Tuple[int, Call, Optional[str]]], writes: Sequence[Write]) -> List[Answer]:
         if not asked and not writes and not self._later:

@@ -128,8 +128,14 @@ class Store:
     def insert(self, table: str, number: Optional[int], cells: Sequence[Cell]) -> None:
         """Writes a row; without a number it has the next one."""
         number = self._greatest(table) + 1 if number is None else number
-        marks = ",".join("?" * (len(cells) + 2))
-        self._database.execute(f"INSERT OR REPLACE INTO {table} VALUES ({marks})", (number, *cells, checksum_of(table, number, cells)))
+        self.insert_all(table, [(number, cells)])
+
+    def insert_all(self, table: str, rows: Sequence[Tuple[int, Sequence[Cell]]]) -> None:
+        """Writes rows, each with its number."""
+        if rows:
+            marks = ",".join("?" * (len(rows[0][1]) + 2))
+            given = [(number, *cells, checksum_of(table, number, cells)) for number, cells in rows]
+            self._database.executemany(f"INSERT OR REPLACE INTO {table} VALUES ({marks})", given)
 
     def delete(self, table: str, condition: str, *cells: Cell) -> None:
         self._database.execute(f"DELETE FROM {table} WHERE {condition}", cells)
@@ -163,9 +169,9 @@ class KeepCalls(Write):
     calls: Sequence[Tuple[int, str, Optional[str]]]
 
     def carry_out(self, store: Store) -> None:
-        for cells in self.calls:
-            store.last_call += 1
-            store.insert("calls", store.last_call, cells)
+        first = store.last_call + 1
+        store.insert_all("calls", list(enumerate(self.calls, first)))
+        store.last_call += len(self.calls)
 
 
 @dataclass(frozen=True)

@@ -50,6 +50,9 @@ class SimulatedRunners:
         self.started.append((self.clock.now, job))
         heapq.heappush(self._ends, (self.clock.now + took, len(self.started), Finished(job, "exited", code, output)))
 
+    def flush(self) -> None:
+        pass
+
     def events(self) -> List[Event]:
         events: List[Event] = []
         while self._ends and self._ends[0][0] <= self.clock.now:

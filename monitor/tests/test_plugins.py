@@ -3,28 +3,18 @@ import json
 import os
 import pathlib
 import select
+import shutil
 import signal
 import subprocess
 import sys
+import tempfile
 import time
 import unittest
-from typing import Any, Dict, List
+from typing import Any, ClassVar, Dict, List, Sequence
 
 from nagsched_monitor.runners import MODULE, Finished, Job, Lost, RunnerProcesses
 
-WORDS = [sys.executable, "-m", MODULE]
 HERE = pathlib.Path(__file__).resolve().parent.parent
-
-
-def ran(*jobs: Dict[str, Any]) -> List[Dict[str, Any]]:
-    """The results of these jobs, by their numbers."""
-    with subprocess.Popen(WORDS, cwd=HERE, stdin=subprocess.PIPE, stdout=subprocess.PIPE) as runner:
-        assert runner.stdin is not None and runner.stdout is not None
-        runner.stdin.write(b"".join(json.dumps(job).encode() + b"\n" for job in jobs))
-        runner.stdin.flush()
-        results = [json.loads(runner.stdout.readline()) for _ in jobs]
-        runner.stdin.close()
-    return sorted(results, key=lambda result: int(result["job"]))
 
 
 def shell(job: int, line: str, limit: float = 10) -> Dict[str, Any]:
@@ -32,42 +22,56 @@ def shell(job: int, line: str, limit: float = 10) -> Dict[str, Any]:
 
 
 class OneRunner(unittest.TestCase):
+    """The runner in Python."""
+
+    words: ClassVar[Sequence[str]] = [sys.executable, "-m", MODULE]
+
+    def ran(self, *jobs: Dict[str, Any]) -> List[Dict[str, Any]]:
+        """The results of these jobs, by their numbers."""
+        with subprocess.Popen(self.words, cwd=HERE, stdin=subprocess.PIPE, stdout=subprocess.PIPE) as runner:
+            assert runner.stdin is not None and runner.stdout is not None
+            runner.stdin.write(b"".join(json.dumps(job).encode() + b"\n" for job in jobs))
+            runner.stdin.flush()
+            results = [json.loads(runner.stdout.readline()) for _ in jobs]
+            runner.stdin.close()
+        return sorted(results, key=lambda result: int(result["job"]))
+
     def test_codes_and_words(self) -> None:
-        results = ran(shell(1, "echo fine"), shell(2, "echo bad; exit 2"), shell(3, "kill -9 $$"), shell(4, "exit 77"))
+        results = self.ran(shell(1, "echo fine"), shell(2, "echo bad; exit 2"), shell(3, "kill -9 $$"), shell(4, "exit 77"))
         self.assertEqual([(it["end"], it["code"]) for it in results], [("exited", 0), ("exited", 2), ("signal", 9), ("exited", 77)])
         self.assertEqual([it["output"] for it in results], ["fine\n", "bad\n", "", ""])
 
     def test_a_program_that_is_gone(self) -> None:
-        (result,) = ran({"job": 1, "words": ["/no/such/plugin"], "limit": 1})
+        (result,) = self.ran({"job": 1, "words": ["/no/such/plugin"], "limit": 1})
         self.assertEqual(result["end"], "failed")
         self.assertIn("/no/such/plugin", result["output"])
 
     def test_a_limit(self) -> None:
         begin = time.monotonic()
-        (result,) = ran(shell(1, "echo begun; sleep 60", 0.3))
+        (result,) = self.ran(shell(1, "echo begun; sleep 60", 0.3))
         self.assertEqual((result["end"], result["output"]), ("limit", "begun\n"))
         self.assertLess(time.monotonic() - begin, 5)
 
     def test_a_child_that_keeps_the_output(self) -> None:
         begin = time.monotonic()
-        (result,) = ran(shell(1, "echo fine; sleep 30 & exit 0"))
+        (result,) = self.ran(shell(1, "echo fine; sleep 30 & exit 0"))
         self.assertEqual((result["end"], result["code"], result["output"]), ("exited", 0, "fine\n"))
         self.assertLess(time.monotonic() - begin, 5)
 
     def test_much_output(self) -> None:
-        (result,) = ran(shell(1, "head -c 1000000 /dev/zero | tr '\\0' x"))
+        (result,) = self.ran(shell(1, "head -c 1000000 /dev/zero | tr '\\0' x"))
         self.assertEqual((result["end"], result["output"]), ("exited", "x" * 65_536))
 
     def test_output_that_is_no_text(self) -> None:
-        (result,) = ran(shell(1, "printf '\\377fine'"))
+        (result,) = self.ran(shell(1, "printf '\\377fine'"))
         self.assertEqual(result["output"], "\ufffdfine")
 
     def test_signals_are_as_usual_in_a_plugin(self) -> None:
-        (result,) = ran(shell(1, "kill -TERM $$; echo alive"))
+        (result,) = self.ran(shell(1, "kill -TERM $$; echo alive"))
         self.assertEqual((result["end"], result["code"]), ("signal", signal.SIGTERM))
 
     def test_its_plugins_end_with_it(self) -> None:
-        with subprocess.Popen(WORDS, cwd=HERE, stdin=subprocess.PIPE, stdout=subprocess.PIPE) as runner:
+        with subprocess.Popen(self.words, cwd=HERE, stdin=subprocess.PIPE, stdout=subprocess.PIPE) as runner:
             assert runner.stdin is not None
             runner.stdin.write(json.dumps(shell(1, "exec sleep 4321")).encode() + b"\n")
             runner.stdin.flush()
@@ -75,6 +79,37 @@ class OneRunner(unittest.TestCase):
             runner.stdin.close()
             self.assertEqual(runner.wait(timeout=5), 0)
         self.assertNotEqual(subprocess.run(["pgrep", "-f", "^sleep 4321$"], stdout=subprocess.DEVNULL, check=False).returncode, 0)
+
+
+    def test_words_that_json_escapes(self) -> None:
+        words = "a\"b\\c\td\u00fc\u20ac\U0001f600\x01"
+        (result,) = self.ran({"job": 1, "words": ["printf", "%s", words], "limit": 5})
+        self.assertEqual(result["output"], words)
+
+
+@unittest.skipUnless(shutil.which("cc"), "cc isn't here")
+class CompiledRunner(OneRunner):
+    """The runner in C, which answers as the one in Python."""
+
+    @classmethod
+    def setUpClass(cls) -> None:
+        folder = tempfile.TemporaryDirectory()
+        cls.addClassCleanup(folder.cleanup)
+        file = os.path.join(folder.name, "nagsched-runner")
+        subprocess.run([HERE / "build_runner.sh", file], check=True)
+        cls.words = [file]
+
+    def test_lines_that_are_no_jobs(self) -> None:
+        """It ends, and the monitor starts another."""
+        for line in ("", "[]", "{}", '{"job":1}', '{"job":1,"words":[],"limit":1}', '{"job":1,"words":["true"],"limit":}', '{"job":1,"words":["a',
+                     '{"job":1,"words":["\\u0000"],"limit":1}', '{"job":1,"words":["\\ud800"],"limit":1}', '{"job":-1,"words":["true"],"limit":1}'):
+            ran = subprocess.run(self.words, input=line.encode() + b"\n", stdout=subprocess.PIPE, timeout=5, check=False)
+            self.assertEqual((line, ran.returncode, ran.stdout), (line, 0, b""))
+
+    def test_invalid_bytes(self) -> None:
+        """Each byte that is part of no character is replaced; characters of each length are not."""
+        (result,) = self.ran(shell(1, "printf '\\303\\251\\342\\202\\254\\360\\237\\230\\200 \\300\\200 \\355\\240\\200 \\364\\220\\200\\200 \\342\\202'"))
+        self.assertEqual(result["output"], "\u00e9\u20ac\U0001f600 " + 2 * "\ufffd" + " " + 3 * "\ufffd" + " " + 4 * "\ufffd" + " " + 2 * "\ufffd")
 
 
 class ManyRunners(unittest.TestCase):
@@ -85,6 +120,7 @@ class ManyRunners(unittest.TestCase):
         self.addCleanup(self.runners.close)
 
     def wait(self, count: int) -> List[Any]:
+        self.runners.flush()
         events: List[Any] = []
         for _ in range(100):
             for file in select.select(self.files, [], [], 0.1)[0]:
@@ -103,6 +139,7 @@ class ManyRunners(unittest.TestCase):
     def test_a_runner_that_is_killed(self) -> None:
         for run in range(4):
             self.runners.start(Job("web", run, ["sleep", "60"], 100))
+        self.runners.flush()
         os.kill(self.runners.process_ids()[0], signal.SIGKILL)
         events = self.wait(2)
         self.assertEqual([type(event) for event in events], [Lost, Lost])

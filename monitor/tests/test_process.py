@@ -51,11 +51,12 @@ class Running(SiteTest):
         return [line for (line,) in database.execute("SELECT line FROM calls ORDER BY id")]
 
     def answers(self, calls: List[str]) -> List[str]:
-        """What one run answers to the calls that were kept."""
+        """What one run answers to the calls that were kept, from the state that was saved before them."""
         with sqlite3.connect(self.folder / "monitor.db") as database:
-            setup, start = database.execute("SELECT setup, start FROM generations").fetchone()
-        given = setup + b"\n" + "".join(f"{call}\n" for call in calls).encode()
-        ran = subprocess.run([PROGRAM, "run", "--start", str(start)], input=given, stdout=subprocess.PIPE, text=False, check=True)
+            setup, start, saved = database.execute("SELECT setup, start, saved FROM generations").fetchone()
+        given = setup + b"\n" + (b"" if saved is None else saved + b"\n") + "".join(f"{call}\n" for call in calls).encode()
+        words = [PROGRAM, "run", *([] if saved is None else ["--resume"]), "--start", str(start)]
+        ran = subprocess.run(words, input=given, stdout=subprocess.PIPE, text=False, check=True)
         lines: List[str] = ran.stdout.decode().splitlines()
         return lines
 
@@ -67,6 +68,8 @@ class Running(SiteTest):
         for kill in range(KILLS):
             running = self.begin()
             time.sleep(chance.uniform(0.05, 0.6))
+            if kill == KILLS // 3:
+                self.ask("save")
             victims = [running.pid, *self.children_of(running.pid)]
             os.kill(victims[kill % len(victims)], signal.SIGKILL)
             time.sleep(0.2)
@@ -150,6 +153,45 @@ class Running(SiteTest):
         running.send_signal(signal.SIGHUP)
         output = self.end(running)
         self.assertNotIn("too late", output)
+
+    def test_reload_over_another_setup(self) -> None:
+        """What both setups have goes on, with its state and attempt; what is new begins, what is gone is dropped, and what changes is named."""
+        self.write_site([*self.objects(2), {"name": "gone", "check_interval": 1, "max_check_attempts": 3}], [])
+        self.write("commands.json", {name: {"line": f"echo {name}; exit 2", "shell": True} for name in ("h00", "h01", "gone")})
+        running = self.begin()
+        time.sleep(3.5)
+        self.assertIn("DOWN HARD 2 h00: h00", self.ask("status").stdout)
+        hosts = [{**self.objects(1)[0], "check_interval": 100, "retry_interval": 100, "max_check_attempts": 4}, self.objects(2)[1]]
+        self.write_site([*hosts, {"name": "new", "check_interval": 100, "max_check_attempts": 1}], [])
+        self.write("commands.json", {name: {"line": f"echo {name}; exit 2", "shell": True} for name in ("h00", "h01", "new")})
+        told = self.ask("reload").stdout.splitlines()
+        self.assertEqual(told, ["reload: done", "new: new", "dropped: gone", "changed attempts h00", "changed interval h00"])
+        time.sleep(1.5)
+        states = self.ask("status").stdout.splitlines()
+        self.assertEqual([state.replace(" out", "") for state in states], ["DOWN HARD 4 h00: h00", "DOWN HARD 2 h01: h01", "DOWN HARD 1 new: new"])
+        output = self.end(running)
+        self.assertNotIn("h00 is UP", output)
+        with sqlite3.connect(self.folder / "monitor.db") as database:
+            (runs,) = database.execute("SELECT saved FROM generations").fetchone()
+        self.assertGreater(json.loads(runs)["runs"], 10)
+
+    def test_a_saved_state(self) -> None:
+        """Calls before it are let go; a monitor that is killed goes on from it, and from the calls since."""
+        self.write_site(self.objects(3, check_interval=300), [])
+        self.write("commands.json", {name: {"line": f"echo {name}; exit 2", "shell": True} for name in ("h00", "h01", "h02")})
+        running = self.begin()
+        time.sleep(1.5)
+        before = self.ask("status").stdout
+        self.assertEqual(self.ask("save").stdout, "save: done\n")
+        with sqlite3.connect(self.folder / "monitor.db") as database:
+            self.assertEqual(self.calls(database), [])
+        self.ask("disable", "h02")
+        self.end(running, signal.SIGKILL)
+        running = self.begin()
+        after = self.ask("status").stdout
+        self.assertEqual([line.split(":")[0].replace(" off", "") for line in after.splitlines()], [line.split(":")[0] for line in before.splitlines()])
+        self.assertIn("off h02", after)
+        self.end(running)
 
     def test_no_site(self) -> None:
         told = subprocess.run([sys.executable, str(MONITOR), str(self.folder), "test"], capture_output=True, text=True, check=False)
