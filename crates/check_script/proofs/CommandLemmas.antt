@@ -9,7 +9,7 @@ use Rattle.serde_json.specs.View.{items_view}
 use Rattle.serde_json.specs.declared.value.Value.{Value}
 use Rattle.check_objects.specs.Tree.{tree_of}
 use Rattle.check_objects.specs.Configuration.{Configuration}
-use Rattle.check_script.specs.Command.{call_by, one_of, take_call, three_of, two_of}
+use Rattle.check_script.specs.Command.{call_by, one_of, save_command, take_call, three_of, two_of}
 use Rattle.check_script.specs.declared.refusal.InputRefusal.{InputRefusal}
 use Rattle.check_script.specs.declared.refusal.LineFault.TheVariants as fault
 
@@ -32,6 +32,11 @@ pub take_members : (vs : List Value) → 2 ≤ length vs → take_call (items_vi
 take_members [] h = absurd (omega arith)
 take_members (v ∷ []) h = absurd (omega arith)
 take_members (v ∷ w ∷ vs) h = refl
+
+-- `save` has none
+pub save_members : (vs : List Value) → 1 ≤ length vs → save_command (items_view vs) ≡ Err fault.Shape
+save_members [] h = absurd (omega arith)
+save_members (v ∷ vs) h = refl
 
 -- the same of the members beside other words: one, two or three
 

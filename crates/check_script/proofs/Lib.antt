@@ -5,3 +5,4 @@ pub mod KeptLemmas
 pub mod CommandLemmas
 pub mod ScriptLemmas
 pub mod DrillLemmas
+pub mod ResumedScriptLemmas

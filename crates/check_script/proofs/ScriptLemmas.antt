@@ -12,7 +12,7 @@ use Rattle.check_drafts.specs.Agreement.{◌>>=◌, with_front, Fails}
 use Rattle.check_script.specs.Agreement.{refusal}
 use Rattle.check_script.specs.Line.{command_of, is_blank}
 use Rattle.check_script.specs.Input.{lines_of, onto_first}
-use Rattle.check_script.specs.Script.{Script, all_or_first, commands_of, in_setup, numbered_from, script_by, script_in, script_over}
+use Rattle.check_script.specs.Script.{Script, all_or_first, commands_behind, commands_of, in_setup, numbered_from, script_by, script_in, script_over}
 use Rattle.check_script.specs.declared.input.Lines.{Lines}
 use Rattle.check_script.specs.declared.script.TheConstants.{MAX_INPUT_BYTES}
 use Rattle.check_script.specs.declared.refusal.InputRefusal.{InputRefusal}
@@ -51,6 +51,10 @@ commands_numbered meaning n (line ∷ ls) =
 pub commands_by_line : {K : Type 0} (meaning : List ℕ → Items → Result K LineFault) (ls : List (List ℕ))
     → commands_of meaning ls ≡ commands_from meaning 2 ls
 commands_by_line meaning ls = commands_numbered meaning 2 ls
+
+pub commands_by_number : {K : Type 0} (meaning : List ℕ → Items → Result K LineFault) (n : ℕ) (ls : List (List ℕ))
+    → commands_behind n meaning ls ≡ commands_from meaning n ls
+commands_by_number = commands_numbered
 
 -- a blank line is passed over, and counted
 pub blank_passed : {K : Type 0} (meaning : List ℕ → Items → Result K LineFault) (n : ℕ) (all : Result (List K) InputRefusal) (front : List K)

@@ -1,4 +1,4 @@
--- The words of `run`, and the call that each means with the members after it.
+-- The words of `run`, and the command that each means with the members after it.
 use Rattle.std.specs.Prelude.{ℕ, Bool, List, Option, Some, None, Result, Ok, Err, ok_or, codes, bytes_eq, if◌then◌else◌}
 use Rattle.serde_json.specs.Data.{Data, Items, no_items, item}
 use Rattle.serde_json.specs.Find.{as_bool, as_str}
@@ -7,6 +7,8 @@ use Rattle.check_objects.specs.Configuration.{Configuration, number_of}
 use Rattle.check_rules.specs.Numbers.{numbered_code}
 use Rattle.check_sched.specs.declared.call.Call.{Call}
 use Rattle.check_sched.specs.declared.call.Call.TheVariants as call
+use Rattle.check_script.specs.declared.command.RunCommand.{RunCommand}
+use Rattle.check_script.specs.declared.command.RunCommand.TheVariants as command
 use Rattle.check_script.specs.declared.refusal.LineFault.{LineFault}
 use Rattle.check_script.specs.declared.refusal.LineFault.TheVariants as fault
 use Rattle.check_drafts.specs.Agreement.{◌>>=◌}
@@ -84,6 +86,11 @@ abbrev pub status_call : Configuration → Items → Result Call LineFault
 status_call c members = ok_or (name_in members) fault.Shape >>= λ name.
     (object_named c name >>= λ object. Ok (call.Status object))
 
+-- `["save"]`: what is to be saved of the scheduler
+abbrev pub save_command : Items → Result RunCommand LineFault
+save_command no_items = Ok command.Save
+save_command members = Err fault.Shape
+
 -- ---- all words
 
 -- the call of a word with these members after it
@@ -94,3 +101,8 @@ call_by c word members = if bytes_eq word (codes "take") then take_call members
     else (if bytes_eq word (codes "reschedule") then reschedule_call c members
     else (if bytes_eq word (codes "enable") then enable_call c members
     else (if bytes_eq word (codes "status") then status_call c members else Err fault.Shape)))))
+
+-- the command of a word with these members after it: to save, or a call
+abbrev pub command_by : Configuration → List ℕ → Items → Result RunCommand LineFault
+command_by c word members =
+    if bytes_eq word (codes "save") then save_command members else (call_by c word members >>= λ made. Ok (command.Call made))

@@ -10,3 +10,5 @@ pub mod DrillScript
 pub mod DrillScripted
 pub mod Scripted
 pub mod Agreement
+pub mod ResumedScript
+pub mod ResumedScripted

@@ -6,13 +6,13 @@ use Rattle.serde_json.specs.Data.{Items}
 use Rattle.check_objects.specs.Configuration.{Configuration}
 use Rattle.check_objects.specs.Setup.{setup_of}
 use Rattle.check_drafts.specs.declared.error.LoadError.{LoadError}
-use Rattle.check_sched.specs.declared.call.Call.{Call}
 use Rattle.check_script.specs.declared.script.TheConstants.{MAX_INPUT_BYTES}
 use Rattle.check_script.specs.declared.refusal.LineFault.{LineFault}
 use Rattle.check_script.specs.declared.refusal.LineFault.TheVariants as fault
 use Rattle.check_script.specs.declared.refusal.InputRefusal.{InputRefusal}
 use Rattle.check_script.specs.declared.refusal.InputRefusal.TheVariants as refusal
-use Rattle.check_script.specs.Command.{call_by}
+use Rattle.check_script.specs.Command.{command_by}
+use Rattle.check_script.specs.declared.command.RunCommand.{RunCommand}
 use Rattle.check_script.specs.Input.{lines_of}
 use Rattle.check_drafts.specs.Agreement.{◌>>=◌}
 use Rattle.check_script.specs.Line.{is_blank, command_of}
@@ -31,9 +31,13 @@ abbrev pub all_or_first : {A E : Type 0} → List (Result A E) → Result (List 
 all_or_first [] = Ok []
 all_or_first (r ∷ rs) = r >>= λ x. (all_or_first rs >>= λ xs. Ok (x ∷ xs))
 
+-- the commands of the lines that aren't blank, up to the first fault, where the first of the lines has the number n
+abbrev pub commands_behind : {K : Type 0} → ℕ → (List ℕ → Items → Result K LineFault) → List (List ℕ) → Result (List K) InputRefusal
+commands_behind n meaning lines = all_or_first (map (λ p. command_of meaning p.0 p.1) (numbered_from n lines))
+
 -- The commands of the lines that aren't blank, up to the first fault. Line 1 is the setup, so these count from 2.
 abbrev pub commands_of : {K : Type 0} → (List ℕ → Items → Result K LineFault) → List (List ℕ) → Result (List K) InputRefusal
-commands_of meaning lines = all_or_first (map (λ p. command_of meaning p.0 p.1) (numbered_from 2 lines))
+commands_of meaning lines = commands_behind 2 meaning lines
 
 -- a refusal of the setup document as a refusal of the input
 abbrev pub in_setup : Result Configuration LoadError → Result Configuration InputRefusal
@@ -56,6 +60,6 @@ unfoldable pub script_by : {K : Type 0} → (Configuration → List ℕ → Item
 script_by meaning input =
     if nat_lt MAX_INPUT_BYTES (length input) then Err (refusal.Line fault.TooLong 0) else script_in meaning (lines_of input)
 
--- the script of an input of `run`, whose commands are calls
-abbrev pub script_of : List ℕ → Result (Script Call) InputRefusal
-script_of input = script_by call_by input
+-- the script of an input of `run`
+abbrev pub script_of : List ℕ → Result (Script RunCommand) InputRefusal
+script_of input = script_by command_by input

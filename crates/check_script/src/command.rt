@@ -1,12 +1,12 @@
-//! The words of `run`: the calls of a script. Each word has one function here and one definition in
-//! `specs/Command.antt`.
+//! The words of `run`: the calls of a script, and `save`. Each word has one function here and one
+//! definition in `specs/Command.antt`.
 ghost use Rattle.std.specs.Prelude.{◌≡◌, option_map, Err};
 ghost use Rattle.serde_json.specs.View.{items_view};
+ghost use Rattle.check_script.specs.Command.{command_by, save_command};
 ghost use Rattle.check_script.specs.Command.{call_by, take_call, report_call, abandon_call};
 ghost use Rattle.check_script.specs.Command.{reschedule_call, enable_call, status_call};
 ghost use Rattle.check_script.specs.Command.{name_in, name_and_switch, name_and_numbers};
 ghost use Rattle.check_script.specs.Command.{name_number_switch, object_named};
-ghost use Rattle.check_sched.specs.declared.call.Call.{Call};
 
 use crate::line::{Command, refused};
 use crate::refusal::{LineFault, ScriptError};
@@ -16,12 +16,23 @@ use check_sched::Call;
 use serde_json::Value;
 use std::alloc::Global;
 
-impl Command for Call {
-    ghost Seen = { Call };
+/// A command of a run.
+#[derive(Clone, Copy, Debug, PartialEq, Eq)]
+pub enum RunCommand {
+    /// A call of the scheduler.
+    Call(Call),
+    /// What is to be saved of the scheduler, which stays as it is. (Our own profile.)
+    Save,
+}
 
-    ghost seen = { λ call. call };
+impl Command for RunCommand {
+    ghost use Rattle.check_script.specs.declared.command.RunCommand as declared;
 
-    ghost meaning = { call_by };
+    ghost Seen = { declared.RunCommand };
+
+    ghost seen = { λ command. command };
+
+    ghost meaning = { command_by };
 
     fn read(
         _alloc: Global,
@@ -29,11 +40,32 @@ impl Command for Call {
         word: &str,
         members: &[Value],
         number: usize,
-    ) -> Result<Call, ScriptError> {
-        match call_by(setup, word, members) {
-            Ok(call) => Ok(call),
+    ) -> Result<RunCommand, ScriptError> {
+        match command_by(setup, word, members) {
+            Ok(command) => Ok(command),
             Err(fault) => Err(refused(fault, number)),
         }
+    }
+}
+
+/// The command of a word with these members after it.
+fn command_by(setup: &Setup, word: &str, members: &[Value]) -> Result<RunCommand, LineFault>
+    ensures { result ≡ command_by setup.now word.now (items_view members.now) }
+{
+    match word {
+        "save" => save_command(members),
+        _ => Ok(RunCommand::Call(call_by(setup, word, members)?)),
+    }
+}
+
+/// `["save"]`: what is to be saved of the scheduler.
+#[tactic(auto, using(crate::proofs::CommandLemmas::save_members))]
+fn save_command(members: &[Value]) -> Result<RunCommand, LineFault>
+    ensures { result ≡ save_command (items_view members.now) }
+{
+    match members {
+        [] => Ok(RunCommand::Save),
+        _ => Err(LineFault::Shape),
     }
 }
 

@@ -6,9 +6,10 @@
 //! `script` (a setup, and a command for each later line), `line` (the command of one line: its length,
 //! its tree, its word; the trait [`Command`], which each vocabulary implements). The vocabularies are
 //! `command`, the words of `run`, and `drill_command`, the words of `drill`, whose commands
-//! `drill_script` puts together. `refusal` has the errors of an input, and `drive_error` why a run or
-//! a drill ends early; `reader` is where a reader is asked, `live_input` the lines of a conversation, and
-//! `live_error` why it ends early. `laws` says the limits of an input as numbers.
+//! `drill_script` puts together; `resumed_script` is a script with a saved state on its line 2. `refusal`
+//! has the errors of an input, and `drive_error` why a run or a drill ends early; `reader` is where a
+//! reader is asked, `live_input` the lines of a conversation, and `live_error` why it ends early. `laws`
+//! says the limits of an input as numbers.
 
 mod command;
 mod drill_command;
@@ -21,8 +22,10 @@ mod live_error;
 mod live_input;
 mod reader;
 mod refusal;
+mod resumed_script;
 mod script;
 
+pub use command::RunCommand;
 pub use drill_command::DrillCommand;
 pub use drill_script::DrillScript;
 pub use drive_error::DriveError;
@@ -30,9 +33,10 @@ pub use input::{Lines, MAX_READ_BYTES, read_input};
 pub use line::Command;
 pub use live_error::LiveError;
 pub use live_input::{
-    ASKED_BYTES, InputBuffer, KEPT_LINE_BYTES, KEPT_SETUP_BYTES, KeptLine, read_kept,
-    take_first_line,
+    ASKED_BYTES, InputBuffer, KEPT_LINE_BYTES, KEPT_SAVED_BYTES, KEPT_SETUP_BYTES, KeptLine,
+    read_kept, take_first_line,
 };
 pub use reader::{ReaderFault, ask_reader};
 pub use refusal::{InputRefusal, LineFault, ScriptError};
+pub use resumed_script::{ResumedScript, read_saved};
 pub use script::{MAX_INPUT_BYTES, Script, read_setup};

@@ -24,6 +24,9 @@ pub const ASKED_BYTES: usize = 8192;
 /// known to be too long.
 pub const KEPT_SETUP_BYTES: usize = 16_777_217;
 
+/// How many bytes are kept of what was saved, on line 2: one more than it may have.
+pub const KEPT_SAVED_BYTES: usize = 16_777_217;
+
 /// How many bytes of a later line are kept: one more than it may have.
 pub const KEPT_LINE_BYTES: usize = 4097;
 

@@ -5,6 +5,7 @@ ghost use Rattle.check_script.specs.Agreement.{refusal};
 
 use crate::drive_error::DriveError;
 use check_objects::LoadError;
+use check_saved::SavedFault;
 use std::alloc::{AllocError, AllocFailed};
 
 /// What is wrong with a line of a script, in the order in which a line is tested.
@@ -28,6 +29,8 @@ pub enum LineFault {
 pub enum InputRefusal {
     /// The setup document, which is line 1, was refused.
     Setup(LoadError),
+    /// What was saved, which is line 2 of an input that goes on from it, was refused.
+    Saved(SavedFault),
     /// A later line was refused, or with line 0 the whole input.
     Line { fault: LineFault, line: usize },
 }

@@ -3,7 +3,7 @@
 ghost use Rattle.std.specs.Prelude.{◌≤◌, length, map};
 ghost use Rattle.check_objects.specs.Setup.{setup_of};
 ghost use Rattle.check_script.specs.Input.{lines_of};
-ghost use Rattle.check_script.specs.Script.{commands_of, script_by, script_over, in_setup};
+ghost use Rattle.check_script.specs.Script.{commands_behind, script_by, script_over, in_setup};
 ghost use Rattle.check_script.specs.Scripted.{script};
 ghost use Rattle.check_script.specs.Agreement.{Gives};
 
@@ -51,7 +51,7 @@ fn read_over<C: Command>(
         (script_over C.meaning document.now (lines_of lines.entry.rest.now)) }
 {
     let setup = read_setup(alloc, document)?;
-    let commands = read_commands(alloc, &setup, lines)?;
+    let commands = read_commands(alloc, &setup, lines, 2)?;
     Ok(Script { setup, commands })
 }
 
@@ -66,19 +66,21 @@ pub fn read_setup(alloc: Global, document: &[u8]) -> Result<Setup, ScriptError>
     }
 }
 
-/// The commands of the lines from line 2 on. A blank line is passed over, whatever its length, but
-/// counted.
-fn read_commands<C: Command>(
+/// The commands of these lines, of which the first has this number. A blank line is passed over,
+/// whatever its length, but counted.
+pub(crate) fn read_commands<C: Command>(
     alloc: Global,
     setup: &Setup,
     lines: Lines<'_>,
+    first: usize,
 ) -> Result<Vec<C>, ScriptError>
-    requires { length (lines_of lines.rest.now) ≤ MAX_INPUT_BYTES }
+    requires few { length (lines_of lines.rest.now) ≤ MAX_INPUT_BYTES }
+    requires first { first ≤ 3 }
     ensures { Gives (λ v. map C.seen v.items) result
-        (commands_of (C.meaning setup.now) (lines_of lines.entry.rest.now)) }
+        (commands_behind first (C.meaning setup.now) (lines_of lines.entry.rest.now)) }
 {
     let mut commands = Vec::new(alloc);
-    let mut number = 2;
+    let mut number = first;
     for line in lines {
         if !is_blank(line) {
             commands.push(read_command(alloc, setup, line, number)?)?;

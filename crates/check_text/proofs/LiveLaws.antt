@@ -7,14 +7,13 @@ use Rattle.check_objects.specs.Setup.{setup_of}
 use Rattle.check_drafts.specs.Agreement.{◌>>=◌}
 use Rattle.check_drafts.specs.declared.error.LoadError.{LoadError}
 use Rattle.check_sched.specs.State.{State, opening}
-use Rattle.check_sched.specs.Step.{step}
-use Rattle.check_sched.specs.declared.call.Call.{Call}
-use Rattle.check_sched.proofs.StepLaws.{step_keeps}
+use Rattle.check_script.specs.declared.command.RunCommand.{RunCommand}
+use Rattle.check_text.proofs.TextLemmas.{command_keeps}
 use Rattle.check_script.specs.declared.refusal.InputRefusal.{InputRefusal}
 use Rattle.check_script.specs.declared.refusal.InputRefusal.TheVariants as refusal
 use Rattle.check_script.specs.declared.refusal.LineFault.TheVariants as fault
 use Rattle.check_script.specs.declared.script.TheConstants.{MAX_INPUT_BYTES}
-use Rattle.check_script.specs.Command.{call_by}
+use Rattle.check_script.specs.Command.{command_by}
 use Rattle.check_script.specs.Input.{first_line_of, lines_of, onto_first}
 use Rattle.check_script.specs.Line.{command_of, is_blank}
 use Rattle.check_script.specs.LiveInput.{behind_line, has_feed, said_by}
@@ -22,7 +21,7 @@ use Rattle.check_script.specs.Script.{Script, commands_of, in_setup, script_by, 
 use Rattle.check_script.proofs.LiveInputLemmas.{behind_stays, first_stays, lines_apart}
 use Rattle.check_script.proofs.ScriptLemmas.{commands_by_line, commands_from, script_with}
 use Rattle.check_text.specs.LiveText.{answer_to, answers_from, live_over, live_text, said, state_after}
-use Rattle.check_text.specs.Text.{line_from, refusal_line, script_text, text, text_from}
+use Rattle.check_text.specs.Text.{answer_line, refusal_line, script_text, state_by, text, text_from}
 
 -- ---- an input that a run accepts
 
@@ -38,67 +37,63 @@ onto_command (Ok x) rest = refl
 onto_command (Err e) rest = refl
 
 commands_said : (c : Configuration) (n : ℕ) (line : List ℕ) (lines : List (List ℕ))
-    → commands_from (call_by c) n (line ∷ lines) ≡ onto (said_by (call_by c) n line) (commands_from (call_by c) (n + 1) lines)
+    → commands_from (command_by c) n (line ∷ lines) ≡ onto (said_by (command_by c) n line) (commands_from (command_by c) (n + 1) lines)
 commands_said c n line lines =
-    elim (is_blank line) as (λ v. cond v (commands_from (call_by c) (n + 1) lines)
-    (command_of (call_by c) n line >>= λ first. (commands_from (call_by c) (n + 1) lines >>= λ more. Ok (first ∷ more)))
-    ≡ onto (cond v (Ok None) (command_of (call_by c) n line >>= λ x. Ok (Some x))) (commands_from (call_by c) (n + 1) lines)) [
+    elim (is_blank line) as (λ v. cond v (commands_from (command_by c) (n + 1) lines)
+    (command_of (command_by c) n line >>= λ first. (commands_from (command_by c) (n + 1) lines >>= λ more. Ok (first ∷ more)))
+    ≡ onto (cond v (Ok None) (command_of (command_by c) n line >>= λ x. Ok (Some x))) (commands_from (command_by c) (n + 1) lines)) [
       | true ↦ refl
-      | false ↦ onto_command (command_of (call_by c) n line) (commands_from (call_by c) (n + 1) lines)
+      | false ↦ onto_command (command_of (command_by c) n line) (commands_from (command_by c) (n + 1) lines)
     ]
 
--- a call leaves the setup
-text_cons : (s : State) (call : Call) (calls : List Call) → text_from s (call ∷ calls) ≡ line_from s call ++ text_from (step s call).0 calls
-text_cons s call calls = let kept = (step_keeps s call).setup in rw kept refl
-
-agree_by : (s : State) (n : ℕ) (lines : List (List ℕ)) (said_here : Result (Option Call) InputRefusal) (rest : Result (List Call) InputRefusal) (all : List Call)
-    → ((t : State) (more : List Call) → t.setup ≡ s.setup → rest ≡ Ok more → answers_from t (n + 1) lines ≡ text_from t more)
+agree_by : (s : State) (n : ℕ) (lines : List (List ℕ)) (said_here : Result (Option RunCommand) InputRefusal) (rest : Result (List RunCommand) InputRefusal) (all : List RunCommand)
+    → ((t : State) (more : List RunCommand) → t.setup ≡ s.setup → rest ≡ Ok more → answers_from t (n + 1) lines ≡ text_from t more)
     → onto said_here rest ≡ Ok all
     → answer_to s said_here ++ answers_from (state_after s said_here) (n + 1) lines ≡ text_from s all
 agree_by s n lines (Ok None) rest all again e = again s all refl e
 agree_by s n lines (Ok (Some call)) (Ok more) all again e =
     let same : call ∷ more ≡ all = cc in
-    ap (λ l. line_from s call ++ l) (again (step s call).0 more (step_keeps s call).setup refl) ∙ sym (text_cons s call more) ∙ ap (text_from s) same
+    ap (λ l. answer_line s call ++ l) (again (state_by s call) more (command_keeps s call) refl) ∙ ap (text_from s) same
 agree_by s n lines (Ok (Some call)) (Err why) all again e = cc
 agree_by s n lines (Err why) rest all again e = cc
 
-answers_agree : (lines : List (List ℕ)) (c : Configuration) (s : State) (n : ℕ) (all : List Call) → s.setup ≡ c
-    → commands_from (call_by c) n lines ≡ Ok all → answers_from s n lines ≡ text_from s all
+answers_agree : (lines : List (List ℕ)) (c : Configuration) (s : State) (n : ℕ) (all : List RunCommand) → s.setup ≡ c
+    → commands_from (command_by c) n lines ≡ Ok all → answers_from s n lines ≡ text_from s all
 answers_agree [] c s n all same e = let none : [] ≡ all = cc in ap (text_from s) none
 answers_agree (line ∷ lines) c s n all same e =
-    agree_by s n lines (said s n line) (commands_from (call_by s.setup) (n + 1) lines) all
+    agree_by s n lines (said s n line) (commands_from (command_by s.setup) (n + 1) lines) all
     (λ t more kept f. answers_agree lines s.setup t (n + 1) more kept f)
-    (sym (commands_said s.setup n line lines) ∙ ap (λ d. commands_from (call_by d) n (line ∷ lines)) same ∙ e)
+    (sym (commands_said s.setup n line lines) ∙ ap (λ d. commands_from (command_by d) n (line ∷ lines)) same ∙ e)
 
-in_lines : (input : List ℕ) → script_in call_by (lines_of input) ≡ script_over call_by (first_line_of input) (lines_of (behind_line input))
+in_lines : (input : List ℕ) → script_in command_by (lines_of input) ≡ script_over command_by (first_line_of input) (lines_of (behind_line input))
 in_lines [] = refl
-in_lines (b ∷ bs) = ap (script_in call_by) (lines_apart b bs)
+in_lines (b ∷ bs) = ap (script_in command_by) (lines_apart b bs)
 
-over_commands : (start : ℕ) (c : Configuration) (lines : List (List ℕ)) (script : Script Call) (all : Result (List Call) InputRefusal)
-    → commands_from (call_by c) 2 lines ≡ all → (all >>= λ l. Ok (script_with c l)) ≡ Ok script
+over_commands : (start : ℕ) (c : Configuration) (lines : List (List ℕ)) (script : Script RunCommand) (all : Result (List RunCommand) InputRefusal)
+    → commands_from (command_by c) 2 lines ≡ all → (all >>= λ l. Ok (script_with c l)) ≡ Ok script
     → answers_from (opening c start) 2 lines ≡ text_from (opening script.setup start) script.commands
 over_commands start c lines script (Err e) same h = cc
 over_commands start c lines script (Ok l) same h =
     let is : script_with c l ≡ script = cc in
-    answers_agree lines c (opening c start) 2 l refl same ∙ ap (λ (s : Script Call). text_from (opening s.setup start) s.commands) is
+    answers_agree lines c (opening c start) 2 l refl same ∙ ap (λ (s : Script RunCommand). text_from (opening s.setup start) s.commands) is
 
-over_agrees : (start : ℕ) (setup : Result Configuration LoadError) (lines : List (List ℕ)) (script : Script Call)
-    → (in_setup setup >>= λ c. (commands_of (call_by c) lines >>= λ all. Ok (script_with c all))) ≡ Ok script
+over_agrees : (start : ℕ) (setup : Result Configuration LoadError) (lines : List (List ℕ)) (script : Script RunCommand)
+    → (in_setup setup >>= λ c. (commands_of (command_by c) lines >>= λ all. Ok (script_with c all))) ≡ Ok script
     → live_over start setup lines ≡ text_from (opening script.setup start) script.commands
 over_agrees start (Err e) lines script h = cc
 over_agrees start (Ok c) lines script h =
-    over_commands start c lines script (commands_of (call_by c) lines) (sym (commands_by_line (call_by c) lines)) h
+    over_commands start c lines script (commands_of (command_by c) lines) (sym (commands_by_line (command_by c) lines)) h
 
-accepted_by : (long : Bool) (input : List ℕ) (script : Script Call)
-    → cond long (Err (refusal.Line fault.TooLong 0)) (script_in call_by (lines_of input)) ≡ Ok script → script_in call_by (lines_of input) ≡ Ok script
+accepted_by : (long : Bool) (input : List ℕ) (script : Script RunCommand)
+    → cond long (Err (refusal.Line fault.TooLong 0)) (script_in command_by (lines_of input)) ≡ Ok script → script_in command_by (lines_of input) ≡ Ok script
 accepted_by true input script e = cc
 accepted_by false input script e = e
 
-accepted : (input : List ℕ) (script : Script Call) → script_of input ≡ Ok script → script_in call_by (lines_of input) ≡ Ok script
+accepted : (input : List ℕ) (script : Script RunCommand) → script_of input ≡ Ok script → script_in command_by (lines_of input) ≡ Ok script
 unfolding script_by
 accepted input script e = accepted_by (nat_lt MAX_INPUT_BYTES (length input)) input script e
 
-pub agrees : (start : ℕ) (input : List ℕ) (script : Script Call) → script_of input ≡ Ok script → live_text start input ≡ text start input
+pub agrees : (start : ℕ) (input : List ℕ) (script : Script RunCommand) → script_of input ≡ Ok script → live_text start input ≡ text start input
 unfolding live_text text
 agrees start input script e =
     let over = sym (in_lines input) ∙ accepted input script e in
@@ -183,9 +178,9 @@ goes_on start front back =
 
 -- ---- a refused line
 
-state_after-setup : (s : State) (r : Result (Option Call) InputRefusal) → (state_after s r).setup ≡ s.setup
+state_after-setup : (s : State) (r : Result (Option RunCommand) InputRefusal) → (state_after s r).setup ≡ s.setup
 state_after-setup s (Ok None) = refl
-state_after-setup s (Ok (Some call)) = (step_keeps s call).setup
+state_after-setup s (Ok (Some call)) = command_keeps s call
 state_after-setup s (Err why) = refl
 
 -- the same answers but for that of the refused line
@@ -193,17 +188,17 @@ abbrev Passes : List ℕ → List ℕ → InputRefusal → Type 0
 Passes refused passed why = (before : List ℕ) × (behind : List ℕ) × (refused ≡ before ++ (refusal_line why ++ behind)) × (passed ≡ before ++ behind)
 
 passes_in : (xs : List (List ℕ)) (s : State) (n : ℕ) (line : List ℕ) (ys : List (List ℕ)) (why : InputRefusal)
-    → said_by (call_by s.setup) (n + length xs) line ≡ Err why
+    → said_by (command_by s.setup) (n + length xs) line ≡ Err why
     → Passes (answers_from s n (xs ++ line ∷ ys)) (answers_from s n (xs ++ [] ∷ ys)) why
 passes_in [] s n line ys why e =
-    let here : said s n line ≡ Err why = ap (λ k. said_by (call_by s.setup) k line) (let z : n ≡ n + 0 = omega arith in z) ∙ e in
+    let here : said s n line ≡ Err why = ap (λ k. said_by (command_by s.setup) k line) (let z : n ≡ n + 0 = omega arith in z) ∙ e in
     ([], answers_from s (n + 1) ys, ap (λ r. answer_to s r ++ answers_from (state_after s r) (n + 1) ys) here, refl)
 passes_in (x ∷ xs) s n line ys why e =
     let r = said s n x in
     let first = answer_to s r in
     let kept = state_after-setup s r in
-    let there = ap (λ k. said_by (call_by s.setup) k line) (let z : n + 1 + length xs ≡ n + suc (length xs) = omega arith in z) ∙ e in
-    let again = passes_in xs (state_after s r) (n + 1) line ys why (ap (λ c. said_by (call_by c) (n + 1 + length xs) line) kept ∙ there) in
+    let there = ap (λ k. said_by (command_by s.setup) k line) (let z : n + 1 + length xs ≡ n + suc (length xs) = omega arith in z) ∙ e in
+    let again = passes_in xs (state_after s r) (n + 1) line ys why (ap (λ c. said_by (command_by c) (n + 1 + length xs) line) kept ∙ there) in
     (first ++ again.0, again.1, ap (λ l. first ++ l) again.2 ∙ sym (append_assoc first again.0 _), ap (λ l. first ++ l) again.3 ∙ sym (append_assoc first again.0 again.1))
 
 -- a line without a line feed, and those behind it
@@ -223,12 +218,12 @@ count_apart (b ∷ bs) = ap length (lines_apart b (bs ++ 10 ∷ []))
 
 pub passes : (start : ℕ) (setup : Configuration) (front line back : List ℕ) (why : InputRefusal)
     → setup_of (first_line_of (front ++ 10 ∷ [])) ≡ Ok setup → has_feed line ≡ false
-    → said_by (call_by setup) (length (lines_of (front ++ 10 ∷ [])) + 1) line ≡ Err why
+    → said_by (command_by setup) (length (lines_of (front ++ 10 ∷ [])) + 1) line ≡ Err why
     → Passes (live_text start ((front ++ 10 ∷ []) ++ (line ++ 10 ∷ back))) (live_text start ((front ++ 10 ∷ []) ++ (10 ∷ back))) why
 passes start setup front line back why s free e =
     let xs = lines_of (behind_line (front ++ 10 ∷ [])) in
     let number : 2 + length xs ≡ length (lines_of (front ++ 10 ∷ [])) + 1 = omega (arith, count_apart front) in
-    let p = passes_in xs (opening setup start) 2 line (lines_of back) why (ap (λ k. said_by (call_by setup) k line) number ∙ e) in
+    let p = passes_in xs (opening setup start) 2 line (lines_of back) why (ap (λ k. said_by (command_by setup) k line) number ∙ e) in
     let over = λ (bytes : List ℕ). live_parts start front bytes ∙ ap (λ r. live_over start r (xs ++ lines_of bytes)) s in (
       p.0,
       p.1,

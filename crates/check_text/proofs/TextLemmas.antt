@@ -1,26 +1,36 @@
 -- The text of a run, call by call, and of a history, entry by entry.
 use Rattle.std.proofs.Common.{◌≡◌, ◌≢◌, ℕ, List, [], ◌∷◌, ◌++◌, refl, ap, ◌∙◌, append_assoc, append-nil, sym, arith, drop, length, ◌+◌, ◌≤◌, ◌<◌, get_or}
-use Rattle.std.specs.Prelude.{flat_map}
+use Rattle.std.specs.Prelude.{codes, flat_map}
+use Rattle.check_saved.specs.Text.{saved_text}
+use Rattle.check_sched.specs.Saved.{saved_of}
 use Rattle.std.proofs.lemmas.Grind.{common_steps}
 use Rattle.std.proofs.lemmas.List.{drop_all}
 use Rattle.ticket_steps.specs.declared.kept.Entry.{Entry}
 use Rattle.check_objects.specs.Configuration.{Configuration}
 use Rattle.check_sched.specs.State.{State}
 use Rattle.check_sched.specs.Step.{step}
+use Rattle.check_sched.proofs.StepLaws.{step_keeps}
+use Rattle.check_script.specs.declared.command.RunCommand.{RunCommand}
+use Rattle.check_script.specs.declared.command.RunCommand.TheVariants as command
 use Rattle.check_sched.specs.declared.call.Call.{Call}
 use Rattle.check_sched.specs.declared.call.Reply.{Reply}
-use Rattle.check_text.specs.Text.{text_from, line_from, line_of, entry_line, reply_text, total_line, total_text}
+use Rattle.check_text.specs.Text.{answer_line, text_from, line_from, line_of, entry_line, reply_text, saved_line, state_by, total_line, total_text}
 use Rattle.check_text.proofs.OutputLemmas.{append_some}
 
--- the text goes on with the line of the next call's reply, since a call leaves the setup
-pub text_next : (s : State) (cs : List Call) (i : ℕ) (d : Call) → i < length cs → (step s (get_or cs i d)).0.setup ≡ s.setup
-    → text_from s (drop i cs) ≡ line_from s (get_or cs i d) ++ text_from (step s (get_or cs i d)).0 (drop (i + 1) cs)
-text_next s cs i d h kept =
-    let e : drop i cs ≡ get_or cs i d ∷ drop (i + 1) cs = grind (arith, common_steps) in
-    rw (e, kept) refl
+-- a command leaves the setup
+pub command_keeps : (s : State) (c : RunCommand) → (state_by s c).setup ≡ s.setup
+command_keeps s (command.Call call) = (step_keeps s call).setup
+command_keeps s command.Save = refl
 
--- after the last call nothing is left of the text
-pub text_end : (s : State) (cs : List Call) (i : ℕ) → length cs ≤ i → text_from s (drop i cs) ≡ []
+-- the text goes on with the line of the next command's answer
+pub text_next : (s : State) (cs : List RunCommand) (i : ℕ) (d : RunCommand) → i < length cs
+    → text_from s (drop i cs) ≡ answer_line s (get_or cs i d) ++ text_from (state_by s (get_or cs i d)) (drop (i + 1) cs)
+text_next s cs i d h =
+    let e : drop i cs ≡ get_or cs i d ∷ drop (i + 1) cs = grind (arith, common_steps) in
+    ap (text_from s) e
+
+-- after the last command nothing is left of the text
+pub text_end : (s : State) (cs : List RunCommand) (i : ℕ) → length cs ≤ i → text_from s (drop i cs) ≡ []
 text_end s cs i h = rw (drop_all i cs h) refl
 
 -- the lines of a history go on with the next entry's
@@ -42,6 +52,11 @@ line_of_some text = append_some text (10 ∷ []) (λ e. cc)
 
 pub line_from_some : (s : State) (call : Call) → line_from s call ≢ []
 line_from_some s call = line_of_some (reply_text s.setup call (step s call).1)
+
+pub answer_line_some : (s : State) (c : RunCommand) → answer_line s c ≢ []
+unfolding saved_line
+answer_line_some s (command.Call call) = line_from_some s call
+answer_line_some s command.Save = line_of_some (codes "saved " ++ saved_text (saved_of s))
 
 -- before the total there is the total at least
 pub history_some : (c : Configuration) (es : List (Entry Call Reply)) (entries refused : ℕ) → flat_map (entry_line c) es ++ total_line entries refused ≢ []

@@ -1,7 +1,6 @@
 -- The text that a run writes: a function of the start and of the input. The words of each line are
 -- said once, here.
-use Rattle.std.specs.Prelude.{ℕ, Bool, true, false, if◌then◌else◌, List, [], ◌∷◌, ◌++◌, Option, Some, None, Result, Ok, Err, codes, decimal, flat_map, length}
-use Rattle.std.specs.List.{zip}
+use Rattle.std.specs.Prelude.{ℕ, Bool, true, false, if◌then◌else◌, List, [], ◌∷◌, ◌++◌, Option, Some, None, Result, Ok, Err, codes, decimal, flat_map, length, unwrap_or}
 use Rattle.ticket_steps.specs.declared.kept.Entry.{Entry}
 use Rattle.check_objects.specs.Configuration.{Configuration, name_of}
 use Rattle.check_drafts.specs.declared.error.LoadError.{LoadError}
@@ -16,12 +15,20 @@ use Rattle.check_sched.specs.declared.call.Reply.{Reply}
 use Rattle.check_sched.specs.declared.call.Reply.TheVariants as reply
 use Rattle.check_sched.specs.declared.call.Refusal.{Refusal}
 use Rattle.check_sched.specs.declared.call.Refusal.TheVariants as refused
+use Rattle.check_saved.specs.Saved.{Saved}
+use Rattle.check_saved.specs.Text.{saved_text}
+use Rattle.check_saved.specs.declared.fault.SavedFault.{SavedFault}
+use Rattle.check_saved.specs.declared.fault.SavedFault.TheVariants as saved
+use Rattle.check_sched.specs.Saved.{resumed, saved_of}
 use Rattle.check_sched.specs.State.{State, opening}
-use Rattle.check_sched.specs.Step.{step, replies}
+use Rattle.check_sched.specs.Step.{step}
+use Rattle.check_script.specs.declared.command.RunCommand.{RunCommand}
+use Rattle.check_script.specs.declared.command.RunCommand.TheVariants as command
 use Rattle.check_script.specs.declared.refusal.LineFault.{LineFault}
 use Rattle.check_script.specs.declared.refusal.LineFault.TheVariants as fault
 use Rattle.check_script.specs.declared.refusal.InputRefusal.{InputRefusal}
 use Rattle.check_script.specs.declared.refusal.InputRefusal.TheVariants as refusal
+use Rattle.check_script.specs.ResumedScript.{ResumedScript, resumed_script_of}
 use Rattle.check_script.specs.Script.{Script, script_of}
 
 -- a line: its text, ended by a line feed
@@ -135,6 +142,19 @@ load_text load.ParentCycle = codes "L10 ParentCycle"
 load_text load.Memory = codes "L11 Memory"
 load_text load.TooLong = codes "L12 TooLong"
 
+-- What is wrong with what was saved. Want of memory is no fault of it, and is never the refusal of an input.
+abbrev pub saved_fault_text : SavedFault → List ℕ
+saved_fault_text saved.TooLong = codes "K1 TooLong"
+saved_fault_text saved.NotJson = codes "K2 NotJson"
+saved_fault_text saved.Version = codes "K3 Version"
+saved_fault_text (saved.Shape index) = codes "K4 Shape" ++ index_text index
+saved_fault_text saved.TooMany = codes "K5 TooMany"
+saved_fault_text (saved.BadName index) = codes "K6 BadName" ++ index_text (Some index)
+saved_fault_text (saved.Duplicate index) = codes "K7 Duplicate" ++ index_text (Some index)
+saved_fault_text (saved.Range index) = codes "K8 Range" ++ index_text index
+saved_fault_text (saved.Unlawful index) = codes "K9 Unlawful" ++ index_text (Some index)
+saved_fault_text saved.Memory = codes "Memory"
+
 -- what is wrong with a line of a script
 abbrev pub fault_text : LineFault → List ℕ
 fault_text fault.TooLong = codes "S1 TooLong"
@@ -146,6 +166,7 @@ fault_text fault.UnknownName = codes "S5 UnknownName"
 -- why an input is refused, and where
 abbrev pub input_refusal_text : InputRefusal → List ℕ
 input_refusal_text (refusal.Setup e) = load_text e
+input_refusal_text (refusal.Saved e) = saved_fault_text e
 input_refusal_text (refusal.Line f n) = fault_text f ++ (codes " " ++ decimal n)
 
 abbrev pub refusal_line : InputRefusal → List ℕ
@@ -157,18 +178,48 @@ refusal_line r = line_of (refused_text (input_refusal_text r))
 abbrev pub line_from : State → Call → List ℕ
 line_from s c = reply_line s.setup c (step s c).1
 
--- the lines of the replies to the calls, from this state on
-abbrev pub text_from : State → List Call → List ℕ
-text_from s calls = flat_map (λ p. reply_line s.setup p.0 p.1) (zip calls (replies s calls))
+-- the line of what is saved of a scheduler in this state
+unfoldable pub saved_line : State → List ℕ
+saved_line s = line_of (codes "saved " ++ saved_text (saved_of s))
 
-abbrev pub script_text : ℕ → Result (Script Call) InputRefusal → List ℕ
+-- The line of the answer to a command, in this state: to a call that of the reply, and to `save` that of the state itself.
+abbrev pub answer_line : State → RunCommand → List ℕ
+answer_line s (command.Call call) = line_from s call
+answer_line s command.Save = saved_line s
+
+-- the state after it: `save` leaves it as it is
+abbrev pub state_by : State → RunCommand → State
+state_by s (command.Call call) = (step s call).0
+state_by s command.Save = s
+
+-- the lines of the answers to the commands, from this state on
+abbrev pub text_from : State → List RunCommand → List ℕ
+text_from s [] = []
+text_from s (c ∷ cs) = answer_line s c ++ text_from (state_by s c) cs
+
+abbrev pub script_text : ℕ → Result (Script RunCommand) InputRefusal → List ℕ
 script_text start (Ok s) = text_from (opening s.setup start) s.commands
 script_text start (Err r) = refusal_line r
 
 -- What a run on the input writes, the scheduler starting at the moment `start`: the one line of the
--- input's first refusal, or the lines of the replies to its calls, in order.
+-- input's first refusal, or the lines of the answers to its commands, in order.
 unfoldable pub text : ℕ → List ℕ → List ℕ
 text start input = script_text start (script_of input)
+
+-- ---- the same of a run that goes on from what was saved
+
+-- the state in which a scheduler goes on over a setup from what was saved, from this moment on, or from the saved start
+abbrev pub resumed_from : Configuration → Saved → Option ℕ → State
+resumed_from c s start = resumed c s (unwrap_or start s.start)
+
+abbrev pub resumed_script_text : Option ℕ → Result ResumedScript InputRefusal → List ℕ
+resumed_script_text start (Ok s) = text_from (resumed_from s.setup s.saved start) s.commands
+resumed_script_text start (Err r) = refusal_line r
+
+-- What a run on the input writes that goes on from what was saved, from the moment `start` on, or from the saved start: the one
+-- line of the input's first refusal, or the lines of the answers to its commands, in order.
+unfoldable pub text_resumed : Option ℕ → List ℕ → List ℕ
+text_resumed start input = resumed_script_text start (resumed_script_of input)
 
 -- ---- the text of a drill
 

@@ -3,9 +3,9 @@
 ghost use Rattle.std.specs.Prelude.{ℕ, ◌≡◌, ◌+◌, ◌++◌, false, List, [], ◌∷◌, Ok, Err, length};
 ghost use Rattle.check_objects.specs.Configuration.{Configuration};
 ghost use Rattle.check_objects.specs.Setup.{setup_of};
-ghost use Rattle.check_sched.specs.declared.call.Call.{Call};
 ghost use Rattle.check_script.specs.declared.refusal.InputRefusal.{InputRefusal};
-ghost use Rattle.check_script.specs.Command.{call_by};
+ghost use Rattle.check_script.specs.declared.command.RunCommand.{RunCommand};
+ghost use Rattle.check_script.specs.Command.{command_by};
 ghost use Rattle.check_script.specs.Input.{first_line_of, lines_of};
 ghost use Rattle.check_script.specs.LiveInput.{has_feed, said_by};
 ghost use Rattle.check_script.specs.Script.{Script, script_of};
@@ -20,7 +20,7 @@ pub fn limit_of_a_reply()
 
 /// On an input that a run accepts, a conversation writes what the run writes.
 pub fn live_agrees_with_run()
-    ensures { (start : ℕ) → (input : List ℕ) → (script : Script Call)
+    ensures { (start : ℕ) → (input : List ℕ) → (script : Script RunCommand)
         → script_of input ≡ Ok script → live_text start input ≡ text start input }
 {}
 
@@ -39,7 +39,7 @@ pub fn live_passes_refusals()
     ensures { (start : ℕ) → (setup : Configuration) → (front line back : List ℕ)
         → (why : InputRefusal)
         → setup_of (first_line_of (front ++ 10 ∷ [])) ≡ Ok setup → has_feed line ≡ false
-        → said_by (call_by setup) (length (lines_of (front ++ 10 ∷ [])) + 1) line ≡ Err why
+        → said_by (command_by setup) (length (lines_of (front ++ 10 ∷ [])) + 1) line ≡ Err why
         → (before behind : List ℕ)
         × (live_text start ((front ++ 10 ∷ []) ++ (line ++ 10 ∷ back))
         ≡ before ++ (refusal_line why ++ behind))

@@ -9,5 +9,5 @@ pub mod laws;
 mod output;
 mod text;
 
-pub use output::{flush, write_refusal, write_text};
+pub use output::{flush, write_refusal, write_saved, write_text};
 pub use text::{REPLY_BYTES, push_entry, push_refusal, push_reply, push_total};

@@ -1,11 +1,12 @@
-//! Bytes to a writer: a text, the line of a refusal, and the flush at the end. The lines that are
+//! Bytes to a writer: a text, the line of a refusal or of what is saved, and the flush at the end. The lines that are
 //! written are made in `text`.
 ghost use Rattle.std.specs.Prelude.{OnOk, OnErr, IfErr, IsOkUnless, ◌≡◌, ◌≢◌};
 ghost use Rattle.std.specs.Io.KnownBytes.{Appends, Keeps};
 ghost use Rattle.check_text.specs.Output.{WroteFront};
-ghost use Rattle.check_text.specs.Text.{refusal_line};
+ghost use Rattle.check_text.specs.Text.{refusal_line, saved_line};
 
-use crate::text::push_refusal;
+use crate::text::{push_refusal, saved_line};
+use check_sched::Sched;
 use check_script::{DriveError, InputRefusal};
 use std::alloc::Global;
 use std::io::Write;
@@ -51,6 +52,21 @@ pub fn write_refusal<W: Write>(
     let mut line = String::new(alloc);
     push_refusal(&mut line, refusal)?;
     write_text(writer, line.as_bytes())
+}
+
+/// Writes the line of what is saved of a scheduler, which stays as it is. An Err is `Write`, and a
+/// front of the line was written then, or `Memory`, and nothing was. Nothing is flushed.
+pub fn write_saved<W: Write>(alloc: Global, sched: &Sched, writer: &mut W) -> Result<(), DriveError>
+    ensures written { OnOk result
+        (Appends (W.contents writer.old) (W.contents writer.new) (saved_line sched.now)) }
+    ensures fault { OnErr result
+        (WroteFront (W.contents writer.old) (W.contents writer.new) (saved_line sched.now)) }
+    ensures kind { IfErr result (λ e. e ≢ DriveError.Read) }
+    ensures memory { IfErr result (λ e. e ≡ DriveError.Memory
+        → Keeps (W.contents writer.old) (W.contents writer.new)) }
+{
+    let line = saved_line(alloc, sched)?;
+    write_text(writer, &line)
 }
 
 /// Flushes what was written. An Err is `Write`.

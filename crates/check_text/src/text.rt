@@ -1,19 +1,20 @@
 //! The text of replies and refusals. Each has one definition, in `specs/Text.antt`, whatever
 //! subcommand writes it.
-ghost use Rattle.std.specs.Prelude.{◌≡◌, ◌+◌, ◌≤◌, ◌++◌, OnOk, codes, decimal, length, string_bytes};
+ghost use Rattle.std.specs.Prelude.{◌≡◌, ◌+◌, ◌≤◌, ◌++◌, IfOk, OnOk, codes, decimal, length, string_bytes};
 ghost use Rattle.check_objects.specs.Configuration.{name_of};
 ghost use Rattle.check_text.specs.Text.{reply_text, reply_line, refusal_line, entry_line, total_line};
 ghost use Rattle.check_text.specs.Text.{taken_text, putoff_text, idle_text, standing_text, freed_text, done_text, refused_text, time_text};
 ghost use Rattle.check_text.specs.Text.{asked_name, state_text, changed_text, flapping_text};
-ghost use Rattle.check_text.specs.Text.{call_refusal_text, fault_text};
+ghost use Rattle.check_text.specs.Text.{call_refusal_text, fault_text, saved_line};
 ghost use Rattle.check_text.specs.Room.{FitsIn};
 
 use check_objects::{LoadError, Place, Setup};
 use check_rules::Standing;
-use check_sched::{Call, Refusal, Reply};
+use check_saved::SavedFault;
+use check_sched::{Call, Refusal, Reply, Sched};
 use check_script::{InputRefusal, LineFault};
 use itoa::Buffer;
-use std::alloc::AllocError;
+use std::alloc::{AllocError, Global};
 use std::fmt;
 use ticket_steps::Entry;
 
@@ -264,6 +265,20 @@ pub fn push_total(line: &mut String, entries: usize, refused: u64) -> Result<(),
     writeln!(line, "total {entries} {refused}")
 }
 
+/// The line of what is saved of a scheduler, with its line feed: the word `saved`, a space, and the
+/// text of what is saved. The scheduler stays as it is.
+#[tactic(auto, unfolding(crate::specs::Text::saved_line))]
+pub(crate) fn saved_line(alloc: Global, sched: &Sched) -> Result<Vec<u8>, AllocError>
+    ensures { IfOk result (λ line. line.items ≡ saved_line sched.now) }
+{
+    let text = sched.save(alloc)?.write(alloc)?;
+    let mut line = Vec::new(alloc);
+    line.extend_from_slice(b"saved ")?;
+    line.extend_from_slice(&text)?;
+    line.push(b'\n')?;
+    Ok(line)
+}
+
 /// Appends the line of an input's refusal, with its line feed.
 pub fn push_refusal(line: &mut String, refusal: InputRefusal) -> Result<(), AllocError>
     ensures { OnOk result
@@ -287,6 +302,10 @@ impl fmt::Display for RefusalText {
         match self.0 {
             InputRefusal::Setup(error) => {
                 let reason = LoadText(error);
+                write!(f, "{reason}")
+            }
+            InputRefusal::Saved(fault) => {
+                let reason = SavedText(fault);
                 write!(f, "{reason}")
             }
             InputRefusal::Line { fault, line } => {
@@ -350,6 +369,34 @@ impl fmt::Display for LoadText {
             LoadError::Range(place) => ("L8 Range", PlaceText(place)),
         };
         write!(f, "{reason} {place}")
+    }
+}
+
+/// What is wrong with what was saved, and where.
+#[derive(Clone, Copy)]
+struct SavedText(SavedFault);
+
+impl fmt::Display for SavedText {
+    ghost use Rattle.std.specs.Prelude.{Some};
+    ghost use Rattle.check_text.specs.Text.{saved_fault_text};
+
+    ghost output = { λ e. Some (saved_fault_text e.0) };
+
+    fn fmt<W: fmt::Write>(&self, f: &mut fmt::Formatter<W>) -> fmt::Result {
+        match self.0 {
+            SavedFault::TooLong => f.write_str("K1 TooLong"),
+            SavedFault::NotJson => f.write_str("K2 NotJson"),
+            SavedFault::Version => f.write_str("K3 Version"),
+            SavedFault::Shape(Some(index)) => write!(f, "K4 Shape {index}"),
+            SavedFault::Shape(None) => f.write_str("K4 Shape"),
+            SavedFault::TooMany => f.write_str("K5 TooMany"),
+            SavedFault::BadName(index) => write!(f, "K6 BadName {index}"),
+            SavedFault::Duplicate(index) => write!(f, "K7 Duplicate {index}"),
+            SavedFault::Range(Some(index)) => write!(f, "K8 Range {index}"),
+            SavedFault::Range(None) => f.write_str("K8 Range"),
+            SavedFault::Unlawful(index) => write!(f, "K9 Unlawful {index}"),
+            SavedFault::Memory => f.write_str("Memory"),
+        }
     }
 }
 

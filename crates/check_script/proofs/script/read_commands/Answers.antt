@@ -1,19 +1,20 @@
 use Rattle.std.proofs.Common.{sym, ◌∙◌, arith, ap, length, map, [], ◌∷◌}
 use Rattle.std.proofs.lemmas.List.{map-append}
 use Rattle.check_script.specs.Input.{lines_of}
-use Rattle.check_script.proofs.ScriptLemmas.{blank_passed, command_read, commands_by_line, commands_from, with_front-nothing}
+use Rattle.check_script.proofs.ScriptLemmas.{blank_passed, command_read, commands_by_number, commands_from, with_front-nothing}
 use Rattle.check_script.proofs.script.read_commands.Goals as goal
 use Rattle.check_script.proofs.script.read_commands.Goals.{then-not-is_blank+in_ok-read_command+in_ok-push, else-not-is_blank}
 
 pub loop-line-init : goal.loop-line-init
 loop-line-init g c =
     let same = c.into_iter-line-iterator.ensures.into_iter_gives in
-    let few = c.requires in
+    let few = c.requires.few in
+    let first = c.requires.first in
     let meaning = g.C.Command.meaning c.args.setup.now in
     let lines = lines_of c.args.lines.rest.now in (
-      rw (c.new-commands.ensures.items, same) (commands_by_line meaning lines ∙ sym (with_front-nothing (commands_from meaning 2 lines))),
+      rw (c.new-commands.ensures.items, same) (commands_by_number meaning c.args.first lines ∙ sym (with_front-nothing (commands_from meaning c.args.first lines))),
       rw same
-          (omega (arith, few)),
+          (omega (arith, few, first)),
     )
 
 -- what is still to come is numbered behind the line
