@@ -1,3 +1,8 @@
 pub mod DriveLemmas
+pub mod FeedLemmas
+pub mod NameTextLemmas
+pub mod Utf8Lemmas
 pub mod LiveLemmas
 pub mod LiveLinesLemmas
+pub mod LiveResumedLemmas
+pub mod CutLaws

@@ -1,13 +1,16 @@
 -- A whole conversation, and what its faults leave.
 use Rattle.std.proofs.Common.{◌≡◌, ℕ, suc, ◌+◌, ◌≤◌, ◌==◌, cond, length-append, Bool, true, false, List, [], ◌∷◌, ◌++◌, length, Option, Some, None, Result, Ok, Err, refl, sym, ap, ◌∙◌}
 use Rattle.std.proofs.Common.{arith, inl, inr, ◌⊎◌, append_assoc, append-nil, subst}
-use Rattle.std.specs.Prelude.{IfSome, IfOk, IsOkUnless, OnOk, OnErr, IfErr}
+use Rattle.check_saved.specs.Text.{saved_text}
+use Rattle.check_sched.specs.Saved.{saved_of}
+use Rattle.std.specs.Prelude.{codes, IfSome, IfOk, IsOkUnless, OnOk, OnErr, IfErr}
 use Rattle.std.specs.Io.KnownBytes.{Appends, Consumes, IsAtEnd, Keeps}
 use Rattle.check_objects.specs.Configuration.{Configuration}
 use Rattle.check_objects.specs.Setup.{setup_of}
 use Rattle.check_drafts.specs.declared.error.LoadError.{LoadError}
 use Rattle.check_sched.specs.State.{State, opening}
-use Rattle.check_sched.specs.declared.call.Call.{Call}
+use Rattle.check_script.specs.declared.command.RunCommand.{RunCommand}
+use Rattle.check_script.specs.declared.command.RunCommand.TheVariants as command
 use Rattle.check_script.specs.declared.drive_error.DriveError.{DriveError}
 use Rattle.check_script.specs.declared.drive_error.DriveError.TheVariants as errors
 use Rattle.check_script.specs.declared.live_input.TheConstants.{KEPT_SETUP_BYTES}
@@ -26,13 +29,13 @@ use Rattle.check_script.proofs.LiveInputLemmas.{Consumes-none, Consumes-then, be
 use Rattle.check_text.proofs.LiveLaws.{line_first, lines_by}
 use Rattle.check_script.proofs.KeptLemmas.{setup_stays, too_long}
 use Rattle.check_text.specs.LiveText.{answer_to, answers_from, live_over, live_text, said, state_after}
-use Rattle.check_text.specs.Text.{input_refusal_text, refusal_line, refused_text}
+use Rattle.check_text.specs.Text.{answer_line, input_refusal_text, refusal_line, refused_text, saved_line}
 use Rattle.check_text.specs.Output.{WroteFront}
 use Rattle.check_text.proofs.OutputLemmas.{Appends-Keeps, Appends-none, Appends-trans, front_none}
 use Rattle.check_drive.specs.declared.drive.Outcome.{Outcome}
 use Rattle.check_drive.specs.declared.drive.Outcome.TheVariants as outcome
 use Rattle.check_drive.specs.Drive.{IsInput, outcome_by}
-use Rattle.check_drive.specs.Live.{AfterAll, AfterLines, AnsweredLines, AreWholeLines, HasReadLive, IsLiveOnInput, LeavesText, live_outcome}
+use Rattle.check_drive.specs.Live.{AfterAll, AfterLines, AnsweredLines, AreWholeLines, HasReadLive, IsLiveOf, IsLiveOnInput, LeavesText, live_outcome}
 
 -- ---- what is read
 
@@ -118,7 +121,7 @@ leaves_more errors.Memory held holds text rest f = record {
   whole = f.whole;
 }
 
-appended_none : (held holds : Option (List ℕ)) → Keeps held holds → Appends held holds []
+pub appended_none : (held holds : Option (List ℕ)) → Keeps held holds → Appends held holds []
 appended_none held holds k = Appends-Keeps held held holds [] (Appends-none held) k
 
 -- where the writer was left as it was before
@@ -157,9 +160,14 @@ wrote_behind held mid holds text k a = Appends-trans held mid holds [] text (app
 
 -- ---- answers
 
-pub answer_lines : (s : State) (r : Result (Option Call) InputRefusal) → AreWholeLines (answer_to s r)
+command_lines : (s : State) (c : RunCommand) → AreWholeLines (answer_line s c)
+unfolding saved_line
+command_lines s (command.Call call) = inr (_, refl)
+command_lines s command.Save = inr (codes "saved " ++ saved_text (saved_of s), refl)
+
+pub answer_lines : (s : State) (r : Result (Option RunCommand) InputRefusal) → AreWholeLines (answer_to s r)
 answer_lines s (Ok None) = inl refl
-answer_lines s (Ok (Some call)) = inr (_, refl)
+answer_lines s (Ok (Some c)) = command_lines s c
 answer_lines s (Err why) = inr (refused_text (input_refusal_text why), refl)
 
 -- bytes with a line feed are a line and those behind it, whatever comes later
@@ -208,13 +216,14 @@ state_then s n (x ∷ xs) line =
     let u = state_behind t (n + 1) xs in
     state_then t (n + 1) xs line ∙ ap (λ k. state_after u (said u k line)) (let e : n + 1 + length xs ≡ n + suc (length xs) = omega arith in e)
 
-number_is : (count n : ℕ) → count + 2 ≡ n → n ≡ 2 + count
-number_is count n e = omega (arith, e)
+number_is : (count begins n : ℕ) → count + begins ≡ n → n ≡ begins + count
+number_is count begins n e = omega (arith, e)
 
-one_behind : (first : State) (lines : List (List ℕ)) (line : List ℕ) (s : State) (number : ℕ) → s ≡ state_behind first 2 lines → number ≡ 2 + length lines
-    → (answers_from first 2 (lines ++ line ∷ []) ≡ answers_from first 2 lines ++ answer_to s (said s number line))
-    × (state_behind first 2 (lines ++ line ∷ []) ≡ state_after s (said s number line))
-one_behind first lines line s number same n = rw (same, n) (answers_then first 2 lines line, state_then first 2 lines line)
+one_behind : (begins : ℕ) (first : State) (lines : List (List ℕ)) (line : List ℕ) (s : State) (number : ℕ) → s ≡ state_behind first begins lines
+    → number ≡ begins + length lines
+    → (answers_from first begins (lines ++ line ∷ []) ≡ answers_from first begins lines ++ answer_to s (said s number line))
+    × (state_behind first begins (lines ++ line ∷ []) ≡ state_after s (said s number line))
+one_behind begins first lines line s number same n = rw (same, n) (answers_then first begins lines line, state_then first begins lines line)
 
 -- whole lines and one more
 one_more : (taken line : List ℕ) → AreWholeLines taken → has_feed line ≡ false → lines_of (taken ++ (line ++ 10 ∷ [])) ≡ lines_of taken ++ line ∷ []
@@ -231,22 +240,22 @@ taken_more opened hand rest part given taken e feed behind =
 -- Where a conversation stands that began at this state with these bytes at hand: the bytes that were given, the whole lines that
 -- were written, and that the text goes on from here as it goes on from the beginning, whatever comes later.
 -- Those bytes are whole lines from the front of what was at hand and was given, with their answers and the state behind them.
-pub record Talked (first : State) (opened : List ℕ) (had left held holds : Option (List ℕ)) (number : ℕ) (s : State) (hand : List ℕ) : Type 0 where
+pub record Talked (begins : ℕ) (first : State) (opened : List ℕ) (had left held holds : Option (List ℕ)) (number : ℕ) (s : State) (hand : List ℕ) : Type 0 where
   pub given : List ℕ
   pub front : List ℕ
   pub consumed : Consumes had left given
   pub appended : Appends held holds front
   pub whole : AreWholeLines front
-  pub goes_on : (more : List ℕ) → answers_from first 2 (lines_of (opened ++ (given ++ more))) ≡ front ++ answers_from s number (lines_of (hand ++ more))
+  pub goes_on : (more : List ℕ) → answers_from first begins (lines_of (opened ++ (given ++ more))) ≡ front ++ answers_from s number (lines_of (hand ++ more))
   pub taken : List ℕ
   pub parts : opened ++ given ≡ taken ++ hand
   pub full : AreWholeLines taken
-  pub count : length (lines_of taken) + 2 ≡ number
-  pub answers : front ≡ answers_from first 2 (lines_of taken)
-  pub state : s ≡ state_behind first 2 (lines_of taken)
+  pub count : length (lines_of taken) + begins ≡ number
+  pub answers : front ≡ answers_from first begins (lines_of taken)
+  pub state : s ≡ state_behind first begins (lines_of taken)
 
-pub talk_begins : (first : State) (opened : List ℕ) (had held : Option (List ℕ)) → Talked first opened had had held held 2 first opened
-talk_begins first opened had held =
+pub talk_begins : (begins : ℕ) (first : State) (opened : List ℕ) (had held : Option (List ℕ)) → Talked begins first opened had had held held begins first opened
+talk_begins begins first opened had held =
     record {
       given = [];
       front = [];
@@ -257,22 +266,22 @@ talk_begins first opened had held =
       taken = [];
       parts = append-nil opened;
       full = inl refl;
-      count = refl;
+      count = omega arith;
       answers = refl;
       state = refl;
     }
 
 -- a whole line was answered
-pub talk_goes_on : (first s t : State) (opened hand rest part : List ℕ) (had mid left held wrote holds : Option (List ℕ)) (number : ℕ)
-    → Talked first opened had mid held wrote number s hand → Consumes mid left part → has_feed (hand ++ part) ≡ true → rest ≡ behind_line (hand ++ part)
+pub talk_goes_on : (begins : ℕ) (first s t : State) (opened hand rest part : List ℕ) (had mid left held wrote holds : Option (List ℕ)) (number : ℕ)
+    → Talked begins first opened had mid held wrote number s hand → Consumes mid left part → has_feed (hand ++ part) ≡ true → rest ≡ behind_line (hand ++ part)
     → t ≡ state_after s (said s number (first_line_of (hand ++ part)))
     → Appends wrote holds (answer_to s (said s number (first_line_of (hand ++ part))))
-    → Talked first opened had left held holds (number + 1) t rest
-talk_goes_on first s t opened hand rest part had mid left held wrote holds number k read feed behind after wrote_it =
+    → Talked begins first opened had left held holds (number + 1) t rest
+talk_goes_on begins first s t opened hand rest part had mid left held wrote holds number k read feed behind after wrote_it =
     let line = said s number (first_line_of (hand ++ part)) in
     let bytes = first_line_of (hand ++ part) ++ 10 ∷ [] in
     let lines = one_more k.taken (first_line_of (hand ++ part)) k.full (first_free (hand ++ part)) in
-    let more = one_behind first (lines_of k.taken) (first_line_of (hand ++ part)) s number k.state (number_is _ _ k.count) in
+    let more = one_behind begins first (lines_of k.taken) (first_line_of (hand ++ part)) s number k.state (number_is _ _ _ k.count) in
     record {
       given = k.given ++ part;
       front = k.front ++ answer_to s line;
@@ -280,7 +289,7 @@ talk_goes_on first s t opened hand rest part had mid left held wrote holds numbe
       appended = Appends-trans held wrote holds k.front (answer_to s line) k.appended wrote_it;
       whole = whole_on k.front (answer_to s line) k.whole (answer_lines s line);
       goes_on = λ more.
-          ap (λ l. answers_from first 2 (lines_of (opened ++ l))) (append_assoc k.given part more) ∙ k.goes_on (part ++ more)
+          ap (λ l. answers_from first begins (lines_of (opened ++ l))) (append_assoc k.given part more) ∙ k.goes_on (part ++ more)
           ∙ ap (λ l. k.front ++ l) (answers_on s number hand part more feed
           ∙ ap (λ l. answer_to s line ++ l) (ap (λ u. answers_from u (number + 1) (lines_of (behind_line (hand ++ part) ++ more))) (sym after)
           ∙ ap (λ l. answers_from t (number + 1) (lines_of (l ++ more))) (sym behind)))
@@ -289,48 +298,48 @@ talk_goes_on first s t opened hand rest part had mid left held wrote holds numbe
       parts = taken_more opened hand rest part k.given k.taken k.parts feed behind;
       full = inr (k.taken ++ first_line_of (hand ++ part), sym (append_assoc k.taken (first_line_of (hand ++ part)) (10 ∷ [])));
       count = (let sizes = ap length lines ∙ length-append (lines_of k.taken) (first_line_of (hand ++ part) ∷ []) in omega (arith, sizes, k.count));
-      answers = ap (λ l. l ++ answer_to s line) k.answers ∙ sym more.0 ∙ ap (answers_from first 2) (sym lines);
-      state = after ∙ sym more.1 ∙ ap (state_behind first 2) (sym lines);
+      answers = ap (λ l. l ++ answer_to s line) k.answers ∙ sym more.0 ∙ ap (answers_from first begins) (sym lines);
+      state = after ∙ sym more.1 ∙ ap (state_behind first begins) (sym lines);
     }
 
 -- what is shown of a conversation that ended
-abbrev pub TalkEnded : {T : Type 0} → State → List ℕ → Option (List ℕ) → Option (List ℕ) → Option (List ℕ) → Option (List ℕ) → Result T LiveError → Type 0
-TalkEnded first opened had left held holds ended =
+abbrev pub TalkEnded : {T : Type 0} → ℕ → State → List ℕ → Option (List ℕ) → Option (List ℕ) → Option (List ℕ) → Option (List ℕ) → Result T LiveError → Type 0
+TalkEnded begins first opened had left held holds ended =
     (coming : List ℕ) × IsInput had coming × OnOk ended (Consumes had left coming)
-    × OnOk ended (Appends held holds (answers_from first 2 (lines_of (opened ++ coming))))
-    × IfErr ended (λ e. LeavesText (told e) held holds (answers_from first 2 (lines_of (opened ++ coming))))
+    × OnOk ended (Appends held holds (answers_from first begins (lines_of (opened ++ coming))))
+    × IfErr ended (λ e. LeavesText (told e) held holds (answers_from first begins (lines_of (opened ++ coming))))
 
 -- the text to the end, where the last line has no line feed
-ended_text : (first s : State) (opened hand part : List ℕ) (had mid left held wrote : Option (List ℕ)) (number : ℕ)
-    → (k : Talked first opened had mid held wrote number s hand) → has_feed (hand ++ part) ≡ false
-    → answers_from first 2 (lines_of (opened ++ (k.given ++ part))) ≡ k.front ++ answer_to s (said s number (first_line_of (hand ++ part)))
-ended_text first s opened hand part had mid left held wrote number k free =
+ended_text : (begins : ℕ) (first s : State) (opened hand part : List ℕ) (had mid left held wrote : Option (List ℕ)) (number : ℕ)
+    → (k : Talked begins first opened had mid held wrote number s hand) → has_feed (hand ++ part) ≡ false
+    → answers_from first begins (lines_of (opened ++ (k.given ++ part))) ≡ k.front ++ answer_to s (said s number (first_line_of (hand ++ part)))
+ended_text begins first s opened hand part had mid left held wrote number k free =
     k.goes_on part ∙ ap (λ l. k.front ++ l) (answers_last s number (hand ++ part) free)
 
 -- the input ended, and the writer was flushed or not
-pub talk_ends : (first s : State) (opened hand part : List ℕ) (had mid left held wrote wrote' holds : Option (List ℕ)) (number : ℕ)
+pub talk_ends : (begins : ℕ) (first s : State) (opened hand part : List ℕ) (had mid left held wrote wrote' holds : Option (List ℕ)) (number : ℕ)
     (flushed : Result (Unit {0}) LiveError) (wrote_all : Result (Unit {0}) DriveError)
-    → Talked first opened had mid held wrote number s hand → Consumes mid left part → has_feed (hand ++ part) ≡ false → IsAtEnd left
+    → Talked begins first opened had mid held wrote number s hand → Consumes mid left part → has_feed (hand ++ part) ≡ false → IsAtEnd left
     → Appends wrote wrote' (answer_to s (said s number (first_line_of (hand ++ part)))) → Keeps wrote' holds → IsWritten flushed wrote_all → IsOkUnless wrote_all errors.Write
-    → TalkEnded first opened had left held holds flushed
-talk_ends first s opened hand part had mid left held wrote wrote' holds number (Ok _) written k read free end wrote_it kept w f =
+    → TalkEnded begins first opened had left held holds flushed
+talk_ends begins first s opened hand part had mid left held wrote wrote' holds number (Ok _) written k read free end wrote_it kept w f =
     let given = Consumes-then had mid left k.given part k.consumed read in
-    let text = ended_text first s opened hand part had mid left held wrote number k free in
+    let text = ended_text begins first s opened hand part had mid left held wrote number k free in
     let all = Appends-Keeps held wrote' holds _ (Appends-trans held wrote wrote' k.front _ k.appended wrote_it) kept in
     (k.given ++ part, input_all had left (k.given ++ part) given end, given, rw text all, tt)
-talk_ends first s opened hand part had mid left held wrote wrote' holds number (Err e) written k read free end wrote_it kept w f =
+talk_ends begins first s opened hand part had mid left held wrote wrote' holds number (Err e) written k read free end wrote_it kept w f =
     let given = Consumes-then had mid left k.given part k.consumed read in
-    let text = ended_text first s opened hand part had mid left held wrote number k free in
+    let text = ended_text begins first s opened hand part had mid left held wrote number k free in
     let all = Appends-trans held wrote wrote' k.front _ k.appended wrote_it in
     let fault : told e ≡ errors.Write = subst (λ r. IsOkUnless r errors.Write) w.0 f in
     (k.given ++ part, input_all had left (k.given ++ part) given end, tt, tt, rw (fault, text) (leaves_all held wrote' holds _ all kept))
 
 -- a line couldn't be taken or answered
-pub talk_fails : (first s : State) (opened hand coming : List ℕ) (had mid left held wrote holds : Option (List ℕ)) (number : ℕ)
+pub talk_fails : (begins : ℕ) (first s : State) (opened hand coming : List ℕ) (had mid left held wrote holds : Option (List ℕ)) (number : ℕ)
     (e : LiveError) (ended : Result (Unit {0}) LiveError)
-    → Talked first opened had mid held wrote number s hand → IsInput mid coming
-    → LeavesText (told e) wrote holds (answers_from s number (lines_of (hand ++ coming))) → ended ≡ Err e → TalkEnded first opened had left held holds ended
-talk_fails first s opened hand coming had mid left held wrote holds number e ended k i f r =
+    → Talked begins first opened had mid held wrote number s hand → IsInput mid coming
+    → LeavesText (told e) wrote holds (answers_from s number (lines_of (hand ++ coming))) → ended ≡ Err e → TalkEnded begins first opened had left held holds ended
+talk_fails begins first s opened hand coming had mid left held wrote holds number e ended k i f r =
     rw r (
       k.given ++ coming,
       input_on had mid k.given coming k.consumed i,
@@ -340,14 +349,14 @@ talk_fails first s opened hand coming had mid left held wrote holds number e end
     )
 
 -- as many lines as can be numbered were answered
-pub talk_spent : (first s : State) (opened hand : List ℕ) (had left held holds : Option (List ℕ)) (number : ℕ) (e : LiveError)
-    → Talked first opened had left held holds number s hand → TalkEnded {T = Unit {0}} first opened had left held holds (Err e)
-talk_spent first s opened hand had left held holds number e k =
-    talk_fails first s opened hand (rest_of left) had left left held holds holds number e (Err e) k (rest_input left) (leaves_none (told e) holds _) refl
+pub talk_spent : (begins : ℕ) (first s : State) (opened hand : List ℕ) (had left held holds : Option (List ℕ)) (number : ℕ) (e : LiveError)
+    → Talked begins first opened had left held holds number s hand → TalkEnded {T = Unit {0}} begins first opened had left held holds (Err e)
+talk_spent begins first s opened hand had left held holds number e k =
+    talk_fails begins first s opened hand (rest_of left) had left left held holds holds number e (Err e) k (rest_input left) (leaves_none (told e) holds _) refl
 
-pub lines_answered : (first s : State) (opened hand : List ℕ) (had left held holds : Option (List ℕ)) (number count : ℕ)
-    → Talked first opened had left held holds number s hand → number ≡ count + 2 → AnsweredLines count first opened had left held holds
-lines_answered first s opened hand had left held holds number count k e = record {
+pub lines_answered : (begins : ℕ) (first s : State) (opened hand : List ℕ) (had left held holds : Option (List ℕ)) (number count : ℕ)
+    → Talked begins first opened had left held holds number s hand → number ≡ count + begins → AnsweredLines count begins first opened had left held holds
+lines_answered begins first s opened hand had left held holds number count k e = record {
   given = k.given;
   front = k.taken;
   rest = hand;
@@ -359,13 +368,13 @@ lines_answered first s opened hand had left held holds number count k e = record
 }
 
 -- a line couldn't be taken or answered: no loop over lines is spent then, and one over reads by as many bytes
-pub line_spends : (first s : State) (opened hand part : List ℕ) (had mid left held wrote holds : Option (List ℕ)) (number : ℕ) (e : LiveError)
-    → Talked first opened had mid held wrote number s hand → Consumes mid left part → AfterLine part e → AfterLines first opened had left held holds e
-line_spends first s opened hand part had mid left held wrote holds number (live.Reader fault) k read h = tt
-line_spends first s opened hand part had mid left held wrote holds number live.Writer k read h = tt
-line_spends first s opened hand part had mid left held wrote holds number live.Memory k read h = tt
-line_spends first s opened hand part had mid left held wrote holds number live.LinesSpent k read h = absurd h
-line_spends first s opened hand part had mid left held wrote holds number live.ReadsSpent k read h =
+pub line_spends : (begins : ℕ) (first s : State) (opened hand part : List ℕ) (had mid left held wrote holds : Option (List ℕ)) (number : ℕ) (e : LiveError)
+    → Talked begins first opened had mid held wrote number s hand → Consumes mid left part → AfterLine part e → AfterLines begins first opened had left held holds e
+line_spends begins first s opened hand part had mid left held wrote holds number (live.Reader fault) k read h = tt
+line_spends begins first s opened hand part had mid left held wrote holds number live.Writer k read h = tt
+line_spends begins first s opened hand part had mid left held wrote holds number live.Memory k read h = tt
+line_spends begins first s opened hand part had mid left held wrote holds number live.LinesSpent k read h = absurd h
+line_spends begins first s opened hand part had mid left held wrote holds number live.ReadsSpent k read h =
     let sizes = length-append k.given part in
     (k.given ++ part, Consumes-then had mid left k.given part k.consumed read, omega (arith, sizes, h))
 
@@ -409,11 +418,11 @@ gives_refused view (Ok c) e why x h i j = cc
 gives_refused view (Err script.Memory) e why x h i j = cc
 gives_refused view (Err (script.Refused w)) e why x h i j = let k : w ≡ why = cc in h ∙ ap Err k
 
-setup_is : (r : Result Configuration LoadError) (c : Configuration) → in_setup r ≡ Ok c → r ≡ Ok c
+pub setup_is : (r : Result Configuration LoadError) (c : Configuration) → in_setup r ≡ Ok c → r ≡ Ok c
 setup_is (Ok d) c e = cc
 setup_is (Err e) c h = cc
 
-setup_refused : (r : Result Configuration LoadError) (why : InputRefusal) → in_setup r ≡ Err why
+pub setup_refused : (r : Result Configuration LoadError) (why : InputRefusal) → in_setup r ≡ Err why
     → (e : LoadError) × (r ≡ Err e) × (why ≡ refusal.Setup e)
 setup_refused (Ok c) why h = cc
 setup_refused (Err e) why h = (e, refl, cc)
@@ -432,20 +441,21 @@ opened_setup : (c : Configuration) (given coming : List ℕ) → in_setup (setup
 opened_setup c given coming s feed = ap setup_of (first_stays given coming feed) ∙ setup_is (setup_of (first_line_of given)) c s
 
 -- an error, whatever came before it
-pub live_failed : (start : ℕ) (e : DriveError) (had left held holds : Option (List ℕ)) (input : List ℕ) → IsInput had input
-    → LeavesText e held holds (live_text start input) → IsLiveOnInput start (Err e) had left held holds
-live_failed start e had left held holds input i f = record { input = input; is_input = i; outcome_is = tt; written = tt; read = tt; front = f }
+pub live_failed : (outcomes : List ℕ → Outcome) (says : List ℕ → List ℕ) (reads : Option (List ℕ) → Option (List ℕ) → List ℕ → Type 0) (e : DriveError)
+    (had left held holds : Option (List ℕ)) (input : List ℕ) → IsInput had input
+    → LeavesText e held holds (says input) → IsLiveOf outcomes says reads (Err e) had left held holds
+live_failed outcomes says reads e had left held holds input i f = record { input = input; is_input = i; outcome_is = tt; written = tt; read = tt; front = f }
 
 -- an error before anything was written
-pub live_unwritten : (start : ℕ) (e : DriveError) (had left held : Option (List ℕ)) (given : List ℕ) → Consumes had left given
-    → IsLiveOnInput start (Err e) had left held held
-live_unwritten start e had left held given read =
-    live_failed start e had left held held (given ++ rest_of left) (input_on had left given (rest_of left) read (rest_input left)) (leaves_none e held _)
+pub live_unwritten : (outcomes : List ℕ → Outcome) (says : List ℕ → List ℕ) (reads : Option (List ℕ) → Option (List ℕ) → List ℕ → Type 0) (e : DriveError)
+    (had left held : Option (List ℕ)) (given : List ℕ) → Consumes had left given → IsLiveOf outcomes says reads (Err e) had left held held
+live_unwritten outcomes says reads e had left held given read =
+    live_failed outcomes says reads e had left held held (given ++ rest_of left) (input_on had left given (rest_of left) read (rest_input left)) (leaves_none e held _)
 
 -- the lines were answered to the end
 live_ran : (start : ℕ) (c : Configuration) (given : List ℕ) (had mid left held holds : Option (List ℕ)) (o : Outcome)
     → in_setup (setup_of (first_line_of given)) ≡ Ok c → has_feed given ≡ true → Consumes had mid given
-    → TalkEnded (opening c start) (behind_line given) mid left held holds (Ok o) → IsLiveOnInput start (Ok outcome.Ran) had left held holds
+    → TalkEnded 2 (opening c start) (behind_line given) mid left held holds (Ok o) → IsLiveOnInput start (Ok outcome.Ran) had left held holds
 live_ran start c given had mid left held holds o s feed read t =
     let setup = opened_setup c given t.0 s feed in
     record {
@@ -460,12 +470,12 @@ live_ran start c given had mid left held holds o s feed read t =
 -- they weren't
 live_cut : (start : ℕ) (c : Configuration) (given : List ℕ) (had mid left held holds : Option (List ℕ)) (e : LiveError)
     → in_setup (setup_of (first_line_of given)) ≡ Ok c → has_feed given ≡ true → Consumes had mid given
-    → TalkEnded {T = Outcome} (opening c start) (behind_line given) mid left held holds (Err e) → IsLiveOnInput start (Err (told e)) had left held holds
+    → TalkEnded {T = Outcome} 2 (opening c start) (behind_line given) mid left held holds (Err e) → IsLiveOnInput start (Err (told e)) had left held holds
 live_cut start c given had mid left held holds e s feed read t =
-    live_failed start (told e) had left held holds (given ++ t.0) (input_on had mid given t.0 read t.1) (rw (opened_text start c given t.0 s feed) t.4)
+    live_failed live_outcome (live_text start) HasReadLive (told e) had left held holds (given ++ t.0) (input_on had mid given t.0 read t.1) (rw (opened_text start c given t.0 s feed) t.4)
 
 -- there are no lines behind the setup
-not_long : (c : Configuration) (given : List ℕ) → in_setup (setup_of (first_line_of given)) ≡ Ok c → has_feed given ≡ false
+pub not_long : (c : Configuration) (given : List ℕ) → in_setup (setup_of (first_line_of given)) ≡ Ok c → has_feed given ≡ false
     → KEPT_SETUP_BYTES ≤ length given → ⊥
 not_long c given s free long =
     let all = ap length (first_all given free) in
@@ -500,7 +510,7 @@ pub live_answered : (start : ℕ) (c : Configuration) (given : List ℕ) (had mi
     → in_setup (setup_of (first_line_of given)) ≡ Ok c → whole ≡ has_feed given → Consumes had mid given
     → (whole ≡ false → IsAtEnd mid ⊎ (KEPT_SETUP_BYTES ≤ length given)) → IfOk r (λ o. o ≡ outcome.Ran)
     → (whole ≡ false → (r ≡ Ok outcome.Ran) × (left ≡ mid) × (holds ≡ held))
-    → (whole ≡ true → TalkEnded (opening c start) (behind_line given) mid left held holds r) → IsLiveOnInput start (told_by r) had left held holds
+    → (whole ≡ true → TalkEnded 2 (opening c start) (behind_line given) mid left held holds r) → IsLiveOnInput start (told_by r) had left held holds
 live_answered start c given had mid left held holds false r s feed read end ran none lines =
     let n = none refl in rw (n.0, n.1, n.2) (short_by start c given had mid held s (sym feed) read (end refl))
 live_answered start c given had mid left held holds true (Ok o) s feed read end ran none lines =
@@ -515,7 +525,7 @@ ended_by : (left : Option (List ℕ)) (given : List ℕ) → IsAtEnd left ⊎ (K
 ended_by left given (inl end) = inl (rest_none left end)
 ended_by left given (inr long) = inr long
 
-refused_stays : (given : List ℕ) (left : Option (List ℕ)) (whole : Bool) → whole ≡ has_feed given
+pub refused_stays : (given : List ℕ) (left : Option (List ℕ)) (whole : Bool) → whole ≡ has_feed given
     → (whole ≡ false → IsAtEnd left ⊎ (KEPT_SETUP_BYTES ≤ length given))
     → setup_of (first_line_of (given ++ rest_of left)) ≡ setup_of (first_line_of given)
 refused_stays given left true feed end = setup_stays given (rest_of left) (inl (sym feed))
@@ -549,7 +559,7 @@ live_unrefused : (start : ℕ) (given : List ℕ) (had left held holds : Option 
 live_unrefused start given had left held holds why whole e s read feed end f =
     let refused = setup_refused (setup_of (first_line_of given)) why s in
     let setup = refused_stays given left whole feed end ∙ refused.1 in
-    live_failed start e had left held holds (given ++ rest_of left) (input_on had left given (rest_of left) read (rest_input left))
+    live_failed live_outcome (live_text start) HasReadLive e had left held holds (given ++ rest_of left) (input_on had left given (rest_of left) read (rest_input left))
     (rw (refused_is start (given ++ rest_of left) refused.0 setup) (rw (refused.2) at f))
 
 -- what is shown of a refusal's line is what is shown of the whole
@@ -565,16 +575,16 @@ live_refusal start given had left held holds why whole (Err e) s read soon feed 
 -- ---- a loop that is spent
 
 -- what only writes spends none
-pub written_lines : {T : Type 0} (r : Result T LiveError) (written : Result T DriveError) (first : State) (opened : List ℕ) (had left held holds : Option (List ℕ))
-    → IsWritten r written → IfErr r (AfterLines first opened had left held holds)
-written_lines (Ok x) written first opened had left held holds w = tt
-written_lines (Err (live.Reader fault)) written first opened had left held holds w = tt
-written_lines (Err live.Writer) written first opened had left held holds w = tt
-written_lines (Err live.Memory) written first opened had left held holds w = tt
-written_lines (Err live.LinesSpent) written first opened had left held holds (e, inl f) = cc
-written_lines (Err live.LinesSpent) written first opened had left held holds (e, inr f) = cc
-written_lines (Err live.ReadsSpent) written first opened had left held holds (e, inl f) = cc
-written_lines (Err live.ReadsSpent) written first opened had left held holds (e, inr f) = cc
+pub written_lines : {T : Type 0} (r : Result T LiveError) (written : Result T DriveError) (begins : ℕ) (first : State) (opened : List ℕ)
+    (had left held holds : Option (List ℕ)) → IsWritten r written → IfErr r (AfterLines begins first opened had left held holds)
+written_lines (Ok x) written begins first opened had left held holds w = tt
+written_lines (Err (live.Reader fault)) written begins first opened had left held holds w = tt
+written_lines (Err live.Writer) written begins first opened had left held holds w = tt
+written_lines (Err live.Memory) written begins first opened had left held holds w = tt
+written_lines (Err live.LinesSpent) written begins first opened had left held holds (e, inl f) = cc
+written_lines (Err live.LinesSpent) written begins first opened had left held holds (e, inr f) = cc
+written_lines (Err live.ReadsSpent) written begins first opened had left held holds (e, inl f) = cc
+written_lines (Err live.ReadsSpent) written begins first opened had left held holds (e, inr f) = cc
 
 pub written_spends : {T : Type 0} (r : Result T LiveError) (written : Result T DriveError) (had left : Option (List ℕ)) → IsWritten r written
     → IfErr r (AfterAll had left)
@@ -602,7 +612,7 @@ onto_few b n [] h = omega (arith, h)
 onto_few b n (line ∷ lines) h = omega (arith, h)
 
 -- each line has a byte at least
-lines_few : (bytes : List ℕ) → length (lines_of bytes) ≤ length bytes
+pub lines_few : (bytes : List ℕ) → length (lines_of bytes) ≤ length bytes
 lines_few [] = omega arith
 lines_few (b ∷ bs) =
     let again = lines_few bs in
@@ -611,7 +621,7 @@ lines_few (b ∷ bs) =
       | false ↦ onto_few b (length bs) (lines_of bs) again
     ]
 
-behind_few : (bytes : List ℕ) → length (behind_line bytes) ≤ length bytes
+pub behind_few : (bytes : List ℕ) → length (behind_line bytes) ≤ length bytes
 behind_few [] = omega arith
 behind_few (b ∷ bs) =
     let again = behind_few bs in
@@ -622,7 +632,7 @@ behind_few (b ∷ bs) =
 
 -- the loops behind a setup that was given so
 pub lines_spend : (e : LiveError) (first : State) (given : List ℕ) (had mid left held holds : Option (List ℕ)) → Consumes had mid given
-    → AfterLines first (behind_line given) mid left held holds e → AfterAll had left e
+    → AfterLines 2 first (behind_line given) mid left held holds e → AfterAll had left e
 lines_spend (live.Reader fault) first given had mid left held holds read h = λ s. absurd s
 lines_spend live.Writer first given had mid left held holds read h = λ s. absurd s
 lines_spend live.Memory first given had mid left held holds read h = λ s. absurd s
@@ -639,7 +649,7 @@ lines_spend live.ReadsSpent first given had mid left held holds read g = λ s.
     (given ++ g.0, Consumes-then had mid left given g.0 read g.1, omega (arith, all, g.2))
 
 pub if_spend : {T : Type 0} (r : Result T LiveError) (first : State) (given : List ℕ) (had mid left held holds : Option (List ℕ)) (whole : Bool)
-    → Consumes had mid given → IfErr r (AfterLines first (behind_line given) mid left held holds) → IfErr r (AfterAll had left)
+    → Consumes had mid given → IfErr r (AfterLines 2 first (behind_line given) mid left held holds) → IfErr r (AfterAll had left)
 if_spend (Ok x) first given had mid left held holds whole read h = tt
 if_spend (Err e) first given had mid left held holds whole read h = lines_spend e first given had mid left held holds read h
 
@@ -670,26 +680,30 @@ written_line live.ReadsSpent written given (e, inr f) = cc
 
 -- ---- where it is known what the reader had
 
-pub known_written : (start : ℕ) (ended : Result Outcome DriveError) (had left held holds : Option (List ℕ)) → IsLiveOnInput start ended had left held holds
-    → OnOk ended (IfSome had (λ input. Appends held holds (live_text start input)))
-known_written start (Err e) had left held holds i = tt
-known_written start (Ok o) None left held holds i = tt
-known_written start (Ok o) (Some bytes) left held holds i = rw (← i.is_input) i.written
+pub known_written : (outcomes : List ℕ → Outcome) (says : List ℕ → List ℕ) (reads : Option (List ℕ) → Option (List ℕ) → List ℕ → Type 0)
+    (ended : Result Outcome DriveError) (had left held holds : Option (List ℕ)) → IsLiveOf outcomes says reads ended had left held holds
+    → OnOk ended (IfSome had (λ input. Appends held holds (says input)))
+known_written outcomes says reads (Err e) had left held holds i = tt
+known_written outcomes says reads (Ok o) None left held holds i = tt
+known_written outcomes says reads (Ok o) (Some bytes) left held holds i = subst (λ l. Appends held holds (says l)) i.is_input i.written
 
-pub known_outcome : (start : ℕ) (ended : Result Outcome DriveError) (had left held holds : Option (List ℕ)) → IsLiveOnInput start ended had left held holds
-    → IfOk ended (λ outcome. IfSome had (λ input. outcome ≡ live_outcome input))
-known_outcome start (Err e) had left held holds i = tt
-known_outcome start (Ok o) None left held holds i = tt
-known_outcome start (Ok o) (Some bytes) left held holds i = i.outcome_is ∙ ap live_outcome i.is_input
+pub known_outcome : (outcomes : List ℕ → Outcome) (says : List ℕ → List ℕ) (reads : Option (List ℕ) → Option (List ℕ) → List ℕ → Type 0)
+    (ended : Result Outcome DriveError) (had left held holds : Option (List ℕ)) → IsLiveOf outcomes says reads ended had left held holds
+    → IfOk ended (λ outcome. IfSome had (λ input. outcome ≡ outcomes input))
+known_outcome outcomes says reads (Err e) had left held holds i = tt
+known_outcome outcomes says reads (Ok o) None left held holds i = tt
+known_outcome outcomes says reads (Ok o) (Some bytes) left held holds i = i.outcome_is ∙ ap outcomes i.is_input
 
-pub known_read : (start : ℕ) (ended : Result Outcome DriveError) (had left held holds : Option (List ℕ)) → IsLiveOnInput start ended had left held holds
-    → OnOk ended (IfSome had (HasReadLive had left))
-known_read start (Err e) had left held holds i = tt
-known_read start (Ok o) None left held holds i = tt
-known_read start (Ok o) (Some bytes) left held holds i = subst (HasReadLive (Some bytes) left) i.is_input i.read
+pub known_read : (outcomes : List ℕ → Outcome) (says : List ℕ → List ℕ) (reads : Option (List ℕ) → Option (List ℕ) → List ℕ → Type 0)
+    (ended : Result Outcome DriveError) (had left held holds : Option (List ℕ)) → IsLiveOf outcomes says reads ended had left held holds
+    → OnOk ended (IfSome had (reads had left))
+known_read outcomes says reads (Err e) had left held holds i = tt
+known_read outcomes says reads (Ok o) None left held holds i = tt
+known_read outcomes says reads (Ok o) (Some bytes) left held holds i = subst (reads (Some bytes) left) i.is_input i.read
 
-pub known_fault : (start : ℕ) (ended : Result Outcome DriveError) (had left held holds : Option (List ℕ)) → IsLiveOnInput start ended had left held holds
-    → IfErr ended (λ e. IfSome had (λ input. LeavesText e held holds (live_text start input)))
-known_fault start (Ok o) had left held holds i = tt
-known_fault start (Err e) None left held holds i = tt
-known_fault start (Err e) (Some bytes) left held holds i = subst (λ l. LeavesText e held holds (live_text start l)) i.is_input i.front
+pub known_fault : (outcomes : List ℕ → Outcome) (says : List ℕ → List ℕ) (reads : Option (List ℕ) → Option (List ℕ) → List ℕ → Type 0)
+    (ended : Result Outcome DriveError) (had left held holds : Option (List ℕ)) → IsLiveOf outcomes says reads ended had left held holds
+    → IfErr ended (λ e. IfSome had (λ input. LeavesText e held holds (says input)))
+known_fault outcomes says reads (Ok o) had left held holds i = tt
+known_fault outcomes says reads (Err e) None left held holds i = tt
+known_fault outcomes says reads (Err e) (Some bytes) left held holds i = subst (λ l. LeavesText e held holds (says l)) i.is_input i.front

@@ -8,8 +8,9 @@ use Rattle.check_drive.specs.declared.drive.Outcome.TheVariants as outcome
 use Rattle.check_script.specs.declared.input.TheConstants.{MAX_READ_BYTES}
 use Rattle.check_script.specs.declared.refusal.InputRefusal.{InputRefusal}
 use Rattle.check_text.specs.Output.{WroteFront}
+use Rattle.check_script.specs.ResumedScript.{resumed_script_of}
 use Rattle.check_script.specs.Script.{script_of}
-use Rattle.check_text.specs.Text.{text}
+use Rattle.check_text.specs.Text.{text, text_resumed}
 
 -- what was read is run
 abbrev pub outcome_by : {A : Type 0} → Result A InputRefusal → Outcome
@@ -20,17 +21,29 @@ outcome_by (Err r) = outcome.Refused
 unfoldable pub outcome_of : List ℕ → Outcome
 outcome_of input = outcome_by (script_of input)
 
+-- the same of a run that goes on from what was saved
+unfoldable pub resumed_outcome_of : List ℕ → Outcome
+resumed_outcome_of input = outcome_by (resumed_script_of input)
+
 -- The whole input was read, or one byte more than an input may have.
 abbrev pub HasRead : Option (List ℕ) → Option (List ℕ) → List ℕ → Type 0
 HasRead had left input = Consumes had left (take MAX_READ_BYTES input)
 
--- What an error leaves, by what the reader had and has left and what the writer held and holds.
--- After a fault of the reader nothing was written. After any other error a front of the text was,
+-- What an error leaves of a run that writes such a text on an input, by what the reader had and has left and what the writer held
+-- and holds. After a fault of the reader nothing was written. After any other error a front of the text was,
 -- and nothing at all where the input was read neither to its end nor to the limit.
+abbrev pub AfterFaultOf : (List ℕ → List ℕ) → DriveError → Option (List ℕ) → Option (List ℕ) → Option (List ℕ) → Option (List ℕ) → Type 0
+AfterFaultOf says errors.Read had left held holds = Keeps held holds
+AfterFaultOf says e None left held holds = ⊤
+AfterFaultOf says e (Some input) left held holds = WroteFront held holds (says input) × (Keeps held holds ⊎ HasRead (Some input) left input)
+
+-- what an error leaves of a run that starts at the moment `start`
 abbrev pub AfterFault : DriveError → ℕ → Option (List ℕ) → Option (List ℕ) → Option (List ℕ) → Option (List ℕ) → Type 0
-AfterFault errors.Read start had left held holds = Keeps held holds
-AfterFault e start None left held holds = ⊤
-AfterFault e start (Some input) left held holds = WroteFront held holds (text start input) × (Keeps held holds ⊎ HasRead (Some input) left input)
+AfterFault e start had left held holds = AfterFaultOf (text start) e had left held holds
+
+-- and of one that goes on from what was saved
+abbrev pub AfterResumedFault : DriveError → Option ℕ → Option (List ℕ) → Option (List ℕ) → Option (List ℕ) → Option (List ℕ) → Type 0
+AfterResumedFault e start had left held holds = AfterFaultOf (text_resumed start) e had left held holds
 
 -- An input of a reader: where it is known what the reader had, it is that.
 abbrev pub IsInput : Option (List ℕ) → List ℕ → Type 0
@@ -38,9 +51,17 @@ IsInput had input = IfSome had (λ bytes. input ≡ bytes)
 
 -- Whatever is known of reader and writer, a run that ended so is that of one input: it ran or refused that input and wrote
 -- its text, or after an error a front of it.
-pub record IsRunOnInput (start : ℕ) (ended : Result Outcome DriveError) (had held holds : Option (List ℕ)) : Type 0 where
+pub record IsRunOf (outcomes : List ℕ → Outcome) (says : List ℕ → List ℕ) (ended : Result Outcome DriveError) (had held holds : Option (List ℕ)) : Type 0 where
   pub input : List ℕ
   pub is_input : IsInput had input
-  pub outcome_is : IfOk ended (λ outcome. outcome ≡ outcome_of input)
-  pub written : OnOk ended (Appends held holds (text start input))
-  pub front : OnErr ended (WroteFront held holds (text start input))
+  pub outcome_is : IfOk ended (λ outcome. outcome ≡ outcomes input)
+  pub written : OnOk ended (Appends held holds (says input))
+  pub front : OnErr ended (WroteFront held holds (says input))
+
+-- of a run that starts at the moment `start`
+abbrev pub IsRunOnInput : ℕ → Result Outcome DriveError → Option (List ℕ) → Option (List ℕ) → Option (List ℕ) → Type 0
+IsRunOnInput start ended had held holds = IsRunOf outcome_of (text start) ended had held holds
+
+-- of one that goes on from what was saved
+abbrev pub IsResumedOnInput : Option ℕ → Result Outcome DriveError → Option (List ℕ) → Option (List ℕ) → Option (List ℕ) → Type 0
+IsResumedOnInput start ended had held holds = IsRunOf resumed_outcome_of (text_resumed start) ended had held holds

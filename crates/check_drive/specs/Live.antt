@@ -1,5 +1,5 @@
 -- What a conversation from a reader to a writer leaves, fault or none.
-use Rattle.std.specs.Prelude.{ℕ, ◌≡◌, ◌-◌, ◌^◌, ◌≤◌, length, ⊤, ◌⊎◌, List, [], ◌∷◌, ◌++◌, Option, Result, Ok, Err, IfOk, IfErr, OnOk}
+use Rattle.std.specs.Prelude.{ℕ, Bool, false, ◌≡◌, ◌+◌, ◌-◌, ◌^◌, ◌≤◌, length, ⊤, ◌⊎◌, List, [], ◌∷◌, ◌++◌, Option, Result, Ok, Err, IfOk, IfErr, OnOk}
 use Rattle.std.specs.Io.KnownBytes.{Appends, Consumes}
 use Rattle.check_objects.specs.Configuration.{Configuration}
 use Rattle.check_objects.specs.Setup.{setup_of}
@@ -10,11 +10,16 @@ use Rattle.check_script.specs.declared.live_input.TheConstants.{KEPT_SETUP_BYTES
 use Rattle.check_script.specs.declared.live_error.LiveError.{LiveError}
 use Rattle.check_script.specs.declared.live_error.LiveError.TheVariants as live
 use Rattle.check_script.specs.Input.{first_line_of, lines_of}
-use Rattle.check_script.specs.LiveError.{IsSpent}
-use Rattle.check_script.specs.LiveInput.{StopsSoon}
+use Rattle.check_drafts.specs.Agreement.{◌>>=◌}
+use Rattle.check_saved.specs.Saved.{Saved}
+use Rattle.check_saved.specs.Text.{saved_of_text}
+use Rattle.check_script.specs.declared.refusal.InputRefusal.{InputRefusal}
+use Rattle.check_script.specs.LiveError.{IsSpent, told}
+use Rattle.check_script.specs.LiveInput.{StopsSoon, behind_line}
+use Rattle.check_script.specs.ResumedScript.{in_saved}
 use Rattle.check_script.specs.Script.{in_setup}
 use Rattle.check_sched.specs.State.{State}
-use Rattle.check_text.specs.LiveText.{answers_from, live_text}
+use Rattle.check_text.specs.LiveText.{answers_from, live_resumed_over, live_text, live_text_resumed}
 use Rattle.check_text.specs.Output.{WroteFront}
 use Rattle.check_drive.specs.declared.drive.Outcome.{Outcome}
 use Rattle.check_drive.specs.Drive.{IsInput, outcome_by}
@@ -36,8 +41,9 @@ abbrev pub LeavesText : DriveError → Option (List ℕ) → Option (List ℕ) �
 LeavesText errors.Memory held holds text = WroteLines held holds text
 LeavesText e held holds text = WroteFront held holds text
 
--- So many lines were answered, each from its beginning to its line feed: the front of what was at hand and was given then.
-pub record AnsweredLines (count : ℕ) (first : State) (hand : List ℕ) (had left held holds : Option (List ℕ)) : Type 0 where
+-- So many lines were answered, of which the first has the number `begins`, each from its beginning to its line feed: the front of
+-- what was at hand and was given then.
+pub record AnsweredLines (count begins : ℕ) (first : State) (hand : List ℕ) (had left held holds : Option (List ℕ)) : Type 0 where
   pub given : List ℕ
   pub front : List ℕ
   pub rest : List ℕ
@@ -45,18 +51,18 @@ pub record AnsweredLines (count : ℕ) (first : State) (hand : List ℕ) (had le
   pub parts : hand ++ given ≡ front ++ rest
   pub lines : length (lines_of front) ≡ count
   pub whole : AreWholeLines front
-  pub answered : Appends held holds (answers_from first 2 (lines_of front))
+  pub answered : Appends held holds (answers_from first begins (lines_of front))
 
 -- so many bytes were given, or more
 abbrev pub GaveMany : ℕ → Option (List ℕ) → Option (List ℕ) → Type 0
 GaveMany count had left = (given : List ℕ) × Consumes had left given × (count ≤ length given)
 
--- What it takes to spend a loop over lines: as many answers as lines can have numbers, from 2 on; a loop over reads: as many reads
--- that gave something.
-abbrev pub AfterLines : State → List ℕ → Option (List ℕ) → Option (List ℕ) → Option (List ℕ) → Option (List ℕ) → LiveError → Type 0
-AfterLines first hand had left held holds live.LinesSpent = AnsweredLines (2 ^ 64 - 3) first hand had left held holds
-AfterLines first hand had left held holds live.ReadsSpent = GaveMany (2 ^ 64 - 1) had left
-AfterLines first hand had left held holds e = ⊤
+-- What it takes to spend a loop over lines: as many answers as lines can have numbers, from the first one's on; a loop over reads: as many
+-- reads that gave something.
+abbrev pub AfterLines : ℕ → State → List ℕ → Option (List ℕ) → Option (List ℕ) → Option (List ℕ) → Option (List ℕ) → LiveError → Type 0
+AfterLines begins first hand had left held holds live.LinesSpent = AnsweredLines (2 ^ 64 - 1 - begins) begins first hand had left held holds
+AfterLines begins first hand had left held holds live.ReadsSpent = GaveMany (2 ^ 64 - 1) had left
+AfterLines begins first hand had left held holds e = ⊤
 
 -- a loop of a conversation is spent only behind so many bytes
 abbrev pub AfterAll : Option (List ℕ) → Option (List ℕ) → LiveError → Type 0
@@ -76,10 +82,62 @@ HasReadLive had left input = ReadBy (setup_of (first_line_of input)) had left in
 
 -- Whatever is known of reader and writer, a conversation that ended so is that of one input: it answered that input's lines or
 -- refused its setup and wrote its text, or after an error a front of it.
-pub record IsLiveOnInput (start : ℕ) (ended : Result Outcome DriveError) (had left held holds : Option (List ℕ)) : Type 0 where
+pub record IsLiveOf (outcomes : List ℕ → Outcome) (says : List ℕ → List ℕ) (reads : Option (List ℕ) → Option (List ℕ) → List ℕ → Type 0)
+    (ended : Result Outcome DriveError) (had left held holds : Option (List ℕ)) : Type 0 where
   pub input : List ℕ
   pub is_input : IsInput had input
-  pub outcome_is : IfOk ended (λ outcome. outcome ≡ live_outcome input)
-  pub written : OnOk ended (Appends held holds (live_text start input))
-  pub read : OnOk ended (HasReadLive had left input)
-  pub front : IfErr ended (λ e. LeavesText e held holds (live_text start input))
+  pub outcome_is : IfOk ended (λ outcome. outcome ≡ outcomes input)
+  pub written : OnOk ended (Appends held holds (says input))
+  pub read : OnOk ended (reads had left input)
+  pub front : IfErr ended (λ e. LeavesText e held holds (says input))
+
+-- of a conversation that starts at the moment `start`
+abbrev pub IsLiveOnInput : ℕ → Result Outcome DriveError → Option (List ℕ) → Option (List ℕ) → Option (List ℕ) → Option (List ℕ) → Type 0
+IsLiveOnInput start ended had left held holds = IsLiveOf live_outcome (live_text start) HasReadLive ended had left held holds
+
+-- ---- the same of a conversation that goes on from what was saved
+
+-- what was saved, by what stands behind the setup, or its refusal
+abbrev pub saved_in : List ℕ → Result Saved InputRefusal
+saved_in bytes = in_saved (saved_of_text (first_line_of bytes))
+
+-- whether it answers lines, or refuses its setup or what was saved
+abbrev pub live_resumed_outcome : List ℕ → Outcome
+live_resumed_outcome input = outcome_by (in_setup (setup_of (first_line_of input)) >>= λ c. saved_in (behind_line input))
+
+-- what was read behind a setup: all, or a front of it where what was saved is refused
+abbrev pub ReadBehind : Result Saved InputRefusal → Option (List ℕ) → Option (List ℕ) → List ℕ → Type 0
+ReadBehind (Ok saved) had left input = Consumes had left input
+ReadBehind (Err e) had left input = (given : List ℕ) × Consumes had left given
+
+-- What was read: the input to its end; where the setup is refused no more of it than that takes, and where the saved state is refused a front.
+abbrev pub ReadResumedBy : Result Configuration LoadError → Option (List ℕ) → Option (List ℕ) → List ℕ → Type 0
+ReadResumedBy (Ok c) had left input = ReadBehind (saved_in (behind_line input)) had left input
+ReadResumedBy (Err e) had left input = (given : List ℕ) × Consumes had left given × StopsSoon KEPT_SETUP_BYTES given
+
+abbrev pub HasReadResumed : Option (List ℕ) → Option (List ℕ) → List ℕ → Type 0
+HasReadResumed had left input = ReadResumedBy (setup_of (first_line_of input)) had left input
+
+abbrev pub IsLiveResumedOnInput : Option ℕ → Result Outcome DriveError → Option (List ℕ) → Option (List ℕ) → Option (List ℕ) → Option (List ℕ) → Type 0
+IsLiveResumedOnInput start ended had left held holds =
+    IsLiveOf live_resumed_outcome (live_text_resumed start) HasReadResumed ended had left held holds
+
+-- How a conversation ended behind a setup, with these bytes at hand: some came, and no more where none may follow; by all of them together it
+-- went on from what was saved, or refused that, and wrote its text, or after an error a front of it.
+pub record WentOn (start : Option ℕ) (c : Configuration) (may_follow : Bool) (hand : List ℕ) (ended : Result Outcome LiveError)
+    (had left held holds : Option (List ℕ)) : Type 0 where
+  pub coming : List ℕ
+  pub is_input : IsInput had coming
+  pub short : may_follow ≡ false → coming ≡ []
+  pub outcome_is : IfOk ended (λ outcome. outcome ≡ outcome_by (saved_in (hand ++ coming)))
+  pub written : OnOk ended (Appends held holds (live_resumed_over start (Ok c) (hand ++ coming)))
+  pub read : OnOk ended (ReadBehind (saved_in (hand ++ coming)) had left coming)
+  pub front : IfErr ended (λ e. LeavesText (told e) held holds (live_resumed_over start (Ok c) (hand ++ coming)))
+
+-- so many bytes were at hand or were given, or more
+abbrev pub HadMany : ℕ → List ℕ → Option (List ℕ) → Option (List ℕ) → Type 0
+HadMany count hand had left = (given : List ℕ) × Consumes had left given × (count ≤ length hand + length given)
+
+-- a loop behind a setup is spent only where so many bytes stood behind it
+abbrev pub AfterLater : List ℕ → Option (List ℕ) → Option (List ℕ) → LiveError → Type 0
+AfterLater hand had left e = IsSpent e → HadMany (2 ^ 64 - 3) hand had left

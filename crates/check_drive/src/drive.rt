@@ -1,16 +1,16 @@
-//! A run: reads an input, makes its calls on one scheduler, and writes the lines of the replies.
+//! A run: reads an input, carries out its commands on one scheduler, and writes the lines of the answers.
 ghost use Rattle.std.specs.Prelude.{◌≡◌, ◌≤◌, IfOk, IfErr, IfSome, IsOkUnless, OnOk, OnErr, ◌≢◌, string_capacity};
 ghost use Rattle.std.specs.Io.KnownBytes.{Appends, Keeps};
 ghost use Rattle.check_sched.specs.State.{opening};
 ghost use Rattle.check_sched.specs.Step.{step};
 ghost use Rattle.check_text.specs.Output.{WroteFront, WroteShort};
-ghost use Rattle.check_text.specs.Text.{text, text_from, line_from};
+ghost use Rattle.check_text.specs.Text.{answer_line, line_from, state_by, text, text_from};
 ghost use Rattle.check_drive.specs.Drive.{outcome_of, HasRead, AfterFault, IsRunOnInput};
 
 use check_objects::Setup;
 use check_sched::{Call, LAST_MOMENT, Sched};
-use check_script::{DriveError, Script, read_input};
-use check_text::{REPLY_BYTES, flush, push_reply, write_refusal, write_text};
+use check_script::{DriveError, RunCommand, Script, read_input};
+use check_text::{REPLY_BYTES, flush, push_reply, write_refusal, write_saved, write_text};
 use std::alloc::Global;
 use std::io::{Read, Write};
 
@@ -24,8 +24,9 @@ pub enum Outcome {
 }
 
 /// Reads a setup and a script, checks every line, then makes the calls on one scheduler that starts
-/// at the moment `start`, in milliseconds, and writes the line of each reply. An input that is
-/// refused writes the line of its first refusal and nothing else. The writer is flushed once, at
+/// at the moment `start`, in milliseconds, and writes the line of each reply. The command `save` is no
+/// call: it is answered by the line of what is saved of the scheduler, and changes nothing. An input
+/// that is refused writes the line of its first refusal and nothing else. The writer is flushed once, at
 /// the end.
 ///
 /// The input is read whole, but no more than 67,108,865 bytes of it. Any error of the reader or the
@@ -88,11 +89,11 @@ fn answer<W: Write>(
     }
 }
 
-/// Makes each call of a script on one scheduler, and writes the line of its reply.
+/// Carries out each command of a script on one scheduler, and writes the line of its answer.
 fn run<W: Write>(
     alloc: Global,
     start: u64,
-    script: Script<Call>,
+    script: Script<RunCommand>,
     writer: &mut W,
 ) -> Result<Outcome, DriveError>
     requires { start ≤ LAST_MOMENT }
@@ -108,30 +109,60 @@ fn run<W: Write>(
 {
     let Script { setup, commands } = script;
     let mut sched = open(alloc, setup, start)?;
-    make_calls(alloc, &mut sched, &commands, writer)
+    carry_out(alloc, &mut sched, &commands, writer)
 }
 
-/// Makes these calls, and writes the line of each reply. One buffer serves all lines.
-fn make_calls<W: Write>(
+/// Carries out these commands, and writes the line of each answer. One buffer serves the lines of all
+/// replies.
+pub(crate) fn carry_out<W: Write>(
     alloc: Global,
     sched: &mut Sched,
-    calls: &[Call],
+    commands: &[RunCommand],
     writer: &mut W,
 ) -> Result<Outcome, DriveError>
     ensures written { OnOk result (Appends (W.contents writer.old) (W.contents writer.new)
-        (text_from sched.old calls.now)) }
+        (text_from sched.old commands.now)) }
     ensures outcome { IfOk result (λ outcome. outcome ≡ Outcome.Ran) }
     ensures fault { OnErr result (WroteFront (W.contents writer.old) (W.contents writer.new)
-        (text_from sched.old calls.now)) }
+        (text_from sched.old commands.now)) }
     ensures kind { IfErr result (λ e. e ≢ DriveError.Read) }
     ensures memory { IfErr result (λ e. e ≡ DriveError.Memory
-        → WroteShort (W.contents writer.old) (W.contents writer.new) (text_from sched.old calls.now)) }
+        → WroteShort (W.contents writer.old) (W.contents writer.new)
+        (text_from sched.old commands.now)) }
 {
     let mut line = String::new(alloc);
-    for call in calls {
-        make_call(sched, *call, &mut line, writer)?;
+    for command in commands {
+        answer_command(alloc, sched, *command, &mut line, writer)?;
     }
     Ok(Outcome::Ran)
+}
+
+/// Carries out one command, and writes the line of its answer: of a call that of its reply, by way of
+/// the buffer `line`. With room for `REPLY_BYTES` in that buffer memory is wanting only where the
+/// scheduler is saved, which changes nothing.
+pub(crate) fn answer_command<W: Write>(
+    alloc: Global,
+    sched: &mut Sched,
+    command: RunCommand,
+    line: &mut String,
+    writer: &mut W,
+) -> Result<(), DriveError>
+    ensures state { sched.new ≡ state_by sched.old command }
+    ensures written { OnOk result
+        (Appends (W.contents writer.old) (W.contents writer.new) (answer_line sched.old command)) }
+    ensures fault { OnErr result
+        (WroteFront (W.contents writer.old) (W.contents writer.new) (answer_line sched.old command)) }
+    ensures kind { IfErr result (λ e. e ≢ DriveError.Read) }
+    ensures memory { IfErr result (λ e. e ≡ DriveError.Memory
+        → Keeps (W.contents writer.old) (W.contents writer.new)) }
+    ensures room { string_capacity line.old ≤ string_capacity line.new }
+    ensures ample { REPLY_BYTES ≤ string_capacity line.old
+        → IfErr result (λ e. e ≡ DriveError.Memory → sched.new ≡ sched.old) }
+{
+    match command {
+        RunCommand::Call(call) => make_call(sched, call, line, writer),
+        RunCommand::Save => write_saved(alloc, sched, writer),
+    }
 }
 
 /// A new scheduler that starts at this moment. An Err is `Memory`.

@@ -9,18 +9,20 @@ ghost use Rattle.check_script.specs.LiveInput.{StopsSoon, behind_line, front_of,
 ghost use Rattle.check_script.specs.Script.{in_setup};
 ghost use Rattle.check_sched.specs.State.{opening};
 ghost use Rattle.check_text.specs.LiveText.{answer_to, answers_from, live_text, said, state_after};
-ghost use Rattle.check_text.specs.Text.{refusal_line};
+ghost use Rattle.check_text.specs.Text.{refusal_line, resumed_from};
 ghost use Rattle.check_drive.specs.Drive.{IsInput};
 ghost use Rattle.check_drive.specs.Live.{AfterAll, AfterLines, HasReadLive, IsLiveOnInput, LeavesText, live_outcome};
 
-use crate::drive::{Outcome, make_call, open};
+use crate::drive::{Outcome, answer_command, open};
+use crate::drive_resumed::resume;
 use crate::live_faults::{as_told, as_written};
 use crate::live_lines::take_next_line;
 use check_objects::Setup;
-use check_sched::{Call, LAST_MOMENT, Sched};
+use check_saved::Saved;
+use check_sched::{LAST_MOMENT, Sched};
 use check_script::{
     DriveError, InputBuffer, InputRefusal, KEPT_LINE_BYTES, KEPT_SETUP_BYTES, KeptLine, LiveError,
-    ScriptError, read_kept, read_setup, take_first_line,
+    RunCommand, ScriptError, read_kept, read_setup, take_first_line,
 };
 use check_text::{REPLY_BYTES, flush, write_refusal};
 use std::alloc::Global;
@@ -28,7 +30,8 @@ use std::io::{Read, Write};
 
 /// Reads a setup, opens a scheduler at the moment `start`, in milliseconds, and then answers each
 /// line when it is complete: its line feed has come, or the input has ended behind it. A call is
-/// made and the line of its reply written; a line that is no command is answered with the line of its
+/// made and the line of its reply written; the command `save` is answered by the line of what is saved
+/// of the scheduler, and changes nothing; a line that is no command is answered with the line of its
 /// refusal, and the scheduler stays as it was; a blank line is passed over. A refused setup writes
 /// the line of its refusal, and ends the conversation.
 ///
@@ -38,8 +41,8 @@ use std::io::{Read, Write};
 ///
 /// Any error of the reader or the writer, an interruption among them, and a write that takes no byte,
 /// ends the conversation: `Read` comes where the reader fails, or after 2^64 lines or reads, `Write`
-/// where the writer or its flush fails, and `Memory` where there is no memory. A front of the text was
-/// written then, after `Memory` whole lines of it.
+/// where the writer or its flush fails, and `Memory` where there is no memory, which a save may want
+/// too. A front of the text was written then, after `Memory` whole lines of it.
 pub fn live<R: Read, W: Write>(
     alloc: Global,
     start: u64,
@@ -78,15 +81,15 @@ fn converse<R: Read, W: Write>(
     match setup {
         Ok(setup) => {
             let mut talk = as_written(Talk::new(alloc, setup, start, at_hand))?;
-            talk.answer_all(alloc, whole, reader, writer)
+            talk.answer_all(alloc, 2, whole, reader, writer)
         }
         Err(ScriptError::Refused(refusal)) => as_written(refuse(alloc, refusal, writer)),
         Err(ScriptError::Memory) => Err(LiveError::Memory),
     }
 }
 
-/// Writes the line of a setup's refusal, and flushes the writer.
-fn refuse<W: Write>(
+/// Writes the line of the refusal of a setup, or of what was saved, and flushes the writer.
+pub(crate) fn refuse<W: Write>(
     alloc: Global,
     refusal: InputRefusal,
     writer: &mut W,
@@ -104,7 +107,7 @@ fn refuse<W: Write>(
 }
 
 /// The setup of line 1, or its refusal, and whether lines may follow.
-fn read_first<R: Read>(
+pub(crate) fn read_first<R: Read>(
     alloc: Global,
     at_hand: &mut InputBuffer,
     reader: &mut R,
@@ -128,7 +131,7 @@ fn read_first<R: Read>(
 /// A scheduler that is spoken to, what is at hand of the input, and the buffers of a line and of a
 /// reply's.
 #[derive(Drop)]
-struct Talk {
+pub(crate) struct Talk {
     sched: Sched,
     at_hand: InputBuffer,
     line: KeptLine,
@@ -159,16 +162,43 @@ impl Talk {
         })
     }
 
-    /// Answers the lines behind the setup where any may follow. Else nothing is read or written.
-    fn answer_all<R: Read, W: Write>(
+    /// A scheduler that is spoken to and goes on from what was saved.
+    pub(crate) fn resume(
+        alloc: Global,
+        setup: Setup,
+        saved: &Saved,
+        start: Option<u64>,
+        at_hand: InputBuffer,
+    ) -> Result<Talk, DriveError>
+        requires { IfSome start (λ moment. moment ≤ LAST_MOMENT) }
+        ensures sched { IfOk result (λ talk. talk.sched ≡ resumed_from setup saved.now start) }
+        ensures at_hand { IfOk result (λ talk. talk.at_hand ≡ at_hand) }
+        ensures line { IfOk result (λ talk. talk.line ≡ front_of KEPT_LINE_BYTES []) }
+        ensures room { IfOk result (λ talk. REPLY_BYTES ≤ string_capacity talk.reply) }
+        ensures errors { IfErr result (λ e. e ≡ DriveError.Memory) }
+    {
+        let reply = String::with_capacity(alloc, REPLY_BYTES)?;
+        Ok(Talk {
+            sched: resume(alloc, setup, saved, start)?,
+            at_hand,
+            line: KeptLine::new(alloc, KEPT_LINE_BYTES),
+            reply,
+        })
+    }
+
+    /// Answers the lines from the one with the number `begins` on, where any may follow. Else nothing
+    /// is read or written.
+    pub(crate) fn answer_all<R: Read, W: Write>(
         &mut self,
         alloc: Global,
+        begins: usize,
         may_follow: bool,
         reader: &mut R,
         writer: &mut W,
     ) -> Result<Outcome, LiveError>
-        requires { (self.old.line.most ≡ KEPT_LINE_BYTES)
+        requires buffers { (self.old.line.most ≡ KEPT_LINE_BYTES)
             × (REPLY_BYTES ≤ string_capacity self.old.reply) }
+        requires begins { begins ≤ 3 }
         ensures outcome { IfOk result (λ outcome. outcome ≡ Outcome.Ran) }
         ensures none { may_follow ≡ false → (result ≡ Ok Outcome.Ran)
             × (R.remaining reader.new ≡ R.remaining reader.old)
@@ -177,42 +207,44 @@ impl Talk {
             × IsInput (R.remaining reader.old) coming
             × OnOk result (Consumes (R.remaining reader.old) (R.remaining reader.new) coming)
             × OnOk result (Appends (W.contents writer.old) (W.contents writer.new)
-            (answers_from self.old.sched 2 (lines_of (self.old.at_hand ++ coming))))
+            (answers_from self.old.sched begins (lines_of (self.old.at_hand ++ coming))))
             × IfErr result (λ e. LeavesText (told e) (W.contents writer.old)
             (W.contents writer.new)
-            (answers_from self.old.sched 2 (lines_of (self.old.at_hand ++ coming)))) }
-        ensures spent { IfErr result (AfterLines self.old.sched self.old.at_hand
+            (answers_from self.old.sched begins (lines_of (self.old.at_hand ++ coming)))) }
+        ensures spent { IfErr result (AfterLines begins self.old.sched self.old.at_hand
             (R.remaining reader.old) (R.remaining reader.new)
             (W.contents writer.old) (W.contents writer.new)) }
     {
         if may_follow {
-            self.answer_lines(alloc, reader, writer)?;
+            self.answer_lines(alloc, begins, reader, writer)?;
         }
         Ok(Outcome::Ran)
     }
 
-    /// Answers each line from line 2 on, to the end of the input, and flushes the writer then. `LinesSpent`
-    /// comes only where 2^64 - 3 lines were answered.
+    /// Answers each line from the one with the number `begins` on, to the end of the input, and flushes
+    /// the writer then. `LinesSpent` comes only where all lines below 2^64 - 1 were answered.
     fn answer_lines<R: Read, W: Write>(
         &mut self,
         alloc: Global,
+        begins: usize,
         reader: &mut R,
         writer: &mut W,
     ) -> Result<(), LiveError>
-        requires { (self.old.line.most ≡ KEPT_LINE_BYTES)
+        requires buffers { (self.old.line.most ≡ KEPT_LINE_BYTES)
             × (REPLY_BYTES ≤ string_capacity self.old.reply) }
+        requires begins { begins ≤ 3 }
         ensures lines { (coming : List ℕ) × IsInput (R.remaining reader.old) coming
             × OnOk result (Consumes (R.remaining reader.old) (R.remaining reader.new) coming)
             × OnOk result (Appends (W.contents writer.old) (W.contents writer.new)
-            (answers_from self.old.sched 2 (lines_of (self.old.at_hand ++ coming))))
+            (answers_from self.old.sched begins (lines_of (self.old.at_hand ++ coming))))
             × IfErr result (λ e. LeavesText (told e) (W.contents writer.old)
             (W.contents writer.new)
-            (answers_from self.old.sched 2 (lines_of (self.old.at_hand ++ coming)))) }
-        ensures spent { IfErr result (AfterLines self.old.sched self.old.at_hand
+            (answers_from self.old.sched begins (lines_of (self.old.at_hand ++ coming)))) }
+        ensures spent { IfErr result (AfterLines begins self.old.sched self.old.at_hand
             (R.remaining reader.old) (R.remaining reader.new)
             (W.contents writer.old) (W.contents writer.new)) }
     {
-        for number in 2..usize::MAX {
+        for number in begins..usize::MAX {
             if !self.answer_next(alloc, number, reader, writer)? {
                 return as_written(flush(writer));
             }
@@ -259,7 +291,7 @@ impl Talk {
     }
 
     /// Writes the answer to the line that was taken. The memory for a reply's line is there before
-    /// its call is made.
+    /// its call is made. A save may want memory, and changes nothing.
     fn answer<W: Write>(
         &mut self,
         alloc: Global,
@@ -282,9 +314,15 @@ impl Talk {
             → (self.new.sched ≡ self.old.sched)
             × Keeps (W.contents writer.old) (W.contents writer.new)) }
     {
-        match read_kept::<Call>(alloc, self.sched.setup(), &self.line, number) {
+        match read_kept::<RunCommand>(alloc, self.sched.setup(), &self.line, number) {
             Ok(None) => Ok(()),
-            Ok(Some(call)) => make_call(&mut self.sched, call, &mut self.reply, writer),
+            Ok(Some(command)) => answer_command(
+                alloc,
+                &mut self.sched,
+                command,
+                &mut self.reply,
+                writer,
+            ),
             Err(ScriptError::Refused(refusal)) => write_refusal(alloc, refusal, writer),
             Err(ScriptError::Memory) => Err(DriveError::Memory),
         }

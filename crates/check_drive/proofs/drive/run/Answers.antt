@@ -8,7 +8,7 @@ returns-in_err-sched-clause-fault g c =
     on_err_any _ (front_none (g.W.Write.contents c.args.writer.now) (text_from (opening c.args.script.setup c.args.start) c.args.script.commands.items))
 
 pub returns-clause-fault : goal.returns-clause-fault
-returns-clause-fault g c = rw (c.in_ok-sched.ensures.new, c.deref.ensures.value) at c.make_calls.ensures.fault
+returns-clause-fault g c = rw (c.in_ok-sched.ensures.new, c.deref.ensures.value) at c.carry_out.ensures.fault
 
 pub returns-clause-memory : goal.returns-clause-memory
-returns-clause-memory g c = rw (c.in_ok-sched.ensures.new, c.deref.ensures.value) at c.make_calls.ensures.memory
+returns-clause-memory g c = rw (c.in_ok-sched.ensures.new, c.deref.ensures.value) at c.carry_out.ensures.memory

@@ -4,6 +4,8 @@ use Rattle.check_objects.specs.Setup.{setup_of}
 use Rattle.check_script.specs.Input.{first_line_of}
 use Rattle.check_script.specs.Script.{in_setup}
 use Rattle.check_drive.proofs.LiveLemmas.{error_spends, written_if, gives_refused, live_answered, live_refusal, live_unwritten, if_spend, reads_spend, written_spends, written_told}
+use Rattle.check_text.specs.LiveText.{live_text}
+use Rattle.check_drive.specs.Live.{HasReadLive, live_outcome}
 use Rattle.check_drive.proofs.live.converse.Goals as goal
 
 pub returns-in_err-setup-clause-spent : goal.returns-in_err-setup-clause-spent
@@ -15,7 +17,7 @@ returns-in_err-setup-clause-spent g c =
 pub returns-in_err-setup-clause-input : goal.returns-in_err-setup-clause-input
 returns-in_err-setup-clause-input g c =
     let p = err_from_is_err_and c.from_residual.result c.from_residual.ensures.1 in
-    rw (p.1) (live_unwritten _ _ _ _ _ c.in_err-setup.ensures.0 c.in_err-setup.ensures.1)
+    rw (p.1) (live_unwritten live_outcome (live_text c.args.start) HasReadLive _ _ _ _ c.in_err-setup.ensures.0 c.in_err-setup.ensures.1)
 
 pub returns-in_err-talk-in-Ok-clause-spent : goal.returns-in_err-talk-in-Ok-clause-spent
 returns-in_err-talk-in-Ok-clause-spent g c =
@@ -26,7 +28,7 @@ pub returns-in_err-talk-in-Ok-clause-input : goal.returns-in_err-talk-in-Ok-clau
 returns-in_err-talk-in-Ok-clause-input g c =
     let t = c.in_ok-setup.ensures in
     let p = err_from_is_err_and c.from_residual-in_err-talk-in-Ok.result c.from_residual-in_err-talk-in-Ok.ensures.1 in
-    rw (p.1) (live_unwritten _ _ _ _ _ t.0 t.1)
+    rw (p.1) (live_unwritten live_outcome (live_text c.args.start) HasReadLive _ _ _ _ t.0 t.1)
 
 pub returns-in-Ok-clause-spent : goal.returns-in-Ok-clause-spent
 returns-in-Ok-clause-spent g c =
@@ -59,4 +61,4 @@ returns-in-Err-Refused-clause-input g c =
     (live_refusal _ t.0 _ _ _ _ c.in-Err-Refused.refusal c.in_ok-setup.whole _ s t.1 t.2 t.3.1 t.3.3 r.outcome r.written r.fault)
 
 pub returns-clause-input : goal.returns-clause-input
-returns-clause-input g c = let t = c.in_ok-setup.ensures in live_unwritten _ _ _ _ _ t.0 t.1
+returns-clause-input g c = let t = c.in_ok-setup.ensures in live_unwritten live_outcome (live_text c.args.start) HasReadLive _ _ _ _ t.0 t.1

@@ -1,14 +1,16 @@
 use Rattle.check_drive.proofs.LiveLemmas.{known_fault, known_outcome, known_read, known_written}
+use Rattle.check_text.specs.LiveText.{live_text}
+use Rattle.check_drive.specs.Live.{HasReadLive, live_outcome}
 use Rattle.check_drive.proofs.live.live.Goals as goal
 
 pub returns-clause-written : goal.returns-clause-written
-returns-clause-written g c = rw (c.as_told.ensures) (known_written _ _ _ _ _ _ c.converse.ensures.input)
+returns-clause-written g c = rw (c.as_told.ensures) (known_written live_outcome (live_text c.args.start) HasReadLive _ _ _ _ _ c.converse.ensures.input)
 
 pub returns-clause-outcome : goal.returns-clause-outcome
-returns-clause-outcome g c = rw (c.as_told.ensures) (known_outcome _ _ _ _ _ _ c.converse.ensures.input)
+returns-clause-outcome g c = rw (c.as_told.ensures) (known_outcome live_outcome (live_text c.args.start) HasReadLive _ _ _ _ _ c.converse.ensures.input)
 
 pub returns-clause-read : goal.returns-clause-read
-returns-clause-read g c = rw (c.as_told.ensures) (known_read _ _ _ _ _ _ c.converse.ensures.input)
+returns-clause-read g c = rw (c.as_told.ensures) (known_read live_outcome (live_text c.args.start) HasReadLive _ _ _ _ _ c.converse.ensures.input)
 
 pub returns-clause-fault : goal.returns-clause-fault
-returns-clause-fault g c = rw (c.as_told.ensures) (known_fault _ _ _ _ _ _ c.converse.ensures.input)
+returns-clause-fault g c = rw (c.as_told.ensures) (known_fault live_outcome (live_text c.args.start) HasReadLive _ _ _ _ _ c.converse.ensures.input)

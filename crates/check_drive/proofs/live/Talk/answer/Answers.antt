@@ -1,13 +1,13 @@
 use Rattle.std.proofs.Common.{◌≡◌, ◌∙◌, sym, ap, Some, Ok, Err}
 use Rattle.check_text.specs.LiveText.{answer_to, said}
-use Rattle.check_text.specs.Text.{line_from}
+use Rattle.check_text.specs.Text.{answer_line}
 use Rattle.check_drive.proofs.LiveLemmas.{leaves_as}
 use Rattle.check_drive.proofs.live.Talk.answer.Goals as goal
 
 pub returns-in-Ok-Some-clause-fault : goal.returns-in-Ok-Some-clause-fault
 returns-in-Ok-Some-clause-fault g c text kept =
-    let e : said c.args.self.now.sched c.args.number text ≡ Ok (Some c.in-Ok-Some.call) = rw (c.setup.ensures, c.in-Ok-Some.field-0-is) at (c.in-Ok-Some.ensures text kept) in
-    leaves_as c.make_call.result _ _ _ _ (ap (line_from c.args.self.now.sched) c.in-Ok-Some.call-is ∙ ap (answer_to c.args.self.now.sched) (sym e)) c.make_call.ensures.fault c.make_call.ensures.memory
+    let e : said c.args.self.now.sched c.args.number text ≡ Ok (Some c.in-Ok-Some.command) = rw (c.setup.ensures, c.in-Ok-Some.field-0-is) at (c.in-Ok-Some.ensures text kept) in
+    leaves_as c.answer_command.result _ _ _ _ (ap (answer_line c.args.self.now.sched) c.in-Ok-Some.command-is ∙ ap (answer_to c.args.self.now.sched) (sym e)) c.answer_command.ensures.fault c.answer_command.ensures.memory
 
 pub returns-in-Err-Refused-clause-fault : goal.returns-in-Err-Refused-clause-fault
 returns-in-Err-Refused-clause-fault g c text kept =

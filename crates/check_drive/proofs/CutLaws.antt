@@ -1,0 +1,352 @@
+-- A run that is cut behind some of its lines, saved there, and gone on from over the same setup.
+use Rattle.std.proofs.Common.{◌≡◌, ℕ, ◌+◌, ◌*◌, ◌<◌, ◌≤◌, ◌^◌, Bool, true, false, cond, List, [], ◌∷◌, ◌++◌, length, map, Option, Some, None, option_map, Result, Ok, Err}
+use Rattle.std.proofs.Common.{zero, suc, refl, sym, subst, ap, ◌∙◌, arith, append_assoc, append-nil, length-append, mul-le-mul, IsUtf8}
+use Rattle.std.proofs.lemmas.List.{length-map}
+use Rattle.std.specs.List.{enumerate_from}
+use Rattle.std.proofs.lemmas.Str.{is_utf8-from_IsUtf8}
+use Rattle.json.proofs.Printed.Utf8.{IsUtf8-are_ascii}
+use Rattle.json.specs.Print.{escape_byte}
+use Rattle.std.specs.Prelude.{codes, nat_lt, ok_or, slice_get, unwrap_or}
+use Rattle.std.proofs.lemmas.Bool.Decides.{nat_tests}
+use Rattle.serde_json.specs.Data.{Data, Items, array, item, no_items, string}
+use Rattle.serde_json.specs.Read.{read}
+use Rattle.serde_json.specs.Written.{compact_text}
+use Rattle.check_drafts.specs.declared.error.LoadError.{LoadError}
+use Rattle.check_objects.specs.Configuration.{Configuration, IsSetup, Named, named_host, named_service, object_count, objects_of}
+use Rattle.check_objects.specs.Setup.{setup_of}
+use Rattle.check_objects.specs.Tree.{tree_of}
+use Rattle.check_spread.specs.Spread.{first_times, host_objects, host_spread, initial_times, service_objects, service_spread}
+use Rattle.check_spread.proofs.BoundLemmas.{first_times_below}
+use Rattle.check_spread.proofs.TimesLemmas.{length-first_times}
+use Rattle.check_drafts.specs.Agreement.{◌>>=◌}
+use Rattle.check_saved.specs.Saved.{IsSaved, Saved, SavedObject}
+use Rattle.check_saved.specs.Text.{saved_of_text, saved_text}
+use Rattle.check_saved.specs.Written.{IsWritable, IsWritableObject}
+use Rattle.check_saved.proofs.InverseLemmas.{inverse}
+use Rattle.check_saved.proofs.PlainLemmas.{read_compact}
+use Rattle.check_sched.specs.Report.{milliseconds}
+use Rattle.check_sched.specs.Saved.{resumed, saved_object, saved_of}
+use Rattle.check_sched.specs.State.{IsState, State, opening}
+use Rattle.check_sched.proofs.KeepingLaws.{saved_of_state}
+use Rattle.check_sched.proofs.OpeningLaws.{opening_is_state}
+use Rattle.check_sched.proofs.ReportLaws.{check_in_range, object_in_range}
+use Rattle.check_sched.proofs.SavedLaws.{resumed_same}
+use Rattle.check_sched.proofs.StateLaws.{step_is_state}
+use Rattle.check_script.specs.declared.command.RunCommand.{RunCommand}
+use Rattle.check_script.specs.declared.command.RunCommand.TheVariants as command
+use Rattle.check_script.specs.declared.refusal.InputRefusal.{InputRefusal}
+use Rattle.check_script.specs.declared.refusal.InputRefusal.TheVariants as refusal
+use Rattle.check_script.specs.declared.refusal.LineFault.{LineFault}
+use Rattle.check_script.specs.declared.refusal.LineFault.TheVariants as fault
+use Rattle.check_script.specs.Command.{command_by}
+use Rattle.check_script.specs.LiveInput.{has_feed}
+use Rattle.check_script.specs.Line.{at_line, command_in, command_of, is_blank}
+use Rattle.check_script.specs.declared.script.TheConstants.{MAX_INPUT_BYTES}
+use Rattle.check_script.specs.Input.{lines_of}
+use Rattle.check_script.specs.ResumedScript.{ResumedScript, in_saved, resumed_in, resumed_script_of}
+use Rattle.check_script.specs.Script.{Script, commands_behind, commands_of, in_setup, script_by, script_in, script_of}
+use Rattle.check_script.proofs.ScriptLemmas.{commands_by_line, commands_by_number, commands_from, script_with}
+use Rattle.check_text.specs.Text.{answer_line, resumed_from, resumed_script_text, saved_line, script_text, state_by, text, text_from, text_resumed}
+use Rattle.check_text.proofs.LiveLaws.{line_first, lines_by}
+use Rattle.check_text.proofs.TextLemmas.{command_keeps}
+use Rattle.check_drive.specs.Cut.{first_part, second_part, whole_input}
+use Rattle.check_drive.specs.Live.{AreWholeLines}
+use Rattle.check_drive.proofs.FeedLemmas.{saved_free}
+use Rattle.check_drive.proofs.NameTextLemmas.{AreTexts, setup_by}
+
+-- ---- commands, whatever the numbers of their lines
+
+at_again : {K : Type 0} (r : Result K LineFault) (n k : ℕ) (x : K) → at_line n r ≡ Ok x → at_line k r ≡ Ok x
+at_again (Ok y) n k x e = e
+at_again (Err f) n k x e = cc
+
+again_by : {K : Type 0} (long : Bool) (tree : Option Data) (made : Data → Result K LineFault) (n k : ℕ) (x : K)
+    → cond long (Err (refusal.Line fault.TooLong n)) (ok_or tree (refusal.Line fault.NotJson n) >>= λ d. at_line n (made d)) ≡ Ok x
+    → cond long (Err (refusal.Line fault.TooLong k)) (ok_or tree (refusal.Line fault.NotJson k) >>= λ d. at_line k (made d)) ≡ Ok x
+again_by true tree made n k x e = cc
+again_by false None made n k x e = cc
+again_by false (Some d) made n k x e = at_again (made d) n k x e
+
+command_again : {K : Type 0} (meaning : List ℕ → Items → Result K LineFault) (n k : ℕ) (line : List ℕ) (x : K)
+    → command_of meaning n line ≡ Ok x → command_of meaning k line ≡ Ok x
+unfolding command_of
+command_again meaning n k line x e = again_by (nat_lt 4096 (length line)) (tree_of line) (command_in meaning) n k x e
+
+-- the commands that go on with a first one
+abbrev goes_on : {K : Type 0} → Result K InputRefusal → Result (List K) InputRefusal → Result (List K) InputRefusal
+goes_on r rest = r >>= λ first. (rest >>= λ more. Ok (first ∷ more))
+
+bind_parts : {K : Type 0} (r : Result K InputRefusal) (rest : Result (List K) InputRefusal) (b : List K) → goes_on r rest ≡ Ok b
+    → (x : K) × (m : List K) × (r ≡ Ok x) × (rest ≡ Ok m) × (x ∷ m ≡ b)
+bind_parts (Ok x) (Ok m) b e = (x, m, refl, refl, cc)
+bind_parts (Ok x) (Err f) b e = cc
+bind_parts (Err f) rest b e = cc
+
+commands_again : {K : Type 0} (meaning : List ℕ → Items → Result K LineFault) (ls : List (List ℕ)) (n : ℕ) (b : List K)
+    → commands_from meaning n ls ≡ Ok b → (k : ℕ) → commands_from meaning k ls ≡ Ok b
+commands_again meaning [] n b e k = e
+commands_again meaning (l ∷ ls) n b e k =
+    (elim (is_blank l) as (λ v. cond v (commands_from meaning (n + 1) ls) (goes_on (command_of meaning n l) (commands_from meaning (n + 1) ls)) ≡ Ok b
+    → cond v (commands_from meaning (k + 1) ls) (goes_on (command_of meaning k l) (commands_from meaning (k + 1) ls)) ≡ Ok b) [
+      | true ↦ λ h. commands_again meaning ls (n + 1) b h (k + 1)
+      | false ↦ λ h.
+          let p = bind_parts (command_of meaning n l) (commands_from meaning (n + 1) ls) b h in
+          ap (λ r. goes_on r (commands_from meaning (k + 1) ls)) (command_again meaning n k l p.0 p.2)
+          ∙ ap (goes_on (Ok p.0)) (commands_again meaning ls (n + 1) p.1 p.3 (k + 1)) ∙ ap Ok p.4
+    ]) e
+
+-- the commands of lines are those of the first of them, and of the others behind them
+split : {K : Type 0} (meaning : List ℕ → Items → Result K LineFault) (xs ys : List (List ℕ)) (n : ℕ) (all : List K)
+    → commands_from meaning n (xs ++ ys) ≡ Ok all
+    → (a : List K) × (b : List K) × ((k : ℕ) → commands_from meaning k xs ≡ Ok a) × ((k : ℕ) → commands_from meaning k ys ≡ Ok b) × (all ≡ a ++ b)
+split meaning [] ys n all e = ([], all, λ k. refl, commands_again meaning ys n all e, refl)
+split {K = K} meaning (x ∷ xs) ys n all e =
+    (elim (is_blank x) as (λ v. cond v (commands_from meaning (n + 1) (xs ++ ys)) (goes_on (command_of meaning n x) (commands_from meaning (n + 1) (xs ++ ys))) ≡ Ok all
+    → (a : List K) × (b : List K)
+    × ((k : ℕ) → cond v (commands_from meaning (k + 1) xs) (goes_on (command_of meaning k x) (commands_from meaning (k + 1) xs)) ≡ Ok a)
+    × ((k : ℕ) → commands_from meaning k ys ≡ Ok b) × (all ≡ a ++ b)) [
+      | true ↦ λ h. let s = split meaning xs ys (n + 1) all h in (s.0, s.1, λ k. s.2 (k + 1), s.3, s.4)
+      | false ↦ λ h.
+          let p = bind_parts (command_of meaning n x) (commands_from meaning (n + 1) (xs ++ ys)) all h in
+          let s = split meaning xs ys (n + 1) p.1 p.3 in (
+            p.0 ∷ s.0,
+            s.1,
+            λ k. ap (λ r. goes_on r (commands_from meaning (k + 1) xs)) (command_again meaning n k x p.0 p.2) ∙ ap (goes_on (Ok p.0)) (s.2 (k + 1)),
+            s.3,
+            sym p.4 ∙ ap (λ l. p.0 ∷ l) s.4,
+          )
+    ]) e
+
+join : {K : Type 0} (meaning : List ℕ → Items → Result K LineFault) (xs ys : List (List ℕ)) (a b : List K)
+    → ((k : ℕ) → commands_from meaning k xs ≡ Ok a) → ((k : ℕ) → commands_from meaning k ys ≡ Ok b)
+    → (n : ℕ) → commands_from meaning n (xs ++ ys) ≡ Ok (a ++ b)
+join meaning [] ys a b f g n = let h : Ok [] ≡ Ok a = f 0 in let none : [] ≡ a = cc in g n ∙ ap (λ l. Ok (l ++ b)) none
+join meaning (x ∷ xs) ys a b f g n =
+    (elim (is_blank x) as (λ v. cond v (commands_from meaning (n + 1) xs) (goes_on (command_of meaning n x) (commands_from meaning (n + 1) xs)) ≡ Ok a
+    → cond v (commands_from meaning (n + 1) (xs ++ ys)) (goes_on (command_of meaning n x) (commands_from meaning (n + 1) (xs ++ ys))) ≡ Ok (a ++ b)) [
+      | true ↦ λ h. join meaning xs ys a b (commands_again meaning xs (n + 1) a h) g (n + 1)
+      | false ↦ λ h.
+          let p = bind_parts (command_of meaning n x) (commands_from meaning (n + 1) xs) a h in
+          ap (λ r. goes_on r (commands_from meaning (n + 1) (xs ++ ys))) p.2
+          ∙ ap (goes_on (Ok p.0)) (join meaning xs ys p.1 b (commands_again meaning xs (n + 1) p.1 p.3) g (n + 1)) ∙ ap (λ l. Ok (l ++ b)) p.4
+    ]) (f n)
+
+-- ---- states
+
+abbrev through : State → List RunCommand → State
+through s [] = s
+through s (c ∷ cs) = through (state_by s c) cs
+
+text_on : (s : State) (a b : List RunCommand) → text_from s (a ++ b) ≡ text_from s a ++ text_from (through s a) b
+text_on s [] b = refl
+text_on s (c ∷ a) b =
+    ap (λ l. answer_line s c ++ l) (text_on (state_by s c) a b) ∙ sym (append_assoc (answer_line s c) (text_from (state_by s c) a) (text_from (through (state_by s c) a) b))
+
+by_is : (s : State) (c : RunCommand) → IsState s → IsState (state_by s c)
+by_is s (command.Call call) is = step_is_state s call is
+by_is s command.Save is = is
+
+through_is : (s : State) (a : List RunCommand) → IsState s → IsState (through s a)
+through_is s [] is = is
+through_is s (c ∷ a) is = through_is (state_by s c) a (by_is s c is)
+
+through_keeps : (s : State) (a : List RunCommand) → (through s a).setup ≡ s.setup
+through_keeps s [] = refl
+through_keeps s (c ∷ a) = through_keeps (state_by s c) a ∙ command_keeps s c
+
+-- over the same setup, from the saved start, the state is the one that was saved
+goes_on_there : (c : Configuration) (t : State) → IsState t → t.setup ≡ c → resumed_from c (saved_of t) None ≡ t
+goes_on_there c t is same = ap (λ d. resumed d (saved_of t) t.start) (sym same) ∙ resumed_same t t.start is
+
+interval_fits : (c : Configuration) (interval : ℕ) → c.options.interval_length ≤ 86400 → interval ≤ 525600 → milliseconds c interval < 2 ^ 64
+interval_fits c interval length few =
+    let units : interval * c.options.interval_length ≤ 525600 * 86400 = mul-le-mul few length in
+    omega (arith, units)
+
+writable_from : (s : State) (k : ℕ) (os : List Named) → s.setup.options.interval_length ≤ 86400
+    → ((n : ℕ) (o : Named) → slice_get os n ≡ Some o → o.object.check_interval ≤ 525600) → AreTexts os
+    → (place : ℕ) (o : SavedObject) → slice_get (map (saved_object s) (enumerate_from k os)) place ≡ Some o → IsWritableObject o
+writable_from s k [] length few names place o e = cc
+writable_from s k (x ∷ os) length few names zero o e =
+    let is : saved_object s (k, x) ≡ o = cc in
+    subst IsWritableObject is (record { name = names 0; interval = interval_fits s.setup x.object.check_interval length (few 0 x refl) })
+writable_from s k (x ∷ os) length few names (suc place) o e =
+    writable_from s (k + 1) os length (λ n y f. few (suc n) y f) (λ n. names (suc n)) place o e
+
+-- what is saved over a setup whose names are UTF-8 can be written
+writable : (s : State) → IsSetup s.setup → AreTexts (objects_of s.setup) → IsWritable (saved_of s)
+writable s valid names = record {
+  each = writable_from s 0 (objects_of s.setup) valid.interval_length (λ n o e. check_in_range o.object (object_in_range s.setup n o valid e)) names;
+}
+
+-- ---- a setup that was read
+
+setup_in : (r : Result Configuration LoadError) (c : Configuration) → in_setup r ≡ Ok c → r ≡ Ok c
+setup_in (Ok d) c e = cc
+setup_in (Err why) c e = cc
+
+-- over a setup that was read a scheduler opens in a state that one can be in
+first_counted : (c : Configuration) (start : ℕ) → length (initial_times c start) ≡ object_count c
+unfolding initial_times
+first_counted c start =
+    let both = length-append (first_times (host_spread c start) (host_objects c)) (first_times (service_spread c start) (service_objects c)) in
+    let hosts = length-first_times (host_spread c start) (host_objects c) in
+    let services = length-first_times (service_spread c start) (service_objects c) in
+    let objects = length-append (map named_host c.hosts) (map named_service c.services) in
+    let named_hosts = length-map c.hosts named_host in
+    let named_services = length-map c.services named_service in
+    let host_bodies = length-map c.hosts (λ h. h.object) in
+    let service_bodies = length-map c.services (λ s. s.object) in
+    omega (arith, both, hosts, services, objects, named_hosts, named_services, host_bodies, service_bodies)
+
+opened_is : (c : Configuration) (start : ℕ) → IsSetup c → start ≤ 2 ^ 60 → IsState (opening c start)
+opened_is c start valid moment = opening_is_state c start valid moment (first_counted c start) (first_times_below c start valid moment)
+
+-- ---- the line that saves
+
+abbrev save_text : List ℕ
+save_text = codes "[\"save\"]"
+
+abbrev save_tree : Data
+save_tree = array (item (string (codes "save")) no_items)
+
+save_read : tree_of save_text ≡ Some save_tree
+unfolding tree_of escape_byte
+save_read =
+    let text : compact_text save_tree ≡ save_text = refl in
+    let back : read save_text ≡ Some save_tree =
+    ap read (sym text) ∙ read_compact save_tree (IsUtf8-are_ascii (codes "save") refl, tt) (omega arith) in
+    rw (is_utf8-from_IsUtf8 save_text (IsUtf8-are_ascii save_text refl), back) refl
+
+save_said : (c : Configuration) (n : ℕ) → command_of (command_by c) n save_text ≡ Ok command.Save
+unfolding command_of
+save_said c n = rw save_read refl
+
+save_line : (c : Configuration) (n : ℕ) → commands_from (command_by c) n (save_text ∷ []) ≡ Ok (command.Save ∷ [])
+save_line c n = rw (save_said c n) refl
+
+-- ---- scripts by their lines
+
+over_made : (c : Configuration) (lines : List (List ℕ)) (commands : Result (List RunCommand) InputRefusal) (script : Script RunCommand)
+    → commands_from (command_by c) 2 lines ≡ commands → (commands >>= λ all. Ok (script_with c all)) ≡ Ok script
+    → (all : List RunCommand) × (commands_from (command_by c) 2 lines ≡ Ok all) × (script_with c all ≡ script)
+over_made c lines (Ok all) script same h = (all, same, cc)
+over_made c lines (Err e) script same h = cc
+
+over_parts : (setup : Result Configuration InputRefusal) (lines : List (List ℕ)) (script : Script RunCommand)
+    → (setup >>= λ c. (commands_of (command_by c) lines >>= λ all. Ok (script_with c all))) ≡ Ok script
+    → (c : Configuration) × (all : List RunCommand) × (setup ≡ Ok c) × (commands_from (command_by c) 2 lines ≡ Ok all) × (script_with c all ≡ script)
+over_parts (Err e) lines script h = cc
+over_parts (Ok c) lines script h =
+    let p = over_made c lines (commands_of (command_by c) lines) script (sym (commands_by_line (command_by c) lines)) h in
+    (c, p.0, refl, p.1, p.2)
+
+over_back : (document : List ℕ) (c : Configuration) (lines : List (List ℕ)) (all : List RunCommand) → in_setup (setup_of document) ≡ Ok c
+    → commands_from (command_by c) 2 lines ≡ Ok all → script_in command_by (document ∷ lines) ≡ Ok (script_with c all)
+over_back document c lines all s f = let g : commands_of (command_by c) lines ≡ Ok all = commands_by_line (command_by c) lines ∙ f in rw (s, g) refl
+
+resumed_back : (document text : List ℕ) (c : Configuration) (saved : Saved) (later : List (List ℕ)) (b : List RunCommand)
+    → in_setup (setup_of document) ≡ Ok c → saved_of_text text ≡ Ok saved → commands_from (command_by c) 3 later ≡ Ok b
+    → resumed_in (document ∷ text ∷ later) ≡ Ok (record { setup = c; saved = saved; commands = b })
+resumed_back document text c saved later b s v f =
+    let g : commands_behind 3 (command_by c) later ≡ Ok b = commands_by_number (command_by c) 3 later ∙ f in
+    let w : in_saved (saved_of_text text) ≡ Ok saved = ap in_saved v in
+    rw (s, w, g) refl
+
+-- ---- the whole, by lines
+
+cut_lines : (start : ℕ) (document : List ℕ) (first later : List (List ℕ)) (script : Script RunCommand) → start ≤ 2 ^ 60
+    → script_in command_by (document ∷ (first ++ later)) ≡ Ok script
+    → (before : List ℕ) × (s : State)
+    × (script_text start (script_in command_by (document ∷ (first ++ save_text ∷ []))) ≡ before ++ saved_line s)
+    × (script_text start (script_in command_by (document ∷ (first ++ later)))
+    ≡ before ++ resumed_script_text None (resumed_in (document ∷ saved_text (saved_of s) ∷ later)))
+cut_lines start document first later script moment e =
+    let p = over_parts (in_setup (setup_of document)) (first ++ later) script e in
+    let c = p.0 in
+    let q = split (command_by c) first later 2 p.1 p.3 in
+    let a = q.0 in
+    let b = q.1 in
+    let read = setup_by document c (setup_in (setup_of document) c p.2) in
+    let opened = opening c start in
+    let s = through opened a in
+    let there = through_is opened a (opened_is c start read.setup moment) in
+    let keeps = through_keeps opened a in
+    let texts : AreTexts (objects_of s.setup) = subst (λ d. AreTexts (objects_of d)) (sym keeps) read.texts in
+    let text_is = inverse (saved_of s) (saved_of_state s there) (writable s there.valid_setup texts) in
+    let with_save = over_back document c (first ++ save_text ∷ []) (a ++ command.Save ∷ []) p.2
+    (join (command_by c) first (save_text ∷ []) a (command.Save ∷ []) q.2 (save_line c) 2) in
+    let all = over_back document c (first ++ later) (a ++ b) p.2 (join (command_by c) first later a b q.2 q.3 2) in
+    let again = resumed_back document (saved_text (saved_of s)) c (saved_of s) later b p.2 text_is (q.3 3) in (
+      text_from opened a,
+      s,
+      ap (script_text start) with_save ∙ text_on opened a (command.Save ∷ []) ∙ ap (λ l. text_from opened a ++ l) (append-nil (saved_line s)),
+      ap (script_text start) all ∙ text_on opened a b
+          ∙ ap (λ t. text_from opened a ++ text_from t b) (sym (goes_on_there c s there keeps))
+          ∙ ap (λ r. text_from opened a ++ resumed_script_text None r) (sym again),
+    )
+
+-- ---- by bytes
+
+accepted_by : (long : Bool) (why : InputRefusal) (r : Result (Script RunCommand) InputRefusal) (script : Script RunCommand)
+    → cond long (Err why) r ≡ Ok script → r ≡ Ok script
+accepted_by true why r script e = cc
+accepted_by false why r script e = e
+
+accepted : (input : List ℕ) (script : Script RunCommand) → script_of input ≡ Ok script → script_in command_by (lines_of input) ≡ Ok script
+unfolding script_by
+accepted input script e =
+    accepted_by (nat_lt MAX_INPUT_BYTES (length input)) (refusal.Line fault.TooLong 0) (script_in command_by (lines_of input)) script e
+
+script_by_lines : (input : List ℕ) (lines : List (List ℕ)) → lines_of input ≡ lines → length input ≤ MAX_INPUT_BYTES
+    → script_of input ≡ script_in command_by lines
+unfolding script_by
+script_by_lines input lines e few =
+    let short : nat_lt MAX_INPUT_BYTES (length input) ≡ false = grind (arith, nat_tests, few) in
+    rw (short, e) refl
+
+resumed_by_lines : (input : List ℕ) (lines : List (List ℕ)) → lines_of input ≡ lines → length input ≤ MAX_INPUT_BYTES
+    → resumed_script_of input ≡ resumed_in lines
+unfolding resumed_script_of
+resumed_by_lines input lines e few =
+    let short : nat_lt MAX_INPUT_BYTES (length input) ≡ false = grind (arith, nat_tests, few) in
+    rw (short, e) refl
+
+text_by_script : (start : ℕ) (input : List ℕ) (r : Result (Script RunCommand) InputRefusal) → script_of input ≡ r → text start input ≡ script_text start r
+unfolding text
+text_by_script start input r e = ap (script_text start) e
+
+resumed_by_script : (start : Option ℕ) (input : List ℕ) (r : Result ResumedScript InputRefusal) → resumed_script_of input ≡ r
+    → text_resumed start input ≡ resumed_script_text start r
+unfolding text_resumed
+resumed_by_script start input r e = ap (resumed_script_text start) e
+
+pub cut_and_gone_on : (start : ℕ) (document front rest : List ℕ) (script : Script RunCommand) → start ≤ 2 ^ 60
+    → has_feed document ≡ false → AreWholeLines front → script_of (whole_input document front rest) ≡ Ok script
+    → (before : List ℕ) × (s : State)
+    × (length (first_part document front) ≤ MAX_INPUT_BYTES → text start (first_part document front) ≡ before ++ saved_line s)
+    × (length (second_part document s rest) ≤ MAX_INPUT_BYTES
+    → text start (whole_input document front rest) ≡ before ++ text_resumed None (second_part document s rest))
+cut_and_gone_on start document front rest script moment free whole e =
+    let first = lines_of front in
+    let later = lines_of rest in
+    let input = whole_input document front rest in
+    let lines : lines_of input ≡ document ∷ (first ++ later) =
+    line_first document (front ++ rest) free ∙ ap (λ l. document ∷ l) (lines_by front rest whole) in
+    let there : script_in command_by (document ∷ (first ++ later)) ≡ Ok script = ap (script_in command_by) (sym lines) ∙ accepted input script e in
+    let cut = cut_lines start document first later script moment there in
+    let before = cut.0 in
+    let s = cut.1 in
+    let saved = saved_text (saved_of s) in
+    let head : lines_of (first_part document front) ≡ document ∷ (first ++ save_text ∷ []) =
+    line_first document (front ++ save_text) free ∙ ap (λ l. document ∷ l) (lines_by front save_text whole) in
+    let tail : lines_of (second_part document s rest) ≡ document ∷ saved ∷ later =
+    line_first document (saved ++ 10 ∷ rest) free ∙ ap (λ l. document ∷ l) (line_first saved rest (saved_free (saved_of s))) in (
+      before,
+      s,
+      λ few. text_by_script start (first_part document front) _ (script_by_lines (first_part document front) (document ∷ (first ++ save_text ∷ [])) head few) ∙ cut.2,
+      λ few.
+          text_by_script start input (Ok script) e ∙ ap (script_text start) (sym there) ∙ cut.3
+          ∙ ap (λ l. before ++ l) (sym (resumed_by_script None (second_part document s rest) _
+          (resumed_by_lines (second_part document s rest) (document ∷ saved ∷ later) tail few))),
+    )

@@ -1,0 +1,422 @@
+-- A whole conversation that goes on from what was saved, and what its faults leave.
+use Rattle.std.proofs.Common.{◌≡◌, ℕ, suc, ◌+◌, ◌==◌, ◌<◌, ◌≤◌, Bool, true, false, cond, List, [], ◌∷◌, ◌++◌, length, take, Option, Result, Ok, Err, refl, sym, ap, ◌∙◌}
+use Rattle.std.proofs.Common.{arith, inl, inr, ◌⊎◌, append_assoc, append-nil, length-append, length-take, subst}
+use Rattle.std.specs.Prelude.{IfOk, OnOk, IfErr, nat_lt}
+use Rattle.std.specs.Io.KnownBytes.{Appends, Consumes, IsAtEnd, Keeps}
+use Rattle.std.proofs.lemmas.Bool.{cases_lt}
+use Rattle.std.proofs.lemmas.Bool.Decides.{nat_tests}
+use Rattle.std.proofs.lemmas.List.{take_all}
+use Rattle.check_objects.specs.Configuration.{Configuration}
+use Rattle.check_objects.specs.Setup.{setup_of}
+use Rattle.check_drafts.specs.Agreement.{◌>>=◌}
+use Rattle.check_drafts.specs.declared.error.LoadError.{LoadError}
+use Rattle.check_saved.specs.Saved.{Saved}
+use Rattle.check_saved.specs.Text.{saved_of_text}
+use Rattle.check_saved.specs.declared.fault.SavedFault.{SavedFault}
+use Rattle.check_saved.specs.declared.fault.SavedFault.TheVariants as faults
+use Rattle.check_script.specs.Agreement.{Gives}
+use Rattle.check_script.specs.declared.drive_error.DriveError.{DriveError}
+use Rattle.check_script.specs.declared.live_error.LiveError.{LiveError}
+use Rattle.check_script.specs.declared.live_error.LiveError.TheVariants as live
+use Rattle.check_script.specs.declared.live_input.TheConstants.{KEPT_SAVED_BYTES, KEPT_SETUP_BYTES}
+use Rattle.check_script.specs.declared.refusal.InputRefusal.{InputRefusal}
+use Rattle.check_script.specs.declared.refusal.InputRefusal.TheVariants as refusal
+use Rattle.check_script.specs.declared.refusal.ScriptError.{ScriptError}
+use Rattle.check_script.specs.LiveError.{AfterLine, IsSpent, IsWritten, told, told_by}
+use Rattle.check_script.specs.Input.{first_line_of, lines_of}
+use Rattle.check_script.specs.LiveInput.{StopsSoon, behind_line, has_feed}
+use Rattle.check_script.specs.ResumedScript.{in_saved}
+use Rattle.check_script.specs.Script.{in_setup}
+use Rattle.check_script.proofs.LiveInputLemmas.{Consumes-then, behind_none, behind_stays, first_stays}
+use Rattle.check_text.specs.LiveText.{answers_from, live_from, live_resumed_over, live_text_resumed}
+use Rattle.check_text.specs.Text.{refusal_line, resumed_from}
+use Rattle.check_drive.specs.declared.drive.Outcome.{Outcome}
+use Rattle.check_drive.specs.declared.drive.Outcome.TheVariants as outcome
+use Rattle.check_drive.specs.Drive.{IsInput, outcome_by}
+use Rattle.check_sched.specs.State.{State}
+use Rattle.check_drive.specs.Live.{AfterAll, AfterLater, AfterLines, HasReadResumed, IsLiveResumedOnInput, LeavesText, ReadBehind, ReadResumedBy, WentOn, live_resumed_outcome, saved_in}
+use Rattle.check_drive.proofs.LiveLemmas.{TalkEnded, appended_none, end_input, input_all, input_on, leaves_before, leaves_kept, leaves_none, live_failed}
+use Rattle.check_drive.proofs.LiveLemmas.{behind_few, lines_few, not_long, refused_stays, rest_input, rest_none, rest_of, setup_is, setup_refused, written_err, written_if, written_ok, wrote_behind}
+
+-- ---- what is kept of line 2
+
+saved_too_long : (line : List ℕ) → 16777216 < length line → saved_of_text line ≡ Err faults.TooLong
+saved_too_long line h = let a : nat_lt 16777216 (length line) ≡ true = grind (arith, nat_tests, h) in rw a refl
+
+kept_saved_by : (line : List ℕ) → (16777216 < length line) ⊎ (length line ≤ 16777216) → saved_of_text (take KEPT_SAVED_BYTES line) ≡ saved_of_text line
+kept_saved_by line (inl h) =
+    let l = length-take KEPT_SAVED_BYTES line in
+    saved_too_long (take KEPT_SAVED_BYTES line) (omega (arith, h, l)) ∙ sym (saved_too_long line h)
+kept_saved_by line (inr h) = ap saved_of_text (take_all KEPT_SAVED_BYTES line (omega (arith, h)))
+
+pub kept_saved : (line : List ℕ) → saved_of_text (take KEPT_SAVED_BYTES line) ≡ saved_of_text line
+kept_saved line = kept_saved_by line (cases_lt 16777216 (length line))
+
+-- nothing follows the setup: line 2 has no byte
+pub unfollowed : (hand : List ℕ) (r : Result Saved ScriptError) (left : Option (List ℕ)) → hand ≡ [] → IsAtEnd left
+    → Gives (λ saved. saved) r (in_saved (saved_of_text []))
+    → Gives (λ saved. saved) r (saved_in (hand ++ [])) × (false ≡ has_feed (hand ++ [])) × (hand ≡ behind_line (hand ++ [])) × (false ≡ false → IsAtEnd left)
+unfollowed hand r left e end g = rw e (g, refl, refl, λ f. end)
+
+-- ---- what was saved
+
+saved_is : (r : Result Saved SavedFault) (saved : Saved) → in_saved r ≡ Ok saved → r ≡ Ok saved
+saved_is (Ok other) saved e = cc
+saved_is (Err f) saved e = cc
+
+saved_refused : (r : Result Saved SavedFault) (why : InputRefusal) → in_saved r ≡ Err why
+    → (e : SavedFault) × (r ≡ Err e) × (why ≡ refusal.Saved e)
+saved_refused (Ok saved) why h = cc
+saved_refused (Err e) why h = (e, refl, cc)
+
+refused_text : (start : Option ℕ) (c : Configuration) (bytes : List ℕ) (why : InputRefusal) → saved_in bytes ≡ Err why
+    → live_resumed_over start (Ok c) bytes ≡ refusal_line why
+refused_text start c bytes why s =
+    let r = saved_refused (saved_of_text (first_line_of bytes)) why s in
+    ap (λ x. live_from start c x (lines_of (behind_line bytes))) r.1 ∙ ap refusal_line (sym r.2)
+
+none_text : (start : Option ℕ) (c : Configuration) (saved : Saved) (bytes : List ℕ) → saved_in bytes ≡ Ok saved → has_feed bytes ≡ false
+    → live_resumed_over start (Ok c) bytes ≡ []
+none_text start c saved bytes s free =
+    ap (λ r. live_from start c r (lines_of (behind_line bytes))) (saved_is (saved_of_text (first_line_of bytes)) saved s)
+    ∙ ap (λ l. answers_from (resumed_from c saved start) 3 (lines_of l)) (behind_none bytes free)
+
+saved_stays : (bytes more : List ℕ) → has_feed bytes ≡ true → saved_in (bytes ++ more) ≡ saved_in bytes
+saved_stays bytes more feed = ap (λ l. in_saved (saved_of_text l)) (first_stays bytes more feed)
+
+on_text : (start : Option ℕ) (c : Configuration) (saved : Saved) (bytes more : List ℕ) → saved_in bytes ≡ Ok saved → has_feed bytes ≡ true
+    → live_resumed_over start (Ok c) (bytes ++ more) ≡ answers_from (resumed_from c saved start) 3 (lines_of (behind_line bytes ++ more))
+on_text start c saved bytes more s feed =
+    let there = saved_is (saved_of_text (first_line_of (bytes ++ more))) saved (saved_stays bytes more feed ∙ s) in
+    ap (λ r. live_from start c r (lines_of (behind_line (bytes ++ more)))) there
+    ∙ ap (λ l. answers_from (resumed_from c saved start) 3 (lines_of l)) (behind_stays bytes more feed)
+
+-- no line feed came where nothing may follow
+never_follows : (may_follow : Bool) (hand part : List ℕ) (had : Option (List ℕ)) → (may_follow ≡ false → part ≡ [])
+    → (may_follow ≡ false → (hand ≡ []) × IsAtEnd had) → has_feed (hand ++ part) ≡ true → may_follow ≡ false → ⊥
+never_follows may_follow hand part had none end feed f =
+    let here : has_feed (hand ++ part) ≡ has_feed [] = rw ((end f).0, none f) refl in
+    let e : true ≡ false = sym feed ∙ here in
+    cc
+
+-- ---- behind a setup
+
+-- an error before anything was written
+pub gone_unwritten : (start : Option ℕ) (c : Configuration) (may_follow : Bool) (hand part : List ℕ) (e : LiveError) (had left held holds : Option (List ℕ))
+    → Consumes had left part → (may_follow ≡ false → (hand ≡ []) × IsAtEnd had) → Keeps held holds
+    → WentOn start c may_follow hand (Err e) had left held holds
+gone_unwritten start c true hand part e had left held holds read end kept = record {
+  coming = part ++ rest_of left;
+  is_input = input_on had left part (rest_of left) read (rest_input left);
+  short = λ f. cc;
+  outcome_is = tt;
+  written = tt;
+  read = tt;
+  front = leaves_kept (told e) held holds _ kept;
+}
+gone_unwritten start c false hand part e had left held holds read end kept = record {
+  coming = [];
+  is_input = end_input had (end refl).1;
+  short = λ f. refl;
+  outcome_is = tt;
+  written = tt;
+  read = tt;
+  front = leaves_kept (told e) held holds _ kept;
+}
+
+-- an input by which what was saved is refused
+pub record Refuses (may_follow : Bool) (hand : List ℕ) (had left : Option (List ℕ)) (why : InputRefusal) : Type 0 where
+  pub coming : List ℕ
+  pub is_input : IsInput had coming
+  pub short : may_follow ≡ false → coming ≡ []
+  pub refused : saved_in (hand ++ coming) ≡ Err why
+
+refuses : (may_follow follow : Bool) (hand part : List ℕ) (had left : Option (List ℕ)) (why : InputRefusal)
+    → saved_in (hand ++ part) ≡ Err why → Consumes had left part → (may_follow ≡ false → part ≡ [])
+    → (may_follow ≡ false → (hand ≡ []) × IsAtEnd had) → follow ≡ has_feed (hand ++ part) → (follow ≡ false → IsAtEnd left)
+    → Refuses may_follow hand had left why
+refuses may_follow true hand part had left why s read none end feed ended = record {
+  coming = part ++ rest_of left;
+  is_input = input_on had left part (rest_of left) read (rest_input left);
+  short = λ f. absurd (never_follows may_follow hand part had none end (sym feed) f);
+  refused = ap saved_in (sym (append_assoc hand part (rest_of left))) ∙ saved_stays (hand ++ part) (rest_of left) (sym feed) ∙ s;
+}
+refuses may_follow false hand part had left why s read none end feed ended = record {
+  coming = part;
+  is_input = input_all had left part read (ended refl);
+  short = none;
+  refused = s;
+}
+
+gone_refused_by : (start : Option ℕ) (c : Configuration) (may_follow : Bool) (hand part : List ℕ) (had left held mid holds : Option (List ℕ))
+    (why : InputRefusal) (wrote : Result Outcome DriveError) (r : Result Outcome LiveError)
+    → Refuses may_follow hand had left why → Consumes had left part → Keeps held mid
+    → IfOk wrote (λ o. o ≡ outcome.Refused) → OnOk wrote (Appends mid holds (refusal_line why))
+    → IfErr wrote (λ e. LeavesText e mid holds (refusal_line why)) → IsWritten r wrote
+    → WentOn start c may_follow hand r had left held holds
+gone_refused_by start c may_follow hand part had left held mid holds why wrote (Ok o) z read kept refused written fault w =
+    let text = refused_text start c (hand ++ z.coming) why z.refused in
+    record {
+      coming = z.coming;
+      is_input = z.is_input;
+      short = z.short;
+      outcome_is = written_if o wrote (λ x. x ≡ outcome.Refused) w refused ∙ sym (ap outcome_by z.refused);
+      written = subst (λ l. Appends held holds l) (sym text) (wrote_behind held mid holds (refusal_line why) kept (written_ok o wrote w written));
+      read = subst (λ q. ReadBehind q had left z.coming) (sym z.refused) (part, read);
+      front = tt;
+    }
+gone_refused_by start c may_follow hand part had left held mid holds why wrote (Err e) z read kept refused written fault w =
+    let text = refused_text start c (hand ++ z.coming) why z.refused in
+    record {
+      coming = z.coming;
+      is_input = z.is_input;
+      short = z.short;
+      outcome_is = tt;
+      written = tt;
+      read = tt;
+      front = subst (λ l. LeavesText (told e) held holds l) (sym text) (leaves_before (told e) held mid holds (refusal_line why) kept
+          (written_err e wrote (λ x. LeavesText x mid holds (refusal_line why)) w fault));
+    }
+
+-- what is shown of the refusal of what was saved is what is shown of all behind the setup
+pub gone_refused : (start : Option ℕ) (c : Configuration) (may_follow follow : Bool) (hand part : List ℕ) (had left held mid holds : Option (List ℕ))
+    (why : InputRefusal) (wrote : Result Outcome DriveError) (r : Result Outcome LiveError)
+    → saved_in (hand ++ part) ≡ Err why → Consumes had left part → (may_follow ≡ false → part ≡ [])
+    → (may_follow ≡ false → (hand ≡ []) × IsAtEnd had) → follow ≡ has_feed (hand ++ part) → (follow ≡ false → IsAtEnd left) → Keeps held mid
+    → IfOk wrote (λ o. o ≡ outcome.Refused) → OnOk wrote (Appends mid holds (refusal_line why))
+    → IfErr wrote (λ e. LeavesText e mid holds (refusal_line why)) → IsWritten r wrote
+    → WentOn start c may_follow hand r had left held holds
+gone_refused start c may_follow follow hand part had left held mid holds why wrote r s read none end feed ended kept refused written fault w =
+    gone_refused_by start c may_follow hand part had left held mid holds why wrote r
+    (refuses may_follow follow hand part had left why s read none end feed ended) read kept refused written fault w
+
+-- what is shown of the lines behind what was saved is what is shown of all behind the setup
+pub gone_answered : (start : Option ℕ) (c : Configuration) (saved : Saved) (may_follow follow : Bool) (hand part : List ℕ)
+    (had mid left held wrote holds : Option (List ℕ)) (r : Result Outcome LiveError)
+    → saved_in (hand ++ part) ≡ Ok saved → Consumes had mid part → (may_follow ≡ false → part ≡ [])
+    → (may_follow ≡ false → (hand ≡ []) × IsAtEnd had) → follow ≡ has_feed (hand ++ part) → (follow ≡ false → IsAtEnd mid) → Keeps held wrote
+    → IfOk r (λ o. o ≡ outcome.Ran)
+    → (follow ≡ false → (r ≡ Ok outcome.Ran) × (left ≡ mid) × (holds ≡ wrote))
+    → (follow ≡ true → TalkEnded 3 (resumed_from c saved start) (behind_line (hand ++ part)) mid left wrote holds r)
+    → WentOn start c may_follow hand r had left held holds
+gone_answered start c saved may_follow false hand part had mid left held wrote holds r s read none end feed ended kept ran unread lines =
+    let n = unread refl in
+    let text = none_text start c saved (hand ++ part) s (sym feed) in
+    rw (n.0, n.1, n.2)
+    (record {
+      coming = part;
+      is_input = input_all had mid part read (ended refl);
+      short = none;
+      outcome_is = sym (ap outcome_by s);
+      written = subst (λ l. Appends held wrote l) (sym text) (appended_none held wrote kept);
+      read = subst (λ q. ReadBehind q had mid part) (sym s) read;
+      front = tt;
+    })
+gone_answered start c saved may_follow true hand part had mid left held wrote holds (Ok o) s read none end feed ended kept ran unread lines =
+    let t = lines refl in
+    let bytes = append_assoc hand part t.0 in
+    let stays = ap saved_in (sym bytes) ∙ saved_stays (hand ++ part) t.0 (sym feed) ∙ s in
+    let text = ap (live_resumed_over start (Ok c)) (sym bytes) ∙ on_text start c saved (hand ++ part) t.0 s (sym feed) in
+    record {
+      coming = part ++ t.0;
+      is_input = input_on had mid part t.0 read t.1;
+      short = λ f. absurd (never_follows may_follow hand part had none end (sym feed) f);
+      outcome_is = ran ∙ sym (ap outcome_by stays);
+      written = subst (λ l. Appends held holds l) (sym text) (wrote_behind held wrote holds _ kept t.3);
+      read = subst (λ q. ReadBehind q had left (part ++ t.0)) (sym stays) (Consumes-then had mid left part t.0 read t.2);
+      front = tt;
+    }
+gone_answered start c saved may_follow true hand part had mid left held wrote holds (Err e) s read none end feed ended kept ran unread lines =
+    let t = lines refl in
+    let text = ap (live_resumed_over start (Ok c)) (sym (append_assoc hand part t.0)) ∙ on_text start c saved (hand ++ part) t.0 s (sym feed) in
+    record {
+      coming = part ++ t.0;
+      is_input = input_on had mid part t.0 read t.1;
+      short = λ f. absurd (never_follows may_follow hand part had none end (sym feed) f);
+      outcome_is = tt;
+      written = tt;
+      read = tt;
+      front = subst (λ l. LeavesText (told e) held holds l) (sym text) (leaves_before (told e) held wrote holds _ kept t.4);
+    }
+
+-- ---- the whole
+
+-- nothing is at hand, and nothing comes, where no line feed followed a good setup
+ends_by : (c : Configuration) (given hand : List ℕ) (mid : Option (List ℕ)) → in_setup (setup_of (first_line_of given)) ≡ Ok c
+    → has_feed given ≡ false → hand ≡ behind_line given → IsAtEnd mid ⊎ (KEPT_SETUP_BYTES ≤ length given) → (hand ≡ []) × IsAtEnd mid
+ends_by c given hand mid s free behind (inl at_end) = (behind ∙ behind_none given free, at_end)
+ends_by c given hand mid s free behind (inr long) = absurd (not_long c given s free long)
+
+pub ends_short : (c : Configuration) (given hand : List ℕ) (mid : Option (List ℕ)) (whole : Bool) → in_setup (setup_of (first_line_of given)) ≡ Ok c
+    → whole ≡ has_feed given → hand ≡ behind_line given → (whole ≡ false → IsAtEnd mid ⊎ (KEPT_SETUP_BYTES ≤ length given))
+    → whole ≡ false → (hand ≡ []) × IsAtEnd mid
+ends_short c given hand mid whole s feed behind end f = ends_by c given hand mid s (sym feed ∙ f) behind (end f)
+
+-- the parts of an input of which its setup was given, and of which no more comes where no line feed followed
+parts_stay : (given coming : List ℕ) (whole : Bool) → whole ≡ has_feed given → (whole ≡ false → coming ≡ [])
+    → (first_line_of (given ++ coming) ≡ first_line_of given) × (behind_line (given ++ coming) ≡ behind_line given ++ coming)
+parts_stay given coming true feed none = (first_stays given coming (sym feed), behind_stays given coming (sym feed))
+parts_stay given coming false feed none =
+    rw (none refl) (ap first_line_of (append-nil given), ap behind_line (append-nil given) ∙ sym (append-nil (behind_line given)))
+
+read_behind : (r : Result Saved InputRefusal) (had mid left : Option (List ℕ)) (given coming : List ℕ) → Consumes had mid given
+    → ReadBehind r mid left coming → ReadBehind r had left (given ++ coming)
+read_behind (Ok saved) had mid left given coming read more = Consumes-then had mid left given coming read more
+read_behind (Err e) had mid left given coming read more = (given ++ more.0, Consumes-then had mid left given more.0 read more.1)
+
+-- what is said of an input whose setup is this one
+opened_text : (start : Option ℕ) (c : Configuration) (input behind : List ℕ) → setup_of (first_line_of input) ≡ Ok c → behind_line input ≡ behind
+    → live_text_resumed start input ≡ live_resumed_over start (Ok c) behind
+unfolding live_text_resumed
+opened_text start c input behind s b =
+    ap (λ r. live_resumed_over start r (behind_line input)) s ∙ ap (live_resumed_over start (Ok c)) b
+
+opened_outcome : (c : Configuration) (input behind : List ℕ) → setup_of (first_line_of input) ≡ Ok c → behind_line input ≡ behind
+    → live_resumed_outcome input ≡ outcome_by (saved_in behind)
+opened_outcome c input behind s b =
+    ap (λ r. outcome_by (in_setup r >>= λ d. saved_in (behind_line input))) s ∙ ap (λ l. outcome_by (saved_in l)) b
+
+opened_read : (c : Configuration) (input behind : List ℕ) (had left : Option (List ℕ)) → setup_of (first_line_of input) ≡ Ok c → behind_line input ≡ behind
+    → ReadBehind (saved_in behind) had left input → HasReadResumed had left input
+opened_read c input behind had left s b read =
+    subst (λ q. ReadResumedBy q had left input) (sym s) (subst (λ l. ReadBehind (saved_in l) had left input) (sym b) read)
+
+-- what is shown of all behind a setup is what is shown of the whole
+pub whole_gone : (start : Option ℕ) (c : Configuration) (given : List ℕ) (had mid left held holds : Option (List ℕ)) (whole : Bool)
+    (r : Result Outcome LiveError)
+    → in_setup (setup_of (first_line_of given)) ≡ Ok c → whole ≡ has_feed given → Consumes had mid given
+    → WentOn start c whole (behind_line given) r mid left held holds → IsLiveResumedOnInput start (told_by r) had left held holds
+whole_gone start c given had mid left held holds whole (Ok o) s feed read w =
+    let input = given ++ w.coming in
+    let behind = behind_line given ++ w.coming in
+    let parts = parts_stay given w.coming whole feed w.short in
+    let setup = ap setup_of parts.0 ∙ setup_is (setup_of (first_line_of given)) c s in
+    record {
+      input = input;
+      is_input = input_on had mid given w.coming read w.is_input;
+      outcome_is = w.outcome_is ∙ sym (opened_outcome c input behind setup parts.1);
+      written = rw (opened_text start c input behind setup parts.1) w.written;
+      read = opened_read c input behind had left setup parts.1 (read_behind (saved_in behind) had mid left given w.coming read w.read);
+      front = tt;
+    }
+whole_gone start c given had mid left held holds whole (Err e) s feed read w =
+    let input = given ++ w.coming in
+    let behind = behind_line given ++ w.coming in
+    let parts = parts_stay given w.coming whole feed w.short in
+    let setup = ap setup_of parts.0 ∙ setup_is (setup_of (first_line_of given)) c s in
+    live_failed live_resumed_outcome (live_text_resumed start) HasReadResumed (told e) had left held holds input
+    (input_on had mid given w.coming read w.is_input)
+    (rw (opened_text start c input behind setup parts.1) w.front)
+
+-- ---- a refused setup
+
+setup_text : (start : Option ℕ) (input : List ℕ) (e : LoadError) → setup_of (first_line_of input) ≡ Err e
+    → live_text_resumed start input ≡ refusal_line (refusal.Setup e)
+unfolding live_text_resumed
+setup_text start input e s = ap (λ r. live_resumed_over start r (behind_line input)) s
+
+-- what is shown of a setup's refusal is what is shown of the whole
+pub setup_refusal : (start : Option ℕ) (given : List ℕ) (had left held holds : Option (List ℕ)) (why : InputRefusal) (whole : Bool)
+    (r : Result Outcome DriveError)
+    → in_setup (setup_of (first_line_of given)) ≡ Err why → Consumes had left given → StopsSoon KEPT_SETUP_BYTES given → whole ≡ has_feed given
+    → (whole ≡ false → IsAtEnd left ⊎ (KEPT_SETUP_BYTES ≤ length given)) → IfOk r (λ o. o ≡ outcome.Refused)
+    → OnOk r (Appends held holds (refusal_line why)) → IfErr r (λ e. LeavesText e held holds (refusal_line why))
+    → IsLiveResumedOnInput start r had left held holds
+setup_refusal start given had left held holds why whole (Ok o) s read soon feed end refused wrote f =
+    let no = setup_refused (setup_of (first_line_of given)) why s in
+    let input = given ++ rest_of left in
+    let setup = refused_stays given left whole feed end ∙ no.1 in
+    record {
+      input = input;
+      is_input = input_on had left given (rest_of left) read (rest_input left);
+      outcome_is = refused ∙ sym (ap (λ r. outcome_by (in_setup r >>= λ d. saved_in (behind_line input))) setup);
+      written = rw (setup_text start input no.0 setup) (rw (no.2) at wrote);
+      read = rw setup (given, read, soon);
+      front = tt;
+    }
+setup_refusal start given had left held holds why whole (Err e) s read soon feed end refused wrote f =
+    let no = setup_refused (setup_of (first_line_of given)) why s in
+    let input = given ++ rest_of left in
+    let setup = refused_stays given left whole feed end ∙ no.1 in
+    live_failed live_resumed_outcome (live_text_resumed start) HasReadResumed e had left held holds input
+    (input_on had left given (rest_of left) read (rest_input left))
+    (rw (setup_text start input no.0 setup) (rw (no.2) at f))
+
+-- ---- a loop that is spent
+
+-- what only writes spends none
+never_spent : {T : Type 0} (e : LiveError) (written : Result T DriveError) → IsWritten (Err e) written → IsSpent e → ⊥
+never_spent (live.Reader fault) written w s = s
+never_spent live.Writer written w s = s
+never_spent live.Memory written w s = s
+never_spent live.LinesSpent written (e, inl f) s = cc
+never_spent live.LinesSpent written (e, inr f) s = cc
+never_spent live.ReadsSpent written (e, inl f) s = cc
+never_spent live.ReadsSpent written (e, inr f) s = cc
+
+pub error_later : {T : Type 0} (e : LiveError) (written : Result T DriveError) (hand : List ℕ) (had left : Option (List ℕ))
+    → IsWritten (Err e) written → AfterLater hand had left e
+error_later e written hand had left w = λ s. absurd (never_spent e written w s)
+
+pub written_later : {T : Type 0} (r : Result T LiveError) (written : Result T DriveError) (hand : List ℕ) (had left : Option (List ℕ))
+    → IsWritten r written → IfErr r (AfterLater hand had left)
+written_later (Ok x) written hand had left w = tt
+written_later (Err e) written hand had left w = error_later e written hand had left w
+
+-- line 2 couldn't be taken
+pub line_later : (e : LiveError) (hand given : List ℕ) (had left : Option (List ℕ)) → Consumes had left given → AfterLine given e → AfterLater hand had left e
+line_later (live.Reader fault) hand given had left read h = λ s. absurd s
+line_later live.Writer hand given had left read h = λ s. absurd s
+line_later live.Memory hand given had left read h = λ s. absurd s
+line_later live.LinesSpent hand given had left read h = λ s. absurd h
+line_later live.ReadsSpent hand given had left read h = λ s. (given, read, omega (arith, h))
+
+-- a line with its line feed has one byte at least
+behind_less : (bytes : List ℕ) → has_feed bytes ≡ true → length (behind_line bytes) < length bytes
+behind_less [] feed = cc
+behind_less (b ∷ bs) feed =
+    (elim (b == 10) as (λ v. cond v true (has_feed bs) ≡ true → length (cond v bs (behind_line bs)) < suc (length bs)) [
+      | true ↦ λ h. omega arith
+      | false ↦ λ h. let again = behind_less bs h in omega (arith, again)
+    ]) feed
+
+-- the loops behind a saved state whose line feed was given
+lines_later : (e : LiveError) (first : State) (hand part : List ℕ) (had mid left held holds : Option (List ℕ)) → has_feed (hand ++ part) ≡ true
+    → Consumes had mid part → AfterLines 3 first (behind_line (hand ++ part)) mid left held holds e → AfterLater hand had left e
+lines_later (live.Reader fault) first hand part had mid left held holds feed read h = λ s. absurd s
+lines_later live.Writer first hand part had mid left held holds feed read h = λ s. absurd s
+lines_later live.Memory first hand part had mid left held holds feed read h = λ s. absurd s
+lines_later live.LinesSpent first hand part had mid left held holds feed read a = λ s.
+    let all = length-append part a.given in
+    let both = length-append hand part in
+    let there = length-append (behind_line (hand ++ part)) a.given in
+    let parts = ap length a.parts in
+    let sizes = length-append a.front a.rest in
+    let few = lines_few a.front in
+    let less = behind_less (hand ++ part) feed in
+    (part ++ a.given, Consumes-then had mid left part a.given read a.consumed, omega (arith, all, both, there, parts, sizes, few, less, a.lines))
+lines_later live.ReadsSpent first hand part had mid left held holds feed read g = λ s.
+    let all = length-append part g.0 in
+    (part ++ g.0, Consumes-then had mid left part g.0 read g.1, omega (arith, all, g.2))
+
+pub answered_later : {T : Type 0} (r : Result T LiveError) (x : T) (first : State) (hand part : List ℕ) (had mid left held holds : Option (List ℕ)) (follow : Bool)
+    → follow ≡ has_feed (hand ++ part) → Consumes had mid part → (follow ≡ false → r ≡ Ok x)
+    → IfErr r (AfterLines 3 first (behind_line (hand ++ part)) mid left held holds) → IfErr r (AfterLater hand had left)
+answered_later (Ok y) x first hand part had mid left held holds follow feed read none h = tt
+answered_later (Err e) x first hand part had mid left held holds false feed read none h = let clash = none refl in cc
+answered_later (Err e) x first hand part had mid left held holds true feed read none h =
+    lines_later e first hand part had mid left held holds (sym feed) read h
+
+-- the loops behind a setup that was given so
+later_spends : (e : LiveError) (given : List ℕ) (had mid left : Option (List ℕ)) → Consumes had mid given
+    → AfterLater (behind_line given) mid left e → AfterAll had left e
+later_spends e given had mid left read h = λ s.
+    let all = h s in
+    let few = behind_few given in
+    let sizes = length-append given all.0 in
+    (given ++ all.0, Consumes-then had mid left given all.0 read all.1, omega (arith, few, sizes, all.2))
+
+pub if_later : {T : Type 0} (r : Result T LiveError) (given : List ℕ) (had mid left : Option (List ℕ)) → Consumes had mid given
+    → IfErr r (AfterLater (behind_line given) mid left) → IfErr r (AfterAll had left)
+if_later (Ok x) given had mid left read h = tt
+if_later (Err e) given had mid left read h = later_spends e given had mid left read h

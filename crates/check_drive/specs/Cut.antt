@@ -1,0 +1,17 @@
+-- An input that is cut behind whole lines, and the two inputs by which it is run in two parts.
+use Rattle.std.specs.Prelude.{ℕ, List, ◌∷◌, ◌++◌, codes}
+use Rattle.check_saved.specs.Text.{saved_text}
+use Rattle.check_sched.specs.Saved.{saved_of}
+use Rattle.check_sched.specs.State.{State}
+
+-- the whole: a setup document, whole lines, and what stands behind the cut
+abbrev pub whole_input : List ℕ → List ℕ → List ℕ → List ℕ
+whole_input document front rest = document ++ 10 ∷ (front ++ rest)
+
+-- the first part: it ends with the command `save`
+abbrev pub first_part : List ℕ → List ℕ → List ℕ
+first_part document front = document ++ 10 ∷ (front ++ codes "[\"save\"]")
+
+-- the second part: what stands behind the cut, behind the same document and what is saved of a scheduler in this state
+abbrev pub second_part : List ℕ → State → List ℕ → List ℕ
+second_part document s rest = document ++ 10 ∷ (saved_text (saved_of s) ++ 10 ∷ rest)

@@ -1,0 +1,28 @@
+//! Laws of what runs write, each the contract of a function without parameters and code.
+ghost use Rattle.std.specs.Prelude.{ℕ, ◌≡◌, ◌≤◌, ◌++◌, List, None, Ok, false, length};
+ghost use Rattle.check_sched.specs.State.{State};
+ghost use Rattle.check_script.specs.declared.command.RunCommand.{RunCommand};
+ghost use Rattle.check_script.specs.declared.script.TheConstants.{MAX_INPUT_BYTES};
+ghost use Rattle.check_script.specs.LiveInput.{has_feed};
+ghost use Rattle.check_script.specs.Script.{Script, script_of};
+ghost use Rattle.check_spread.specs.declared.limits.TheConstants.{LAST_MOMENT};
+ghost use Rattle.check_text.specs.Text.{saved_line, text, text_resumed};
+ghost use Rattle.check_drive.specs.Cut.{first_part, second_part, whole_input};
+ghost use Rattle.check_drive.specs.Live.{AreWholeLines};
+
+/// A run that is accepted is cut behind any of its lines. The first part, with `["save"]` behind it, writes
+/// what the whole writes of it, and then the line of a saved state. The second part, behind the same setup
+/// document and that saved state, writes what the whole writes of it. So the answers of both are together
+/// those of the whole, except for the line of the saved state; where each of the two is within the limit of
+/// an input.
+pub fn a_cut_run_goes_on()
+    ensures { (start : ℕ) → (document front rest : List ℕ) → (script : Script RunCommand)
+        → start ≤ LAST_MOMENT → has_feed document ≡ false → AreWholeLines front
+        → script_of (whole_input document front rest) ≡ Ok script
+        → (before : List ℕ) × (s : State)
+        × (length (first_part document front) ≤ MAX_INPUT_BYTES
+        → text start (first_part document front) ≡ before ++ saved_line s)
+        × (length (second_part document s rest) ≤ MAX_INPUT_BYTES
+        → text start (whole_input document front rest)
+        ≡ before ++ text_resumed None (second_part document s rest)) }
+{}
