@@ -117,12 +117,14 @@ def refused_words(held):
 
 def faults(held):
     """An input that can't be read, and an output that can't be written, have status 3, whatever was to be written."""
-    for words in ([], ["run", "--start", "7"], ["live"], ["check"], ["check", "--line"], ["drill", "--workers", "1"]):
+    resumed = ["run", "--resume"], ["live", "--resume"], ["check", "--resume"]
+    for words in ([], ["run", "--start", "7"], ["live"], ["check"], ["check", "--line"], ["drill", "--workers", "1"], *resumed):
         held.compare(f"{words}: no input", (b"", 3), unread(held, words))
     office, drill = ((EXAMPLES / name).read_bytes() for name in ("office.txt", "drill.txt"))
     torn = [([], office), ([], b""), (["drill", "--workers", "1"], drill), (["drill", "--workers", "3"], drill)]
     torn += [(["live"], SERVICE + TAKE), (["live"], b"{}}")]
     torn += [(words, given) for words in (["check"], ["check", "--line"]) for given in (SERVICE, b"{}}")]
+    torn += [(words, given) for words in resumed for given in (b"{}\n{}\n", b"{}}")]
     for words, given in [*torn, (["--help"], b""), (["--version"], b""), (["schema"], b""), (["walk"], b""), ([b"\xff"], b"")]:
         held.compare(f"{words}: a torn pipe", 3, into_torn_pipe(held, words, given))
         held.compare(f"{words}: a full device", 3, into_full_device(held, words, given))
