@@ -224,8 +224,36 @@ def long_inputs(held):
         endless.stdout.close()
 
 
+def saved_states(held):
+    """Saved states at the limits of bytes and of objects, each in a run and in a check, and an input past its limit."""
+    pending = {"attempt": 1, "check_interval": 300_000, "checked": False, "enabled": True, "enabled_in_setup": True, "flapping": "STEADY",
+               "forced": False, "kind": "HARD", "last_hard_state": "UP", "max_check_attempts": 1, "next_check": 0, "results": "", "run": None,
+               "state": "UP"}
+    objects = [{**pending, "name": f"h{n}"} for n in range(4_097)]
+    many = [json.dumps({"format": 1, "objects": objects[:count], "runs": 0, "start": 0}) for count in (4_096, 4_097)]
+    document = lines(setup(hosts=[host("h0")]))
+    whole = document + lines(many[0])
+    past = len(document) + DOCUMENT + 1
+    for what, front, byte, size, line, explanation in [
+        ("4,097 saved objects", document + lines(many[1]), b"", 0, "K5 TooMany", '"objects" has more than 4096 objects'),
+        ("a saved state past its limit", document, b" ", past, "K1 TooLong", f"the saved state has more than {DOCUMENT} bytes"),
+        ("spaces up to the limit", document, b" ", past - 1, "K2 NotJson", "the saved state is no JSON"),
+        ("lines past the limit", whole, b"\n", WHOLE_INPUT + 1, "S1 TooLong 0", f"the input has more than {WHOLE_INPUT} bytes"),
+    ]:
+        size = max(size, len(front))
+        held.compare(f"{what}, in a run", (lines(f"refused {line}"), 1, size), run_file(held, front, byte, size, ["run", "--resume"]))
+        held.compare(f"{what}, checked", (lines(f"refused {line}", explanation), 1, size), run_file(held, front, byte, size, ["check", "--resume"]))
+    for what, front, byte, size in [
+        ("a saved state at its limit", whole[:-1], b" ", past - 1),
+        ("lines up to the limit", whole, b"\n", WHOLE_INPUT),
+    ]:
+        held.compare(f"{what}, in a run", (b"", 0, size), run_file(held, front, byte, size, ["run", "--resume"]))
+        text, *ended = run_file(held, front, byte, size, ["check", "--resume"])
+        held.compare(f"{what}, checked", (["kept 1", "new 0", "dropped 4095", "given_up 0"], [0, size]), (text.decode().splitlines()[-4:], ended))
+
+
 held = Held("limits")
 LISTS = (many_objects, long_names, many_parents, too_many, explained_at_limits, most_dependencies, long_chain, long_cycles, last_of_many)
-for part in (*LISTS, many_calls, places, long_inputs):
+for part in (*LISTS, many_calls, places, long_inputs, saved_states):
     part(held)
 held.end()

@@ -3,11 +3,12 @@
 
     .ci/session.py [PROGRAM]     crates/nagsched/out/nagsched where no program is named
 
-Words that are no text, help, an input that can't be read, an output whose reader has gone away, a device that is full, how much of a
-long document is read. A folder stands for an input that can't be read: whoever reads it ends in status 3, and whoever doesn't, where
-words ask for help or are refused, never notices.
+Words that are no text, help, the version, an input that can't be read, an output whose reader has gone away, a device that is full, how
+much of a long document is read. A folder stands for an input that can't be read: whoever reads it ends in status 3, and whoever doesn't,
+where words ask for help or the version or are refused, never notices.
 """
 import os
+import re
 import subprocess
 import tempfile
 
@@ -22,11 +23,18 @@ HELPS = {
     "help-of-the-program": (["--help"], ["-h"], ["help"]),
     "help-of-run": (["run", "--help"], ["run", "--start", "7", "--help"], ["run", "--start", "x", "--help"], ["help", "run"]),
     "help-of-live": (["live", "--help"], ["live", "-h"], ["help", "live"]),
-    "help-of-check": (["check", "--help"], ["check", "--line", "-h"], ["help", "check"]),
+    "help-of-check": (["check", "--help"], ["check", "--line", "-h"], ["check", "--line", "--resume", "-h"], ["help", "check"]),
     "help-of-drill": (["drill", "--help"], ["drill", "--workers", "0", "-h"], ["help", "drill"]),
     "help-of-schema": (["schema", "--help"], ["schema", "-h"], ["help", "schema"]),
 }
 COLUMNS = 80
+
+# The words that ask for the version, which decide at the first of them that asks for a text; and words that ask for none.
+VERSIONS = (["--version"], ["-V"], ["--version", "run"], ["--version", "walk"], ["-V", "--help"], ["--version", "--version"], ["-Vh"])
+NO_VERSIONS = (["run", "--version"], ["check", "-V"], ["walk", "--version"], ["help", "--version"], ["--version=1"], ["-v"], ["version"])
+
+# Words that go with no job, and words that are no text.
+NO_JOB = (["walk"], ["check", "--resume", "--line"], ["drill", "--resume"], ["schema", "--resume"], ["--resume"], ["run", "--resume=1"])
 NO_TEXT = ([b"\xff"], [b"run", b"--start", b"\xff"], [b"drill", b"--workers", b"1", b"\xc3"], [b"--help", b"\xed\xa0\x80"])
 
 
@@ -84,27 +92,40 @@ def helps(held):
         held.compare(f"{case}: lines that are too long", [], [line for line in text.decode().splitlines() if len(line) > COLUMNS])
 
 
+def versions(held):
+    """The version is that of the repository's file, has status 0 and reads nothing; where help stands before it, that is written."""
+    version = (TOP / "VERSION").read_text(encoding="utf-8").removesuffix("\n")
+    held.compare("the file VERSION is three numbers", True, bool(re.fullmatch(r"\d+\.\d+\.\d+", version)))
+    for words in VERSIONS:
+        held.compare(words, (f"nagsched {version}\n".encode(), 0), unread(held, words))
+    for words in NO_VERSIONS:
+        held.compare(words, (REFUSED_WORDS, 2), unread(held, words))
+    help_text = (TOP / "conformance/words/help-of-the-program.stdout").read_bytes()
+    held.compare(["--help", "--version"], (help_text, 0), unread(held, ["--help", "--version"]))
+
+
 def schema(held):
     """The schema reads nothing. What it writes is held to docs/setup.schema.json by .ci/schema.py."""
     held.compare(["schema"], 0, unread(held, ["schema"])[1])
 
 
 def refused_words(held):
-    """Words that are no text are refused, and nothing is read."""
-    for words in NO_TEXT:
+    """Words that are no text or go with no job are refused, and nothing is read."""
+    for words in (*NO_TEXT, *NO_JOB):
         held.compare(words, (REFUSED_WORDS, 2), unread(held, words))
-    held.compare("an unknown word", (REFUSED_WORDS, 2), unread(held, ["walk"]))
 
 
 def faults(held):
     """An input that can't be read, and an output that can't be written, have status 3, whatever was to be written."""
-    for words in ([], ["run", "--start", "7"], ["live"], ["check"], ["check", "--line"], ["drill", "--workers", "1"]):
+    resumed = ["run", "--resume"], ["live", "--resume"], ["check", "--resume"]
+    for words in ([], ["run", "--start", "7"], ["live"], ["check"], ["check", "--line"], ["drill", "--workers", "1"], *resumed):
         held.compare(f"{words}: no input", (b"", 3), unread(held, words))
     office, drill = ((EXAMPLES / name).read_bytes() for name in ("office.txt", "drill.txt"))
     torn = [([], office), ([], b""), (["drill", "--workers", "1"], drill), (["drill", "--workers", "3"], drill)]
     torn += [(["live"], SERVICE + TAKE), (["live"], b"{}}")]
     torn += [(words, given) for words in (["check"], ["check", "--line"]) for given in (SERVICE, b"{}}")]
-    for words, given in [*torn, (["--help"], b""), (["schema"], b""), (["walk"], b""), ([b"\xff"], b"")]:
+    torn += [(words, given) for words in resumed for given in (b"{}\n{}\n", b"{}}")]
+    for words, given in [*torn, (["--help"], b""), (["--version"], b""), (["schema"], b""), (["walk"], b""), ([b"\xff"], b"")]:
         held.compare(f"{words}: a torn pipe", 3, into_torn_pipe(held, words, given))
         held.compare(f"{words}: a full device", 3, into_full_device(held, words, given))
     for words in ([], ["live"]):
@@ -138,6 +159,6 @@ def long_documents(held):
 
 
 held = Held("session")
-for part in (helps, schema, refused_words, faults, faults_of_conversations, long_documents):
+for part in (helps, versions, schema, refused_words, faults, faults_of_conversations, long_documents):
     part(held)
 held.end()

@@ -77,16 +77,19 @@ IsTold start false document = IsToldBy (IsSummaryTold start) document (setup_of 
 
 -- ---- a whole check
 
--- What a check that ended so has told of a document: all of it, after a fault of the writer a front of it, and after any other error nothing.
-abbrev pub HasTold : ℕ → Bool → List ℕ → Result Outcome DriveError → Option (List ℕ) → Option (List ℕ) → Type 0
-HasTold start line document (Ok told) held holds = (text : List ℕ) × IsTold start line document text told × Appends held holds text
-HasTold start line document (Err fault.Write) held holds =
-    (text : List ℕ) × (told : Outcome) × IsTold start line document text told × WroteFront held holds text
-HasTold start line document (Err e) held holds = Keeps held holds
+-- What a check that ended so has told, where these texts and outcomes can be: all of it, after a fault of the writer a front of it, and
+-- after any other error nothing.
+abbrev pub HasTold : (List ℕ → Outcome → Type 0) → Result Outcome DriveError → Option (List ℕ) → Option (List ℕ) → Type 0
+HasTold Can (Ok told) held holds = (text : List ℕ) × Can text told × Appends held holds text
+HasTold Can (Err fault.Write) held holds = (text : List ℕ) × (told : Outcome) × Can text told × WroteFront held holds text
+HasTold Can (Err e) held holds = Keeps held holds
 
--- Whatever is known of reader and writer, a check that ended so is that of one input, which is a document but for one line feed
--- at its end.
-pub record IsCheckOnInput (start : ℕ) (line : Bool) (ended : Result Outcome DriveError) (had held holds : Option (List ℕ)) : Type 0 where
+-- Whatever is known of reader and writer, a check that ended so is that of one input, of which these texts and outcomes can be told.
+pub record IsCheckOf (Can : List ℕ → List ℕ → Outcome → Type 0) (ended : Result Outcome DriveError) (had held holds : Option (List ℕ)) : Type 0 where
   pub input : List ℕ
   pub is_input : IsInput had input
-  pub told : HasTold start line (without_last_feed input) ended held holds
+  pub told : HasTold (Can input) ended held holds
+
+-- of an input that is a document but for one line feed at its end
+abbrev pub IsCheckOnInput : ℕ → Bool → Result Outcome DriveError → Option (List ℕ) → Option (List ℕ) → Option (List ℕ) → Type 0
+IsCheckOnInput start line ended had held holds = IsCheckOf (λ input. IsTold start line (without_last_feed input)) ended had held holds

@@ -1,4 +1,5 @@
 pub mod Check
+pub mod CheckResumed
 pub mod Drill
 pub mod Reading
 pub mod Session

@@ -13,13 +13,14 @@ use Rattle.check_words.specs.declared.words.Job.TheVariants as job
 use Rattle.check_words.specs.declared.words.WordsError.{WordsError}
 use Rattle.check_words.specs.declared.words.WordsError.TheVariants as words_error
 use Rattle.check_session.specs.Check.{IsCheckOnInput}
+use Rattle.check_session.specs.CheckResumed.{IsResumedCheckOnInput}
 use Rattle.check_session.specs.Drill.{AfterDrillFault, IsDrillOnInput, WroteDrillShort}
 use Rattle.check_session.specs.Reading.{HasBegun, HasReadDocument}
-use Rattle.check_drive.specs.Drive.{AfterFault, HasRead, IsRunOnInput}
-use Rattle.check_drive.specs.Live.{IsLiveOnInput}
+use Rattle.check_drive.specs.Drive.{AfterFault, AfterResumedFault, HasRead, IsResumedOnInput, IsRunOnInput}
+use Rattle.check_drive.specs.Live.{IsLiveOnInput, IsLiveResumedOnInput}
 use Rattle.check_text.specs.Output.{WroteFront, WroteShort}
-use Rattle.check_text.specs.Text.{text}
-use Rattle.check_words.specs.Words.{AsksHelp, IsRefused, job_asked, program}
+use Rattle.check_text.specs.Text.{text, text_resumed}
+use Rattle.check_words.specs.Words.{AsksText, IsRefused, job_asked, program}
 
 -- What a job wrote that is to write this text: all of it, after a fault of the writer a prefix of it, and out of memory nothing.
 abbrev pub IsTextTold : List ℕ → Result Outcome DriveError → Option (List ℕ) → Option (List ℕ) → Type 0
@@ -39,8 +40,13 @@ abbrev pub DidJob : Job → Outcome → Option (List ℕ) → Option (List ℕ) 
 DidJob (job.Run start) outcome had left held holds =
     IsRunOnInput start (Ok outcome) had held holds × IfSome had (HasRead had left)
 DidJob (job.Live start) outcome had left held holds = IsLiveOnInput start (Ok outcome) had left held holds
+DidJob (job.RunResumed start) outcome had left held holds =
+    IsResumedOnInput start (Ok outcome) had held holds × IfSome had (HasRead had left)
+DidJob (job.LiveResumed start) outcome had left held holds = IsLiveResumedOnInput start (Ok outcome) had left held holds
 DidJob (job.Check start line) outcome had left held holds =
     IsCheckOnInput start line (Ok outcome) had held holds × IfSome had (HasReadDocument had left)
+DidJob (job.CheckResumed start) outcome had left held holds =
+    IsResumedCheckOnInput start (Ok outcome) had held holds × IfSome had (HasRead had left)
 DidJob (job.Drill start workers room) outcome had left held holds =
     IsDrillOnInput start workers room (Ok outcome) had held holds × IfSome had (HasRead had left)
 DidJob job.Schema outcome had left held holds = (left ≡ had) × IsSchemaTold (Ok outcome) held holds
@@ -52,8 +58,13 @@ FailedJob (job.Run start) e had left held holds =
     AfterFault e start had left held holds × IsRunOnInput start (Err e) had held holds
     × (e ≡ errors.Memory → IfSome had (λ input. WroteShort held holds (text start input)))
 FailedJob (job.Live start) e had left held holds = IsLiveOnInput start (Err e) had left held holds
+FailedJob (job.RunResumed start) e had left held holds =
+    AfterResumedFault e start had left held holds × IsResumedOnInput start (Err e) had held holds
+    × (e ≡ errors.Memory → IfSome had (λ input. WroteShort held holds (text_resumed start input)))
+FailedJob (job.LiveResumed start) e had left held holds = IsLiveResumedOnInput start (Err e) had left held holds
 FailedJob (job.Check start line) e had left held holds =
     IsCheckOnInput start line (Err e) had held holds × (e ≡ errors.Memory → HasBegun had left)
+FailedJob (job.CheckResumed start) e had left held holds = IsResumedCheckOnInput start (Err e) had held holds
 FailedJob (job.Drill start workers room) e had left held holds =
     AfterDrillFault e start workers room had left held holds × IsDrillOnInput start workers room (Err e) had held holds
     × (e ≡ errors.Memory → IfSome had (λ input. WroteDrillShort start workers room input held holds))
@@ -63,7 +74,7 @@ FailedJob job.Schema e had left held holds = (left ≡ had) × IsSchemaTold (Err
 abbrev pub Asks : List Text → Job → Type 0
 Asks words asked = (fault_of program words ≡ []) × (job_asked words ≡ Some asked)
 
--- What is told to words that ask for no job, by how that ended and by what the writer held and holds: the help's text that
+-- What is told to words that ask for no job, by how that ended and by what the writer held and holds: the text of help or version that
 -- came with them, or the line that refuses them, or a front of it after a fault of the writer; out of memory nothing
 -- is written.
 abbrev pub Tells : WordsError → Result Ending DriveError → Option (List ℕ) → Option (List ℕ) → Type 0
@@ -76,17 +87,17 @@ Tells e ended held holds = ⊥
 
 -- What a session has done that ended so, by its words, by what the reader had and has left and by
 -- what the writer held and holds: it did the job that the words ask for; or it read nothing, and
--- the words ask for help, or are refused, which it wrote.
+-- the words ask for help or the version, or are refused, which it wrote.
 abbrev pub Did : List Text → Ending → Option (List ℕ) → Option (List ℕ) → Option (List ℕ) → Option (List ℕ) → Type 0
 Did words (ending.Drove outcome) had left held holds = (asked : Job) × Asks words asked × DidJob asked outcome had left held holds
-Did words ending.Helped had left held holds = AsksHelp words × (left ≡ had) × ((help : List ℕ) × Appends held holds help)
+Did words ending.Helped had left held holds = (told : List ℕ) × AsksText words told × (left ≡ had) × Appends held holds told
 Did words ending.RefusedWords had left held holds = IsRefused words × (left ≡ had) × Appends held holds (codes "refused words\n")
 
 -- What an error leaves before any job: the writer as it was when out of memory, and after a fault of the writer a front
--- of the help or of the line that refuses the words. It is no fault of the reader.
+-- of the help, of the version or of the line that refuses the words. It is no fault of the reader.
 abbrev pub FailedWords : List Text → DriveError → Option (List ℕ) → Option (List ℕ) → Type 0
 FailedWords words errors.Read held holds = ⊥
-FailedWords words errors.Write held holds = (AsksHelp words × ((help : List ℕ) × WroteFront held holds help))
+FailedWords words errors.Write held holds = ((told : List ℕ) × AsksText words told × WroteFront held holds told)
     ⊎ (IsRefused words × WroteFront held holds (codes "refused words\n"))
 FailedWords words errors.Memory held holds = holds ≡ held
 
@@ -101,7 +112,7 @@ abbrev pub Ends : List Text → Result Ending DriveError → Option (List ℕ) �
 Ends words (Ok ending) had left held holds = Did words ending had left held holds
 Ends words (Err e) had left held holds = Failed words e had left held holds
 
--- The exit status: 0 ran or told its help, 1 input refused, 2 words refused, 3 a fault of the
+-- The exit status: 0 ran or told its help or version, 1 input refused, 2 words refused, 3 a fault of the
 -- reader or the writer, 4 out of memory.
 abbrev pub exit_status : Result Ending DriveError → ℕ
 exit_status (Ok (ending.Drove outcome.Ran)) = 0

@@ -18,9 +18,9 @@ use std::io::{Read, Write};
 
 /// What is told of a document.
 #[derive(Drop)]
-struct Told {
-    text: Vec<u8>,
-    outcome: Outcome,
+pub(crate) struct Told {
+    pub(crate) text: Vec<u8>,
+    pub(crate) outcome: Outcome,
 }
 
 /// Reads one setup document, over as many lines as it likes, and tells what is in it, or why it is
@@ -77,7 +77,7 @@ fn tell(alloc: Global, start: u64, line: bool, document: &[u8]) -> Result<Told, 
 }
 
 /// The setup of a document, or its fault.
-fn examine(alloc: Global, document: &[u8]) -> Result<Setup, Fault>
+pub(crate) fn examine(alloc: Global, document: &[u8]) -> Result<Setup, Fault>
     ensures good { IfOk result (λ setup. setup_of document.now ≡ Ok setup) }
     ensures refused { IfErr result (λ fault.
         IsRefusedAs document.now (but_memory (seen fault))) }
@@ -122,7 +122,7 @@ fn tell_summary(alloc: Global, start: u64, setup: &Setup) -> Result<Told, AllocE
 }
 
 /// The line of a refusal, and the line that explains it.
-fn tell_refusal(alloc: Global, document: &[u8], fault: Fault) -> Result<Told, AllocError>
+pub(crate) fn tell_refusal(alloc: Global, document: &[u8], fault: Fault) -> Result<Told, AllocError>
     requires { HasOnly document.now (seen fault) }
     ensures { IfOk result (λ told.
         IsRefusalTold document.now (load_error (seen fault)) told.text.items told.outcome) }

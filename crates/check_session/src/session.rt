@@ -8,9 +8,12 @@ ghost use Rattle.check_text.specs.Output.{WroteFront};
 ghost use Rattle.check_session.specs.Session.{exit_status, Ends, IsSchemaTold, IsTextTold, Tells};
 
 use crate::check::check;
+use crate::check_resumed::check_resumed;
 use crate::drill::drill;
 use check_drive::drive::{Outcome, drive};
+use check_drive::drive_resumed::drive_resumed;
 use check_drive::live::live;
+use check_drive::live_resumed::live_resumed;
 use check_explain::write_schema;
 use check_script::DriveError;
 use check_text::{flush, write_text};
@@ -27,20 +30,21 @@ pub enum Ending {
     /// The words were accepted, and the input was run or refused; or the schema was written, for which
     /// no input is read.
     Drove(Outcome),
-    /// The words asked for help, which was written. The input wasn't read.
+    /// The words asked for help or for the version, which was written. The input wasn't read.
     Helped,
     /// The words were refused, which was written. The input wasn't read.
     RefusedWords,
 }
 
 /// Does what the program's words ask for, its own name first, and gives the exit status. Words are
-/// tested first: where they are refused, or ask for help, the input isn't read, and the line
-/// `refused words` or the help's text is written. The writer is flushed once, at the end, but by `live`
+/// tested first: where they are refused, or ask for help or the version, the input isn't read, and the
+/// line `refused words` or the text that is asked for is written. The writer is flushed once, at the end, but by `live`
 /// before each read too.
 ///
 /// The status is that of [`exit_status`]. Where it tells a fault or that there was no memory, a job
-/// leaves what `drive`, `live` or `drill` says of that error; without a job the reader is as it was,
-/// and the writer has got a front of what it was to be told, or nothing.
+/// leaves what `drive`, `live`, `drive_resumed`, `live_resumed`, `check_resumed` or `drill` says of that
+/// error; without a job the reader is as it was, and the writer has got a front of what it was to be
+/// told, or nothing.
 ///
 /// `rt` is the machine that starts threads and waits, which only a drill uses.
 pub fn session<H: Threads + Wait + Sync, R: Read, W: Write>(
@@ -77,7 +81,19 @@ fn serve<H: Threads + Wait + Sync, R: Read, W: Write>(
             Ok(outcome) => Ok(Ending::Drove(outcome)),
             Err(e) => Err(e),
         },
+        Ok(Job::RunResumed { start }) => match drive_resumed(alloc, start, reader, writer) {
+            Ok(outcome) => Ok(Ending::Drove(outcome)),
+            Err(e) => Err(e),
+        },
+        Ok(Job::LiveResumed { start }) => match live_resumed(alloc, start, reader, writer) {
+            Ok(outcome) => Ok(Ending::Drove(outcome)),
+            Err(e) => Err(e),
+        },
         Ok(Job::Check { start, line }) => match check(alloc, start, line, reader, writer) {
+            Ok(outcome) => Ok(Ending::Drove(outcome)),
+            Err(e) => Err(e),
+        },
+        Ok(Job::CheckResumed { start }) => match check_resumed(alloc, start, reader, writer) {
             Ok(outcome) => Ok(Ending::Drove(outcome)),
             Err(e) => Err(e),
         },
@@ -117,7 +133,7 @@ fn tell_text<W: Write>(writer: &mut W, told: &str) -> Result<Outcome, DriveError
     Ok(Outcome::Ran)
 }
 
-/// Tells words that ask for no job their help, or that they are refused. Out of memory it writes
+/// Tells words that ask for no job the text that they ask for, or that they are refused. Out of memory it writes
 /// nothing.
 fn tell_words<W: Write>(error: WordsError, writer: &mut W) -> Result<Ending, DriveError>
     ensures { Tells error result (W.contents writer.old) (W.contents writer.new) }
@@ -159,7 +175,7 @@ fn tell<W: Write>(writer: &mut W, text: &[u8]) -> Result<(), DriveError>
     flush(writer)
 }
 
-/// The exit status of a session: 0 ran or told its help, 1 input refused, 2 words refused, 3 a fault
+/// The exit status of a session: 0 ran or told its help or version, 1 input refused, 2 words refused, 3 a fault
 /// of the reader or the writer, 4 out of memory.
 pub fn exit_status(ended: Result<Ending, DriveError>) -> u8
     ensures { result ≡ exit_status ended }

@@ -1,9 +1,10 @@
 -- What the program's words ask for, as `clap` reads them.
-use Rattle.std.specs.Prelude.{ℕ, ◌^◌, ◌≤◌, ◌≡◌, ◌≢◌, ◌⊎◌, ⊤, Bool, false, List, [], ◌∷◌, if◌then◌else◌}
-use Rattle.std.specs.Prelude.{Option, Some, None, Result, Ok, Err, codes, option_map, option_and_then}
+use Rattle.std.specs.Prelude.{ℕ, ◌^◌, ◌≤◌, ◌≡◌, ◌≢◌, ◌⊎◌, ⊤, Bool, true, false, List, [], ◌∷◌, if◌then◌else◌, string_bytes}
+use Rattle.std.specs.Prelude.{IfSome, Option, Some, None, Result, Ok, Err, codes, option_map, option_and_then, unwrap_or}
 use Rattle.std.specs.Option.{option_map_or}
 use Rattle.std.specs.Str.{bytes_eq}
 use Rattle.std.specs.Str.Parse.{digits_value, without_leading_plus}
+use Rattle.clap.specs.Simple.{on_top}
 use Rattle.clap.specs.ValueTests.{is_unsigned_in}
 use Rattle.clap.specs.Words.{App, IsAmong, Row, Rule, Text, fault_of, first_of, new_app, new_rule, subcommand_of, with_rule, with_subcommand}
 use Rattle.clap.specs.declared.builder.action.ArgAction.TheVariants as action
@@ -36,24 +37,39 @@ workers_option = number_option (codes "workers") (codes "2")
 abbrev pub room_option : Rule
 room_option = number_option (codes "room") (codes "1000")
 
--- the flag `--line`, which has no value of its own
-abbrev pub line_flag : Rule
-line_flag = record (new_rule (codes "line")) {
-  long = Some (codes "line");
+-- the option `--start N` of `run`, `live` and `check`, which has no value where it isn't given
+abbrev pub open_start_option : Rule
+open_start_option = record (new_rule (codes "start")) {
+  long = Some (codes "start");
+  value_names = 1;
+}
+
+-- a flag `--name`, which has no value of its own
+abbrev pub flag : Text → Rule
+flag name = record (new_rule name) {
+  long = Some name;
   action = Some action.SetTrue;
 }
 
--- the subcommand `run`, with its option
+-- the flag `--line`
+abbrev pub line_flag : Rule
+line_flag = flag (codes "line")
+
+-- the flag `--resume`
+abbrev pub resume_flag : Rule
+resume_flag = flag (codes "resume")
+
+-- the subcommand `run`, with its option and its flag
 abbrev pub run_subcommand : App
-run_subcommand = with_rule (new_app (codes "run")) start_option
+run_subcommand = with_rule (with_rule (new_app (codes "run")) open_start_option) resume_flag
 
--- the subcommand `live`, with its option
+-- the subcommand `live`, with its option and its flag
 abbrev pub live_subcommand : App
-live_subcommand = with_rule (new_app (codes "live")) start_option
+live_subcommand = with_rule (with_rule (new_app (codes "live")) open_start_option) resume_flag
 
--- the subcommand `check`, with its option and its flag
+-- the subcommand `check`, with its option and its two flags
 abbrev pub check_subcommand : App
-check_subcommand = with_rule (with_rule (new_app (codes "check")) start_option) line_flag
+check_subcommand = with_rule (with_rule (with_rule (new_app (codes "check")) open_start_option) resume_flag) line_flag
 
 -- the subcommand `drill`, with its three options
 abbrev pub drill_subcommand : App
@@ -63,10 +79,14 @@ drill_subcommand = with_rule (with_rule (with_rule (new_app (codes "drill")) sta
 abbrev pub schema_subcommand : App
 schema_subcommand = new_app (codes "schema")
 
--- the program's words, with its five subcommands
+-- a command that has a version, and so the flags `--version` and `-V`
+abbrev pub with_version : App → App
+with_version = on_top (λ s. record s { has_version = true })
+
+-- the program's words, with its version and its five subcommands
 abbrev pub program : App
 program = with_subcommand (with_subcommand (with_subcommand (with_subcommand
-    (with_subcommand (new_app (codes "nagsched")) run_subcommand.top) live_subcommand.top) check_subcommand.top) drill_subcommand.top) schema_subcommand.top
+    (with_subcommand (with_version (new_app (codes "nagsched"))) run_subcommand.top) live_subcommand.top) check_subcommand.top) drill_subcommand.top) schema_subcommand.top
 
 -- ---- what the words ask for
 
@@ -90,21 +110,50 @@ workers_of = number_of (codes "workers") 1 64
 abbrev pub room_of : List Row → Option ℕ
 room_of = number_of (codes "room") 0 1000000
 
--- whether `--line` was given, by the options that were read: `clap` has the text "true" for it then
+-- whether a flag was given, by the options that were read: `clap` has the text "true" for it then
+abbrev pub flag_of : Text → List Row → Bool
+flag_of name options = option_map_or (λ text. bytes_eq text (codes "true")) (first_of name options) false
+
+-- whether `--line` was given
 abbrev pub line_of : List Row → Bool
-line_of options = option_map_or (λ text. bytes_eq text (codes "true")) (first_of (codes "line") options) false
+line_of options = flag_of (codes "line") options
+
+-- whether `--resume` was given
+abbrev pub resume_of : List Row → Bool
+resume_of options = flag_of (codes "resume") options
+
+-- the start of `run`, `live` and `check`: none where the option isn't given, or the moment that it gives, 0 to 2^60
+abbrev pub start_by : Option Text → Option (Option ℕ)
+start_by None = Some None
+start_by (Some text) = option_map Some (number_between 0 (2 ^ 60) text)
+
+abbrev pub open_start_of : List Row → Option (Option ℕ)
+open_start_of options = start_by (first_of (codes "start") options)
+
+-- the job with this start, which goes on from what was saved, or from its own start, which is 0 where none is given
+abbrev pub run_from : Bool → Option ℕ → Job
+run_from resumes start = if resumes then job.RunResumed start else job.Run (unwrap_or start 0)
+
+abbrev pub live_from : Bool → Option ℕ → Job
+live_from resumes start = if resumes then job.LiveResumed start else job.Live (unwrap_or start 0)
 
 -- `run`, by the options that were read for it
 abbrev pub run_of : List Row → Option Job
-run_of options = option_map job.Run (start_of options)
+run_of options = option_map (run_from (resume_of options)) (open_start_of options)
 
 -- `live`, by the options that were read for it
 abbrev pub live_of : List Row → Option Job
-live_of options = option_map job.Live (start_of options)
+live_of options = option_map (live_from (resume_of options)) (open_start_of options)
+
+-- `check` with these flags and this start: the setup's line is no matter of what was saved
+abbrev pub check_from : Bool → Bool → Option ℕ → Option Job
+check_from true true start = None
+check_from true false start = Some (job.CheckResumed start)
+check_from false line start = Some (job.Check (unwrap_or start 0) line)
 
 -- `check`, by the options that were read for it
 abbrev pub check_of : List Row → Option Job
-check_of options = option_map (λ start. job.Check start (line_of options)) (start_of options)
+check_of options = option_and_then (check_from (resume_of options) (line_of options)) (open_start_of options)
 
 -- `drill`, by the options that were read for it
 abbrev pub drill_of : List Row → Option Job
@@ -132,27 +181,46 @@ job_asked words = job_of (subcommand_of program words)
 abbrev pub IsWithinLimits : Job → Type 0
 IsWithinLimits (job.Run start) = start ≤ 2 ^ 60
 IsWithinLimits (job.Live start) = start ≤ 2 ^ 60
+IsWithinLimits (job.RunResumed start) = IfSome start (λ moment. moment ≤ 2 ^ 60)
+IsWithinLimits (job.LiveResumed start) = IfSome start (λ moment. moment ≤ 2 ^ 60)
 IsWithinLimits (job.Check start line) = start ≤ 2 ^ 60
+IsWithinLimits (job.CheckResumed start) = IfSome start (λ moment. moment ≤ 2 ^ 60)
 IsWithinLimits job.Schema = ⊤
 IsWithinLimits (job.Drill start workers room) = (start ≤ 2 ^ 60) × (1 ≤ workers) × (workers ≤ 64) × (room ≤ 1000000)
 
 -- ---- where the words are no job
 
+-- what the program answers to `--version`
+abbrev pub version_line : Text
+version_line = codes "nagsched 1.0.0\n"
+
 -- `clap` reads from the words that help is asked for
 abbrev pub AsksHelp : List Text → Type 0
 AsksHelp words = IsAmong kind.DisplayHelp (fault_of program words)
 
+-- `clap` reads from the words that the version is asked for
+abbrev pub AsksVersion : List Text → Type 0
+AsksVersion words = IsAmong kind.DisplayVersion (fault_of program words)
+
+-- the words ask for this text: help, of which nothing more is said, or the version
+abbrev pub AsksText : List Text → Text → Type 0
+AsksText words text = AsksHelp words ⊎ (AsksVersion words × (text ≡ version_line))
+
+-- an error of this kind says that the words are no job, and ask for no text
+abbrev pub IsFault : ErrorKind → Type 0
+IsFault k = (k ≢ kind.DisplayHelp) × (k ≢ kind.DisplayVersion)
+
 -- `clap` finds another fault in the words
 abbrev pub HasFault : List Text → Type 0
-HasFault words = (k : ErrorKind) × (k ≢ kind.DisplayHelp) × IsAmong k (fault_of program words)
+HasFault words = (k : ErrorKind) × IsFault k × IsAmong k (fault_of program words)
 
--- the words are no job, and ask for no help
+-- the words are no job, and ask for no text
 abbrev pub IsRefused : List Text → Type 0
 IsRefused words = HasFault words ⊎ (job_asked words ≡ None)
 
 -- why the words are no job; out of memory says nothing of them
 abbrev pub Explains : List Text → WordsError → Type 0
-Explains words (error.Help text) = AsksHelp words
+Explains words (error.Help text) = AsksText words (string_bytes text)
 Explains words error.Refused = IsRefused words
 Explains words error.Memory = ⊤
 
@@ -164,8 +232,8 @@ Reads (Ok job) expected = expected ≡ Some job
 Reads (Err error.Refused) expected = expected ≡ None
 Reads (Err e) expected = ⊥
 
--- what an error of this kind says; the help's text may want memory too
+-- what an error of this kind says; its text may want memory too
 abbrev pub Tells : ErrorKind → WordsError → Type 0
-Tells k (error.Help text) = k ≡ kind.DisplayHelp
-Tells k error.Refused = (k ≢ kind.DisplayHelp) × (k ≢ kind.OutOfMemory)
-Tells k error.Memory = (k ≡ kind.OutOfMemory) ⊎ (k ≡ kind.DisplayHelp)
+Tells k (error.Help text) = (k ≡ kind.DisplayHelp) ⊎ ((k ≡ kind.DisplayVersion) × (string_bytes text ≡ version_line))
+Tells k error.Refused = IsFault k × (k ≢ kind.OutOfMemory)
+Tells k error.Memory = (k ≡ kind.OutOfMemory) ⊎ ((k ≡ kind.DisplayHelp) ⊎ (k ≡ kind.DisplayVersion))

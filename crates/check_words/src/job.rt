@@ -1,15 +1,17 @@
 //! What the program's words ask for, as `clap` reads them. What the program then does is no
 //! matter of this crate.
-ghost use Rattle.std.specs.Prelude.{◌≡◌, ◌≤◌, ◌^◌, Some, [], false, IfOk, OnOk, IfErr, IfSome};
+ghost use Rattle.std.specs.Prelude.{◌≡◌, ◌≤◌, ◌^◌, Some, [], false, option_map, IfOk, OnOk, IfErr, IfSome, string_bytes};
 ghost use Rattle.clap.specs.declared.builder.command.Command.TheViews.{out-Command};
 ghost use Rattle.clap.specs.Words.{app_of, fault_of, kind_of, rows_of, rule_of, found_of, subcommand_rows_of};
 ghost use Rattle.clap.specs.Walk.{texts};
 ghost use Rattle.check_words.specs.Words.{program, run_subcommand, live_subcommand, check_subcommand, drill_subcommand, schema_subcommand};
-ghost use Rattle.check_words.specs.Words.{number_option, start_option, workers_option, room_option, line_flag, line_of};
+ghost use Rattle.check_words.specs.Words.{number_option, start_option, open_start_option, workers_option, room_option};
+ghost use Rattle.check_words.specs.Words.{flag, flag_of, line_flag, line_of, resume_flag, resume_of};
+ghost use Rattle.check_words.specs.Words.{check_from, live_from, open_start_of, run_from, start_by};
 ghost use Rattle.check_words.specs.Words.{job_asked, job_of, run_of, live_of, check_of, drill_of, start_of, workers_of, room_of};
-ghost use Rattle.check_words.specs.Words.{number_of, number_between, Explains, IsWithinLimits, Reads, Tells};
+ghost use Rattle.check_words.specs.Words.{number_of, number_between, Explains, IsWithinLimits, Reads, Tells, version_line};
 
-use crate::words::{Job, WordsError};
+use crate::words::{Job, VERSION, WordsError};
 use clap::error::ErrorKind;
 use clap::{Arg, ArgAction, ArgMatches, Command};
 use std::alloc::{AllocError, Global};
@@ -43,8 +45,17 @@ const ABOUT_DRILL: &str = "Has workers share one scheduler, with scripted plugin
 /// What the help says of the subcommand `schema`.
 const ABOUT_SCHEMA: &str = "Writes the JSON schema of a setup";
 
-/// What the help says of the option `--start`.
+/// What the help of `drill` says of the option `--start`.
 const ABOUT_START: &str = "Moment of the start, in ms, from 0 to 2^60";
+
+/// What the help of `run`, `live` and `check` says of the option `--start`.
+const ABOUT_OPEN_START: &str = "Start in ms, 0 to 2^60 [default: 0, with --resume the saved]";
+
+/// What the help of `run` and `live` says of the flag `--resume`.
+const ABOUT_RESUME: &str = "Goes on from a saved state, which is line 2";
+
+/// What the help of `check` says of the flag `--resume`.
+const ABOUT_CHECK_RESUME: &str = "Checks a saved state too, which is line 2";
 
 /// What the help says of the flag `--line`.
 const ABOUT_LINE: &str = "Writes the setup as one line, for `run` and `live`";
@@ -64,7 +75,7 @@ Input:
   docs/FORMATS.md has every member, line and refusal, each with an example.
 
 Exit status:
-  0  ran, or told its help
+  0  ran, or wrote its help or its version
   1  the input was refused, and one line says why and where
   2  the words were refused, with the line `refused words`
   3  standard input or standard output failed
@@ -83,11 +94,14 @@ Input, behind the setup, a call a line; moments and times in milliseconds:
   [\"reschedule\",name,time,forced] sets the next check
   [\"enable\",name,on]              switches an object's active checks
   [\"status\",name]                 asks how an object stands
+  [\"save\"]                        asks for the state to save, and is no call
+With --resume line 2 is a saved state, as `saved` wrote it without that word.
 
 Output, a line for each call:
   taken RUN NAME        putoff TIME NAME        idle TIME        atlimit
   standing STATE KIND ATTEMPT CHANGED FLAP TIME NAME
   freed TIME NAME       done NAME               refused CODE WHY
+  saved STATE           the answer to `save`
 
 docs/FORMATS.md has every line, member and refusal, each with an example.
 
@@ -105,7 +119,8 @@ before more is asked for, and there is no limit on the whole.
   A line that is no command is answered by `refused CODE WHY LINE`, and changes
   nothing: the conversation goes on.
   A blank line has no answer: don't wait for one.
-  A refused setup is answered by its line, and ends the conversation.
+  A refused setup is answered by its line, and ends the conversation. So is a
+  refused saved state, which with --resume is line 2.
 It doesn't read while it writes: whoever sends more than pipes hold has to read
 the answers meanwhile.
 
@@ -135,10 +150,21 @@ With --line it writes the setup itself, on one line, and nothing else.
 A refused setup is answered by the line of `run`, and one that says where and
 why in plain words.
 
+With --resume, which doesn't go with --line, line 1 is the setup and line 2 a
+saved state. Behind the figures stands what becomes of the saved objects:
+  kept, new, dropped        objects of both, of the setup alone, and of the
+                            saved state alone
+  given_up                  runs that are given up, since more services are
+                            out than the setup allows
+  changed attempts NAME     the setup has another maximum of attempts for it;
+                            `interval` and `enabled` stand there likewise
+A refused saved state is answered like a refused setup. --start is the start
+that the run will have.
+
 docs/FORMATS.md has every line, member and refusal, each with an example.
 
 Exit status:
-  0 good   1 setup refused   2 words refused   3 device failed   4 out of memory
+  0 good   1 input refused   2 words refused   3 device failed   4 out of memory
 
 Example:
   echo '{\"hosts\":[{\"name\":\"gateway\",\"max_check_attempts\":3}]}' |
@@ -186,10 +212,14 @@ const MAX_WORKERS: u64 = 64;
 /// The most entries for which a drill may have room from the outset.
 const MAX_ROOM: u64 = 1_000_000;
 
-/// Reads the program's words, its own name first: `run [--start N]`, `live [--start N]`,
-/// `check [--start N] [--line]`, `drill [--start N] [--workers N] [--room N]` or `schema`, or nothing,
-/// which is `run --start 0`. N is read as std reads a `u64` from a text. Options without a subcommand
-/// are refused, and of an option that is given twice `clap` decides.
+/// Reads the program's words, its own name first: `run [--start N] [--resume]`, `live` with the same,
+/// `check [--start N] [--line | --resume]`, `drill [--start N] [--workers N] [--room N]` or `schema`, or
+/// nothing, which is `run --start 0`. N is read as std reads a `u64` from a text. Options without a
+/// subcommand are refused, and of an option that is given twice `clap` decides.
+///
+/// Without `--start` a scheduler starts at 0, and with `--resume` at the saved start. `--help` and
+/// `--version`, or `-h` and `-V`, give the error `Help` with the text that is asked for; it is `Refused`
+/// where the words ask for nothing that there is, and `Memory` where memory ran out.
 pub fn job(alloc: Global, words: &[&str]) -> Result<Job, WordsError>
     ensures asked { IfOk result (λ job. job_asked (texts words.now) ≡ Some job) }
     ensures faultless { OnOk result (fault_of program (texts words.now) ≡ []) }
@@ -207,6 +237,7 @@ fn build_program<'a>(alloc: Global) -> Result<Command<'a>, AllocError>
     ensures { IfOk result (λ c. app_of c ≡ program) }
 {
     Command::new(alloc, "nagsched")
+        .version(VERSION)
         .about(ABOUT)
         .after_help(NOTES)
         .subcommand(build_run(alloc)?)?
@@ -224,7 +255,8 @@ fn build_run<'a>(alloc: Global) -> Result<Command<'a>, AllocError>
     Command::new(alloc, "run")
         .about(ABOUT_RUN)
         .after_help(RUN_NOTES)
-        .arg(start_option(alloc))
+        .arg(open_start_option(alloc))?
+        .arg(resume_flag(alloc, ABOUT_RESUME))
 }
 
 /// The subcommand `live`.
@@ -235,7 +267,8 @@ fn build_live<'a>(alloc: Global) -> Result<Command<'a>, AllocError>
     Command::new(alloc, "live")
         .about(ABOUT_LIVE)
         .after_help(LIVE_NOTES)
-        .arg(start_option(alloc))
+        .arg(open_start_option(alloc))?
+        .arg(resume_flag(alloc, ABOUT_RESUME))
 }
 
 /// The subcommand `check`.
@@ -246,7 +279,8 @@ fn build_check<'a>(alloc: Global) -> Result<Command<'a>, AllocError>
     Command::new(alloc, "check")
         .about(ABOUT_CHECK)
         .after_help(CHECK_NOTES)
-        .arg(start_option(alloc))?
+        .arg(open_start_option(alloc))?
+        .arg(resume_flag(alloc, ABOUT_CHECK_RESUME))?
         .arg(line_flag(alloc))
 }
 
@@ -273,12 +307,23 @@ fn build_schema<'a>(alloc: Global) -> Command<'a>
         .after_help(SCHEMA_NOTES)
 }
 
-/// The option `--start N`.
+/// The option `--start N` of `drill`.
 fn start_option<'a>(alloc: Global) -> Arg<'a>
     ensures rule { rule_of result ≡ start_option }
     ensures local { result.global ≡ false }
 {
     number_option(alloc, "start", "0").help(ABOUT_START)
+}
+
+/// The option `--start N` of `run`, `live` and `check`.
+fn open_start_option<'a>(alloc: Global) -> Arg<'a>
+    ensures rule { rule_of result ≡ open_start_option }
+    ensures local { result.global ≡ false }
+{
+    Arg::new(alloc, "start")
+        .long("start")
+        .value_name("N")
+        .help(ABOUT_OPEN_START)
 }
 
 /// The option `--workers N`.
@@ -302,10 +347,23 @@ fn line_flag<'a>(alloc: Global) -> Arg<'a>
     ensures rule { rule_of result ≡ line_flag }
     ensures local { result.global ≡ false }
 {
-    Arg::new(alloc, "line")
-        .long("line")
-        .help(ABOUT_LINE)
-        .action(ArgAction::SetTrue)
+    flag(alloc, "line").help(ABOUT_LINE)
+}
+
+/// The flag `--resume`, of which the help says this.
+fn resume_flag<'a>(alloc: Global, about: &'a str) -> Arg<'a>
+    ensures rule { rule_of result ≡ resume_flag }
+    ensures local { result.global ≡ false }
+{
+    flag(alloc, "resume").help(about)
+}
+
+/// The flag `--name`.
+fn flag<'a>(alloc: Global, name: &'a str) -> Arg<'a>
+    ensures rule { rule_of result ≡ flag name.now }
+    ensures local { result.global ≡ false }
+{
+    Arg::new(alloc, name).long(name).action(ArgAction::SetTrue)
 }
 
 /// The option `--name N`, a number, which is `otherwise` where it isn't given.
@@ -340,9 +398,21 @@ fn read_run(options: &ArgMatches<'_>) -> Option<Job>
     ensures asked { result ≡ run_of (rows_of (found_of options.now)) }
     ensures limits { IfSome result IsWithinLimits }
 {
-    Some(Job::Run {
-        start: read_start(options)?,
-    })
+    let start = read_open_start(options)?;
+    Some(run_from(is_resumed(options), start))
+}
+
+/// The job of `run` with this start.
+fn run_from(resumes: bool, start: Option<u64>) -> Job
+    ensures { result ≡ run_from resumes start }
+{
+    if resumes {
+        Job::RunResumed { start }
+    } else {
+        Job::Run {
+            start: start.unwrap_or(0),
+        }
+    }
 }
 
 /// The job of `live` with these options.
@@ -350,9 +420,21 @@ fn read_live(options: &ArgMatches<'_>) -> Option<Job>
     ensures asked { result ≡ live_of (rows_of (found_of options.now)) }
     ensures limits { IfSome result IsWithinLimits }
 {
-    Some(Job::Live {
-        start: read_start(options)?,
-    })
+    let start = read_open_start(options)?;
+    Some(live_from(is_resumed(options), start))
+}
+
+/// The job of `live` with this start.
+fn live_from(resumes: bool, start: Option<u64>) -> Job
+    ensures { result ≡ live_from resumes start }
+{
+    if resumes {
+        Job::LiveResumed { start }
+    } else {
+        Job::Live {
+            start: start.unwrap_or(0),
+        }
+    }
 }
 
 /// The job of `check` with these options.
@@ -360,10 +442,22 @@ fn read_check(options: &ArgMatches<'_>) -> Option<Job>
     ensures asked { result ≡ check_of (rows_of (found_of options.now)) }
     ensures limits { IfSome result IsWithinLimits }
 {
-    Some(Job::Check {
-        start: read_start(options)?,
-        line: read_line(options),
-    })
+    let start = read_open_start(options)?;
+    check_from(is_resumed(options), read_line(options), start)
+}
+
+/// The job of `check` with these flags and this start, if they go together.
+fn check_from(resumes: bool, line: bool, start: Option<u64>) -> Option<Job>
+    ensures { result ≡ check_from resumes line start }
+{
+    match (resumes, line) {
+        (true, true) => None,
+        (true, false) => Some(Job::CheckResumed { start }),
+        (false, line) => Some(Job::Check {
+            start: start.unwrap_or(0),
+            line,
+        }),
+    }
 }
 
 /// The job of `drill` with these options.
@@ -386,11 +480,45 @@ fn read_start(options: &ArgMatches<'_>) -> Option<u64>
     read_number(options, "start", 0, LAST_MOMENT)
 }
 
+/// The number of the option `--start` of `run`, `live` and `check`, if it is given, where a scheduler may start
+/// then.
+fn read_open_start(options: &ArgMatches<'_>) -> Option<Option<u64>>
+    ensures value { result ≡ open_start_of (rows_of (found_of options.now)) }
+    ensures limits { IfSome result (λ start. IfSome start (λ moment. moment ≤ 2 ^ 60)) }
+{
+    start_by(options.get_str("start"))
+}
+
+/// The start that a text is, if there is one.
+fn start_by(text: Option<&str>) -> Option<Option<u64>>
+    ensures value { result ≡ start_by (option_map (λ t. t.now) text.entry) }
+    ensures limits { IfSome result (λ start. IfSome start (λ moment. moment ≤ 2 ^ 60)) }
+{
+    match text {
+        Some(text) => Some(Some(parse_number(text, 0, LAST_MOMENT)?)),
+        None => Some(None),
+    }
+}
+
 /// Whether the flag `--line` was given.
 fn read_line(options: &ArgMatches<'_>) -> bool
     ensures { result ≡ line_of (rows_of (found_of options.now)) }
 {
-    match options.get_str("line") {
+    read_flag(options, "line")
+}
+
+/// Whether the flag `--resume` was given.
+fn is_resumed(options: &ArgMatches<'_>) -> bool
+    ensures { result ≡ resume_of (rows_of (found_of options.now)) }
+{
+    read_flag(options, "resume")
+}
+
+/// Whether a flag was given.
+fn read_flag(options: &ArgMatches<'_>, name: &str) -> bool
+    ensures { result ≡ flag_of name.now (rows_of (found_of options.now)) }
+{
+    match options.get_str(name) {
         Some(text) => text == "true",
         None => false,
     }
@@ -444,6 +572,17 @@ fn explain(alloc: Global, error: &clap::Error) -> WordsError
             Ok(text) => WordsError::Help(text),
             Err(_) => WordsError::Memory,
         },
+        ErrorKind::DisplayVersion => match version_line(alloc) {
+            Ok(text) => WordsError::Help(text),
+            Err(_) => WordsError::Memory,
+        },
         _ => WordsError::Refused,
     }
+}
+
+/// What the program answers to `--version`.
+fn version_line(alloc: Global) -> Result<String, AllocError>
+    ensures { IfOk result (λ text. string_bytes text ≡ version_line) }
+{
+    format!(in alloc; "nagsched {VERSION}\n")
 }

@@ -16,12 +16,27 @@ pub enum Job {
     Live {
         start: u64,
     },
+    /// To do as `Run` does on a scheduler that goes on from a saved state, which is the second line of the
+    /// input: from the moment `start` on, as above, or from the saved start where there is none.
+    RunResumed {
+        start: Option<u64>,
+    },
+    /// To do as `Live` does on a scheduler that goes on from a saved state, with the start of
+    /// `RunResumed`.
+    LiveResumed {
+        start: Option<u64>,
+    },
     /// To check a setup, and to tell what is in it or why it is refused. Its first checks are those of
     /// a scheduler that starts at the moment `start`, as above. With `line` the setup itself is written
     /// on one line in place of what is in it.
     Check {
         start: u64,
         line: bool,
+    },
+    /// To check a setup and a saved state, and to tell what is in the setup and what becomes of the saved
+    /// objects in it, or why one of the two is refused. The start is that of `RunResumed`.
+    CheckResumed {
+        start: Option<u64>,
     },
     /// To have workers, 1 to 64 of them, check what is due at the moments of a script, on one
     /// scheduler that starts at the moment `start`, as above. The scheduler's book has room for
@@ -35,10 +50,13 @@ pub enum Job {
     Schema,
 }
 
-/// Why the program's words ask for nothing that it could do.
+/// The version of the program.
+pub const VERSION: &str = "1.0.0";
+
+/// Why the program's words ask for no job.
 #[derive(Debug, Drop, Error)]
 pub enum WordsError {
-    /// They ask for help, which is this text.
+    /// They ask for help or for the version, which is this text.
     #[error("{0}")]
     Help(String),
     /// They name no job, or a value that is no number within its limits.

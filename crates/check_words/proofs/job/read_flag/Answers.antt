@@ -4,15 +4,15 @@ use Rattle.std.specs.Prelude.{codes}
 use Rattle.std.specs.Str.{bytes_eq}
 use Rattle.clap.specs.Words.{found_of}
 use Rattle.clap.proofs.WalkLemmas.{first_value-rows}
-use Rattle.check_words.proofs.job.read_line.Goals as goal
+use Rattle.check_words.proofs.job.read_flag.Goals as goal
 
 pub returns-in-Some : goal.returns-in-Some
 returns-in-Some c =
     c.eq.ensures
     ∙ ap (λ found. option_map_or (λ text. bytes_eq text (codes "true")) found false)
-    (c.in-Some.ensures ∙ first_value-rows (found_of c.args.options.now) (codes "line"))
+    (c.in-Some.ensures ∙ first_value-rows (found_of c.args.options.now) c.args.name.now)
 
 pub returns-in-None : goal.returns-in-None
 returns-in-None c =
     ap (λ found. option_map_or (λ text. bytes_eq text (codes "true")) found false)
-    (c.in-None.ensures ∙ first_value-rows (found_of c.args.options.now) (codes "line"))
+    (c.in-None.ensures ∙ first_value-rows (found_of c.args.options.now) c.args.name.now)

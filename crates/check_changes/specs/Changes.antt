@@ -1,0 +1,70 @@
+-- What becomes of the objects when a scheduler goes on over a setup from a saved state.
+use Rattle.std.specs.Prelude.{ℕ, ◌==◌, ◌||◌, Bool, false, not, nat_lt, List, [], count_by, drop, Option, Some, None, is_none, is_some, option_map, if◌then◌else◌}
+use Rattle.check_drafts.specs.declared.object.Object.{Object}
+use Rattle.check_objects.specs.Configuration.{Configuration, host_count, number_of, objects_of}
+use Rattle.check_saved.specs.Saved.{Saved, SavedObject, saved_named}
+use Rattle.check_saved.specs.Scheduling.{Scheduling}
+use Rattle.check_sched.specs.Report.{milliseconds}
+use Rattle.check_sched.specs.Roster.{running_among}
+use Rattle.check_sched.specs.Saved.{each_object, is_same_switch, keeps_limit, objects_kept}
+use Rattle.check_sched.specs.State.{limit_of}
+use Rattle.check_changes.specs.declared.figures.Figures.{Figures}
+use Rattle.check_changes.specs.declared.kept.Kept.{Kept}
+
+-- ---- one object
+
+-- an object that is kept: whether it is out, and which of its three values the setup changes
+abbrev pub kept_by : Configuration → Object → SavedObject → Kept
+kept_by setup object saved = record {
+  out = is_some saved.scheduling.run;
+  attempts = not (object.max_check_attempts == saved.max_attempts);
+  interval = not (milliseconds setup object.check_interval == saved.interval);
+  enabled = not (is_same_switch object.enabled saved.setup_enabled);
+}
+
+-- every object of the setup by number, kept or new
+abbrev pub kept_of : Configuration → Saved → List (Option Kept)
+kept_of setup saved = each_object setup (λ p. option_map (kept_by setup p.1.object) (saved_named saved p.1.name))
+
+-- ---- how many
+
+-- objects of the setup whose full names the saved state has
+abbrev pub kept_count : Configuration → Saved → ℕ
+kept_count setup saved = count_by (λ n. is_some (saved_named saved n.name)) (objects_of setup)
+
+-- objects of the setup whose full names it hasn't
+abbrev pub new_count : Configuration → Saved → ℕ
+new_count setup saved = count_by (λ n. is_none (saved_named saved n.name)) (objects_of setup)
+
+-- objects of the saved state whose full names the setup hasn't
+abbrev pub dropped_count : Configuration → Saved → ℕ
+dropped_count setup saved = count_by (λ o. is_none (number_of setup o.name)) saved.objects
+
+-- The scheduling of every object before the limit is applied. First times say nothing of what is out, so none is given.
+abbrev pub objects_before_limit : Configuration → Saved → List Scheduling
+objects_before_limit setup saved = objects_kept setup saved []
+
+-- The runs that are given up, since more services are out than the limit allows: then those of all services that are kept. The run of an
+-- object that is dropped goes with it, and isn't counted: it doesn't count against the limit either.
+abbrev pub given_up_count : Configuration → Saved → ℕ
+given_up_count setup saved =
+    let objects = objects_before_limit setup saved in
+    if keeps_limit setup objects then 0 else running_among (drop (host_count setup) objects)
+
+-- whether an object is kept and out
+abbrev pub is_out : Option Kept → Bool
+is_out None = false
+is_out (Some k) = k.out
+
+-- the same count of the objects by number
+abbrev pub given_up_among : Configuration → List (Option Kept) → ℕ
+given_up_among setup kept =
+    let out = count_by is_out (drop (host_count setup) kept) in if limit_of setup == 0 || not (nat_lt (limit_of setup) out) then 0 else out
+
+abbrev pub figures_of : Configuration → Saved → Figures
+figures_of setup saved = record {
+  kept = kept_count setup saved;
+  new = new_count setup saved;
+  dropped = dropped_count setup saved;
+  given_up = given_up_count setup saved;
+}

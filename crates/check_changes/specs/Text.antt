@@ -1,0 +1,69 @@
+-- The lines of what becomes of the objects, and the words that explain why a saved state is refused.
+use Rattle.std.specs.Prelude.{ℕ, Bool, List, [], ◌++◌, Option, Some, None, codes, decimal, flat_map, option_map, if◌then◌else◌}
+use Rattle.std.specs.List.{enumerate_from}
+use Rattle.check_objects.specs.Configuration.{Configuration, name_of, objects_of}
+use Rattle.check_saved.specs.Saved.{Saved, saved_named}
+use Rattle.check_saved.specs.declared.fault.SavedFault.{SavedFault}
+use Rattle.check_saved.specs.declared.fault.SavedFault.TheVariants as saved
+use Rattle.check_changes.specs.declared.figures.Figures.{Figures}
+use Rattle.check_changes.specs.declared.kept.Kept.{Kept}
+use Rattle.check_changes.specs.Changes.{figures_of, kept_by}
+
+-- the line of a count
+abbrev pub count_line : List ℕ → ℕ → List ℕ
+count_line word count = word ++ (codes " " ++ (decimal count ++ codes "\n"))
+
+-- how many objects are kept, new and dropped, and how many runs are given up
+unfoldable pub figures_text : Figures → List ℕ
+figures_text f =
+    count_line (codes "kept") f.kept
+    ++ (count_line (codes "new") f.new ++ (count_line (codes "dropped") f.dropped ++ count_line (codes "given_up") f.given_up))
+
+-- the line of a value of an object, where the setup changes it
+abbrev pub changed_line : Bool → List ℕ → List ℕ → List ℕ
+changed_line changes value name = if changes then codes "changed " ++ (value ++ (codes " " ++ (name ++ codes "\n"))) else []
+
+-- the lines of an object that is kept
+unfoldable pub kept_text : List ℕ → Kept → List ℕ
+kept_text name k =
+    changed_line k.attempts (codes "attempts") name
+    ++ (changed_line k.interval (codes "interval") name ++ changed_line k.enabled (codes "enabled") name)
+
+-- the lines of an object; a new one has none
+abbrev pub object_text : List ℕ → Option Kept → List ℕ
+object_text name None = []
+object_text name (Some k) = kept_text name k
+
+-- the lines of all objects, in the order of their numbers
+abbrev pub changed_text : Configuration → Saved → List ℕ
+changed_text setup saved = flat_map (λ n. object_text n.name (option_map (kept_by setup n.object) (saved_named saved n.name))) (objects_of setup)
+
+-- the same of the objects by number
+abbrev pub changed_among : Configuration → List (Option Kept) → List ℕ
+changed_among setup kept = flat_map (λ p. object_text (name_of setup p.0) p.1) (enumerate_from 0 kept)
+
+-- all lines
+abbrev pub changes_text : Configuration → Saved → List ℕ
+changes_text setup saved = figures_text (figures_of setup saved) ++ changed_text setup saved
+
+-- ---- why a saved state is refused
+
+-- a fault of the object with this index in the list of objects
+abbrev pub at_object : ℕ → List ℕ → List ℕ
+at_object index words = codes "objects " ++ (decimal index ++ (codes ": " ++ words))
+
+-- The words of a fault. Want of memory is none of a saved state.
+abbrev pub saved_explanation : SavedFault → List ℕ
+saved_explanation saved.TooLong = codes "the saved state has more than 16777216 bytes\n"
+saved_explanation saved.NotJson = codes "the saved state is no JSON\n"
+saved_explanation saved.Version = codes "\"format\" has to be 1\n"
+saved_explanation (saved.Shape None) = codes "a member of the saved state is missing, unknown or of the wrong kind\n"
+saved_explanation (saved.Shape (Some index)) = at_object index (codes "a member is missing, unknown or of the wrong kind\n")
+saved_explanation saved.TooMany = codes "\"objects\" has more than 4096 objects\n"
+saved_explanation (saved.BadName index) =
+    at_object index (codes "\"name\" has to be a host's name, or a host's name and a description with a \";\" between them\n")
+saved_explanation (saved.Duplicate index) = at_object index (codes "\"name\" is that of an earlier object\n")
+saved_explanation (saved.Range None) = codes "\"start\" and \"runs\" can be at most 1152921504606846976\n"
+saved_explanation (saved.Range (Some index)) = at_object index (codes "a time, an attempt or the maximum of attempts is out of its limits\n")
+saved_explanation (saved.Unlawful index) = at_object index (codes "no object of its sort can have this standing, these results or this run\n")
+saved_explanation saved.Memory = codes "out of memory\n"

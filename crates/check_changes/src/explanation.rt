@@ -1,0 +1,67 @@
+//! The words that explain why a saved state is refused.
+
+ghost use Rattle.std.specs.Prelude.{◌≡◌, ◌++◌, OnOk, string_bytes};
+ghost use Rattle.check_changes.specs.Text.{saved_explanation};
+
+use check_saved::SavedFault;
+use std::alloc::AllocError;
+use std::fmt;
+
+/// Appends a line of plain words that explains why a saved state is refused: which object of the list of
+/// objects, if it is one, and what it has to be. An Err means out of memory, and a part of the line may
+/// have been appended.
+pub fn push_explanation(text: &mut String, fault: SavedFault) -> Result<(), AllocError>
+    ensures { OnOk result
+        (string_bytes text.new ≡ string_bytes text.old ++ saved_explanation fault) }
+{
+    let explanation = Explanation(fault);
+    write!(text, "{explanation}")
+}
+
+/// The line that explains a fault.
+#[derive(Clone, Copy)]
+struct Explanation(SavedFault);
+
+impl fmt::Display for Explanation {
+    ghost use Rattle.std.specs.Prelude.{Some};
+    ghost use Rattle.check_changes.specs.Text.{saved_explanation};
+
+    ghost output = { λ e. Some (saved_explanation e.0) };
+
+    fn fmt<W: fmt::Write>(&self, f: &mut fmt::Formatter<W>) -> fmt::Result {
+        match self.0 {
+            SavedFault::TooLong => f.write_str("the saved state has more than 16777216 bytes\n"),
+            SavedFault::NotJson => f.write_str("the saved state is no JSON\n"),
+            SavedFault::Version => f.write_str("\"format\" has to be 1\n"),
+            SavedFault::Shape(None) => {
+                f.write_str(
+                    "a member of the saved state is missing, unknown or of the wrong kind\n",
+                )
+            }
+            SavedFault::Shape(Some(index)) => writeln!(
+                f,
+                "objects {index}: a member is missing, unknown or of the wrong kind"
+            ),
+            SavedFault::TooMany => f.write_str("\"objects\" has more than 4096 objects\n"),
+            SavedFault::BadName(index) => writeln!(
+                f,
+                "objects {index}: \"name\" has to be a host's name, or a host's name and a description with a \";\" between them"
+            ),
+            SavedFault::Duplicate(index) => {
+                writeln!(f, "objects {index}: \"name\" is that of an earlier object")
+            }
+            SavedFault::Range(None) => {
+                f.write_str("\"start\" and \"runs\" can be at most 1152921504606846976\n")
+            }
+            SavedFault::Range(Some(index)) => writeln!(
+                f,
+                "objects {index}: a time, an attempt or the maximum of attempts is out of its limits"
+            ),
+            SavedFault::Unlawful(index) => writeln!(
+                f,
+                "objects {index}: no object of its sort can have this standing, these results or this run"
+            ),
+            SavedFault::Memory => f.write_str("out of memory\n"),
+        }
+    }
+}

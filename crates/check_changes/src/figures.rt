@@ -1,0 +1,100 @@
+//! How many objects are kept, new and dropped, and how many runs are given up.
+
+ghost use Rattle.std.specs.Prelude.{◌≡◌, ◌≤◌, count_by, is_none, is_some, length};
+ghost use Rattle.check_objects.specs.Configuration.{host_count, number_of};
+ghost use Rattle.check_changes.specs.Changes.{dropped_count, figures_of, given_up_among, is_out, kept_of};
+
+use crate::kept::Kept;
+use check_objects::Setup;
+use check_saved::{Saved, SavedObject};
+
+/// How many objects of a setup and a saved state there are of each sort, and how many runs go.
+#[derive(Clone, Copy, Debug, PartialEq, Eq)]
+pub struct Figures {
+    /// Objects of both.
+    pub kept: usize,
+    /// Objects of the setup alone.
+    pub new: usize,
+    /// Objects of the saved state alone.
+    pub dropped: usize,
+    /// Runs of services that are given up, since more services are out than the setup's limit allows.
+    pub given_up: usize,
+}
+
+impl Figures {
+    /// The figures of a setup and a saved state, where these are the objects of the setup by number.
+    pub(crate) fn of(setup: &Setup, saved: &Saved, kept: &[Option<Kept>]) -> Figures
+        requires { kept.now ≡ kept_of setup.now saved.now }
+        ensures { result ≡ figures_of setup.now saved.now }
+    {
+        Figures {
+            kept: count_kept(kept),
+            new: count_new(kept),
+            dropped: count_dropped(setup, saved),
+            given_up: count_given_up(setup, kept),
+        }
+    }
+}
+
+/// How many of the objects are kept.
+fn count_kept(kept: &[Option<Kept>]) -> usize
+    ensures { result ≡ count_by is_some kept.now }
+{
+    kept.iter().filter(|object| object.is_some()).count()
+}
+
+/// How many of the objects are new.
+fn count_new(kept: &[Option<Kept>]) -> usize
+    ensures { result ≡ count_by is_none kept.now }
+{
+    kept.iter().filter(|object| object.is_none()).count()
+}
+
+/// How many of the saved objects the setup hasn't.
+fn count_dropped(setup: &Setup, saved: &Saved) -> usize
+    ensures { result ≡ dropped_count setup.now saved.now }
+{
+    saved
+        .objects()
+        .iter()
+        .filter(|object| is_dropped(setup, object))
+        .count()
+}
+
+/// Whether the setup hasn't the object.
+fn is_dropped(setup: &Setup, object: &SavedObject) -> bool
+    ensures { result ≡ is_none (number_of setup.now object.now.name) }
+{
+    setup.number(&object.name).is_none()
+}
+
+/// How many runs of services are given up: all that are out, where they are more than the limit allows.
+fn count_given_up(setup: &Setup, kept: &[Option<Kept>]) -> usize
+    requires { host_count setup.now ≤ length kept.now }
+    ensures { result ≡ given_up_among setup.now kept.now }
+{
+    let out = count_out(&kept[setup.hosts()..]);
+    let limit = setup.options().max_concurrent_checks;
+    if limit == 0 || out as u64 <= limit {
+        0
+    } else {
+        out
+    }
+}
+
+/// How many of the objects are out.
+fn count_out(kept: &[Option<Kept>]) -> usize
+    ensures { result ≡ count_by is_out kept.now }
+{
+    kept.iter().filter(|object| is_out(**object)).count()
+}
+
+/// Whether an object is kept and out.
+fn is_out(object: Option<Kept>) -> bool
+    ensures { result ≡ is_out object }
+{
+    match object {
+        Some(kept) => kept.out,
+        None => false,
+    }
+}

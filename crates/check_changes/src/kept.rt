@@ -1,0 +1,66 @@
+//! The objects of a setup, compared with those of a saved state.
+
+ghost use Rattle.std.specs.Prelude.{◌≡◌, ◌≤◌, IfOk, length};
+ghost use Rattle.check_objects.specs.Configuration.{IsSetup};
+ghost use Rattle.check_sched.specs.Report.{milliseconds};
+ghost use Rattle.check_changes.specs.Changes.{kept_by, kept_of};
+
+use check_objects::{MAX_INTERVAL, Object, Setup};
+use check_saved::{Saved, SavedObject};
+use std::alloc::{AllocError, Global};
+
+/// An object that is kept: one of the setup whose full name the saved state has.
+#[derive(Clone, Copy, Debug, PartialEq, Eq)]
+pub struct Kept {
+    /// Whether a check of it is out.
+    pub out: bool,
+    /// Whether the setup has another maximum of attempts for it.
+    pub attempts: bool,
+    /// Whether the setup has another check interval for it, in milliseconds.
+    pub interval: bool,
+    /// Whether of the two setups one has its active checks enabled and the other hasn't.
+    pub enabled: bool,
+}
+
+/// Every object of the setup by number, where it is kept. An Err means out of memory.
+pub(crate) fn list_kept(
+    alloc: Global,
+    setup: &Setup,
+    saved: &Saved,
+) -> Result<Vec<Option<Kept>>, AllocError>
+    ensures kept { IfOk result (λ kept. kept.items ≡ kept_of setup.now saved.now) }
+    ensures few { IfOk result (λ kept. length kept.items ≤ 4096) }
+{
+    let objects = saved.objects();
+    let mut kept = vec![in alloc; None; setup.len()]?;
+    for place in (0..objects.len()).rev() {
+        let object = &objects[place];
+        if let Some(number) = setup.number(&object.name) {
+            kept[number as usize] = Some(compare(setup, setup.object(number), object));
+        }
+    }
+    Ok(kept)
+}
+
+/// What the setup makes of an object that is kept.
+fn compare(setup: &Setup, object: &Object, saved: &SavedObject) -> Kept
+    requires valid_setup { IsSetup setup.now }
+    requires interval { object.now.check_interval ≤ MAX_INTERVAL }
+    ensures { result ≡ kept_by setup.now object.now saved.now }
+{
+    Kept {
+        out: saved.run.is_some(),
+        attempts: object.max_check_attempts != saved.max_attempts,
+        interval: milliseconds(setup, object.check_interval) != saved.interval,
+        enabled: object.enabled != saved.setup_enabled,
+    }
+}
+
+/// An interval of units of `interval_length`, in milliseconds.
+fn milliseconds(setup: &Setup, interval: u64) -> u64
+    requires valid_setup { IsSetup setup.now }
+    requires interval { interval ≤ MAX_INTERVAL }
+    ensures { result ≡ milliseconds setup.now interval }
+{
+    interval * setup.options().interval_length * 1000
+}

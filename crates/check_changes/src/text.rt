@@ -1,0 +1,95 @@
+//! The lines of what becomes of the objects.
+
+ghost use Rattle.std.specs.Prelude.{◌≡◌, ◌≤◌, ◌++◌, OnOk, length, string_bytes};
+ghost use Rattle.check_objects.specs.Configuration.{object_count};
+ghost use Rattle.check_changes.specs.Text.{changed_among, changed_line, changes_text, figures_text, kept_text, object_text};
+
+use crate::figures::Figures;
+use crate::kept::{Kept, list_kept};
+use check_objects::Setup;
+use check_saved::Saved;
+use std::alloc::{AllocError, Global};
+
+/// Appends what becomes of the objects when a scheduler goes on over this setup from this saved state,
+/// each line with its line feed: how many objects are kept, how many are new and how many are dropped, how
+/// many runs are given up, and of each object that is kept the values that the setup changes, in the order
+/// of the objects' numbers. Nothing of it goes by the start of the scheduler. It takes time linear in the
+/// objects of both. An Err means out of memory, and a part of the lines may have been appended.
+pub fn push_changes(
+    alloc: Global,
+    text: &mut String,
+    setup: &Setup,
+    saved: &Saved,
+) -> Result<(), AllocError>
+    ensures { OnOk result
+        (string_bytes text.new ≡ string_bytes text.old ++ changes_text setup.now saved.now) }
+{
+    let kept = list_kept(alloc, setup, saved)?;
+    push_figures(text, Figures::of(setup, saved, &kept))?;
+    push_changed(text, setup, &kept)
+}
+
+/// Appends the figures, a line each.
+#[tactic(auto, unfolding(crate::specs::Text::figures_text))]
+fn push_figures(text: &mut String, figures: Figures) -> Result<(), AllocError>
+    ensures { OnOk result
+        (string_bytes text.new ≡ string_bytes text.old ++ figures_text figures) }
+{
+    let Figures {
+        kept,
+        new,
+        dropped,
+        given_up,
+    } = figures;
+    writeln!(text, "kept {kept}")?;
+    writeln!(text, "new {new}")?;
+    writeln!(text, "dropped {dropped}")?;
+    writeln!(text, "given_up {given_up}")
+}
+
+/// Appends the lines of all objects, by number.
+fn push_changed(text: &mut String, setup: &Setup, kept: &[Option<Kept>]) -> Result<(), AllocError>
+    requires each { length kept.now ≤ object_count setup.now }
+    requires few { length kept.now ≤ 4096 }
+    ensures { OnOk result
+        (string_bytes text.new ≡ string_bytes text.old ++ changed_among setup.now kept.now) }
+{
+    for (number, object) in kept.iter().enumerate() {
+        push_object(text, setup.name(number as u32), *object)?;
+    }
+    Ok(())
+}
+
+/// Appends the lines of an object with this full name. A new one has none.
+fn push_object(text: &mut String, name: &str, object: Option<Kept>) -> Result<(), AllocError>
+    ensures { OnOk result
+        (string_bytes text.new ≡ string_bytes text.old ++ object_text name.now object) }
+{
+    match object {
+        Some(kept) => push_kept(text, name, kept),
+        None => Ok(()),
+    }
+}
+
+/// Appends the lines of an object that is kept.
+#[tactic(auto, unfolding(crate::specs::Text::kept_text))]
+fn push_kept(text: &mut String, name: &str, kept: Kept) -> Result<(), AllocError>
+    ensures { OnOk result
+        (string_bytes text.new ≡ string_bytes text.old ++ kept_text name.now kept) }
+{
+    push_value(text, kept.attempts, "attempts", name)?;
+    push_value(text, kept.interval, "interval", name)?;
+    push_value(text, kept.enabled, "enabled", name)
+}
+
+/// Appends the line of a value of an object, where the setup changes it.
+fn push_value(text: &mut String, changes: bool, value: &str, name: &str) -> Result<(), AllocError>
+    ensures { OnOk result (string_bytes text.new
+        ≡ string_bytes text.old ++ changed_line changes value.now name.now) }
+{
+    if changes {
+        writeln!(text, "changed {value} {name}")
+    } else {
+        Ok(())
+    }
+}
