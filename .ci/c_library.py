@@ -31,7 +31,7 @@ MINUTE, MINUTES = 60_000, (3, 2_000)
 WORKERS = {"embed.c": 4, "embed.py": 2}
 PROVED = sys.argv[2:]
 COUNTED = ["-Wl,--wrap=malloc,--wrap=realloc"]
-EMBEDDING = TOP / "docs" / "EMBEDDING.md"
+EMBEDDING = {"embed.c": TOP / "docs" / "EMBEDDING_C.md", "embed.py": TOP / "docs" / "EMBEDDING_PYTHON.md"}
 DEFINITIONS = [TOP / "crates" / "check_rules" / "specs" / "Numbers.antt", TOP / "crates" / "check_records" / "specs" / "Plain.antt"]
 STATUSES = TOP / "crates" / "nagsched_c" / "src" / "status.rt"
 # Each enumeration of the header: its name in Python, what its names begin with in C, and which functions of the definition number it.
@@ -294,7 +294,7 @@ def as_the_page_says(held, library, page):
     (library.folder / "out" / "c").symlink_to(library.prefix)
     links = [f"{command} -o embed && ./embed" for command in re.findall(r"`(cc [^`]*program\.c[^`]*)`", page)]
     builds = re.findall(r"tools/build_c\.sh && (.*examples/embed.*)", page)
-    held.compare(f"{EMBEDDING.name}: commands", (2, 2), (len(links), len(builds)))
+    held.compare("the pages on embedding: commands", (2, 2), (len(links), len(builds)))
     for command in [*links, *(build.replace("[MINUTES]", "1") for build in builds)]:
         said = command.replace("PREFIX", "out/c").replace("program.c", "examples/embed.c")
         made = ran("sh", "-c", said, cwd=library.folder, env=os.environ | {"LD_LIBRARY_PATH": str(library.prefix / "lib")})
@@ -302,12 +302,30 @@ def as_the_page_says(held, library, page):
 
 
 def page(held, library):
-    """The page on embedding shows the two examples as they are, and its commands make them."""
-    text = EMBEDDING.read_text(encoding="utf-8")
+    """The pages on embedding show the two examples as they are, and their commands make them."""
+    texts = {name: file.read_text(encoding="utf-8") for name, file in EMBEDDING.items()}
     for name, language in {"embed.c": "c", "embed.py": "python"}.items():
         shown = f"```{language}\n{(EXAMPLES / name).read_text(encoding='utf-8')}```\n"
-        held.compare(f"{EMBEDDING.name} shows {name}", True, shown in text)
-    as_the_page_says(held, library, text)
+        held.compare(f"{EMBEDDING[name].name} shows {name}", True, shown in texts[name])
+    as_the_page_says(held, library, "".join(texts.values()))
+
+
+def loops(held, library):
+    """The loops for months: plugins run, the state is kept, and a restart goes on from it over another setup."""
+    program = library.folder / "loop"
+    compiled = ran("cc", "-O2", f"-I{library.prefix / 'include'}", EXAMPLES / "loop.c", library.prefix / "lib/libnagsched.a", "-lpthread", "-o", program)
+    held.compare("compiling loop.c", 0, compiled.returncode)
+    python = os.environ | {"NAGSCHED_LIBRARY": str(library.prefix / "lib/libnagsched.so"), "PYTHONPATH": str(TOP / "bindings/python")}
+    for name, command in {"loop.c": [program], "loop.py": [sys.executable, EXAMPLES / "loop.py"]}.items():
+        state = library.folder / f"{name}.state"
+        setup = library.folder / "loop.json"
+        for attempts, interval, ends in ((2, 1, ["DOWN HARD 2", "UP HARD 1"]), (5, 100, ["DOWN HARD 5", "UP HARD 1"])):
+            hosts = [{"name": name, "check_interval": interval, "retry_interval": 1, "max_check_attempts": attempts} for name in ("down", "up")]
+            setup.write_text(json.dumps({"options": {"interval_length": 1, "host_inter_check_delay_method": "n"}, "hosts": hosts}))
+            made = ran(*command, setup, state, "3", 'test "$1" = up || exit 2', env=python)
+            ended = [line.removeprefix("at the end standing ") for line in made.stdout.decode().splitlines() if line.startswith("at the end")]
+            held.compare(f"{name}, {attempts} attempts", (0, ends), (made.returncode, [" ".join(line.split(" ")[:3]) for line in ended]))
+            held.compare(f"{name}: the state is kept", True, state.read_bytes().startswith(b'{"format":1,'))
 
 
 def main():
@@ -317,6 +335,7 @@ def main():
         surface(held, library)
         same_numbers(held)
         examples(held, library)
+        loops(held, library)
         mistakes(held, library)
         conformance(held, library)
         page(held, library)

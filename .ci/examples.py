@@ -1,5 +1,5 @@
 #!/usr/bin/env python3
-"""Runs the files of examples/ on the built program, and holds the program of docs/EMBEDDING.md to its test.
+"""Runs the files of examples/ on the built program, and holds the program of docs/EMBEDDING_RATTLE.md to its test.
 
     .ci/examples.py [PROGRAM]     crates/nagsched/out/nagsched where no program is named
 
@@ -10,7 +10,7 @@ import re
 
 from program import EXAMPLES, TOP, Held
 
-EMBEDDING = TOP / "docs" / "EMBEDDING.md"
+EMBEDDING = TOP / "docs" / "EMBEDDING_RATTLE.md"
 EMBEDDED = TOP / "crates" / "desk_tests" / "src" / "workers" / "own_threads.rt"
 MONTHS = "## For months"
 MACHINE_ROOM = TOP / "crates" / "machine_room" / "src"
