@@ -57,6 +57,7 @@ IN_THE_GATE = {
     "tools/from_nagios.py --parts": ".ci/tools.py",
     "tools/from_nagios.py /etc/nagios4/nagios.cfg /var/lib/nagios4/objects.precache > setup.json": ".ci/tools.py",
     "examples/embed.py": ".ci/c_library.py",
+    "examples/loop.py": ".ci/c_library.py",
     "examples/mail_change.py": ".ci/monitor.py",
     "examples/alert_change.py": ".ci/monitor.py",
     "examples/monitor.py": ".ci/monitor.py",

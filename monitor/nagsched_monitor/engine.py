@@ -257,5 +257,5 @@ class Engine:
         changed = self.scheduling.reload(site)
         self.site = site
         self._sooner.become(site)
-        self._minute = self._last_turn = None
+        self._minute = None
         return changed
