@@ -7,6 +7,7 @@ A run is made with its first request refused, then with its second and so on, un
 of ample memory, in status 4 with a front of that answer, or, for a drill, in a total that counts the refusal. The lines of several
 workers come in any order: there the total alone is compared.
 """
+import json
 import os
 import pathlib
 import re
@@ -41,9 +42,28 @@ def checks(held):
         yield f"check, {name}", words, given, held.run(words, given)[0]
 
 
+def goings_on(held):
+    """A run that saves, and a run, a conversation and a check from its state over a setup with one object less and another maximum of attempts."""
+    office = (EXAMPLES / "office.txt").read_bytes()
+    saving = office + b'["save"]\n'
+    saved = held.run([], saving)[0]
+    yield "run, the office saved", [], saving, saved
+    state = saved.splitlines()[-1].removeprefix(b"saved ")
+    setup = json.loads(office.splitlines()[0])
+    setup["services"].pop()
+    setup["hosts"][0]["max_check_attempts"] += 1
+    given = lines(json.dumps(setup), state.decode(), '["take",9000000]', '["save"]')
+    for word in ("run", "live", "check"):
+        words = [word, "--resume"]
+        yield f"{word}, from a saved state", words, given, held.run(words, given)[0]
+    refused = lines(json.dumps(setup), state.decode().replace('"runs":', '"run":'))
+    yield "check, a saved state that is refused", ["check", "--resume"], refused, held.run(["check", "--resume"], refused)[0]
+
+
 def runs(held):
     """Each run that is swept: its name, its words, its input, and what is written with ample memory, or nothing where that varies."""
     yield from checks(held)
+    yield from goings_on(held)
     yield "schema", ["schema"], b"", (TOP / "docs/setup.schema.json").read_bytes()
     office, drill = ((EXAMPLES / f"{name}.txt").read_bytes() for name in ("office", "drill"))
     for word in ("run", "live"):
