@@ -4,8 +4,8 @@
     bench/saving.py [PROGRAM]     crates/nagsched/out/nagsched where no program is named; wants valgrind and Debian's librust-serde-json-dev
 
 Instructions are counted by callgrind, as the difference of a run with the command `save`, or with `--resume`, and the same run without it: of 1,024, 2,048 and
-4,096 services with names of 30 bytes and 21 results each. serde_json reads the saved state into a tree, and writes that tree: a save makes a tree and writes it,
-and is compared with both together and with the writing only. A restart is the time from the start of `live --resume` until it has answered its first call.
+4,096 services with names of 30 bytes and 21 results each. serde_json reads the saved state into a tree, and writes that tree: a save makes a tree and writes
+it, and is compared with both together and with the writing only. A restart is the time from the start of `live --resume` until it has answered its first call.
 """
 import json
 import os
@@ -86,7 +86,8 @@ def main():
     program = str(pathlib.Path(sys.argv[1] if len(sys.argv) > 1 else TOP / "crates/nagsched/out/nagsched").resolve())
     with tempfile.TemporaryDirectory() as folder:
         tree = str(built(pathlib.Path(folder)))
-        print("| Objects | bytes | save | to a tree made and written | to a tree written | resume | to a tree made | restart, ms |\n|---|---|---|---|---|---|---|---|")
+        heads = ("Objects", "bytes", "save", "to a tree made and written", "to a tree written", "resume", "to a tree made", "restart, ms")
+        print(f"| {' | '.join(heads)} |\n|{'---|' * len(heads)}")
         for count in COUNTS:
             setup = json.dumps(setup_of(count))
             calls = [*results_of(count)]
