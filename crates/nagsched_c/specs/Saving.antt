@@ -1,4 +1,4 @@
--- What C is told of a state that is saved, of a book that goes on from one, and of the checks that are out.
+-- What C learns of a state that is saved, of a book that goes on from one, and of the checks that are out.
 use Rattle.std.specs.Prelude.{◌≡◌, ◌≢◌, ◌⊎◌, ◌<◌, ◌≤◌, ◌^◌, ℕ, List, false, is_some, Ok, Err, Option, Some, None, option_and_then, slice_get}
 use Rattle.check_objects.specs.Configuration.{object_count}
 use Rattle.check_saved.specs.Saved.{Saved}
@@ -21,7 +21,7 @@ abbrev pub sched_in : Option Lodged → Option State
 sched_in (Some (lodged.Book ledger)) = Some (sched_of ledger.book)
 sched_in other = None
 
--- the text of what is saved of a scheduler was told
+-- the text of what is saved of a scheduler was written, or why not
 abbrev pub HasSavedText : State → List ℕ → ℕ → ℕ → List ℕ → ℕ → Type 0
 HasSavedText sched room before status after bytes = IsTold (saved_text (saved_of sched)) room before status after bytes
 
@@ -45,7 +45,7 @@ abbrev pub HasResumedFrom : ℕ → ℕ → List ℕ → Option Lodged → Optio
 HasResumedFrom start room text setup setup' book' =
     (setup' ≡ None) × ((before : Lodged) × (after : Lodged) × (setup ≡ Some before) × (book' ≡ Some after) × IsResumedFrom start room text before after)
 
--- the struct of the text's first fault, which isn't want of memory
+-- the struct of the text's first fault, which is no lack of memory
 abbrev pub IsFaultOf : List ℕ → PlainRefusal → Type 0
 IsFaultOf text told = (why : SavedFault) × (saved_of_text text ≡ Err why) × (told ≡ plain_fault why) × (why ≢ fault.Memory)
 
@@ -67,7 +67,7 @@ IsRunTold None run start status run' start' = (status ≡ 5) × (run' ≡ run) �
 abbrev pub run_of : State → ℕ → Option OpenRun
 run_of sched object = option_and_then (λ o. o.run) (slice_get sched.objects object)
 
--- what C is told of the object with this number; or there is no such object, and nothing was written
+-- what C learns of the object with this number; or there is no such object, and nothing was written
 abbrev pub HasRun : State → ℕ → ℕ → ℕ → ℕ → ℕ → ℕ → Type 0
 HasRun sched object run start status run' start' =
     ((object < object_count sched.setup) × IsRunTold (run_of sched object) run start status run' start')

@@ -28,8 +28,8 @@ IsUntold why room before status after bytes = (status ≡ why) × (after ≡ roo
 abbrev pub IsTold : List ℕ → List ℕ → ℕ → ℕ → List ℕ → ℕ → Type 0
 IsTold line room before status after bytes = IsPut line room status after bytes ⊎ IsUntold 3 room before status after bytes
 
--- the line of the refusal with this struct was told, of a document or of a saved state; or none is refused so, as for want of memory, and
--- nothing was written
+-- the line of the refusal with this struct was written, of a document or of a saved state; or none is refused so, as where memory is lacking,
+-- and nothing was written
 abbrev pub HasRefusalText : PlainRefusal → List ℕ → ℕ → ℕ → List ℕ → ℕ → Type 0
 HasRefusalText told room before status after bytes =
     ((error : LoadError) × (error ≢ load.Memory) × (plain_refusal error ≡ told)
