@@ -32,7 +32,11 @@ WORKERS = {"embed.c": 4, "embed.py": 2}
 PROVED = sys.argv[2:]
 COUNTED = ["-Wl,--wrap=malloc,--wrap=realloc"]
 EMBEDDING = {"embed.c": TOP / "docs" / "EMBEDDING_C.md", "embed.py": TOP / "docs" / "EMBEDDING_PYTHON.md"}
-DEFINITIONS = [TOP / "crates" / "check_rules" / "specs" / "Numbers.antt", TOP / "crates" / "check_records" / "specs" / "Plain.antt"]
+DEFINITIONS = [
+    TOP / "crates" / "check_rules" / "specs" / "Numbers.antt",
+    TOP / "crates" / "check_records" / "specs" / "Plain.antt",
+    TOP / "crates" / "check_records" / "specs" / "SavedFaults.antt",
+]
 STATUSES = TOP / "crates" / "nagsched_c" / "src" / "status.rt"
 # Each enumeration of the header: its name in Python, what its names begin with in C, and which functions of the definition number it.
 ENUMERATIONS = {
@@ -42,9 +46,11 @@ ENUMERATIONS = {
     "nagsched_kind": ("Kind", "NAGSCHED_", "kind_number"),
     "nagsched_call_kind": ("CallKind", "NAGSCHED_CALL_", "plain_call"),
     "nagsched_reply_kind": ("ReplyKind", "NAGSCHED_REPLY_", "plain_reply", "refusal_number"),
-    "nagsched_refusal_kind": ("RefusalKind", "NAGSCHED_REFUSAL_", "plain_refusal"),
+    "nagsched_refusal_kind": ("RefusalKind", "NAGSCHED_REFUSAL_", "plain_refusal", "plain_fault"),
     "nagsched_part": ("Part", "NAGSCHED_PART_", "part_number"),
 }
+# What the names of a function of the definition begin with in C.
+PREFIXES = {"plain_fault": "SAVED_"}
 # A number that the definition has no name for, and names that have no number of their own in C.
 NUMBERED_APART = {"nagsched_part": {"NONE": 0}}
 UNNUMBERED = {"REFUSED", "MEMORY"}
@@ -109,7 +115,7 @@ def same_numbers(held):
         if functions:
             wanted = dict(NUMBERED_APART.get(name, {}))
             for function in functions:
-                wanted |= {member: number for member, number in defined[function].items() if member not in UNNUMBERED}
+                wanted |= {PREFIXES.get(function, "") + member: number for member, number in defined[function].items() if member not in UNNUMBERED}
             held.compare(f"the numbers of {name} in the definition", in_header, wanted)
 
 
@@ -124,7 +130,7 @@ def surface(held, library):
     held.compare("the names of the archive", wanted, names(["--extern-only", library.archive], "T"))
     held.compare("the names of the shared library", wanted, names(["--dynamic", library.shared], "T"))
     told = ran("readelf", "--dynamic", library.shared).stdout.decode()
-    held.compare("its soname", ["libnagsched.so.1"], re.findall(r"\(SONAME\).*\[(.*)\]", told))
+    held.compare("its soname", ["libnagsched.so.2"], re.findall(r"\(SONAME\).*\[(.*)\]", told))
     held.compare("what it needs", [], [name for name in re.findall(r"\(NEEDED\).*\[(.*)\]", told) if not name.startswith(("libc.", "ld-linux"))])
     installed = library.prefix / "include" / "nagsched.h"
     held.compare("the header", HEADER.read_bytes(), installed.read_bytes())
@@ -223,11 +229,13 @@ def mistakes(held, library):
     counting(held, "texts in C", ran(library.compiled(TESTS / "c" / "texts.c", *common)))
     counting(held, "desks in C", ran(library.compiled(TESTS / "c" / "desks.c", *common)))
     counting(held, "books in C", ran(library.compiled(TESTS / "c" / "books.c", *common)))
+    counting(held, "saved states in C", ran(library.compiled(TESTS / "c" / "saved.c", *common)))
     counting(held, "gatherings in C", ran(library.compiled(TESTS / "c" / "gatherings.c", *common)))
     counting(held, "numbers in C", ran(library.compiled(TESTS / "c" / "numbers.c", *common)))
     counting(held, "refused requests", ran(library.compiled(TESTS / "c" / "refused.c", *common, *COUNTED, "-Wl,--wrap=free")))
     readers(held, library, [*common, *COUNTED, "-Wl,--wrap=free"])
     counting(held, "mistakes in Python", library.in_python(TESTS / "python" / "wrong.py"))
+    counting(held, "saved states in Python", library.in_python(TESTS / "python" / "saved.py"))
 
 
 def has_sanitizer(library):

@@ -40,8 +40,12 @@
 extern "C" {
 #endif
 
-/* The number of this surface. A program asks nagsched_version() once: another number, another header. */
-#define NAGSCHED_VERSION 1u
+/* The number of this surface. A program asks nagsched_version() once: another number, another header.
+ *
+ * 2 has all that 1 has, and besides nagsched_save, nagsched_resume, nagsched_running and the refusals 11 to 19, which only
+ * nagsched_resume gives. A program that was linked with libnagsched.so.1 goes on with that one, and doesn't load libnagsched.so.2;
+ * compiled again with this header it runs as it did. */
+#define NAGSCHED_VERSION 2u
 
 /* A setup, a caller, a book or a history; zeroed it is empty. */
 struct nagsched_handle {
@@ -57,8 +61,8 @@ enum nagsched_result {
     NAGSCHED_WAIT = 1,      /* the turn hasn't come: the same call again */
     NAGSCHED_SPENT = 2,     /* the caller has no call left */
     NAGSCHED_NO_MEMORY = 3, /* memory was refused; of the six calls: it wasn't made, but is counted, nagsched_refused */
-    NAGSCHED_REFUSED = 4,   /* the document is no setup: the refusal tells why and where */
-    NAGSCHED_MISSING = 5,   /* callers that aren't gathered yet, no object of that name, no host of a host */
+    NAGSCHED_REFUSED = 4,   /* the document is no setup, or the text no saved state: the refusal reports why and where */
+    NAGSCHED_MISSING = 5,   /* callers that aren't gathered yet, no object of that name, no host of a host, no check that is out */
     NAGSCHED_WRONG = 6      /* a mistake of the caller's: a handle, a pointer or a number isn't one for this function */
 };
 
@@ -151,7 +155,16 @@ enum nagsched_refusal_kind {
     NAGSCHED_REFUSAL_UNKNOWN_MASTER = 7,
     NAGSCHED_REFUSAL_RANGE = 8,
     NAGSCHED_REFUSAL_DEPENDENCY_CYCLE = 9,
-    NAGSCHED_REFUSAL_PARENT_CYCLE = 10
+    NAGSCHED_REFUSAL_PARENT_CYCLE = 10,
+    NAGSCHED_REFUSAL_SAVED_TOO_LONG = 11, /* from here on: the text is no saved state */
+    NAGSCHED_REFUSAL_SAVED_NOT_JSON = 12,
+    NAGSCHED_REFUSAL_SAVED_VERSION = 13,
+    NAGSCHED_REFUSAL_SAVED_SHAPE = 14,
+    NAGSCHED_REFUSAL_SAVED_TOO_MANY = 15,
+    NAGSCHED_REFUSAL_SAVED_BAD_NAME = 16,
+    NAGSCHED_REFUSAL_SAVED_DUPLICATE = 17,
+    NAGSCHED_REFUSAL_SAVED_RANGE = 18,
+    NAGSCHED_REFUSAL_SAVED_UNLAWFUL = 19
 };
 
 enum nagsched_part {
@@ -164,12 +177,12 @@ enum nagsched_part {
     NAGSCHED_PART_HOST_DEPENDENCIES = 6
 };
 
-/* Why a document is no setup, and where. */
+/* Why a document is no setup, and where; or why a text is no saved state, and at which object. */
 struct nagsched_refusal {
     uint32_t kind;      /* nagsched_refusal_kind */
-    uint32_t part;      /* nagsched_part; NONE where the kind has no place */
+    uint32_t part;      /* nagsched_part; NONE where the kind has no place, and of a saved state */
     uint64_t has_index; /* 0 or 1 */
-    uint64_t index;     /* in the part's list, from 0 */
+    uint64_t index;     /* in the part's list, or in the saved state's list of objects, from 0 */
 };
 
 /* The number of the surface that the library has. */
@@ -199,10 +212,10 @@ uint32_t nagsched_host_of(const struct nagsched_handle *named, uint32_t number, 
 
 /* Opens a desk, with a caller for each of count empty handles, 1 to 1024; the handle that is given is empty then.
  * Of a setup: start is the moment at which scheduling starts; room is how many entries the history has memory for
- * at once (it grows; only a call past it asks for memory). Of a book without entries, which nagsched_renew makes:
- * start and room are the book's own, and have to be 0 here. Each caller has 2^32 - 1 calls, or calls, 1 to that many.
- * Ask for memory; NO_MEMORY leaves all handles as they were. (One case no proof excludes: a count of 63 bits of those who
- * share the desk is full. No machine comes to it; setup_or_book would be the desk's one caller then.) */
+ * at once (it grows; only a call past it asks for memory). Of a book without entries, which nagsched_renew and
+ * nagsched_resume make: start and room are the book's own, and have to be 0 here. Each caller has 2^32 - 1 calls, or
+ * calls, 1 to that many. Ask for memory; NO_MEMORY leaves all handles as they were. (One case no proof excludes: a count
+ * of 63 bits of those who share the desk is full. No machine comes to it; setup_or_book would be the desk's one caller then.) */
 uint32_t nagsched_open(struct nagsched_handle *setup_or_book, uint64_t start, size_t room, struct nagsched_handle *callers, size_t count);
 uint32_t nagsched_open_with(struct nagsched_handle *setup_or_book, uint64_t start, size_t room, uint64_t calls, struct nagsched_handle *callers,
                             size_t count);
@@ -236,6 +249,42 @@ uint32_t nagsched_refused(const struct nagsched_handle *book, uint64_t *count);
 /* Goes on with a book: it stands where it stood, has no entries and the given room; its entries move into the
  * empty handle history. Asks for memory. */
 uint32_t nagsched_renew(struct nagsched_handle *book, size_t room, struct nagsched_handle *history);
+
+/* The saved state of a book's scheduler, for nagsched_resume: all that it knows, without its setup and its entries. A program saves
+ * a book when it ends, and at each renewal if it likes, and keeps the text where it keeps its own files.
+ *
+ * It is one line of JSON without a line feed, of at most 16777216 bytes, written into room bytes at text; length is that of the whole
+ * text. The buffer is the caller's, and stays as it is. The book isn't changed: it can be renewed, opened or saved again.
+ *
+ * OK: all of it was written. WRONG, with length: it is longer than room; nothing was written but length, so that a program that gives
+ * room 0 learns how much it takes. WRONG: the handle has no book (a desk is closed first). NO_MEMORY: nothing was written.
+ * Allocates, whatever the room is, and frees it before it returns; takes longer with more objects. Any thread, also while others read
+ * the book by functions that take it as const. */
+uint32_t nagsched_save(const struct nagsched_handle *book, uint8_t *text, size_t room, size_t *length);
+
+/* Makes the book that goes on from a saved state, into an empty handle, over a setup of the same document or of another one (which
+ * objects go on as what: docs/OPERATING.md). The setup's handle is empty then. The text isn't used after the call.
+ *
+ * start, 0 to 2^60 milliseconds, is the present moment: an object that the saved state doesn't have is first checked from then on. room
+ * is how many entries the book has memory for at once; it has none yet, and nagsched_open opens a desk on it, with 0 for start and room.
+ * A check that was out is still out: it is reported or abandoned under its run's number, or nagsched_running says which are out, so
+ * that they can be abandoned. Run numbers go on from the saved ones.
+ *
+ * OK. REFUSED: the text is no saved state; refusal, which every other status leaves as it was, has why (SAVED_TOO_LONG to
+ * SAVED_UNLAWFUL) and at which object, and nagsched_refusal_text says it. NO_MEMORY: nothing is known of the text. WRONG: the handle
+ * has no setup, that for the book isn't empty, or the start is later than 2^60. With each but OK the setup stays in its handle.
+ * Allocates; takes longer with more bytes. Any thread, while no other call is made with the two handles. */
+uint32_t nagsched_resume(struct nagsched_handle *setup, const uint8_t *text, size_t bytes, uint64_t start, size_t room, struct nagsched_handle *book,
+                         struct nagsched_refusal *refusal);
+
+/* The check of a book's object that is out: the number of its run, and the moment at which it was taken, in milliseconds. Asked for
+ * each object, from 0 to nagsched_count's objects, it gives all checks that are out, and reads no entry. On an open desk whoever took
+ * a check knows of it.
+ *
+ * OK: run and start are written. MISSING: no check of the object is out. WRONG: the handle has no book, or the book no such object.
+ * With these two run and start are as they were. Allocates nothing, and takes the same time whatever the book has. Any thread, also
+ * while others read the book by functions that take it as const. What it gives is so until a call is made by a desk on the book. */
+uint32_t nagsched_running(const struct nagsched_handle *book, uint32_t object, uint64_t *run, uint64_t *start);
 
 /* Gives up what a handle has, and makes it empty; an empty one stays so. A caller that waits: WRONG. The callers of a
  * desk that is given up so can never be closed: what is left of its history goes with the last of them. */

@@ -1,5 +1,6 @@
 #!/usr/bin/env bash
-# Makes Debian packages of what was built: nagsched, libnagsched1, libnagsched-dev, python3-nagsched, nagsched-monitor.
+# Makes Debian packages of what was built: nagsched, libnagsched2, libnagsched-dev, python3-nagsched, nagsched-monitor. The number is
+# that of the library's surface.
 #   tools/package.sh [DIRECTORY]     out/packages where no folder is named
 # It builds and proves nothing: tools/install.sh lays down what is there, and says which command to run where something isn't. Wants dpkg-deb.
 set -eu -o pipefail
@@ -47,10 +48,11 @@ END
     echo "$packages/${name}_${version}_${architecture}.deb"
 }
 
-package libnagsched1 amd64 libs "libc6 (>= $glibc)" "scheduler of active checks, the library" "lib/libnagsched.so.$surface"
-package libnagsched-dev amd64 libdevel "libnagsched1 (= $version)" "scheduler of active checks, for programs in C" \
+package "libnagsched$surface" amd64 libs "libc6 (>= $glibc)" "scheduler of active checks, the library" "lib/libnagsched.so.$surface"
+package libnagsched-dev amd64 libdevel "libnagsched$surface (= $version)" "scheduler of active checks, for programs in C" \
     lib/libnagsched.so lib/libnagsched.a include/nagsched.h lib/pkgconfig/nagsched.pc
-package python3-nagsched all python "python3 (>= 3.9), libnagsched1 (= $version)" "scheduler of active checks, for Python" lib/python3/dist-packages/nagsched.py
+package python3-nagsched all python "python3 (>= 3.9), libnagsched$surface (= $version)" "scheduler of active checks, for Python" \
+    lib/python3/dist-packages/nagsched.py
 package nagsched-monitor all net "python3 (>= 3.9), nagsched (= $version)" "monitor of a site's hosts and services" \
     bin/nagsched-monitor bin/nagsched-from-nagios lib/nagsched lib/systemd share/man/man1/nagsched-monitor.1 \
     share/bash-completion/completions/nagsched-monitor share/doc/nagsched/MONITOR.md

@@ -89,4 +89,9 @@ GUARDED_READER(entries, kept, (const handle *kept, uint64_t *count), kept && cou
 GUARDED_READER(entry, kept, (const handle *kept, uint64_t index, entry *told), kept && told, (&copy, index, told))
 GUARDED_READER(refused, book, (const handle *book, uint64_t *count), book && count, (&copy, count))
 GUARDED(renew, (handle *book, size_t room, handle *history), book && history && book != history, (book, room, history))
+GUARDED_READER(save, book, (const handle *book, uint8_t *text, size_t room, size_t *length), book && text && length, (&copy, text, room, length))
+GUARDED(resume, (handle *setup, const uint8_t *text, size_t bytes, uint64_t start, size_t room, handle *book, refusal *told),
+        setup && text && book && told && setup != book, (setup, text, bytes, start, room, book, told))
+GUARDED_READER(running, book, (const handle *book, uint32_t object, uint64_t *run, uint64_t *start), book && run && start && run != start,
+               (&copy, object, run, start))
 GUARDED(free, (handle *given), given, (given))

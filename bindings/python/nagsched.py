@@ -33,7 +33,7 @@ import threading
 import time
 import typing
 
-VERSION = 1
+VERSION = 2
 
 
 class Result(enum.IntEnum):
@@ -105,7 +105,7 @@ class ReplyKind(enum.IntEnum):
 
 
 class RefusalKind(enum.IntEnum):
-    """Why a document is no setup."""
+    """Why a document is no setup, or, from SAVED_TOO_LONG on, why a text is no saved state."""
 
     TOO_LONG = 0
     NOT_JSON = 1
@@ -118,6 +118,15 @@ class RefusalKind(enum.IntEnum):
     RANGE = 8
     DEPENDENCY_CYCLE = 9
     PARENT_CYCLE = 10
+    SAVED_TOO_LONG = 11
+    SAVED_NOT_JSON = 12
+    SAVED_VERSION = 13
+    SAVED_SHAPE = 14
+    SAVED_TOO_MANY = 15
+    SAVED_BAD_NAME = 16
+    SAVED_DUPLICATE = 17
+    SAVED_RANGE = 18
+    SAVED_UNLAWFUL = 19
 
 
 class Part(enum.IntEnum):
@@ -173,8 +182,16 @@ class Entry(typing.NamedTuple):
     reply: Reply
 
 
+class Run(typing.NamedTuple):
+    """A check that is out: the number of its run, and the moment at which it was taken, in milliseconds."""
+
+    number: int
+    start: int
+
+
 class Refusal(typing.NamedTuple):
-    """Why a document is no setup, and where: the part, and the index in its list, if there is one."""
+    """Why a document is no setup, and where: the part, and the index in its list, if there is one. Of a saved state the part is
+    NONE, and the index is that of an object in the state's list."""
 
     kind: RefusalKind
     part: Part
@@ -200,7 +217,7 @@ class NoMemory(Error, MemoryError):
 
 
 class Refused(Error, ValueError):
-    """The document is no setup: `refusal` tells why and where."""
+    """The document is no setup, or the text no saved state: `refusal` has why and where."""
 
     status = Result.REFUSED
 
@@ -316,23 +333,30 @@ FUNCTIONS = {
     "entry": [_HANDLE, _U64, ctypes.POINTER(_Entry)],
     "refused": [_HANDLE, _OUT64],
     "renew": [_HANDLE, _SIZE, _HANDLE],
+    "save": [_HANDLE, *_ROOM],
+    "resume": [_HANDLE, _TEXT, _SIZE, _U64, _SIZE, _HANDLE, ctypes.POINTER(_Refusal)],
+    "running": [_HANDLE, _U32, _OUT64, _OUT64],
     "free": [_HANDLE],
 }
 
 
+# The functions that take long by the size of what they are given: other threads of Python go on meanwhile.
+LONG = ("read", "save", "resume")
+
+
 class _Library:
-    """The functions of the library. All but `read` keep the interpreter's lock, since none of them waits."""
+    """The functions of the library. All but the long ones keep the interpreter's lock, since none of them waits."""
 
     if typing.TYPE_CHECKING:
         def __getattr__(self, name: str) -> typing.Callable[..., int]: ...
 
     def __init__(self) -> None:
         beside = pathlib.Path(__file__).resolve().with_name("libnagsched.so")
-        path = os.environ.get("NAGSCHED_LIBRARY") or (str(beside) if beside.exists() else "libnagsched.so.1")
+        path = os.environ.get("NAGSCHED_LIBRARY") or (str(beside) if beside.exists() else f"libnagsched.so.{VERSION}")
         try:
             self._keeping, self._releasing = ctypes.PyDLL(path), ctypes.CDLL(path)
             for name, arguments in FUNCTIONS.items():
-                function = getattr(self._releasing if name == "read" else self._keeping, f"nagsched_{name}")
+                function = getattr(self._releasing if name in LONG else self._keeping, f"nagsched_{name}")
                 function.argtypes, function.restype = arguments, ctypes.c_uint32
                 setattr(self, name, function)
         except (OSError, AttributeError) as why:
@@ -351,9 +375,9 @@ def _must(status: int, what: str) -> None:
         raise ERRORS[Result(status)](what)
 
 
-def _text(function: typing.Callable[..., int], *given: object) -> str:
-    """A text that the library writes into a buffer, which grows to the length that is told."""
-    room, length = 1024, _SIZE(0)
+def _bytes(room: int, function: typing.Callable[..., int], *given: object) -> bytes:
+    """What the library writes into a buffer of `room` bytes, which grows to the length that the library says."""
+    length = _SIZE(0)
     while True:
         buffer = ctypes.create_string_buffer(room)
         status = function(*given, buffer, room, ctypes.byref(length))
@@ -361,7 +385,19 @@ def _text(function: typing.Callable[..., int], *given: object) -> str:
             room = length.value
             continue
         _must(status, "no such text")
-        return buffer.raw[: length.value].decode()
+        return buffer.raw[: length.value]
+
+
+def _text(function: typing.Callable[..., int], *given: object) -> str:
+    """A text that the library writes into a buffer."""
+    return _bytes(1024, function, *given).decode()
+
+
+def _refused(refusal: _Refusal) -> Refused:
+    """The error of a refusal, with its line."""
+    index = refusal.index if refusal.has_index else None
+    line = _text(_LIBRARY.refusal_text, refusal).rstrip("\n")
+    return Refused(line, Refusal(RefusalKind(refusal.kind), Part(refusal.part), index))
 
 
 def _standing_of(struct: _Standing) -> Standing:
@@ -498,9 +534,7 @@ class Setup(_Named):
         handle, refusal = _Handle(), _Refusal()
         status = _LIBRARY.read(written, len(written), handle, refusal)
         if status == Result.REFUSED:
-            index = refusal.index if refusal.has_index else None
-            told = _text(_LIBRARY.refusal_text, refusal).rstrip("\n")
-            raise Refused(told, Refusal(RefusalKind(refusal.kind), Part(refusal.part), index))
+            raise _refused(refusal)
         _must(status, "the setup wasn't read")
         super().__init__(handle)
 
@@ -508,6 +542,22 @@ class Setup(_Named):
         """Opens a desk with so many passes, which has the setup then. Scheduling starts at the moment `start`; memory is
         taken for `room` entries, and for more as they come. Each pass has `calls` calls, 2**32 - 1 where none are named."""
         return self._opened(start, room, passes, calls)
+
+    def resume(self, saved: str | bytes, start: int, room: int = 1000) -> Book:
+        """A book that goes on from what `Book.save` gave, over this setup, which may be another one than it was saved under. The book
+        has the setup then. `start`, in milliseconds, is the present moment: an object that wasn't saved is first checked from then on.
+        Memory is taken for `room` entries, and for more as they come. A check that was out is still out, under its run's number.
+
+        Raises Refused, with the refusal, where `saved` is no saved state, NoMemory, and Wrong where `start` is above 2**60 or the setup
+        is in use or was used up. In each case the setup stays as it is. Other threads of Python go on meanwhile."""
+        written = saved.encode() if isinstance(saved, str) else bytes(memoryview(saved))
+        handle, refusal = _Handle(), _Refusal()
+        with _Alone(self._busy):
+            status = _LIBRARY.resume(self._handle, written, len(written), _u64(start), _u64(room), handle, refusal)
+        if status == Result.REFUSED:
+            raise _refused(refusal)
+        _must(status, "no book goes on")
+        return Book(handle)
 
 
 class Pass(_Named):
@@ -591,6 +641,29 @@ class Book(_Named, _Entries):
         handle = _Handle()
         self._call(_LIBRARY.renew, "the book can't be renewed", _u64(room), handle)
         return History(handle)
+
+    def save(self) -> bytes:
+        """The saved state of the scheduler, for `Setup.resume`: one line of JSON, without a line feed, of at most 16 MiB. It has all that
+        the scheduler knows, without the setup and the entries. The book stays as it is, and can be renewed or opened.
+
+        Raises NoMemory, and Wrong where the book is in use or was used up. Other threads of Python go on meanwhile."""
+        room = 512 * (self.objects + 1)
+        with _Alone(self._busy):
+            return _bytes(room, _LIBRARY.save, self._handle)
+
+    def running(self, object: int) -> Run | None:
+        """The check of this object that is out, or None. It is read from the book's present state, not from its entries."""
+        number, start = _U64(), _U64()
+        try:
+            self._call(_LIBRARY.running, f"no object {object}", _u32(object), ctypes.byref(number), ctypes.byref(start))
+        except Missing:
+            return None
+        return Run(number.value, start.value)
+
+    def all_running(self) -> dict[int, Run]:
+        """All checks that are out, by the numbers of their objects."""
+        runs = ((object, self.running(object)) for object in range(self.objects))
+        return {object: run for object, run in runs if run is not None}
 
     def open(self, passes: int = 1, *, calls: int | None = None) -> Desk:
         """Opens a desk on a book without entries."""

@@ -28,6 +28,9 @@ static void names(void) {
     ARE_FROM(0, NAGSCHED_REFUSAL_TOO_LONG, NAGSCHED_REFUSAL_NOT_JSON, NAGSCHED_REFUSAL_SHAPE, NAGSCHED_REFUSAL_TOO_MANY, NAGSCHED_REFUSAL_BAD_NAME,
              NAGSCHED_REFUSAL_DUPLICATE, NAGSCHED_REFUSAL_UNKNOWN_HOST, NAGSCHED_REFUSAL_UNKNOWN_MASTER, NAGSCHED_REFUSAL_RANGE,
              NAGSCHED_REFUSAL_DEPENDENCY_CYCLE, NAGSCHED_REFUSAL_PARENT_CYCLE);
+    ARE_FROM(11, NAGSCHED_REFUSAL_SAVED_TOO_LONG, NAGSCHED_REFUSAL_SAVED_NOT_JSON, NAGSCHED_REFUSAL_SAVED_VERSION, NAGSCHED_REFUSAL_SAVED_SHAPE,
+             NAGSCHED_REFUSAL_SAVED_TOO_MANY, NAGSCHED_REFUSAL_SAVED_BAD_NAME, NAGSCHED_REFUSAL_SAVED_DUPLICATE, NAGSCHED_REFUSAL_SAVED_RANGE,
+             NAGSCHED_REFUSAL_SAVED_UNLAWFUL);
     ARE_FROM(0, NAGSCHED_PART_NONE, NAGSCHED_PART_DOCUMENT, NAGSCHED_PART_OPTIONS, NAGSCHED_PART_HOSTS, NAGSCHED_PART_SERVICES,
              NAGSCHED_PART_SERVICE_DEPENDENCIES, NAGSCHED_PART_HOST_DEPENDENCIES);
 }
@@ -91,11 +94,31 @@ static void refusals(void) {
         is_line(nagsched_refusal_text(&refusal, text, sizeof text, &length), text, &length, line);
     }
     length = 77;
-    for (uint32_t kind = 11; kind < 13; kind++) {
+    for (uint32_t kind = 20; kind < 22; kind++) {
         const struct nagsched_refusal none = {kind, 0, 0, 0};
         memset(text, 'x', sizeof text);
         GIVES(WRONG, nagsched_refusal_text(&none, text, sizeof text, &length));
         IS(length == 77 && memchr(text, 'r', sizeof text) == NULL);
+    }
+}
+
+/* Each refusal of a saved state, 11 to 19, with an index and without. */
+static void saved_refusals(void) {
+    const char *const kinds[] = {"K1 TooLong", "K2 NotJson", "K3 Version", "K4 Shape 7", "K5 TooMany", "K6 BadName 7", "K7 Duplicate 7", "K8 Range 7",
+                                 "K9 Unlawful 7"};
+    uint8_t text[80];
+    char line[80];
+    size_t length = 0;
+    for (uint32_t kind = 11; kind < 20; kind++) {
+        const int has_index = strstr(kinds[kind - 11], " 7") != NULL, may_lack = kind == 14 || kind == 18 || !has_index;
+        const struct nagsched_refusal at = {kind, 0, 1, 7}, whole = {kind, 0, 0, 0}, of_part = {kind, 3, has_index, has_index ? 7 : 0};
+        snprintf(line, sizeof line, "refused %s\n", kinds[kind - 11]);
+        if (has_index) is_line(nagsched_refusal_text(&at, text, sizeof text, &length), text, &length, line);
+        else GIVES(WRONG, nagsched_refusal_text(&at, text, sizeof text, &length));
+        if (has_index) strcpy(strstr(line, " 7"), "\n");
+        if (may_lack) is_line(nagsched_refusal_text(&whole, text, sizeof text, &length), text, &length, line);
+        else GIVES(WRONG, nagsched_refusal_text(&whole, text, sizeof text, &length));
+        GIVES(WRONG, nagsched_refusal_text(&of_part, text, sizeof text, &length));
     }
 }
 
@@ -212,6 +235,7 @@ int main(void) {
     replies();
     standings();
     refusals();
+    saved_refusals();
     documents();
     sizes();
     calls();

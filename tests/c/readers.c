@@ -89,6 +89,22 @@ static int kept(const struct nagsched_handle *of, const struct nagsched_handle *
     return right + is_text(nagsched_entry_text(names, &entry, text, sizeof text, &length), text, &length, line);
 }
 
+/* Whether no check is out. */
+static int running(const struct nagsched_handle *of) {
+    uint64_t run = 9, begun = 9;
+    return nagsched_running(of, 1, &run, &begun) == NAGSCHED_MISSING && run == 9 && begun == 9;
+}
+
+/* Whether what is saved is what was saved before. */
+static int is_saved(const struct nagsched_handle *of) {
+    static uint8_t before[1024];
+    static size_t length_before;
+    uint8_t text[1024];
+    size_t length = 0;
+    if (!is_sealed) return nagsched_save(of, before, sizeof before, &length_before) == NAGSCHED_OK;
+    return nagsched_save(of, text, sizeof text, &length) == NAGSCHED_OK && length == length_before && memcmp(text, before, length) == 0;
+}
+
 /* One round of a thread's reads, of which so many are right. */
 static int round_of(uint64_t index) {
     struct nagsched_reply reply = {.kind = NAGSCHED_REPLY_DONE};
@@ -99,11 +115,12 @@ static int round_of(uint64_t index) {
     int right = named(&sealed->setup) + named(&sealed->caller) + named(&sealed->book);
     right += kept(&sealed->book, &sealed->setup, index) + kept(&sealed->history, &sealed->caller, index);
     right += nagsched_refused(&sealed->book, &refused) == NAGSCHED_OK && refused == 0;
+    right += running(&sealed->book) && is_saved(&sealed->book);
     right += nagsched_refused(&sealed->setup, &refused) == NAGSCHED_WRONG && nagsched_count(&sealed->history, NULL, NULL) == NAGSCHED_WRONG;
     return right + is_text(nagsched_reply_text(&sealed->book, &call, &reply, text, sizeof text, &length), text, &length, "done h;s\n");
 }
 
-enum { READS = 3 * 4 + 2 * 4 + 3 };
+enum { READS = 3 * 4 + 2 * 4 + 4 };
 
 static void *read_often(void *given) {
     pthread_barrier_wait(&start);

@@ -1,5 +1,5 @@
 /* Refuses each request for memory in turn, through the whole life of a desk: read, opened, asked past its room, gathered,
- * closed, told as text, renewed, opened again, freed.
+ * closed, told as text, renewed, opened again, saved, gone on from over a setup, freed.
  *
  * Linked with -Wl,--wrap=malloc,--wrap=realloc,--wrap=free, so that each request and each block is counted. A function that is
  * refused memory says so, leaves all handles and blocks as they were, and does the same again as if nothing had been. So
@@ -47,7 +47,7 @@ static const char TWICE[] = "{\"hosts\":[{\"name\":\"h\",\"max_check_attempts\":
 
 /* All that a life has. */
 static struct {
-    struct nagsched_handle setup, first[CALLERS], history, second[CALLERS];
+    struct nagsched_handle setup, first[CALLERS], history, second[CALLERS], again, resumed;
     struct nagsched_refusal refusal;
 } has, had;
 static long unmade, uncounted;
@@ -138,6 +138,28 @@ static void close_desk(struct nagsched_handle *callers) {
     uncounted = 0;
 }
 
+/* Saves a book, and goes on from what was saved over a setup of the same document: the book that goes on saves to the same. What is no
+ * saved state is refused. */
+static void save(const struct nagsched_handle *book) {
+    uint8_t text[2048], again[2048];
+    size_t length = 0, length_again = 0;
+    uint32_t status;
+    uint64_t run = 0, start = 0;
+    OK(nagsched_save(book, text, sizeof text, &length));
+    keep(text, length);
+    OK(nagsched_read((const uint8_t *)NETWORK, strlen(NETWORK), &has.again, &has.refusal));
+    AGAIN(status, nagsched_resume(&has.again, text, length - 1, 0, 5, &has.resumed, &has.refusal));
+    IS(status == NAGSCHED_REFUSED && has.refusal.kind == NAGSCHED_REFUSAL_SAVED_NOT_JSON);
+    OK(nagsched_refusal_text(&has.refusal, again, sizeof again, &length_again));
+    keep(again, length_again);
+    OK(nagsched_resume(&has.again, text, length, 0, 5, &has.resumed, &has.refusal));
+    OK(nagsched_save(&has.resumed, again, sizeof again, &length_again));
+    IS(length_again == length && memcmp(text, again, length) == 0);
+    AGAIN(status, nagsched_running(&has.resumed, 0, &run, &start));
+    IS(status == NAGSCHED_MISSING);
+    OK(nagsched_free(&has.resumed));
+}
+
 /* The whole life of a desk, with this request for memory refused, or none. */
 static void live(long refused_request) {
     uint8_t text[64];
@@ -165,6 +187,7 @@ static void live(long refused_request) {
     ask(has.second, MINUTES);
     close_desk(has.second);
     tell(has.second, has.second);
+    save(has.second);
     OK(nagsched_free(has.second));
     IS(blocks == 0);
 }

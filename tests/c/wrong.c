@@ -18,11 +18,15 @@ static struct everything {
     struct nagsched_standing standing;
     struct nagsched_call call;
     struct nagsched_entry entry;
-    uint64_t count;
+    uint64_t count, run;
     uint32_t number, hosts;
     size_t length;
     uint8_t text[64];
 } it, was;
+
+/* What was saved of a book. */
+static uint8_t saved[1024];
+static size_t saved_length;
 
 /* The two callers of one desk. */
 #define MINE (&it.of_desk[0])
@@ -90,7 +94,9 @@ static void readings(void) {
 static void texts(void) {
     struct nagsched_refusal refused = {NAGSCHED_REFUSAL_DUPLICATE, NAGSCHED_PART_HOSTS, 1, 1}, none = refused;
     const size_t length = strlen("refused L5 Duplicate hosts 1\n"), taken = strlen("taken 1 h\n");
-    none.kind = NAGSCHED_REFUSAL_PARENT_CYCLE + 1;
+    none.kind = NAGSCHED_REFUSAL_SAVED_UNLAWFUL + 1;
+    WRONG(nagsched_refusal_text(&none, it.text, sizeof it.text, &it.length));
+    none.kind = NAGSCHED_REFUSAL_SAVED_DUPLICATE;
     WRONG(nagsched_refusal_text(&none, it.text, sizeof it.text, &it.length));
     none = refused, none.part = NAGSCHED_PART_HOST_DEPENDENCIES + 1;
     WRONG(nagsched_refusal_text(&none, it.text, sizeof it.text, &it.length));
@@ -152,6 +158,37 @@ static void openings(void) {
     memcpy(&was, &it, sizeof it);
     GIVES(NO_MEMORY, nagsched_open(&it.setup, 0, SIZE_MAX, it.two, 2));
     GIVES(NO_MEMORY, nagsched_renew(&it.book, SIZE_MAX, &it.empty));
+    IS(memcmp(&was, &it, sizeof it) == 0);
+}
+
+/* States that can't be saved or gone on from, and checks that can't be out. */
+static void savings(void) {
+    const uint8_t *document = (const uint8_t *)SETUP;
+    NOT_BY(nagsched_save, &it.setup, it.text, sizeof it.text, &it.length);
+    WRONG(nagsched_save(MINE, it.text, sizeof it.text, &it.length));
+    WRONG(nagsched_save(&it.history, it.text, sizeof it.text, &it.length));
+    GIVES(OK, nagsched_save(&it.book, saved, sizeof saved, &saved_length));
+    NO_ROOM(saved_length, nagsched_save(&it.book, it.text, sizeof it.text, &it.length));
+    NO_ROOM(saved_length, nagsched_save(&it.book, it.text, 0, &it.length));
+    NOT_BY(nagsched_resume, MINE, saved, saved_length, 0, 0, &it.two[0], &it.refusal);
+    WRONG(nagsched_resume(&it.book, saved, saved_length, 0, 0, &it.two[0], &it.refusal));
+    WRONG(nagsched_resume(&it.history, saved, saved_length, 0, 0, &it.two[0], &it.refusal));
+    WRONG(nagsched_resume(&it.setup, saved, saved_length, LATEST + 1, 0, &it.two[0], &it.refusal));
+    WRONG(nagsched_resume(&it.setup, saved, saved_length, 0, 0, &it.book, &it.refusal));
+    WRONG(nagsched_resume(&it.setup, saved, saved_length, 0, 0, MINE, &it.refusal));
+    memcpy(&was, &it, sizeof it);
+    GIVES(NO_MEMORY, nagsched_resume(&it.setup, saved, saved_length, 0, SIZE_MAX, &it.two[0], &it.refusal));
+    IS(memcmp(&was, &it, sizeof it) == 0);
+    GIVES(REFUSED, nagsched_resume(&it.setup, document, strlen(SETUP), 0, 0, &it.two[0], &it.refusal));
+    IS(it.refusal.kind == NAGSCHED_REFUSAL_SAVED_SHAPE && it.refusal.part == NAGSCHED_PART_NONE && it.refusal.has_index == 0);
+    it.refusal = was.refusal;
+    IS(memcmp(&was, &it, sizeof it) == 0);
+    NOT_BY(nagsched_running, &it.setup, 0, &it.count, &it.run);
+    WRONG(nagsched_running(MINE, 0, &it.count, &it.run));
+    WRONG(nagsched_running(&it.book, 2, &it.count, &it.run));
+    WRONG(nagsched_running(&it.book, UINT32_MAX, &it.count, &it.run));
+    memcpy(&was, &it, sizeof it);
+    GIVES(MISSING, nagsched_running(&it.book, 0, &it.count, &it.run));
     IS(memcmp(&was, &it, sizeof it) == 0);
 }
 
@@ -240,11 +277,26 @@ static void no_handles(void) {
     WRONG(nagsched_renew(&it.book, 0, NULL));
 }
 
+static void no_savings(void) {
+    NO_TEXT(nagsched_save, &it.book);
+    WRONG(nagsched_save(NULL, it.text, sizeof it.text, &it.length));
+    WRONG(nagsched_resume(NULL, saved, saved_length, 0, 0, &it.empty, &it.refusal));
+    WRONG(nagsched_resume(&it.setup, NULL, saved_length, 0, 0, &it.empty, &it.refusal));
+    WRONG(nagsched_resume(&it.setup, NULL, 0, 0, 0, &it.empty, &it.refusal));
+    WRONG(nagsched_resume(&it.setup, saved, saved_length, 0, 0, NULL, &it.refusal));
+    WRONG(nagsched_resume(&it.setup, saved, saved_length, 0, 0, &it.empty, NULL));
+    WRONG(nagsched_running(NULL, 0, &it.count, &it.run));
+    WRONG(nagsched_running(&it.book, 0, NULL, &it.run));
+    WRONG(nagsched_running(&it.book, 0, &it.count, NULL));
+}
+
 /* One pointer given for two things. A setup that lies beside the callers' handles is none of them. */
 static void one_for_two(void) {
     WRONG(nagsched_count(&it.setup, &it.number, &it.number));
     WRONG(nagsched_gather(MINE, MINE));
     WRONG(nagsched_renew(&it.book, 0, &it.book));
+    WRONG(nagsched_resume(&it.setup, saved, saved_length, 0, 0, &it.setup, &it.refusal));
+    WRONG(nagsched_running(&it.book, 0, &it.count, &it.count));
     WRONG(nagsched_open(&it.setup, 0, 0, &it.setup, 1));
     WRONG(nagsched_open_with(&it.setup, 0, 0, 1, &it.setup, 1));
     for (size_t source = 0; source < 2; source++) {
@@ -265,6 +317,7 @@ static void pointers(void) {
     no_names();
     no_calls();
     no_handles();
+    no_savings();
     one_for_two();
 }
 
@@ -430,6 +483,7 @@ int main(void) {
     texts();
     names();
     openings();
+    savings();
     pointers();
     calls(&it.setup);
     calls(&it.book);

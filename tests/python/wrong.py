@@ -83,13 +83,38 @@ def calls(desk):
     is_so("the history", [entry.call.kind.name for entry in book] == ["TAKE", "STATUS"] and book.refused == 0)
     raises(Wrong, book.text, book[0]._replace(caller=-1))
     raises(Wrong, book.text, book[0]._replace(reply=nagsched.Reply(len(ReplyKind))))
+    savings(book)
     history = book.renew()
     is_so("a history that is kept", (len(history), len(book)) == (2, 0))
     book.free()
     raises(Wrong, book.renew)
+    raises(Wrong, book.save)
+    raises(Wrong, book.running, 0)
     raises(Wrong, len, book)
     history.free()
     raises(Wrong, len, history)
+
+
+def savings(book):
+    """A book is saved and asked for checks that are out; what is no saved state is refused, and its setup stays."""
+    raises(Wrong, book.running, 2)
+    raises(Wrong, book.running, -1)
+    raises(TypeError, book.running, "h")
+    saved, setup = book.save(), nagsched.Setup(SETUP)
+    with book._busy:
+        raises(Wrong, book.save)
+    raises(Wrong, setup.resume, saved, -1)
+    raises(Wrong, setup.resume, saved, LATEST + 1)
+    raises(TypeError, setup.resume, 5, 0)
+    raises(nagsched.NoMemory, setup.resume, saved, 0, (1 << 64) - 1)
+    try:
+        setup.resume(b'{"format":1,"objects":[5],"runs":0,"start":0}', 0)
+    except Refused as why:
+        wanted = nagsched.Refusal(nagsched.RefusalKind.SAVED_SHAPE, nagsched.Part.NONE, 0)
+        is_so("a refusal of a saved state", (why.refusal, str(why)) == (wanted, "refused K4 Shape 0"))
+    raises(Refused, setup.resume, saved[:-1], 0)
+    setup.resume(saved, 0).free()
+    raises(Wrong, setup.resume, saved, 0)
 
 
 def spent():

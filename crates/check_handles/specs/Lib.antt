@@ -10,3 +10,4 @@ pub mod Joining
 pub mod Closing
 pub mod Glances
 pub mod Histories
+pub mod Resuming

@@ -7,7 +7,8 @@
 //!
 //! The modules: `handle` has the handle, `raw` and `unboxed` the address in it, `lodged` what it leads to,
 //! `shared`, `caller` and `stage` a caller of a desk. `reading` makes a setup, `opening` the callers of a
-//! desk; `closing` puts callers together, ends a desk, and goes on with a book.
+//! desk; `closing` puts callers together, ends a desk, and goes on with a book; `resuming` makes the book
+//! that goes on from a saved state.
 
 mod caller;
 pub mod closing;
@@ -16,6 +17,7 @@ mod lodged;
 pub mod opening;
 mod raw;
 pub mod reading;
+pub mod resuming;
 mod shared;
 mod stage;
 mod unboxed;

@@ -4,7 +4,8 @@
 use check_book::Book;
 use check_book::laws::{board_shows_standings, generations, histories, replies};
 use check_objects::Setup;
-use check_sched::{Call, Reply};
+use check_rules::Code;
+use check_sched::{Call, Reply, Saved};
 use std::alloc::{AllocError, Global};
 use std::mem::size_of;
 use std::process::Abort;
@@ -22,6 +23,47 @@ fn a_book_gives_its_setup_back(rt: HostRuntime) -> Result<(), Fail> {
     let taken = book.record(1, Call::Take { now: 0 }).ok();
     assert_eq!(rt; taken, Some(Reply::Taken { object: 0, run: 1 }));
     assert_eq!(rt; book.into_setup().len(), 1);
+    Ok(())
+}
+
+/// Two hosts, each due at the start.
+const TWO_HOSTS: &[u8] =
+    br#"{"options":{"host_inter_check_delay_method":"n"},"hosts":[{"name":"a","max_check_attempts":3},{"name":"b","max_check_attempts":3}]}"#;
+
+/// What is saved of a book over those hosts in which the first was taken.
+fn saved_book(alloc: Global) -> Result<Saved, Fail> {
+    let setup = Setup::read(alloc, TWO_HOSTS)?;
+    let mut book = Book::open(alloc, setup, 0, 4).ok().ok_or("no memory")?;
+    book.record(1, Call::Take { now: 0 }).ok();
+    Ok(book.save(alloc)?)
+}
+
+/// A book that goes on from what is saved.
+fn resumed_book(alloc: Global, saved: &Saved, room: usize) -> Result<Book, Fail> {
+    let setup = Setup::read(alloc, TWO_HOSTS)?;
+    Ok(
+        Book::resume(alloc, setup, saved, 1000, room)
+            .ok()
+            .ok_or("no memory")?,
+    )
+}
+
+/// A book that is put down goes on in another, without entries: the run that was out is reported under
+/// its number, and the next one has the next.
+#[test]
+fn a_book_goes_on(rt: HostRuntime) -> Result<(), Fail> {
+    let saved = saved_book(rt.alloc())?;
+    let mut book = resumed_book(rt.alloc(), &saved, 2)?;
+    assert!(rt; book.entries().is_empty());
+    assert_eq!(rt; book.room(), 2);
+    let report = Call::Report {
+        object: 0,
+        run: 1,
+        code: Code::Ok,
+    };
+    assert!(rt; matches!(book.record(1, report).ok(), Some(Reply::Standing { .. })));
+    let taken = book.record(2, Call::Take { now: 0 }).ok();
+    assert_eq!(rt; taken, Some(Reply::Taken { object: 1, run: 2 }));
     Ok(())
 }
 

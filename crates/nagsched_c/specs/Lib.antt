@@ -5,4 +5,6 @@ pub mod Opening
 pub mod Closing
 pub mod Glances
 pub mod Histories
+pub mod FaultText
 pub mod Texts
+pub mod Saving

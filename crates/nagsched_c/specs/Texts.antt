@@ -7,6 +7,8 @@ use Rattle.check_objects.specs.Configuration.{Configuration}
 use Rattle.check_sched.specs.declared.call.Call.{Call}
 use Rattle.check_sched.specs.declared.call.Reply.{Reply}
 use Rattle.check_script.specs.declared.refusal.InputRefusal.TheVariants as refusal
+use Rattle.check_saved.specs.declared.fault.SavedFault.{SavedFault}
+use Rattle.check_saved.specs.declared.fault.SavedFault.TheVariants as fault
 use Rattle.check_text.specs.Text.{entry_line, refusal_line, reply_line}
 use Rattle.check_records.specs.declared.plain.PlainCall.{PlainCall}
 use Rattle.check_records.specs.declared.plain.PlainEntry.{PlainEntry}
@@ -14,6 +16,8 @@ use Rattle.check_records.specs.declared.plain.PlainRefusal.{PlainRefusal}
 use Rattle.check_records.specs.declared.plain.PlainReply.{PlainReply}
 use Rattle.nagsched_c.specs.Names.{IsPut}
 use Rattle.check_records.specs.Plain.{plain_call, plain_entry, plain_refusal, plain_reply}
+use Rattle.check_records.specs.SavedFaults.{plain_fault, IsNoFault}
+use Rattle.nagsched_c.specs.FaultText.{saved_refusal_line}
 use Rattle.check_records.specs.Plain.{IsNoCall, IsNoEntry, IsNoRefusal, IsNoReply}
 
 -- nothing was written, and the status tells why
@@ -24,12 +28,14 @@ IsUntold why room before status after bytes = (status ≡ why) × (after ≡ roo
 abbrev pub IsTold : List ℕ → List ℕ → ℕ → ℕ → List ℕ → ℕ → Type 0
 IsTold line room before status after bytes = IsPut line room status after bytes ⊎ IsUntold 3 room before status after bytes
 
--- the line of the refusal with this struct was told; or no document is refused so, as for want of memory, and nothing was written
+-- the line of the refusal with this struct was written, of a document or of a saved state; or none is refused so, as where memory is lacking,
+-- and nothing was written
 abbrev pub HasRefusalText : PlainRefusal → List ℕ → ℕ → ℕ → List ℕ → ℕ → Type 0
 HasRefusalText told room before status after bytes =
     ((error : LoadError) × (error ≢ load.Memory) × (plain_refusal error ≡ told)
     × IsTold (refusal_line (refusal.Setup error)) room before status after bytes)
-    ⊎ (IsUntold 6 room before status after bytes × IsNoRefusal told)
+    ⊎ (((why : SavedFault) × (why ≢ fault.Memory) × (plain_fault why ≡ told) × IsTold (saved_refusal_line why) room before status after bytes)
+    ⊎ (IsUntold 6 room before status after bytes × IsNoRefusal told × IsNoFault told))
 
 -- the line of the reply with this struct, to the call with this struct, was told; or no call or no reply has its struct
 abbrev pub HasReplyText : Configuration → PlainCall → PlainReply → List ℕ → ℕ → ℕ → List ℕ → ℕ → Type 0

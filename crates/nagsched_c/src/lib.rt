@@ -9,24 +9,27 @@
 //!
 //! The modules: `status` has what each function gives. The functions are in `reading` (a setup, and giving
 //! up), `naming` (objects), `opening` (a desk), `calls` (the six calls), `glancing`, `closing` (callers put
-//! together, a desk ended, a book gone on with), `history` and `texts`.
+//! together, a desk ended, a book gone on with), `saving` (states saved and gone on from, checks that are
+//! out), `history` and `texts`; `fault_text` has the line of a saved state's refusal.
 
 ghost use Rattle.std.specs.Prelude.{◌≡◌};
 
 mod calls;
 mod closing;
+mod fault_text;
 mod glancing;
 mod history;
 mod naming;
 mod opening;
 mod reading;
+mod saving;
 mod status;
 mod texts;
 
 /// The number of the surface that `nagsched.h` describes.
 #[unsafe(no_mangle)]
 pub extern "C" fn nagsched_version() -> u32
-    ensures { result ≡ 1 }
+    ensures { result ≡ 2 }
 {
-    1
+    2
 }

@@ -1,0 +1,190 @@
+//! What is saved of a book's scheduler, a book that goes on from it, and the checks that are out.
+
+ghost use Rattle.std.specs.Prelude.{◌≡◌, ◌≢◌, ◌⊎◌, ◌↔◌, ◌≤◌};
+ghost use Rattle.check_book.specs.Books.{sched_of};
+ghost use Rattle.check_handles.specs.Handles.{contents_of};
+ghost use Rattle.check_handles.specs.Resuming.{IsSetup};
+ghost use Rattle.nagsched_c.specs.Histories.{MatchKept};
+ghost use Rattle.nagsched_c.specs.Texts.{IsUntold};
+ghost use Rattle.nagsched_c.specs.Saving.{sched_in, HasResumedFrom, HasRun, HasSavedText, IsFaultOf, IsLeft, IsLeftIn, IsResumedFrom, MayResume};
+
+use crate::naming::put;
+use crate::status::{MISSING, NO_MEMORY, OK, REFUSED, WRONG};
+use check_book::Book;
+use check_handles::resuming::{is_setup, resume};
+use check_handles::{Handle, Lodged};
+use check_records::{PlainRefusal, plain_fault};
+use check_saved::{Saved, SavedFault};
+use check_sched::{LAST_MOMENT, Sched};
+use std::alloc::Global;
+
+/// The text of what is saved of a book's scheduler, into the room at `text`; `bytes` is its length, at
+/// most 16,777,216. It is one line of JSON, without a line feed.
+///
+/// Wrong, exactly where the handle has no book, or where the text is longer than the room: nothing is
+/// written then, but in the last case its length. Where memory is refused nothing is written.
+#[unsafe(no_mangle)]
+pub extern "C" fn nagsched_save(
+    alloc: Global,
+    book: &mut Handle,
+    text: &mut [u8],
+    bytes: &mut usize,
+) -> u32
+    ensures handle { contents_of book.new ≡ contents_of book.old }
+    ensures told { MatchKept (sched_in (contents_of book.old))
+        (λ sched. HasSavedText sched text.old bytes.old result text.new bytes.new)
+        (IsUntold 6 text.old bytes.old result text.new bytes.new) }
+{
+    let Some(lodged) = book.take(alloc) else {
+        return WRONG;
+    };
+    let status = match &*lodged {
+        Lodged::Book(ledger) => put_saved(alloc, &ledger.book, text, bytes),
+        _ => WRONG,
+    };
+    *book = Handle::of(lodged);
+    status
+}
+
+/// Puts the text of what is saved of a book's scheduler.
+fn put_saved(alloc: Global, book: &Book, text: &mut [u8], bytes: &mut usize) -> u32
+    ensures { HasSavedText (sched_of book.now) text.old bytes.old result text.new bytes.new }
+{
+    let Ok(saved) = book.save(alloc) else {
+        return NO_MEMORY;
+    };
+    match saved.write(alloc) {
+        Ok(line) => put(line.as_slice(), text, bytes),
+        Err(_) => NO_MEMORY,
+    }
+}
+
+/// Makes the book that goes on over a setup from what a text says was saved, from the moment `start` on,
+/// at most 2^60, with memory for `room` entries at once. It has no entries. The setup's handle is empty
+/// then.
+///
+/// Refused, where the text is no saved state: the struct says why and where. Wrong, exactly where the
+/// first handle has no setup, the other isn't empty, or the start is later. Where memory is refused the
+/// status says so; nothing is known of the text. But where a book was made the handles are as they were,
+/// and but for a refusal the struct is.
+#[unsafe(no_mangle)]
+pub extern "C" fn nagsched_resume(
+    alloc: Global,
+    setup: &mut Handle,
+    text: &[u8],
+    start: u64,
+    room: usize,
+    book: &mut Handle,
+    refusal: &mut PlainRefusal,
+) -> u32
+    ensures status { (result ≡ 0) ⊎ ((result ≡ 3) ⊎ ((result ≡ 4) ⊎ (result ≡ 6))) }
+    ensures wrong { (result ≡ 6)
+        ↔ (MayResume start (contents_of setup.old) (contents_of book.old) → ⊥) }
+    ensures resumed { result ≡ 0 → HasResumedFrom start room text.now (contents_of setup.old)
+        (contents_of setup.new) (contents_of book.new) }
+    ensures refused { result ≡ 4 → IsFaultOf text.now refusal.new }
+    ensures setup { result ≢ 0 → IsLeftIn (contents_of setup.old) (contents_of setup.new) }
+    ensures book { result ≢ 0 → contents_of book.new ≡ contents_of book.old }
+    ensures refusal { result ≢ 4 → refusal.new ≡ refusal.old }
+{
+    if !book.is_empty() {
+        return WRONG;
+    }
+    if LAST_MOMENT < start {
+        return WRONG;
+    }
+    let Some(mut lodged) = setup.take(alloc) else {
+        return WRONG;
+    };
+    if !is_setup(&lodged) {
+        *setup = Handle::of(lodged);
+        return WRONG;
+    }
+    let status = go_on(alloc, &mut lodged, text, start, room, refusal);
+    if status == OK {
+        *book = Handle::of(lodged);
+        OK
+    } else {
+        *setup = Handle::of(lodged);
+        status
+    }
+}
+
+/// Makes a setup the book that goes on over it from what the text says, or leaves it.
+fn go_on(
+    alloc: Global,
+    lodged: &mut Lodged,
+    text: &[u8],
+    start: u64,
+    room: usize,
+    refusal: &mut PlainRefusal,
+) -> u32
+    requires setup { IsSetup lodged.old }
+    requires start { start ≤ LAST_MOMENT }
+    ensures status { (result ≡ 0) ⊎ ((result ≡ 3) ⊎ (result ≡ 4)) }
+    ensures resumed { result ≡ 0 → IsResumedFrom start room text.now lodged.old lodged.new }
+    ensures refused { result ≡ 4 → IsFaultOf text.now refusal.new }
+    ensures left { result ≢ 0 → IsLeft lodged.old lodged.new }
+    ensures refusal { result ≢ 4 → refusal.new ≡ refusal.old }
+{
+    match Saved::read(alloc, text) {
+        Ok(saved) => {
+            if resume(alloc, lodged, &saved, start, room) {
+                OK
+            } else {
+                NO_MEMORY
+            }
+        }
+        Err(SavedFault::Memory) => NO_MEMORY,
+        Err(fault) => {
+            *refusal = plain_fault(fault);
+            REFUSED
+        }
+    }
+}
+
+/// The check of an object of a book that is out: the number of its run, and the moment at which it was
+/// handed out, in milliseconds.
+///
+/// Missing, exactly where the object isn't being checked; wrong, exactly where the handle has no book or
+/// the book no object of this number. The two are written only where the check is out.
+#[unsafe(no_mangle)]
+pub extern "C" fn nagsched_running(
+    alloc: Global,
+    book: &mut Handle,
+    object: u32,
+    run: &mut u64,
+    start: &mut u64,
+) -> u32
+    ensures handle { contents_of book.new ≡ contents_of book.old }
+    ensures told { MatchKept (sched_in (contents_of book.old))
+        (λ sched. HasRun sched object run.old start.old result run.new start.new)
+        ((result ≡ 6) × (run.new ≡ run.old) × (start.new ≡ start.old)) }
+{
+    let Some(lodged) = book.take(alloc) else {
+        return WRONG;
+    };
+    let status = match &*lodged {
+        Lodged::Book(ledger) => tell_run(ledger.book.sched(), object, run, start),
+        _ => WRONG,
+    };
+    *book = Handle::of(lodged);
+    status
+}
+
+/// Writes the run of the object's check and its moment, where it is out.
+fn tell_run(sched: &Sched, object: u32, run: &mut u64, start: &mut u64) -> u32
+    ensures { HasRun sched.now object run.old start.old result run.new start.new }
+{
+    if sched.setup().len() <= object as usize {
+        return WRONG;
+    }
+    match sched.open_run(object) {
+        Some(found) => {
+            *run = found.number;
+            *start = found.start;
+            OK
+        }
+        None => MISSING,
+    }
+}
