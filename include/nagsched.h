@@ -13,21 +13,30 @@
  *     nagsched_close(&callers[0]);                          now it is a book, with the history
  *     nagsched_free(&callers[0]);
  *
- * Times are in milliseconds of a clock that the caller chooses: 0 to 2^60.
+ * Moments and times are milliseconds of one clock that the caller chooses, 0 to 2^60; a next check may be as late as 2^61.
  *
- * Every function gives a status. Texts come in by pointer and length, and go out into a buffer of the
- * caller's: they have no zero at their end. No pointer may be NULL, that of an empty text or buffer neither, and
- * none may be given for two things of one type, as one handle for two: WRONG.
+ * Every function except nagsched_version returns a status (enum nagsched_result) and writes its results through pointers. Texts come in
+ * by pointer and length, and go out into a buffer of the caller's: they have no zero at their end. No pointer may be NULL, even for an
+ * empty text or buffer, and one call may not get the same pointer for two arguments of one type: WRONG. What is written stays good for
+ * as long as the caller keeps it: no function returns memory of its own.
  *
- * The caller keeps what no call can see:
+ * Which calls may run at the same time:
+ *
+ *     with different handles            any, also of callers of the same desk: that is what a desk is for
+ *     with the same handle, const       any that take it as const, in any number of threads
+ *     with the same handle, otherwise   one at a time; another thread may make the next one if it comes after by a lock, a start or
+ *                                       a join
+ *
+ * The library relies on these rules, which it can't test:
  *   - a handle is zeroed (NAGSCHED_EMPTY) before its first use, and never copied, read or written;
- *   - one call at a time is made with a handle, whichever thread makes it; only calls that all take it as const, which
- *     read it and write nothing of it, may be made with one handle at the same time;
- *   - a call that was answered NAGSCHED_WAIT is made again until it is answered otherwise: its turn stops all others;
- *   - no call is made from a signal handler, or in a child after fork, with a handle from before it;
- *   - what a pointer leads to is as large as its type, or as the length says, and no two pointers of a call lead
- *     to the same memory;
+ *   - calls run at the same time only as above;
+ *   - a try that returned NAGSCHED_WAIT is made again, with the same arguments, until it returns another status: its turn stops all
+ *     others;
+ *   - no call is made from a signal handler, or in a child after fork with a handle from before it;
+ *   - what a pointer leads to is as large as its type, or as the length says, and no two pointers of a call lead to the same memory;
  *   - the process has one allocator (malloc, free) for the whole life of a handle.
+ *
+ * The library starts no thread, never sleeps, opens no file and reads no clock.
  */
 #ifndef NAGSCHED_H
 #define NAGSCHED_H
@@ -40,7 +49,7 @@
 extern "C" {
 #endif
 
-/* The number of this surface. A program asks nagsched_version() once: another number, another header.
+/* The number of this surface. A program compares it once with nagsched_version(): another number, another header.
  *
  * 2 has all that 1 has, and besides nagsched_save, nagsched_resume, nagsched_running and the refusals 11 to 19, which only
  * nagsched_resume gives. A program that was linked with libnagsched.so.1 goes on with that one, and doesn't load libnagsched.so.2;
@@ -55,7 +64,8 @@ struct nagsched_handle {
 
 #define NAGSCHED_EMPTY {0, 0}
 
-/* What each function gives. After each but NAGSCHED_OK and NAGSCHED_WAIT everything is as it was before. */
+/* The statuses. After every status except NAGSCHED_OK and NAGSCHED_WAIT everything is as it was before the call, except for a length that
+ * is written where a buffer is too small. */
 enum nagsched_result {
     NAGSCHED_OK = 0,
     NAGSCHED_WAIT = 1,      /* the turn hasn't come: the same call again */
@@ -185,43 +195,79 @@ struct nagsched_refusal {
     uint64_t index;     /* in the part's list, or in the saved state's list of objects, from 0 */
 };
 
-/* The number of the surface that the library has. */
+/* Returns the number of the surface that the library has: NAGSCHED_VERSION of its own header. It is no status. Any thread, at any time. */
 uint32_t nagsched_version(void);
 
-/* Makes a setup of a JSON document (docs/FORMATS.md), into an empty handle. REFUSED: refusal tells why; it is as it
- * was else. Asks for memory. */
+/* Reads a JSON document (docs/FORMATS.md, "The setup document") of so many bytes, and makes a setup of it in an empty handle. The document
+ * isn't used after the call.
+ *
+ * OK. REFUSED: the document breaks a rule; refusal has the first fault, in the order of docs/FORMATS.md, and nagsched_refusal_text its
+ * line. NO_MEMORY. WRONG: the handle isn't empty. Only REFUSED writes refusal. Allocates; takes longer with more bytes. */
 uint32_t nagsched_read(const uint8_t *document, size_t bytes, struct nagsched_handle *setup, struct nagsched_refusal *refusal);
 
-/* The texts that the program nagsched writes, each with its line feed, into room bytes at text. length is the length
- * of the whole text; where it is above room the status is WRONG and nothing is written but length. Ask for memory.
- * named: a setup, a caller or a book whose objects are meant; one that it doesn't have has no name in the text. A
- * struct that no call gives: WRONG. */
+/* The lines that the program nagsched writes, each with its line feed: of a refusal, of the reply to a call as `run` writes it, and of an
+ * entry as `drill` writes it. They go into room bytes at text, and length is the length of the whole line; 1,024 bytes are enough for each.
+ * named is a setup, a caller (also one that waits) or a book, whose objects have the names; a number that it doesn't have has no name in
+ * the line.
+ *
+ * OK. WRONG, with length: the line is longer than room, and nothing else is written. WRONG: a struct that no function gives. NO_MEMORY.
+ * Allocate, and free it before they return. */
 uint32_t nagsched_refusal_text(const struct nagsched_refusal *refusal, uint8_t *text, size_t room, size_t *length);
 uint32_t nagsched_reply_text(const struct nagsched_handle *named, const struct nagsched_call *call, const struct nagsched_reply *reply, uint8_t *text,
                              size_t room, size_t *length);
 uint32_t nagsched_entry_text(const struct nagsched_handle *named, const struct nagsched_entry *entry, uint8_t *text, size_t room, size_t *length);
 
-/* Objects by number, from 0: hosts first, in the order of their names' bytes, then services, in that of their hosts'
- * names and then of their descriptions. A full name is that of a host, or HOST;DESCRIPTION. named: a setup, a caller,
- * one that waits too, or a book. MISSING: no object of that name; a host has no host. A number that no object has:
- * WRONG. A name longer than room: WRONG, and nothing is written but length. */
+/* Objects by number, from 0: hosts first, in the order of their names' bytes, then services, in the order of their hosts' names and then of
+ * their descriptions. A full name is the name of a host, or HOST;DESCRIPTION of a service: at most 511 bytes of UTF-8. named is a setup, a
+ * caller (also one that waits) or a book; over its whole life the numbers stay.
+ *
+ *     nagsched_count      how many objects there are, and how many of them are hosts
+ *     nagsched_number     the number of the object with this full name. MISSING: there is none
+ *     nagsched_name       the full name of an object. WRONG, with length: it is longer than room, and nothing else is written
+ *     nagsched_host_of    the host of a service. MISSING: the object is a host
+ *
+ * OK. WRONG: the handle has no setup, caller or book; a number that no object has. They allocate nothing. */
 uint32_t nagsched_count(const struct nagsched_handle *named, uint32_t *objects, uint32_t *hosts);
 uint32_t nagsched_number(const struct nagsched_handle *named, const uint8_t *name, size_t bytes, uint32_t *number);
 uint32_t nagsched_name(const struct nagsched_handle *named, uint32_t number, uint8_t *name, size_t room, size_t *length);
 uint32_t nagsched_host_of(const struct nagsched_handle *named, uint32_t number, uint32_t *host);
 
-/* Opens a desk, with a caller for each of count empty handles, 1 to 1024; the handle that is given is empty then.
- * Of a setup: start is the moment at which scheduling starts; room is how many entries the history has memory for
- * at once (it grows; only a call past it asks for memory). Of a book without entries, which nagsched_renew and
- * nagsched_resume make: start and room are the book's own, and have to be 0 here. Each caller has 2^32 - 1 calls, or
- * calls, 1 to that many. Ask for memory; NO_MEMORY leaves all handles as they were. (One case no proof excludes: a count
- * of 63 bits of those who share the desk is full. No machine comes to it; setup_or_book would be the desk's one caller then.) */
+/* Opens a desk: a scheduler that as many threads share as there are callers. Each of count handles, 1 to 1,024 empty ones in an array, gets
+ * a caller; its number is its place in the array. The handle that was given is empty then.
+ *
+ *     of a setup    start, 0 to 2^60, is the moment at which scheduling starts: first checks are spread from it. room is how many entries the
+ *                   history has memory for at once; it is no limit, a call past it allocates
+ *     of a book     without entries, as nagsched_renew and nagsched_resume leave one: start and room are the book's own, and have to be 0
+ *
+ * A caller has 2^32 - 1 calls, or with nagsched_open_with as many as calls says, 1 to 2^32 - 1.
+ *
+ * OK. NO_MEMORY: all handles are as they were. WRONG: a handle of another kind or one that isn't empty, a book with entries, a number out of
+ * its limits. Allocate. (One case no proof excludes: a count of 63 bits of those who share the desk is full. No machine comes to it;
+ * setup_or_book would be the desk's only caller then.) */
 uint32_t nagsched_open(struct nagsched_handle *setup_or_book, uint64_t start, size_t room, struct nagsched_handle *callers, size_t count);
 uint32_t nagsched_open_with(struct nagsched_handle *setup_or_book, uint64_t start, size_t room, uint64_t calls, struct nagsched_handle *callers,
                             size_t count);
 
-/* The six calls, a try each. WAIT: the turn hasn't come; nothing was made, and the same call with the same arguments
- * is to be made again (any other meanwhile is WRONG). OK: the call is recorded, with this reply. SPENT, NO_MEMORY. */
+/* The six calls, one try each; nagsched_take and so on below try until the turn has come.
+ *
+ *     take         now: which object is to be checked at this moment? TAKEN: it begins to run; check it, and report or abandon it under
+ *                  this run. PUT_OFF: it was due, but a dependency forbids its check; take again. IDLE: nothing is due before time.
+ *                  AT_LIMIT: a service is due, but as many run as may: take again after a report. TIME_RANGE, RUNS_SPENT
+ *     report       the check of object under this run returned code, 0 to 3. STANDING: how it stands now, whether its state changed, and
+ *                  its next check. NOT_RUNNING, WRONG_RUN: the result comes too late
+ *     abandon      the check of object under this run is given up at the moment now; no result will come. FREED, with its next check.
+ *                  NOT_RUNNING, WRONG_RUN, TIME_RANGE
+ *     reschedule   the next check of object is at this time; forced: also where it is switched off or a dependency forbids it. DONE.
+ *                  TIME_RANGE
+ *     enable       the active checks of object are on, or off. DONE
+ *     status       how object stands, and its next check. STANDING, with changed 0
+ *
+ * A refused call (UNKNOWN_OBJECT to RUNS_SPENT) changes nothing, is recorded like any other, and its status is OK.
+ *
+ * OK: the call was made and recorded, and reply has the answer. WAIT: another caller's turn comes first; nothing was made, and the same try
+ * is to be made again (any other call with this caller is WRONG meanwhile). SPENT: the caller has no call left. NO_MEMORY: the call wasn't
+ * made, and is counted (nagsched_refused). WRONG: the handle has no caller; a code above 3; a flag other than 0 and 1. A number that no object
+ * has is refused by the reply UNKNOWN_OBJECT. A try never waits. It allocates only where the history has reached its room. */
 uint32_t nagsched_try_take(struct nagsched_handle *caller, uint64_t now, struct nagsched_reply *reply);
 uint32_t nagsched_try_report(struct nagsched_handle *caller, uint32_t object, uint64_t run, uint32_t code, struct nagsched_reply *reply);
 uint32_t nagsched_try_abandon(struct nagsched_handle *caller, uint32_t object, uint64_t run, uint64_t now, struct nagsched_reply *reply);
@@ -229,25 +275,36 @@ uint32_t nagsched_try_reschedule(struct nagsched_handle *caller, uint32_t object
 uint32_t nagsched_try_enable(struct nagsched_handle *caller, uint32_t object, uint32_t on, struct nagsched_reply *reply);
 uint32_t nagsched_try_status(struct nagsched_handle *caller, uint32_t object, struct nagsched_reply *reply);
 
-/* What is known of an object, by one load: whoever holds the desk, it doesn't wait. Not while the caller waits, and
- * not of a number that no object has: WRONG. */
+/* Reads how an object stands, without a turn: whoever is in a call, it doesn't wait. It is the standing after some history that begins with all
+ * that this caller has seen, so that glances never go back; a caller sees its own reports.
+ *
+ * OK. WRONG: the handle has no caller, or one that waits; a number that no object has. Allocates nothing; one load of memory. */
 uint32_t nagsched_glance(struct nagsched_handle *caller, uint32_t object, struct nagsched_standing *standing);
 
-/* Adds another caller of the same desk to this one, in any order of their numbers; the other handle is empty then. One
- * that waits, or callers of two desks: WRONG. (Two desks differ in a number that each gets when it is opened.) */
+/* Adds another caller of the same desk to this one, in any order of their numbers, when the other's thread makes no more calls; the other handle
+ * is empty then. This caller goes on under its own number.
+ *
+ * OK. WRONG: a handle without a caller, or with one that waits; callers of two desks. Allocates nothing. */
 uint32_t nagsched_gather(struct nagsched_handle *caller, struct nagsched_handle *other);
 
-/* Ends the desk: the caller, when all others are gathered in it, becomes the desk's book. MISSING before. */
+/* Ends the desk: the caller in which all others are gathered becomes the desk's book, in the same handle.
+ *
+ * OK. MISSING: callers are left that have to be gathered first. WRONG: the handle has no caller, or one that waits. Allocates nothing. */
 uint32_t nagsched_close(struct nagsched_handle *caller);
 
-/* How many entries a book or a history has, one of them by its index from 0, and how many calls a book
- * refused when out of memory. */
+/* The history: how many entries a book or an old history has, and the entry with an index from 0, in the order in which the calls were made.
+ * nagsched_refused: how many calls of a book weren't made because memory ran out.
+ *
+ * OK. WRONG: the handle has neither; no entry has this index. Allocate nothing. */
 uint32_t nagsched_entries(const struct nagsched_handle *book_or_history, uint64_t *count);
 uint32_t nagsched_entry(const struct nagsched_handle *book_or_history, uint64_t index, struct nagsched_entry *entry);
 uint32_t nagsched_refused(const struct nagsched_handle *book, uint64_t *count);
 
-/* Goes on with a book: it stands where it stood, has no entries and the given room; its entries move into the
- * empty handle history. Asks for memory. */
+/* Hands out the entries of a book, into the empty handle history, and goes on with none: the book stands where it stood, has memory for room
+ * entries at once, and nagsched_open opens a desk on it.
+ *
+ * OK. NO_MEMORY: the book has its entries still. WRONG: the handle has no book; history isn't empty. Allocates room entries of 56 bytes, and
+ * takes no longer with more entries. */
 uint32_t nagsched_renew(struct nagsched_handle *book, size_t room, struct nagsched_handle *history);
 
 /* The saved state of a book's scheduler, for nagsched_resume: all that it knows, without its setup and its entries. A program saves
@@ -286,11 +343,14 @@ uint32_t nagsched_resume(struct nagsched_handle *setup, const uint8_t *text, siz
  * while others read the book by functions that take it as const. What it gives is so until a call is made by a desk on the book. */
 uint32_t nagsched_running(const struct nagsched_handle *book, uint32_t object, uint64_t *run, uint64_t *start);
 
-/* Gives up what a handle has, and makes it empty; an empty one stays so. A caller that waits: WRONG. The callers of a
- * desk that is given up so can never be closed: what is left of its history goes with the last of them. */
+/* Frees what a handle has, and makes it empty; an empty one stays so. A desk of which a caller is freed can't be closed any more: its history
+ * is freed with the last of its callers.
+ *
+ * OK. WRONG: the handle has a caller that waits. */
 uint32_t nagsched_free(struct nagsched_handle *handle);
 
-/* The six calls whole: each yields the processor between its tries. */
+/* The six calls, each tried until its turn has come; between two tries the processor is yielded. The statuses are those of a try, without WAIT. A
+ * program that has its own way to wait, such as coroutines, makes the tries itself. */
 static inline uint32_t nagsched_take(struct nagsched_handle *caller, uint64_t now, struct nagsched_reply *reply) {
     uint32_t status;
     while ((status = nagsched_try_take(caller, now, reply)) == NAGSCHED_WAIT) sched_yield();
