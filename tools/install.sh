@@ -65,4 +65,6 @@ for library in "$built"/lib/libnagsched.so.*; do
 done
 sed "s#^prefix=.*#prefix=$prefix#" "$built/lib/pkgconfig/nagsched.pc" > "$unit"
 place 644 "$unit" lib/pkgconfig/nagsched.pc
-place 644 "$top/bindings/python/nagsched.py" lib/python3/dist-packages/nagsched.py
+# A package of one file, so that py.typed beside it says that its types are to be used.
+place 644 "$top/bindings/python/nagsched.py" lib/python3/dist-packages/nagsched/__init__.py
+place 644 /dev/null lib/python3/dist-packages/nagsched/py.typed

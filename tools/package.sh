@@ -52,7 +52,7 @@ package "libnagsched$surface" amd64 libs "libc6 (>= $glibc)" "scheduler of activ
 package libnagsched-dev amd64 libdevel "libnagsched$surface (= $version)" "scheduler of active checks, for programs in C" \
     lib/libnagsched.so lib/libnagsched.a include/nagsched.h lib/pkgconfig/nagsched.pc
 package python3-nagsched all python "python3 (>= 3.9), libnagsched$surface (= $version)" "scheduler of active checks, for Python" \
-    lib/python3/dist-packages/nagsched.py
+    lib/python3/dist-packages/nagsched
 package nagsched-monitor all net "python3 (>= 3.9), nagsched (= $version)" "monitor of a site's hosts and services" \
     bin/nagsched-monitor bin/nagsched-from-nagios lib/nagsched lib/systemd share/man/man1/nagsched-monitor.1 \
     share/bash-completion/completions/nagsched-monitor share/doc/nagsched/MONITOR.md

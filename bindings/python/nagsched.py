@@ -195,7 +195,7 @@ class Refusal(typing.NamedTuple):
 
     kind: RefusalKind
     part: Part
-    index: typing.Optional[int]
+    index: typing.Optional[int]  # type: ignore[assignment]  # it hides the method of tuples that has this name
 
 
 class Error(Exception):
@@ -305,7 +305,7 @@ def _u64(value: int) -> int:
 _check_layout()
 _HANDLE, _TEXT, _SIZE = ctypes.POINTER(_Handle), ctypes.c_char_p, ctypes.c_size_t
 _U32, _U64 = ctypes.c_uint32, ctypes.c_uint64
-_OUT32, _OUT64, _OUT_SIZE = map(ctypes.POINTER, (_U32, _U64, _SIZE))
+_OUT32, _OUT64, _OUT_SIZE = ctypes.POINTER(_U32), ctypes.POINTER(_U64), ctypes.POINTER(_SIZE)
 _ROOM = [_TEXT, _SIZE, _OUT_SIZE]
 _OUT_REPLY = ctypes.POINTER(_Reply)
 FUNCTIONS = {
@@ -426,13 +426,16 @@ def _of_reply(reply: Reply) -> _Reply:
     return _Reply(_u32(reply.kind), _u32(reply.object), _u64(reply.run), _u64(reply.time or 0), has_time, _u32(reply.changed), standing)
 
 
+_Self = typing.TypeVar("_Self", bound="_Owner")
+
+
 class _Owner:
     """What has a handle of the library, and gives it up at the end of a `with`, or with the object."""
 
     def __init__(self, handle: _Handle):
         self._handle, self._busy = handle, threading.Lock()
 
-    def __enter__(self):
+    def __enter__(self: _Self) -> _Self:
         return self
 
     def __exit__(self, *_raised: object) -> None:
@@ -492,7 +495,7 @@ class _Named(_Owner):
     def number(self, name: str) -> int:
         """The number of the object with a full name, HOST or HOST;DESCRIPTION; raises Missing where there is none."""
         written = name.encode()
-        return self._got(_U32(), _LIBRARY.number, f"no object {name!r}", written, len(written)).value
+        return int(self._got(_U32(), _LIBRARY.number, f"no object {name!r}", written, len(written)).value)
 
     def name(self, number: int) -> str:
         """The full name of an object."""
@@ -502,7 +505,7 @@ class _Named(_Owner):
     def host_of(self, number: int) -> int | None:
         """The number of a service's host; None for a host."""
         try:
-            return self._got(_U32(), _LIBRARY.host_of, f"no object {number}", _u32(number)).value
+            return int(self._got(_U32(), _LIBRARY.host_of, f"no object {number}", _u32(number)).value)
         except Missing:
             return None
 
@@ -564,31 +567,41 @@ class Pass(_Named):
     """A caller of a desk, for one thread at a time: it makes the six calls, and glances."""
 
     def take(self, now: int) -> Reply:
-        """Which object is to be checked at this moment: TAKEN, PUT_OFF, IDLE, AT_LIMIT."""
+        """Asks which object is to be checked at this moment. The kind of the reply:
+
+        TAKEN       object begins to run: check it, and report or abandon it under run
+        PUT_OFF     object was due, but a dependency forbids its check, and the next is at time; take again
+        IDLE        nothing is due before time, or ever where it is None
+        AT_LIMIT    a service is due, but as many run as may: take again after a report
+        TIME_RANGE, RUNS_SPENT    the call is refused, and changes nothing
+        """
         return self._made(_LIBRARY.try_take, _u64(now))
 
     def report(self, object: int, run: int, code: Code | int) -> Reply:
-        """The check that runs under this number returned a code."""
+        """Reports that the check of an object under this run returned a code. STANDING: how it stands now, whether its state changed, and its
+        next check. NOT_RUNNING and WRONG_RUN: the result comes too late, and changes nothing."""
         return self._made(_LIBRARY.try_report, _u32(object), _u64(run), _u32(code))
 
     def abandon(self, object: int, run: int, now: int) -> Reply:
-        """The check that runs under this number is given up."""
+        """Gives the check of an object under this run up: no result will come. FREED, with its next check; NOT_RUNNING, WRONG_RUN or TIME_RANGE
+        where nothing changes."""
         return self._made(_LIBRARY.try_abandon, _u32(object), _u64(run), _u64(now))
 
     def reschedule(self, object: int, time: int, forced: bool = False) -> Reply:
-        """The next check of an object is at this time; forced: though it is disabled or a dependency forbids it."""
+        """Sets the next check of an object; forced: also where it is switched off or a dependency forbids it. DONE, or TIME_RANGE."""
         return self._made(_LIBRARY.try_reschedule, _u32(object), _u64(time), int(bool(forced)))
 
     def enable(self, object: int, on: bool) -> Reply:
-        """The active checks of an object are on or off."""
+        """Switches the active checks of an object on or off. DONE."""
         return self._made(_LIBRARY.try_enable, _u32(object), int(bool(on)))
 
     def status(self, object: int) -> Reply:
-        """How an object stands, and when it is checked next."""
+        """Asks how an object stands, and when it is checked next. STANDING, and nothing changes."""
         return self._made(_LIBRARY.try_status, _u32(object))
 
     def glance(self, object: int) -> Standing:
-        """What is known of an object, by one load: no call, and it never waits."""
+        """Reads how an object stands, without a call: it never waits, whoever else is in a call. It is at least as new as all that this pass
+        has seen, its own reports among it."""
         return _standing_of(self._got(_Standing(), _LIBRARY.glance, f"no object {object}", _u32(object)))
 
     def _made(self, attempt: typing.Callable[..., int], *given: int) -> Reply:
@@ -612,7 +625,7 @@ class _Entries(_Owner):
     """What has entries: their number by len, one by its index, all of them in a loop."""
 
     def __len__(self) -> int:
-        return self._got(_U64(), _LIBRARY.entries, "it has no entries now").value
+        return int(self._got(_U64(), _LIBRARY.entries, "it has no entries now").value)
 
     def __getitem__(self, index: int) -> Entry:
         count, at = len(self), operator.index(index)
@@ -634,7 +647,7 @@ class Book(_Named, _Entries):
     @property
     def refused(self) -> int:
         """How many calls weren't made because memory was refused."""
-        return self._got(_U64(), _LIBRARY.refused, "it is no book now").value
+        return int(self._got(_U64(), _LIBRARY.refused, "it is no book now").value)
 
     def renew(self, room: int = 1000) -> History:
         """Hands the entries out, and goes on with none: a new generation, for which `open` opens a desk."""
