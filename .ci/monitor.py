@@ -4,12 +4,13 @@
     .ci/monitor.py PROGRAM
 
 The tests of monitor/ run over the built program: simulated days, and processes that are killed, asked and reloaded. A site is made of Nagios's own files,
-and is one that the monitor accepts. The loop prints the change of a small site.
+and is one that the monitor accepts. The loop prints the change of a small site. mypy has nothing to say of the types, where it is there.
 """
 import json
 import os
 import pathlib
 import re
+import shutil
 import subprocess
 import sys
 import tempfile
@@ -52,6 +53,20 @@ def site(program):
         return made.returncode, tested.stdout, tested.stderr
 
 
+def complaints():
+    """What mypy says of the monitor, of the Python module and of its loop; nothing where it isn't here."""
+    if not shutil.which("mypy"):
+        print("monitor: passed over what mypy says of the types, which isn't here")
+        return ""
+    checks = [(["nagsched_monitor", "tests"], TOP / "monitor", ""), (["bindings/python/nagsched.py", "examples/loop.py"], TOP, "bindings/python")]
+    told = ""
+    with tempfile.TemporaryDirectory() as cache:
+        for files, folder, path in checks:
+            words = ["mypy", "--strict", "--no-error-summary", "--cache-dir", cache, *files]
+            told += subprocess.run(words, cwd=folder, env=os.environ | {"MYPYPATH": path}, stdout=subprocess.PIPE, text=True).stdout
+    return told
+
+
 def main():
     program = str(pathlib.Path(sys.argv[1]).resolve())
     os.environ["NAGSCHED"] = program
@@ -62,6 +77,7 @@ def main():
     passed = result.testsRun - wrong
     for what, wanted, came in (
         ("the loop", ["gateway;web page is CRITICAL SOFT 1"], [line for line in loop(program) if "SOFT 1" in line]),
+        ("types", "", complaints()),
         ("a site of Nagios's files", (0, "15 objects, 1 parts\n", ""), site(program)),
     ):
         if came == wanted:
