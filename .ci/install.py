@@ -46,7 +46,7 @@ def installed(program, prefix, work):
     tested = output(prefix / "bin/nagsched-monitor", "--program", prefix / "bin/nagsched", work / "site", "test")
     yield "the monitor", tested, ("1 objects, 1 parts\n", 0)
     yield "from Nagios", output(prefix / "bin/nagsched-from-nagios", "--help")[1], 0
-    yield "the manual pages", sorted(manual), ["nagsched-monitor.1", "nagsched.1", "nagsched.5"]
+    yield "the manual pages", sorted(manual), ["nagsched-from-nagios.1", "nagsched-monitor.1", "nagsched.1", "nagsched.5"]
     for name, page in sorted(manual.items()):
         yield f"warnings of {name}", warnings_of(page), ""
     page = manual["nagsched.1"].read_text().replace("\\-", "-")

@@ -1,10 +1,11 @@
 #!/usr/bin/env python3
-"""Writes the manual pages: nagsched(1), nagsched(5) and nagsched-monitor(1).
+"""Writes the manual pages: nagsched(1), nagsched(5), nagsched-monitor(1) and nagsched-from-nagios(1).
 
     tools/manual.py DIRECTORY
 
-They are the pages docs/FORMATS.md and docs/MONITOR.md in the form that `man` shows, so that nothing is written twice: nagsched(1) has the words, exit statuses
-and input, nagsched(5) the setup, commands, answers and refusals. The gate compares the words with the program's help.
+They are the pages docs/FORMATS.md and docs/MONITOR.md, and a section of docs/OPERATING.md, in the form that `man` shows, so that nothing is written twice:
+nagsched(1) has the words, exit statuses and input, nagsched(5) the setup, commands, answers, saved states and refusals. The gate compares the words with the
+program's help.
 """
 import pathlib
 import re
@@ -16,15 +17,17 @@ DATE = "2026-11-27"
 WIDTH = 79
 SUMMARY = {
     ("nagsched", 1): "decides which host or service check is due, and what each result means",
-    ("nagsched", 5): "setup, commands, answers and refusals of nagsched",
+    ("nagsched", 5): "setup, commands, answers, saved states and refusals of nagsched",
     ("nagsched-monitor", 1): "runs the plugins of a site, on the scheduler nagsched",
+    ("nagsched-from-nagios", 1): "makes a setup or a site from a Nagios configuration",
 }
 # The sections of FORMATS that stand on the page of the program; the others stand on that of the formats.
 OF_THE_PROGRAM = ("The words", "Exit statuses")
 SEE = {
     ("nagsched", 1): "nagsched(5), nagsched-monitor(1)",
     ("nagsched", 5): "nagsched(1), nagsched-monitor(1)",
-    ("nagsched-monitor", 1): "nagsched(1), nagsched(5)",
+    ("nagsched-monitor", 1): "nagsched(1), nagsched(5), nagsched-from-nagios(1)",
+    ("nagsched-from-nagios", 1): "nagsched(1), nagsched(5), nagsched-monitor(1)",
 }
 
 
@@ -175,6 +178,7 @@ def pages():
         ("nagsched", 1): [part for part in formats if part[0] in OF_THE_PROGRAM],
         ("nagsched", 5): [part for part in formats if part[0] not in OF_THE_PROGRAM],
         ("nagsched-monitor", 1): monitor,
+        ("nagsched-from-nagios", 1): [part for part in sections_of(TOP / "docs/OPERATING.md") if part[0] == "Coming from Nagios"],
     }
     return {f"{name}.{number}": "\n".join(tidy(list(page_of(name, number, version, part)))) + "\n" for (name, number), part in parts.items()}
 

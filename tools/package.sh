@@ -8,11 +8,17 @@ top=$(cd "$(dirname "$0")/.." && pwd)
 mkdir -p "${1:-$top/out/packages}"
 packages=$(cd "${1:-$top/out/packages}" && pwd)
 version=$(cat "$top/VERSION")
+maintainer="Luksmeiro <nagsched@luksmeiro.example>"
 surface=$(sed -n 's/^#define NAGSCHED_VERSION \([0-9]*\)u$/\1/p' "$top/include/nagsched.h")
 work=$(mktemp -d)
 trap 'rm -rf "$work"' EXIT
 DESTDIR=$work/all "$top/tools/install.sh" /usr
 all=$work/all/usr
+strip --strip-unneeded "$all/bin/nagsched" "$all/lib/libnagsched.so.$surface"
+# The monitor has a program of its own where the runner in C was built.
+runner=$all/lib/nagsched/nagsched-runner
+monitor=all needs=
+[ ! -x "$runner" ] || { strip --strip-unneeded "$runner"; monitor=amd64 needs=", libc6 (>= 2.34)"; }
 glibc=$(objdump -T "$all/bin/nagsched" "$all/lib/libnagsched.so" | grep -o 'GLIBC_[0-9.]*' | sort -V | tail -n 1 | cut -d_ -f2)
 
 # Makes a package: NAME ARCHITECTURE SECTION DEPENDS SUMMARY FILE.. Each file is moved out of the whole.
@@ -25,12 +31,14 @@ package() {
     done
     mkdir -p "$folder/usr/share/doc/$name" "$folder/DEBIAN"
     cp "$top/CHANGELOG.md" "$folder/usr/share/doc/$name/"
+    printf 'nagsched (%s) unstable; urgency=medium\n\n  * CHANGELOG.md beside this file has what changed.\n\n -- %s  %s\n' "$version" "$maintainer" \
+        "$(date -u -R -r "$top/CHANGELOG.md")" | gzip -9n > "$folder/usr/share/doc/$name/changelog.gz"
     find "$folder/usr/share/man" -name '*.[15]' -exec gzip -9n {} + 2> /dev/null || true
     cat > "$folder/DEBIAN/control" <<END
 Package: $name
 Version: $version
 Architecture: $architecture
-Maintainer: Luksmeiro <nagsched@luksmeiro.example>
+Maintainer: $maintainer
 Section: $section
 Priority: optional
 Depends: $depends
@@ -53,7 +61,7 @@ package libnagsched-dev amd64 libdevel "libnagsched$surface (= $version)" "sched
     lib/libnagsched.so lib/libnagsched.a include/nagsched.h lib/pkgconfig/nagsched.pc
 package python3-nagsched all python "python3 (>= 3.9), libnagsched$surface (= $version)" "scheduler of active checks, for Python" \
     lib/python3/dist-packages/nagsched
-package nagsched-monitor all net "python3 (>= 3.9), nagsched (= $version)" "monitor of a site's hosts and services" \
-    bin/nagsched-monitor bin/nagsched-from-nagios lib/nagsched lib/systemd share/man/man1/nagsched-monitor.1 \
+package nagsched-monitor "$monitor" net "python3 (>= 3.9), nagsched (= $version)$needs" "monitor of a site's hosts and services" \
+    bin/nagsched-monitor bin/nagsched-from-nagios lib/nagsched lib/systemd share/man/man1/nagsched-monitor.1 share/man/man1/nagsched-from-nagios.1 \
     share/bash-completion/completions/nagsched-monitor share/doc/nagsched/MONITOR.md
 package nagsched amd64 net "libc6 (>= $glibc)" "scheduler of active checks, the program" bin/nagsched share
