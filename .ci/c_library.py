@@ -320,20 +320,31 @@ def page(held, library):
 
 def loops(held, library):
     """The loops for months: plugins run, the state is kept, and a restart goes on from it over another setup."""
-    program = library.folder / "loop"
-    compiled = ran("cc", "-O2", f"-I{library.prefix / 'include'}", EXAMPLES / "loop.c", library.prefix / "lib/libnagsched.a", "-lpthread", "-o", program)
-    held.compare("compiling loop.c", 0, compiled.returncode)
-    python = os.environ | {"NAGSCHED_LIBRARY": str(library.prefix / "lib/libnagsched.so"), "PYTHONPATH": str(TOP / "bindings/python")}
-    for name, command in {"loop.c": [program], "loop.py": [sys.executable, EXAMPLES / "loop.py"]}.items():
-        state = library.folder / f"{name}.state"
-        setup = library.folder / "loop.json"
+    program = library.compiled(EXAMPLES / "loop.c")
+    runs = {"loop.c": lambda *words: ran(program, *words), "loop.py": lambda *words: library.in_python(EXAMPLES / "loop.py", *words)}
+    for name, run in runs.items():
+        state, setup = library.folder / f"{name}.state", library.folder / "loop.json"
         for attempts, interval, ends in ((2, 1, ["DOWN HARD 2", "UP HARD 1"]), (5, 100, ["DOWN HARD 5", "UP HARD 1"])):
-            hosts = [{"name": name, "check_interval": interval, "retry_interval": 1, "max_check_attempts": attempts} for name in ("down", "up")]
+            hosts = [{"name": host, "check_interval": interval, "retry_interval": 1, "max_check_attempts": attempts} for host in ("down", "up")]
             setup.write_text(json.dumps({"options": {"interval_length": 1, "host_inter_check_delay_method": "n"}, "hosts": hosts}))
-            made = ran(*command, setup, state, "3", 'test "$1" = up || exit 2', env=python)
+            made = run(setup, state, "3", 'test "$1" = up || exit 2')
             ended = [line.removeprefix("at the end standing ") for line in made.stdout.decode().splitlines() if line.startswith("at the end")]
             held.compare(f"{name}, {attempts} attempts", (0, ends), (made.returncode, [" ".join(line.split(" ")[:3]) for line in ended]))
             held.compare(f"{name}: the state is kept", True, state.read_bytes().startswith(b'{"format":1,'))
+
+
+def installed(held, library):
+    """Both examples over what tools/install.sh puts down: the header, the library and its pkg-config file, the Python module."""
+    prefix, env = library.folder / "installed", os.environ | {"NAGSCHED_BUILT": str(library.prefix)}
+    made = ran("bash", TOP / "tools" / "install.sh", prefix, env=env)
+    held.compare("tools/install.sh", 0, made.returncode)
+    found = env | {"PKG_CONFIG_PATH": str(prefix / "lib/pkgconfig"), "LD_LIBRARY_PATH": str(prefix / "lib")}
+    program = library.folder / "from_installed"
+    built = ran("sh", "-c", f"cc {EXAMPLES / 'embed.c'} $(pkg-config --cflags --libs nagsched) -lpthread -o {program} && {program} 1", env=found)
+    held.compare("embed.c over what is installed", (0, b'{"'), (built.returncode, built.stdout[:2]))
+    python = found | {"PYTHONPATH": str(prefix / "lib/python3/dist-packages"), "PYTHONDONTWRITEBYTECODE": "1"}
+    came = ran(sys.executable, EXAMPLES / "embed.py", "1", env=python)
+    held.compare("embed.py over what is installed", (0, b'{"'), (came.returncode, came.stdout[:2]))
 
 
 def main():
@@ -347,6 +358,7 @@ def main():
         mistakes(held, library)
         conformance(held, library)
         page(held, library)
+        installed(held, library)
     held.end()
 
 
