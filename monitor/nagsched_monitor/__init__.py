@@ -19,6 +19,7 @@ Modules, lowest first:
     sooner       checks at other times than their own, and the rhythm behind them
     passive      passive results, and objects of which no result came in time
     verdict      what the end of a plugin counts as
+    counters     what the monitor counts of itself
     engine       one turn of the monitor: results in, checks out
     requests     what can be asked of a monitor that runs
     control      the socket through which it is asked

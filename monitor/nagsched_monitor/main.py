@@ -153,7 +153,7 @@ class Monitor:
         self.runners.close()
         self._notifier.close()
         try:
-            self.engine.save()
+            self.engine.close()
         except (NotStored, ConversationEnded) as fault:
             self.log(f"the state isn't saved: {fault}")
         self.scheduling.close()
