@@ -23,5 +23,16 @@ Modules, lowest first:
     engine       one turn of the monitor: results in, checks out
     requests     what can be asked of a monitor that runs
     control      the socket through which it is asked
+    places       addresses at which something is served
+    beside       a process beside the monitor
     main         the words, and the loop
+
+and of the process that shows a page:
+
+    shown        what is read from the database
+    style        colours, and what a browser may load
+    picture      the last day of an object
+    drawing      the pages
+    metrics      figures for Prometheus, and the status as data
+    page         the server
 """

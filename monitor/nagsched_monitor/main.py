@@ -10,7 +10,8 @@ import sys
 import time
 from typing import Any, Dict, List, Optional, Set
 
-from . import changes, control
+from . import changes, control, places
+from .beside import Beside
 from .changes import Notifier
 from .clock import Clock, SystemClock
 from .engine import Engine
@@ -30,7 +31,7 @@ BETWEEN_TURNS = 0.05
 class Monitor:
     """A monitor of one site, while it runs."""
 
-    def __init__(self, folder: pathlib.Path, program: str, command: Optional[str]) -> None:
+    def __init__(self, folder: pathlib.Path, program: str, command: Optional[str], page_at: Optional[str] = None) -> None:
         self._folder, self._program = folder, program
         self._selector = selectors.DefaultSelector()
         self._watched: Set[int] = set()
@@ -45,6 +46,12 @@ class Monitor:
         self.requests = Requests(self.engine, self.clock, self.reload, self.stop)
         self.control = control.Control(folder, self.requests.answer, self._watch, self._unwatch)
         self._dropped_at = 0.0
+        self._beside = [] if page_at is None else [self._page(page_at)]
+
+    def _page(self, place: str) -> Beside:
+        if not places.is_own(place):
+            self.log(f"the page on {place} is shown to everybody who reaches this address")
+        return Beside("the page", "page", [place, str(self._folder)], self.log)
 
     def log(self, line: str) -> None:
         print(line, flush=True)
@@ -67,6 +74,8 @@ class Monitor:
             for change in self.scheduling.changed():
                 self.log(changes.line_of(change, self.site.zone))
             self._notifier.work()
+            for beside in self._beside:
+                beside.work()
             self._drop_old_changes()
             if self._is_reload_wanted:
                 self._is_reload_wanted = False
@@ -152,6 +161,8 @@ class Monitor:
         self.control.close()
         self.runners.close()
         self._notifier.close()
+        for beside in self._beside:
+            beside.close()
         try:
             self.engine.close()
         except (NotStored, ConversationEnded) as fault:
@@ -168,6 +179,7 @@ def words_of(given: Optional[List[str]]) -> argparse.Namespace:
     parser.add_argument("folder", metavar="DIR", type=pathlib.Path, help="the folder of the site")
     parser.add_argument("--program", default="nagsched", metavar="PATH", help="the program nagsched")
     parser.add_argument("--on-change", metavar="COMMAND", help="run this for each hard change, with a JSON object on its standard input")
+    parser.add_argument("--page", metavar="ADDRESS:PORT", help="show a page for browsers there, and figures for Prometheus")
     words = parser.add_subparsers(dest="word", metavar="WORD", help="without a word it runs the monitor; else it asks the one that runs")
     status = words.add_parser("status", help="prints how objects stand")
     status.add_argument("pattern", nargs="?", default="*")
@@ -219,7 +231,9 @@ def main(given: Optional[List[str]] = None) -> int:
                 raise MonitorFault(answer["error"])
             print(printed(answer))
             return 0
-        monitor = Monitor(words.folder, words.program, words.on_change)
+        if words.page is not None:
+            places.place_of(words.page)
+        monitor = Monitor(words.folder, words.program, words.on_change, words.page)
     except MonitorFault as fault:
         print(f"nagsched-monitor: {fault}", file=sys.stderr)
         return 1

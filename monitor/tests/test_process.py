@@ -130,6 +130,7 @@ class Running(SiteTest):
         self.assertEqual(second.returncode, 1)
         self.assertIn("another monitor", second.stderr)
         self.assertEqual(self.ask("stop").stdout, "stop: done\n")
+        running.wait(timeout=30)
         output = self.end(running)
         self.assertRegex(output, r"\d\d:\d\d:\d\d[+-]\d\d:\d\d h00;trap is CRITICAL HARD 1: door open")
         self.assertEqual(json.loads((self.folder / "changes").read_text())["name"], "h00;trap")
