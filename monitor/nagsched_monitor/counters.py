@@ -16,10 +16,11 @@ The names of the figures that are kept, and what each is:
 """
 import bisect
 import collections
+from dataclasses import dataclass
 from typing import DefaultDict, Deque, Dict, List, Mapping, Optional, Tuple
 
 from .clock import Clock
-from .store import KeepFigures, Write
+from .store import Store, Write
 
 # How often figures are written, and over how long a rate is taken, in milliseconds.
 EVERY = 5_000
@@ -29,6 +30,18 @@ BOUNDS = (0.05, 0.1, 0.25, 0.5, 1.0, 2.5, 5.0, 10.0, 30.0, 60.0)
 BUCKETS = tuple(f"late.{bound:g}" for bound in BOUNDS) + ("late.more",)
 RESULTS = ("OK", "WARNING", "CRITICAL", "UNKNOWN", "UP", "DOWN", "UNREACHABLE", "given_up", "refused")
 GONE_ON_WITH = tuple(f"checks.{result}" for result in RESULTS) + BUCKETS + ("late.sum", "saves", "saved_at")
+
+
+@dataclass(frozen=True)
+class KeepFigures(Write):
+    """Figures by their names."""
+
+    values: Mapping[str, float]
+
+    def carry_out(self, store: Store) -> None:
+        for name, value in self.values.items():
+            store.delete("figures", "name = ?", name)
+            store.insert("figures", None, (name, float(value)))
 
 
 class Counters:

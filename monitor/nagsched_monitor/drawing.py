@@ -4,12 +4,15 @@ import html
 import urllib.parse
 from typing import Dict, List, Optional, Sequence, Tuple
 
-from .picture import day_of
+from .picture import day_of, stretches
 from .shown import Change, OneObject, Picture, Shown
 from .style import CLASSES, STYLE
 
 # How often a page renews itself, in seconds.
 RENEWED = 15
+YEAR = 31_536_000
+# The last time that has a date here, at the begin of the year 9999.
+LAST_TIME = 253_370_764_800
 # Control characters, and those that turn the direction of a line.
 REPLACED = {code: "\ufffd" for code in (*range(32), *range(127, 160), *range(0x202A, 0x202F), *range(0x2066, 0x206A)) if code not in (9, 10)}
 HEADS = ("State", "Object", "Attempt", "Since", "Next check", "Last words")
@@ -42,6 +45,8 @@ class Times:
 
     def of(self, time: float) -> str:
         """The time of day, with the date where it isn't today."""
+        if not 0 <= time <= LAST_TIME:
+            return "never" if time > 0 else "long ago"
         second = int(time)
         if second not in self._texts:
             when = datetime.datetime.fromtimestamp(second, self._zone)
@@ -79,7 +84,10 @@ def next_of(it: Shown, times: Times) -> str:
         return "off"
     if it.next_check is None:
         return "none"
-    return f"due since {times.of(it.next_check)}" if it.next_check <= times.now else times.of(it.next_check)
+    if it.next_check > times.now:
+        return times.of(it.next_check)
+    # A time of long ago is how a check is asked for at once.
+    return "due" if times.now - it.next_check > YEAR else f"due since {times.of(it.next_check)}"
 
 
 def row(it: Shown, times: Times, since: Optional[float]) -> str:
@@ -168,6 +176,14 @@ def change_row(it: Change, times: Times) -> str:
     return f"<tr><td>{times.of(it.time)}</td><td>{badge(it.state, it.kind)}{flapping}</td><td>{it.attempt}</td><td>{text(it.words)}</td></tr>"
 
 
+def legend_of(one: OneObject) -> str:
+    """The states that the picture has, each by its word and colour."""
+    day = stretches(one)
+    states = sorted({(it.state, it.kind or "") for it in day if it.state is not None})
+    names = [badge(state, kind) for state, kind in states] + (["a thin line where no change is known"] if any(it.state is None for it in day) else [])
+    return f"<p>{', '.join(names)}{'; soft ones are low' if any(kind == 'SOFT' for _, kind in states) else ''}</p>"
+
+
 def object_page(one: OneObject, site: str, zone: Optional[datetime.tzinfo]) -> str:
     """How one object stands, and its last day."""
     times, it = Times(one.now, zone), one.it
@@ -187,6 +203,7 @@ def object_page(one: OneObject, site: str, zone: Optional[datetime.tzinfo]) -> s
         f"<pre>{text(one.words) or 'no words'}</pre>",
         "<h2>The last day</h2>",
         day_of(one, times.of),
+        legend_of(one),
         table(changes, ("Time", "State", "Attempt", "Words"), "c") if changes else "<p>No change in the last day.</p>",
         *(["<p>There were more changes than these.</p>"] if one.is_cut else []),
     ]

@@ -157,7 +157,7 @@ class Site:
         if path == "/metrics":
             return METRICS, metrics.metrics(read_picture(self._folder))
         if path == "/object":
-            names = urllib.parse.parse_qs(query, keep_blank_values=True, max_num_fields=8).get("name", []) if len(query) <= LONGEST_LINE else []
+            names = urllib.parse.parse_qs(query, keep_blank_values=True).get("name", [])
             one = read_object(self._folder, names[0]) if len(names) == 1 else None
             if one is not None:
                 return HTML, drawing.object_page(one, self.name, self.zone())

@@ -15,7 +15,7 @@ import os
 import pathlib
 import sqlite3
 from dataclasses import dataclass
-from typing import Dict, Iterator, List, Mapping, Optional, Sequence, Tuple
+from typing import Dict, Iterator, List, Optional, Sequence, Tuple
 
 from .calls import Abandon, Take, read_call
 from .faults import DamagedRow, MonitorFault, NotStored
@@ -112,10 +112,6 @@ class Store:
 
     def figures(self) -> Dict[str, float]:
         return {name: float(value) for name, value in self._database.execute("SELECT name, value FROM figures")}
-
-    def numbers(self, table: str) -> Dict[str, int]:
-        """The number of the row of each name in a table."""
-        return dict(self._database.execute(f"SELECT name, id FROM {table}"))
 
     # ---- writing
 
@@ -260,16 +256,3 @@ class DropChangesBefore(Write):
 
     def carry_out(self, store: Store) -> None:
         store.delete("changes", "time < ? AND id < (SELECT max(id) FROM changes)", self.time)
-
-
-@dataclass(frozen=True)
-class KeepFigures(Write):
-    """Figures by their names; those that have no row yet get one."""
-
-    values: Mapping[str, float]
-
-    def carry_out(self, store: Store) -> None:
-        numbers = store.numbers("figures")
-        new = [name for name in self.values if name not in numbers]
-        numbers.update((name, number) for number, name in enumerate(new, max(numbers.values(), default=0) + 1))
-        store.insert_all("figures", [(numbers[name], (name, float(value))) for name, value in self.values.items()])

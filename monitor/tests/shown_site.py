@@ -6,9 +6,10 @@ import threading
 import time
 from typing import Any, Dict, List, Optional, Tuple
 
+from nagsched_monitor.counters import KeepFigures
 from nagsched_monitor.page import Server, Site
 from nagsched_monitor.rows import KeptChange, checksum_of
-from nagsched_monitor.store import KeepChange, KeepFigures, Store
+from nagsched_monitor.store import KeepChange, Store
 
 from .simulated import SiteTest
 

@@ -89,8 +89,8 @@ class PageProcess(SiteTest):
         status, text = self.get(port, "/metrics")
         self.assertEqual(status, 200)
         self.assertGreater(float(text.partition('nagsched_checks_total{result="UP"} ')[2].partition("\n")[0]), 5)
-        told = json.loads(self.get(port, "/status.json")[1])
-        self.assertEqual((told["site"], told["is_silent"]), (self.folder.name, False))
+        came = json.loads(self.get(port, "/status.json")[1])
+        self.assertEqual((came["site"], came["is_silent"]), (self.folder.name, False))
         self.assertEqual(self.get(port, "/")[0], 200)
         before = self.page_of(running)
         os.kill(before, signal.SIGTERM)  # ignored: it ends with the monitor
@@ -123,7 +123,8 @@ class PageProcess(SiteTest):
 
     def test_an_address_that_is_none(self) -> None:
         self.write_site([{"name": "h", "max_check_attempts": 2}], [])
-        ran = subprocess.run([sys.executable, str(MONITOR), "--program", PROGRAM, "--page", "here", str(self.folder)], capture_output=True, text=True, check=False)
+        words = [sys.executable, str(MONITOR), "--program", PROGRAM, "--page", "here", str(self.folder)]
+        ran = subprocess.run(words, capture_output=True, text=True, check=False)
         self.assertEqual((ran.returncode, ran.stderr), (1, "nagsched-monitor: --page: no ADDRESS:PORT: 'here'\n"))
 
     def test_no_page(self) -> None:
@@ -162,10 +163,13 @@ class Places(SiteTest):
         for given, place, own in (
             ("127.0.0.1:80", ("127.0.0.1", 80), True), ("localhost:0", ("127.0.0.1", 0), True), ("[::1]:8080", ("::1", 8080), True),
             ("0.0.0.0:1", ("0.0.0.0", 1), False), ("[::]:65535", ("::", 65535), False), ("10.0.0.1:80", ("10.0.0.1", 80), False),
-        ):  # fmt: skip
+        ):
             self.assertEqual((place_of(given), is_own(given)), (place, own), given)
 
     def test_what_is_none(self) -> None:
-        for given in ("", ":", "80", "::1:80", "[::1]", "127.0.0.1:", "127.0.0.1:x", "127.0.0.1:65536", "127.0.0.1:-1", "256.0.0.1:80", "[127.0.0.1:80", "host:80", "a:²"):
+        for given in (
+            "", ":", "80", "::1:80", "[::1]", "127.0.0.1:", "127.0.0.1:x", "127.0.0.1:65536", "127.0.0.1:-1", "256.0.0.1:80", "[127.0.0.1:80", "host:80",
+            "127.0.0.1:²",
+        ):
             with self.assertRaises(MonitorFault, msg=given):
                 place_of(given)

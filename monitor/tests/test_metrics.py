@@ -70,8 +70,8 @@ class Metrics(ShownSite):
 
     def test_a_site(self) -> None:
         now = time.time()
-        objects = [standing("a"), standing("b", out_since=now), standing("c", "DOWN", "SOFT", next_check=now - 1), standing("d", "PENDING", None, next_check=None)]
-        objects += [standing("e", 'a "state"\\\n', "HARD"), standing("f", is_on=0, next_check=now - 1)]
+        objects = [standing("a"), standing("b", out_since=now), standing("c", "DOWN", "SOFT", next_check=now - 1)]
+        objects += [standing("d", "PENDING", None, next_check=None), standing("e", 'a "state"\\\n', "HARD"), standing("f", is_on=0, next_check=now - 1)]
         figures = {"checks.OK": 7.0, "checks.given_up": 1.0, "calls": 3e9, "saves": 2.0, "saved_at": now - 30}
         figures |= {"late.0.05": 5.0, "late.0.25": 2.0, "late.more": 1.0, "late.sum": 61.5}
         fill(self.folder, objects, figures)
@@ -80,7 +80,7 @@ class Metrics(ShownSite):
         self.assertEqual({name: kind for name, kind in families.kinds.items() if kind != "gauge"}, {
             "nagsched_checks_total": "counter", "nagsched_calls_total": "counter", "nagsched_saves_total": "counter",
             "nagsched_check_latency_seconds": "histogram",
-        })  # fmt: skip
+        })
         self.assertEqual((families.of("nagsched_due"), families.of("nagsched_out")), (1, 1))
         self.assertEqual([families.of("nagsched_checks_total", result=result) for result in RESULTS], [7, 0, 0, 0, 0, 0, 0, 1, 0])
         self.assertEqual((families.of("nagsched_calls_total"), families.of("nagsched_saves_total")), (3e9, 2))

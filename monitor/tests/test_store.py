@@ -1,9 +1,10 @@
 """The database: what was changed is found, what can't be written changes nothing."""
 import sqlite3
 
+from nagsched_monitor.counters import KeepFigures
 from nagsched_monitor.faults import DamagedRow, MonitorFault, NotStored
 from nagsched_monitor.rows import TABLES, Generation, KeptChange
-from nagsched_monitor.store import BeginGeneration, DropChangesBefore, KeepCalls, KeepChange, KeepFigures, KeepResult, SetSwitch, Store
+from nagsched_monitor.store import BeginGeneration, DropChangesBefore, KeepCalls, KeepChange, KeepResult, SetSwitch, Store
 
 from .simulated import SiteTest
 
@@ -34,12 +35,11 @@ class Database(SiteTest):
         self.assertEqual((store.generations()[0].saved, store.last_call, store.last_change, store.last_moment()), (b'{"format":1}', 2, 2, 8))
         self.assertEqual((store.outbox(), store.figures()), ([(1, '{"name":"web"}')], {"saves": 3.0}))
 
-    def test_figures_keep_their_rows(self) -> None:
+    def test_figures_are_replaced(self) -> None:
         store = self.filled()
         store.write(KeepFigures({"calls": 7.0, "saves": 4.0}))
         store.write(KeepFigures({"calls": 8.0, "late.sum": 0.25}))
         self.assertEqual(store.figures(), {"saves": 4.0, "calls": 8.0, "late.sum": 0.25})
-        self.assertEqual(store.numbers("figures"), {"saves": 1, "calls": 2, "late.sum": 3})
         store.close()
         Store(self.folder).close()
 
