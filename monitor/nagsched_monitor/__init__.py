@@ -13,6 +13,7 @@ Modules, lowest first:
     known        what the answers say of each object
     plugins      one runner process: it runs the jobs that it reads
     runners      the runner processes of a monitor
+    standings    the table of how each object stands
     spreading    the times of checks that are overdue
     changes      what is printed of a change, and the command that is run for it
     scheduling   calls made and kept, over all parts of a site
