@@ -23,5 +23,10 @@ Modules, lowest first:
     engine       one turn of the monitor: results in, checks out
     requests     what can be asked of a monitor that runs
     control      the socket through which it is asked
+    notify       what a service manager hears
+    beside       a process of its own beside the monitor
+    nagios_blocks the blocks of Nagios's status file
+    nagios_pipe  the lines of Nagios's pipe
+    nagios_files the process that keeps both
     main         the words, and the loop
 """

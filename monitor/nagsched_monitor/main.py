@@ -11,10 +11,12 @@ import time
 from typing import Any, Dict, List, Optional, Set
 
 from . import changes, control
+from .beside import Beside
 from .changes import Notifier
 from .clock import Clock, SystemClock
 from .engine import Engine
 from .faults import ConversationEnded, MonitorFault, NotStored
+from .notify import Service
 from .requests import Requests
 from .runners import RunnerProcesses
 from .scheduling import Scheduling
@@ -30,8 +32,9 @@ BETWEEN_TURNS = 0.05
 class Monitor:
     """A monitor of one site, while it runs."""
 
-    def __init__(self, folder: pathlib.Path, program: str, command: Optional[str]) -> None:
+    def __init__(self, folder: pathlib.Path, program: str, command: Optional[str], nagios_files: Optional[pathlib.Path] = None) -> None:
         self._folder, self._program = folder, program
+        self._service = Service()
         self._selector = selectors.DefaultSelector()
         self._watched: Set[int] = set()
         self._is_ended = self._is_reload_wanted = False
@@ -45,6 +48,9 @@ class Monitor:
         self.requests = Requests(self.engine, self.clock, self.reload, self.stop)
         self.control = control.Control(folder, self.requests.answer, self._watch, self._unwatch)
         self._dropped_at = 0.0
+        self._beside: List[Beside] = []
+        if nagios_files is not None:
+            self._beside.append(Beside("nagios_files", [str(folder), str(nagios_files), *(["--notifies"] if command is not None else [])], self.log))
 
     def log(self, line: str) -> None:
         print(line, flush=True)
@@ -61,6 +67,7 @@ class Monitor:
         self._take_signals()
         for line in changes.standing_problems([(known.name, known.standing) for known in self.scheduling.known.objects.values() if known.standing]):
             self.log(f"at the start {line}")
+        self._service.ready(f"{len(self.site.objects)} objects")
         while not self._is_ended:
             begun = time.monotonic()
             wanted = self.engine.turn()
@@ -68,6 +75,9 @@ class Monitor:
                 self.log(changes.line_of(change, self.site.zone))
             self._notifier.work()
             self._drop_old_changes()
+            self._service.alive()
+            for process in self._beside:
+                process.work()
             if self._is_reload_wanted:
                 self._is_reload_wanted = False
                 self._reload_by_signal()
@@ -149,7 +159,10 @@ class Monitor:
 
     def close(self) -> None:
         """Ends: plugins that run are killed, and their checks given up at the next start."""
+        self._service.stopping()
         self.control.close()
+        for process in self._beside:
+            process.close()
         self.runners.close()
         self._notifier.close()
         try:
@@ -168,6 +181,7 @@ def words_of(given: Optional[List[str]]) -> argparse.Namespace:
     parser.add_argument("folder", metavar="DIR", type=pathlib.Path, help="the folder of the site")
     parser.add_argument("--program", default="nagsched", metavar="PATH", help="the program nagsched")
     parser.add_argument("--on-change", metavar="COMMAND", help="run this for each hard change, with a JSON object on its standard input")
+    parser.add_argument("--nagios-files", metavar="DIRECTORY", type=pathlib.Path, help="keep Nagios's status.dat and its pipe nagios.cmd there")
     words = parser.add_subparsers(dest="word", metavar="WORD", help="without a word it runs the monitor; else it asks the one that runs")
     status = words.add_parser("status", help="prints how objects stand")
     status.add_argument("pattern", nargs="?", default="*")
@@ -219,7 +233,7 @@ def main(given: Optional[List[str]] = None) -> int:
                 raise MonitorFault(answer["error"])
             print(printed(answer))
             return 0
-        monitor = Monitor(words.folder, words.program, words.on_change)
+        monitor = Monitor(words.folder, words.program, words.on_change, words.nagios_files)
     except MonitorFault as fault:
         print(f"nagsched-monitor: {fault}", file=sys.stderr)
         return 1

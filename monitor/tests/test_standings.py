@@ -115,7 +115,8 @@ class Table(SiteTest):
         again = self.monitor(outage, monitor.clock)
         again.run(0.1)
         after = self.assert_same(again)
-        self.assertEqual([(row.since, row.hard_since, row.words) for row in after.values()], [(row.since, row.hard_since, row.words) for row in before.values()])
+        for name, row in before.items():
+            self.assertEqual((after[name].since, after[name].hard_since, after[name].words), (row.since, row.hard_since, row.words))
 
     def test_a_reload_drops_rows(self) -> None:
         monitor = self.monitor(outage)
