@@ -74,6 +74,12 @@ def settings_from(members: Mapping[str, Any]) -> Settings:
     return Settings(members.get("check_interval", 5), members.get("retry_interval", 1), members["max_check_attempts"])
 
 
+def plain(text: str) -> str:
+    """A text without spaces around it and without control characters."""
+    text = text.strip()
+    return text if text.isprintable() else text.translate(PLAIN)
+
+
 def seconds(time: Optional[float]) -> int:
     """A time in whole seconds, as Nagios has it: 0 where there is none."""
     return 0 if time is None else int(time)
@@ -162,9 +168,9 @@ def object_block(program: Program, its: Settings, kept: KeptStanding, now: float
 \tcheck_type={int(its.is_passive)}
 \tcurrent_state={state}
 \tlast_hard_state={state if kept.kind == "HARD" else 0}
-\tplugin_output={output.strip().translate(PLAIN)}
+\tplugin_output={plain(output)}
 \tlong_plugin_output=
-\tperformance_data={performance.strip().translate(PLAIN)}
+\tperformance_data={plain(performance)}
 \tlast_check={seconds(kept.last_check)}
 \tnext_check={seconds(kept.next_check)}
 \tcheck_options=0
@@ -187,7 +193,7 @@ def names_of_commands(document: Mapping[str, Any]) -> Dict[str, str]:
     for name, members in document.items():
         words = str(members.get("line", "")).split(maxsplit=1)
         if words and "=" not in words[0]:
-            names[name] = words[0].rpartition("/")[2].translate(PLAIN)
+            names[name] = plain(words[0].rpartition("/")[2])
     return names
 
 
