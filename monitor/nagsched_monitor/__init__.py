@@ -13,6 +13,7 @@ Modules, lowest first:
     known        what the answers say of each object
     plugins      one runner process: it runs the jobs that it reads
     runners      the runner processes of a monitor
+    standings    the table of how each object stands
     spreading    the times of checks that are overdue
     changes      what is printed of a change, and the command that is run for it
     scheduling   calls made and kept, over all parts of a site
@@ -24,7 +25,11 @@ Modules, lowest first:
     requests     what can be asked of a monitor that runs
     control      the socket through which it is asked
     places       addresses at which something is served
-    beside       a process beside the monitor
+    notify       what a service manager hears
+    beside       a process of its own beside the monitor
+    nagios_blocks the blocks of Nagios's status file
+    nagios_pipe  the lines of Nagios's pipe
+    nagios_files the process that keeps both
     main         the words, and the loop
 
 and of the process that shows a page:

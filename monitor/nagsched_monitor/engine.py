@@ -178,11 +178,12 @@ class Engine:
 
     def _start(self, taken: Taken, due: Optional[int]) -> None:
         """Runs the plugin of a check that was taken."""
-        watched = self.scheduling.known.objects[taken.name].watched
-        time = on_time(due)
+        known = self.scheduling.known.objects[taken.name]
+        watched, time = known.watched, on_time(due)
+        late = 0 if time is None else self._clock.moment() - time
+        known.past.late = max(0, late) / 1000
+        self.latest_start = max(self.latest_start, late)
         if time is not None:
-            late = self._clock.moment() - time
-            self.latest_start = max(self.latest_start, late)
             self.counters.started(late)
         words, limit = ((), 0.0) if watched.command is None else (watched.command.words, watched.command.limit)
         job = Job(taken.name, taken.run, words, limit)

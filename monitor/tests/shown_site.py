@@ -1,31 +1,24 @@
 """A site's database as a page reads it, filled by hand."""
 import http.client
 import pathlib
-import sqlite3
 import threading
 import time
 from typing import Any, Dict, List, Optional, Tuple
 
 from nagsched_monitor.counters import KeepFigures
 from nagsched_monitor.page import Server, Site
-from nagsched_monitor.rows import KeptChange, checksum_of
-from nagsched_monitor.store import KeepChange, Store
+from nagsched_monitor.rows import KeptChange, KeptStanding
+from nagsched_monitor.store import DropStandings, KeepChange, KeepStandings, Store
 
 from .simulated import SiteTest
-
-STANDINGS = (
-    "name TEXT UNIQUE, state TEXT, kind TEXT, attempt INTEGER, flapping INTEGER, since REAL, hard_since REAL, last_check REAL, next_check REAL, "
-    "is_on INTEGER, out_since REAL, took REAL, late REAL, words TEXT"
-)
-MEMBERS = [member.split()[0] for member in STANDINGS.split(", ")]
 
 
 def standing(name: str, state: str = "UP", kind: Optional[str] = "HARD", words: str = "fine", **others: Any) -> Dict[str, Any]:
     """An object that has stood so for an hour, and is checked again in five minutes."""
     now = time.time()
     usual: Dict[str, Any] = {
-        "name": name, "state": state, "kind": kind, "attempt": 1, "flapping": 0, "since": now - 3600, "hard_since": now - 3600, "last_check": now - 5.0,
-        "next_check": now + 300, "is_on": 1, "out_since": None, "took": 0.25, "late": 0.125, "words": words,
+        "name": name, "state": state, "kind": kind, "attempt": 1, "flapping": False, "since": now - 3600, "hard_since": now - 3600, "last_check": now - 5.0,
+        "next_check": now + 300, "is_on": True, "out_since": None, "took": 0.25, "late": 0.125, "words": words,
     }
     return {**usual, **others}
 
@@ -33,17 +26,13 @@ def standing(name: str, state: str = "UP", kind: Optional[str] = "HARD", words: 
 def fill(folder: pathlib.Path, standings: List[Dict[str, Any]], figures: Optional[Dict[str, float]] = None, changes: Tuple[KeptChange, ...] = ()) -> None:
     """A database with these objects."""
     store = Store(folder)
-    store.write(KeepFigures({"written_at": time.time(), **(figures or {})}), *(KeepChange(change, None) for change in changes))
+    store.write(
+        DropStandings([kept.name for _, kept in store.standings()]),
+        KeepStandings([(number, KeptStanding(**it)) for number, it in enumerate(standings, 1)]),
+        KeepFigures({"written_at": time.time(), **(figures or {})}),
+        *(KeepChange(change, None) for change in changes),
+    )
     store.close()
-    database = sqlite3.connect(folder / "monitor.db", isolation_level=None)
-    database.execute(f"CREATE TABLE IF NOT EXISTS standings (id INTEGER PRIMARY KEY, {STANDINGS}, checksum TEXT)")
-    database.execute("BEGIN")
-    database.execute("DELETE FROM standings")
-    for number, it in enumerate(standings, 1):
-        cells = [it[member] for member in MEMBERS]
-        database.execute(f"INSERT INTO standings VALUES ({','.join('?' * (len(cells) + 2))})", (number, *cells, checksum_of("standings", number, cells)))
-    database.execute("COMMIT")
-    database.close()
 
 
 class ShownSite(SiteTest):

@@ -4,17 +4,16 @@ import json
 import os
 import pathlib
 import signal
-import sqlite3
 import subprocess
 import sys
 import time
 from typing import List, Tuple
 
+from nagsched_monitor import control
 from nagsched_monitor.beside import LONGEST_PAUSE, Beside
 from nagsched_monitor.faults import MonitorFault
 from nagsched_monitor.places import is_own, place_of
 
-from .shown_site import STANDINGS
 from .simulated import PROGRAM, SiteTest
 
 MONITOR = pathlib.Path(__file__).resolve().parent.parent / "nagsched-monitor"
@@ -33,15 +32,12 @@ def is_page(process: int) -> bool:
 class PageProcess(SiteTest):
     def setUp(self) -> None:
         super().setUp()
-        with sqlite3.connect(self.folder / "monitor.db") as database:
-            database.execute(f"CREATE TABLE standings (id INTEGER PRIMARY KEY, {STANDINGS}, checksum TEXT)")
-        database.close()
-        (self.folder / "monitor.db").chmod(0o600)
         self.log = self.folder / "log"
 
     def started(self, *words: str) -> "subprocess.Popen[bytes]":
         """A monitor whose lines and those of its page go to a file."""
         self.write_site([{"name": f"h{number}", "check_interval": 1, "max_check_attempts": 2} for number in range(3)], [])
+        self.write("commands.json", {f"h{number}": {"line": f"echo number {number}; exit {number}", "shell": True} for number in range(3)})
         with self.log.open("ab") as log:
             running = subprocess.Popen([sys.executable, str(MONITOR), "--program", PROGRAM, *words, str(self.folder)], stdout=log, stderr=log)
         self.addCleanup(self.killed, running)
@@ -89,6 +85,7 @@ class PageProcess(SiteTest):
         status, text = self.get(port, "/metrics")
         self.assertEqual(status, 200)
         self.assertGreater(float(text.partition('nagsched_checks_total{result="UP"} ')[2].partition("\n")[0]), 5)
+        self.compare(port)
         came = json.loads(self.get(port, "/status.json")[1])
         self.assertEqual((came["site"], came["is_silent"]), (self.folder.name, False))
         self.assertEqual(self.get(port, "/")[0], 200)
@@ -98,11 +95,20 @@ class PageProcess(SiteTest):
         port = self.await_page(2)
         self.assertEqual(self.get(port, "/metrics")[0], 200)
         self.assertNotEqual(self.page_of(running), before)
-        self.assertIn("the page ended with status -9; it is started anew in 1 seconds", self.log.read_text())
+        self.assertIn("page ended with status -9; it is begun again", self.log.read_text())
         process = self.page_of(running)
         self.killed(running)
         self.await_end(process)
         self.assertEqual(running.returncode, 0)
+
+    def compare(self, port: int) -> None:
+        """The page shows each object as the monitor says that it stands, a second or two later."""
+        answer = control.ask(self.folder, b'{"do":"status"}')
+        time.sleep(2)
+        wanted = [(it["name"], it["state"], it["kind"], it["attempt"], it["output"]) for it in json.loads(answer)["objects"]]
+        came = [(it["name"], it["state"], it["kind"], it["attempt"], it["words"]) for it in json.loads(self.get(port, "/status.json")[1])["objects"]]
+        self.assertEqual(came, wanted)
+        self.assertEqual([state for _, state, *_ in came], ["UP", "UP", "DOWN"])
 
     def test_a_monitor_that_is_killed(self) -> None:
         running = self.started("--page", "127.0.0.1:0")
@@ -145,17 +151,20 @@ class Pauses(SiteTest):
         """It is started anew at pauses that grow, up to a minute."""
         lines: List[str] = []
         now = [0.0]
-        beside = Beside("it", "none_of_these", [], lines.append, lambda: now[0])
+        beside = Beside("none_of_these", [], lines.append, lambda: now[0])
         self.addCleanup(beside.close)
-        beside._words = ["false"]
-        for second in range(400):
+        begun = []
+        for second in range(220):
             now[0] = float(second)
+            before = beside.process_id()
             beside.work()
             if beside._process is not None:
-                beside._process.wait(timeout=10)
-        pauses = [float(line.split(" anew in ")[1].split()[0]) for line in lines]
-        self.assertEqual(pauses[:7], [1, 2, 4, 8, 16, 32, LONGEST_PAUSE])
-        self.assertLess(len(pauses), 15)
+                beside._process.wait(timeout=30)
+                if beside.process_id() != before:
+                    begun.append(second)
+        self.assertEqual(begun, [0, 5, 15, 35, 75, 135, 195])
+        self.assertEqual(LONGEST_PAUSE, 60)
+        self.assertEqual(set(lines), {"none_of_these ended with status 1; it is begun again"})
 
 
 class Places(SiteTest):

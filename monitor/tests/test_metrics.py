@@ -71,7 +71,7 @@ class Metrics(ShownSite):
     def test_a_site(self) -> None:
         now = time.time()
         objects = [standing("a"), standing("b", out_since=now), standing("c", "DOWN", "SOFT", next_check=now - 1)]
-        objects += [standing("d", "PENDING", None, next_check=None), standing("e", 'a "state"\\\n', "HARD"), standing("f", is_on=0, next_check=now - 1)]
+        objects += [standing("d", "PENDING", None, next_check=None), standing("e", 'a "state"\\\n', "HARD"), standing("f", is_on=False, next_check=now - 1)]
         figures = {"checks.OK": 7.0, "checks.given_up": 1.0, "calls": 3e9, "saves": 2.0, "saved_at": now - 30}
         figures |= {"late.0.05": 5.0, "late.0.25": 2.0, "late.more": 1.0, "late.sum": 61.5}
         fill(self.folder, objects, figures)

@@ -82,7 +82,7 @@ class Page(ShownSite):
             standing("hard and young", "DOWN", since=now - 500, hard_since=now - 60),
             standing("hard and old", "UNREACHABLE", since=now - 7200, hard_since=now - 7200),
             standing("fine"),
-            standing("fine;soft", "WARNING", "SOFT", since=now - 30, attempt=2, flapping=1),
+            standing("fine;soft", "WARNING", "SOFT", since=now - 30, attempt=2, flapping=True),
             standing("fine;waits", "PENDING", None),
         ])
         self.serve()
@@ -96,7 +96,7 @@ class Page(ShownSite):
     def test_when_it_is_checked(self) -> None:
         now = time.time()
         fill(self.folder, [
-            standing("a", out_since=now - 4, next_check=None), standing("b", is_on=0), standing("c", next_check=now - 10),
+            standing("a", out_since=now - 4, next_check=None), standing("b", is_on=False), standing("c", next_check=now - 10),
             standing("d", next_check=None), standing("e", next_check=now + 86400 * 40), standing("f", next_check=1e15), standing("g", next_check=0.001),
             standing("h", next_check=-1e300),
         ])
@@ -197,14 +197,13 @@ class Page(ShownSite):
 
 class Data(ShownSite):
     def test_status(self) -> None:
-        objects = [standing("h", out_since=5.0, next_check=None), standing("h;a", "CRITICAL", "SOFT", "bad", attempt=2, flapping=1, next_check=1.0)]
+        objects = [standing("h", out_since=5.0, next_check=None), standing("h;a", "CRITICAL", "SOFT", "bad", attempt=2, flapping=True, next_check=1.0)]
         fill(self.folder, objects, {"checks_a_second": 2.5, "latest_start": 0.75, "calls": 8})
         self.serve()
         status, headers, text = self.ask("/status.json")
         came = json.loads(text)
         self.assertEqual((status, headers["content-type"], headers["content-length"]), (200, "application/json", str(len(text.encode()))))
-        wanted = [{**it, "flapping": bool(it["flapping"]), "is_on": True} for it in objects]
-        self.assertEqual(came["objects"], wanted)
+        self.assertEqual(came["objects"], objects)
         self.assertEqual((came["wrong"], came["out"], came["due"], came["is_silent"]), (["h;a"], 1, 1, False))
         self.assertEqual((came["checks_a_second"], came["latest_start"], came["calls"], came["saved_at"]), (2.5, 0.75, 8, None))
 

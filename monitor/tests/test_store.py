@@ -3,11 +3,12 @@ import sqlite3
 
 from nagsched_monitor.counters import KeepFigures
 from nagsched_monitor.faults import DamagedRow, MonitorFault, NotStored
-from nagsched_monitor.rows import TABLES, Generation, KeptChange
-from nagsched_monitor.store import BeginGeneration, DropChangesBefore, KeepCalls, KeepChange, KeepResult, SetSwitch, Store
+from nagsched_monitor.rows import TABLES, Generation, KeptChange, KeptStanding
+from nagsched_monitor.store import BeginGeneration, DropChangesBefore, DropStandings, KeepCalls, KeepChange, KeepResult, KeepStandings, SetSwitch, Store
 
 from .simulated import SiteTest
 
+STANDING = KeptStanding("web", "DOWN", "HARD", 3, False, 990.5, 1000.5, 1000.25, 1060.0, True, None, 0.5, 0.0, "no answer")
 CHANGE = KeptChange(2, 1000.5, "web", "DOWN", "HARD", 3, False, "no answer")
 
 
@@ -22,6 +23,7 @@ class Database(SiteTest):
             SetSwitch("web", False),
             KeepResult("web", 1, "slow"),
             KeepChange(CHANGE, '{"name":"web"}'),
+            KeepStandings([(1, STANDING)]),
             KeepFigures({"saves": 3.0}),
         )
         return store
@@ -34,6 +36,9 @@ class Database(SiteTest):
         self.assertEqual((store.switches(), [result.words for result in store.waiting()]), ({"web": False}, ["slow"]))
         self.assertEqual((store.generations()[0].saved, store.last_call, store.last_change, store.last_moment()), (b'{"format":1}', 2, 2, 8))
         self.assertEqual((store.outbox(), store.figures()), ([(1, '{"name":"web"}')], {"saves": 3.0}))
+        self.assertEqual(store.standings(), [(1, STANDING)])
+        store.write(DropStandings(["web"]))
+        self.assertEqual(store.standings(), [])
 
     def test_figures_are_replaced(self) -> None:
         store = self.filled()
