@@ -20,7 +20,7 @@ HEADS = ("State", "Object", "Attempt", "Since", "Next check", "Last words")
 
 def text(given: str) -> str:
     """A text as HTML has it."""
-    return html.escape(given.translate(REPLACED))
+    return html.escape(given if given.isprintable() else given.translate(REPLACED))
 
 
 def duration(seconds: float) -> str:

@@ -1,5 +1,4 @@
 """The figures of a site in the text format of Prometheus, and as data."""
-from dataclasses import asdict
 from typing import Any, Dict, List, Mapping, Optional, Sequence, Tuple
 
 from .counters import BOUNDS, BUCKETS, RESULTS
@@ -75,5 +74,5 @@ def status(picture: Picture, site: str) -> Dict[str, Any]:
         "due": picture.due(),
         "out": len(picture.out()),
         "wrong": [it.name for it in picture.wrong()],
-        "objects": [asdict(it) for it in picture.objects],
+        "objects": [vars(it) for it in picture.objects],
     }

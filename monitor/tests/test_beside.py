@@ -151,7 +151,7 @@ class Pauses(SiteTest):
         """It is started anew at pauses that grow, up to a minute."""
         lines: List[str] = []
         now = [0.0]
-        beside = Beside("none_of_these", [], lines.append, lambda: now[0])
+        beside = Beside("faults", [], lines.append, lambda: now[0])
         self.addCleanup(beside.close)
         begun = []
         for second in range(220):
@@ -164,7 +164,7 @@ class Pauses(SiteTest):
                     begun.append(second)
         self.assertEqual(begun, [0, 5, 15, 35, 75, 135, 195])
         self.assertEqual(LONGEST_PAUSE, 60)
-        self.assertEqual(set(lines), {"none_of_these ended with status 1; it is begun again"})
+        self.assertEqual(set(lines), {"faults ended with status 0; it is begun again"})
 
 
 class Places(SiteTest):
