@@ -81,10 +81,7 @@ class PageProcess(SiteTest):
         """It shows what the monitor counts; killed, it is started anew; it ends with the monitor."""
         running = self.started("--page", "127.0.0.1:0")
         port = self.await_page(1)
-        time.sleep(6)
-        status, text = self.get(port, "/metrics")
-        self.assertEqual(status, 200)
-        self.assertGreater(float(text.partition('nagsched_checks_total{result="UP"} ')[2].partition("\n")[0]), 5)
+        self.await_results(port, 6)
         self.compare(port)
         came = json.loads(self.get(port, "/status.json")[1])
         self.assertEqual((came["site"], came["is_silent"]), (self.folder.name, False))
@@ -100,6 +97,18 @@ class PageProcess(SiteTest):
         self.killed(running)
         self.await_end(process)
         self.assertEqual(running.returncode, 0)
+
+    def await_results(self, port: int, count: int) -> None:
+        """Waits until so many hosts were found up."""
+        up = 0.0
+        for _ in range(60):
+            status, text = self.get(port, "/metrics")
+            self.assertEqual(status, 200, text)
+            up = float(text.partition('nagsched_checks_total{result="UP"} ')[2].partition("\n")[0])
+            if up >= count:
+                return
+            time.sleep(0.5)
+        self.fail(f"{up:g} results")
 
     def compare(self, port: int) -> None:
         """The page shows each object as the monitor says that it stands, a second or two later."""

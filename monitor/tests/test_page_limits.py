@@ -10,9 +10,12 @@ from .shown_site import ShownSite, fill, standing
 
 
 class Refused(ShownSite):
-    def raw(self, sent: bytes) -> bytes:
+    def raw(self, sent: bytes, is_all: bool = True) -> bytes:
+        """The answer to these bytes, behind which the client ends, or sends nothing more."""
         with socket.create_connection(("127.0.0.1", self.port), timeout=20) as connection:
             connection.sendall(sent)
+            if is_all:
+                connection.shutdown(socket.SHUT_WR)
             came = b""
             while data := connection.recv(65_536):
                 came += data
@@ -52,10 +55,14 @@ class Refused(ShownSite):
     def test_a_client_that_sends_nothing(self) -> None:
         fill(self.folder, [standing("h")])
         self.serve()
+        self.assertEqual(page.Handler.timeout, 5)
+        self.addCleanup(setattr, page.Handler, "timeout", 5)
+        page.Handler.timeout = 1
         for sent in (b"", b"GET / HT", b"GET / HTTP/1.1\r\nx: "):
             begun = time.monotonic()
-            self.assertEqual(self.raw(sent), b"")
-            self.assertLess(abs(time.monotonic() - begun - page.PATIENCE), 2)
+            self.assertEqual(self.raw(sent, False), b"")
+            self.assertTrue(0.9 < time.monotonic() - begun < 6)
+        self.assertIn(b" 404 ", self.raw(b"GET /x HTTP/1.1\r\n\r\n", False))
 
     def test_clients_that_take_too_long_and_too_many(self) -> None:
         """Each past the most is let go at once; those that drip are let go behind the longest time, and others have room again."""
