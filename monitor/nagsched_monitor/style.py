@@ -18,8 +18,8 @@ dl div{background:var(--card);border-radius:6px;padding:6px 12px}dt{font-size:13
 table{border-collapse:collapse;width:100%}
 th{text-align:left;font-weight:600;font-size:13px;color:var(--faint)}
 th,td{padding:4px 10px 4px 0;vertical-align:top;border-bottom:1px solid var(--line);unicode-bidi:isolate}
-td{overflow-wrap:anywhere}td:nth-child(1),td:nth-child(4),td:nth-child(5){white-space:nowrap}
-td:nth-child(2){min-width:150px}td:last-child{width:45%}
+td{overflow-wrap:anywhere}.o td:nth-child(1),.o td:nth-child(4),.o td:nth-child(5),.c td:nth-child(1),.c td:nth-child(2){white-space:nowrap}
+.o td:nth-child(2){min-width:150px}.o td:last-child{width:40%}.c td:last-child{width:70%}
 .s{display:inline-block;border-radius:4px;border:2px solid var(--c);background:var(--c);color:#111;padding:0 6px;font-weight:600;font-size:13px}
 .soft{background:none;border-style:dashed;color:var(--text)}
 .up{--c:#009e73}.warn{--c:#e69f00}.down{--c:#d55e00}.unknown{--c:#cc79a7}.far{--c:#56b4e9}.none{--c:var(--grey)}
@@ -32,10 +32,10 @@ rect{fill:var(--c)}.thin{opacity:.45}line{stroke:var(--line)}
 body{padding:10px 10px 40px;font-size:16px}dl div{padding:4px 9px}
 table,tbody,tr{display:block}thead{display:none}
 tr{border-bottom:1px solid var(--line);padding:6px 0}
-td{display:inline;border:0;padding:0 8px 0 0}td:nth-child(1),td:nth-child(4),td:nth-child(5){white-space:normal}
-td:nth-child(2){font-weight:600}td:empty{display:none}td:last-child{display:block;width:auto;padding:2px 0 0}
+td,.o td:nth-child(n),.c td:nth-child(n){display:inline;border:0;padding:0 8px 0 0;white-space:normal}
+.o td:nth-child(2){font-weight:600}td:empty,.o td:nth-child(n):empty{display:none}.o td:last-child,.c td:last-child{display:block;padding:2px 0 0}
 .o td:nth-child(3)::before{content:"attempt ";color:var(--faint)}.o td:nth-child(4)::before{content:"since ";color:var(--faint)}
-.o td:nth-child(5)::before{content:"next ";color:var(--faint)}
+.c td:nth-child(3)::before{content:"attempt ";color:var(--faint)}.o td:nth-child(5)::before{content:"next ";color:var(--faint)}
 }
 """
 DIGEST = base64.b64encode(hashlib.sha256(STYLE.encode()).digest()).decode()

@@ -152,8 +152,11 @@ class Running(ProcessTest):
         self.write_site(self.objects(3, check_interval=300), [])
         self.write("commands.json", {name: {"line": f"echo {name}; exit 2", "shell": True} for name in ("h00", "h01", "h02")})
         running = self.begin()
-        time.sleep(1.5)
-        before = self.ask("status").stdout
+        for _ in range(100):
+            before = self.ask("status").stdout
+            if before.count("DOWN HARD 2 h") == 3:
+                break
+            time.sleep(0.2)
         self.assertEqual(self.ask("save").stdout, "save: done\n")
         with sqlite3.connect(self.folder / "monitor.db") as database:
             self.assertEqual(self.calls(database), [])

@@ -135,14 +135,17 @@ class Table(SiteTest):
         monitor = self.monitor(fine)
         monitor.run(3)
         writes = 0
+        is_written = False
 
         def count(statement: str) -> None:
-            nonlocal writes
-            writes += statement == "COMMIT"
+            nonlocal writes, is_written
+            is_written = is_written or "INTO standings" in statement
+            if statement == "COMMIT":
+                writes, is_written = writes + is_written, False
 
         monitor.store._database.set_trace_callback(count)
         monitor.run(50)
         self.assertEqual(writes, 0)
         monitor.run(20)
         # Each of the three checks is taken and reported; all that is behind is written once.
-        self.assertLessEqual(writes, 2 + 2 + 1)
+        self.assertTrue(0 < writes <= 2 + 2 + 1, writes)
