@@ -25,8 +25,10 @@ def children_of(process: int) -> List[int]:
 
 
 def is_page(process: int) -> bool:
-    path = pathlib.Path(f"/proc/{process}/cmdline")
-    return path.exists() and b"nagsched_monitor.page" in path.read_bytes()
+    try:
+        return b"nagsched_monitor.page" in pathlib.Path(f"/proc/{process}/cmdline").read_bytes()
+    except OSError:
+        return False  # it has just ended
 
 
 class PageProcess(SiteTest):

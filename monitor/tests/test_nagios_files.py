@@ -299,7 +299,8 @@ class Process(ProcessTest):
 
     def helper_of(self, running: "subprocess.Popen[str]") -> int:
         for child in self.children_of(running.pid):
-            if b"nagios_files" in pathlib.Path(f"/proc/{child}/cmdline").read_bytes():
+            path = pathlib.Path(f"/proc/{child}/cmdline")
+            if path.exists() and b"nagios_files" in path.read_bytes():
                 return child
         return 0
 
