@@ -98,6 +98,8 @@ def ask(folder: pathlib.Path, request: bytes, seconds: float = 30) -> bytes:
                 if not data:
                     break
                 answer += data
+        except (FileNotFoundError, ConnectionRefusedError):
+            raise MonitorFault(f"no monitor runs on {folder}") from None
         except OSError as error:
-            raise MonitorFault(f"no monitor of {folder} answers: {error.strerror or error}") from None
+            raise MonitorFault(f"the monitor of {folder} doesn't answer: {error.strerror or error}") from None
     return answer
