@@ -119,10 +119,10 @@ class SiteFiles(SiteTest):
         self.write_site([HOST], [])
         for line, sign in (("echo no; exit 2", ";"), ("echo a | cat", "|"), ("echo a>b", ">"), ("a=$(true)", "("), ("sleep 1 &", "&")):
             with self.subTest(line):
-                self.write("commands.json", {HOST["name"]: {"line": line}})
-                self.refused("commands.json", HOST["name"], f'only a shell gives {sign}')
-        self.write("commands.json", {HOST["name"]: {"line": "echo 'no; exit 2' \"a|b\" # c"}})
-        self.assertEqual(read_site(self.folder, PROGRAM).objects[HOST["name"]].command, Command(["echo", "no; exit 2", "a|b", "#", "c"], 60.0))
+                self.write("commands.json", {"web": {"line": line}})
+                self.refused("commands.json", "web", f"only a shell gives {sign}")
+        self.write("commands.json", {"web": {"line": "echo 'no; exit 2' \"a|b\" # c"}})
+        self.assertEqual(read_site(self.folder, PROGRAM).objects["web"].command, Command(["echo", "no; exit 2", "a|b", "#", "c"], 60.0))
 
     def test_no_program(self) -> None:
         self.write_site([HOST], [])
