@@ -3,7 +3,7 @@
 
     tools/manual.py DIRECTORY
 
-They are the pages docs/FORMATS.md and docs/MONITOR.md, and a section of docs/OPERATING.md, in the form that `man` shows, so that nothing is written twice:
+They are the pages docs/FORMATS.md, EXPLANATIONS.md and MONITOR.md, and a section of OPERATING.md, in the form that `man` shows, so that nothing is written twice:
 nagsched(1) has the words, exit statuses and input, nagsched(5) the setup, commands, answers, saved states and refusals. The gate compares the words with the
 program's help.
 """
@@ -196,10 +196,11 @@ def page_of(name, number, version, sections):
 def pages():
     """The text of each page by the name of its file."""
     version = (TOP / "VERSION").read_text().strip()
+    ((_, explanations),) = sections_of(TOP / "docs/EXPLANATIONS.md")
     formats, monitor = sections_of(TOP / "docs/FORMATS.md"), sections_of(TOP / "docs/MONITOR.md")
     parts = {
         ("nagsched", 1): [part for part in formats if part[0] in OF_THE_PROGRAM],
-        ("nagsched", 5): [part for part in formats if part[0] not in OF_THE_PROGRAM],
+        ("nagsched", 5): [*(part for part in formats if part[0] not in OF_THE_PROGRAM), ("Explanations", explanations)],
         ("nagsched-monitor", 1): monitor,
         ("nagsched-from-nagios", 1): [part for part in sections_of(TOP / "docs/OPERATING.md") if part[0] == "Coming from Nagios"],
     }
