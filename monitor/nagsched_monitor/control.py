@@ -1,8 +1,8 @@
-"""The socket in the folder of a site, through which its monitor is asked: one line of JSON there, one back."""
+"""The socket in the folder of a site, through which its monitor is asked: lines of JSON there, and as many back."""
 import os
 import pathlib
 import socket
-from typing import Callable, Dict, Tuple
+from typing import Callable, Dict, List, Sequence, Tuple
 
 from .faults import MonitorFault
 
@@ -35,7 +35,7 @@ class Control:
         return file == self._socket.fileno() or file in self._asking
 
     def read(self, file: int) -> None:
-        """Takes a new connection, or reads a request and answers it."""
+        """Takes a new connection, or reads requests and answers them."""
         if file == self._socket.fileno():
             connection, _ = self._socket.accept()
             connection.settimeout(1)
@@ -47,18 +47,17 @@ class Control:
             data = connection.recv(READ_BYTES)
         except OSError:
             data = b""
-        line, feed, rest = (unread + data).partition(b"\n")
-        if feed:
-            self._send(file, connection, self._answer(line))
+        *lines, rest = (unread + data).split(b"\n")
+        for line in lines:
             if file in self._asking:
-                self._asking[file] = connection, rest
-        elif not data:
+                self._send(file, connection, self._answer(line))
+        if not data:
             self._forget(file)
-        elif len(line) > LONGEST_LINE:
+        elif len(rest) > LONGEST_LINE:
             self._send(file, connection, b'{"error": "the line is too long"}\n')
             self._forget(file)
-        else:
-            self._asking[file] = connection, line
+        elif file in self._asking:
+            self._asking[file] = connection, rest
 
     def _send(self, file: int, connection: socket.socket, answer: bytes) -> None:
         try:
@@ -86,20 +85,36 @@ def short_path(path: pathlib.Path) -> str:
 
 
 def ask(folder: pathlib.Path, request: bytes, seconds: float = 30) -> bytes:
-    """The answer of the monitor of a folder."""
+    """The answer of the monitor of a folder; nothing where it ended meanwhile."""
+    return b"".join(answer + b"\n" for answer in ask_all(folder, [request], seconds))
+
+
+def ask_all(folder: pathlib.Path, requests: Sequence[bytes], seconds: float = 30) -> List[bytes]:
+    """The answers to requests that are made together. Where the monitor ends meanwhile they are those that came before."""
     with socket.socket(socket.AF_UNIX, socket.SOCK_STREAM) as connection:
         connection.settimeout(seconds)
         try:
             connection.connect(short_path(folder / NAME))
-            connection.sendall(request + b"\n")
-            answer = b""
-            while not answer.endswith(b"\n"):
-                data = connection.recv(READ_BYTES)
-                if not data:
-                    break
-                answer += data
+            connection.sendall(b"".join(request + b"\n" for request in requests))
+            return answers_from(connection, len(requests))
         except (FileNotFoundError, ConnectionRefusedError):
             raise MonitorFault(f"no monitor runs on {folder}") from None
         except OSError as error:
             raise MonitorFault(f"the monitor of {folder} doesn't answer: {error.strerror or error}") from None
-    return answer
+
+
+def answers_from(connection: socket.socket, count: int) -> List[bytes]:
+    """So many answers, or fewer where the connection ends before."""
+    read, missing = b"", count
+    while missing > 0:
+        try:
+            data = connection.recv(READ_BYTES)
+        except OSError:
+            if b"\n" not in read:
+                raise
+            data = b""  # what came before was obeyed
+        if not data:
+            break
+        read += data
+        missing -= data.count(b"\n")
+    return read.split(b"\n")[:-1]

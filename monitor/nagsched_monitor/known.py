@@ -9,6 +9,22 @@ from .site import Watched
 
 
 @dataclass
+class Past:
+    """Since when an object is what it is, in seconds since 1970 of the wall clock; None where that isn't known."""
+
+    # The state that it has had since then, and the hard one.
+    state: Optional[str] = None
+    since: Optional[float] = None
+    hard_state: Optional[str] = None
+    hard_since: Optional[float] = None
+    last_check: Optional[float] = None
+    out_since: Optional[float] = None
+    # How many seconds its last check took, and how late the last one began.
+    took: Optional[float] = None
+    late: Optional[float] = None
+
+
+@dataclass
 class Known:
     """What is known of an object."""
 
@@ -22,6 +38,7 @@ class Known:
     # The moment of its last result, and the words that came with it.
     last_result: Optional[int] = None
     words: str = ""
+    past: Past = field(default_factory=Past)
 
     @property
     def name(self) -> str:

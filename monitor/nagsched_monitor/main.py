@@ -12,11 +12,13 @@ import sys
 import time
 from typing import Any, Dict, List, Optional, Set
 
-from . import changes, control
+from . import changes, control, places
+from .beside import Beside
 from .changes import Notifier
 from .clock import Clock, SystemClock
 from .engine import Engine
 from .faults import ConversationEnded, MonitorFault, NotStored
+from .notify import Service
 from .requests import Requests
 from .runners import RunnerProcesses
 from .scheduling import Scheduling
@@ -32,21 +34,36 @@ BETWEEN_TURNS = 0.05
 class Monitor:
     """A monitor of one site, while it runs."""
 
-    def __init__(self, folder: pathlib.Path, program: str, command: Optional[str]) -> None:
+    def __init__(self, words: argparse.Namespace) -> None:
+        folder, program = words.folder, words.program
         self._folder, self._program = folder, program
+        self._service = Service()
         self._selector = selectors.DefaultSelector()
         self._watched: Set[int] = set()
         self._is_ended = self._is_reload_wanted = False
         self.site = read_site(folder, program)
         self.store = Store(folder)
         self.clock: Clock = SystemClock(self.store.last_moment())
-        self._notifier = Notifier(command, self.store, self.log)
+        self._notifier = Notifier(words.on_change, self.store, self.log)
         self.scheduling = self._opened(self.site)
         self.runners = RunnerProcesses(os.cpu_count() or 1, self.log, self._watch, self._unwatch)
         self.engine = Engine(self.site, self.scheduling, self.runners, self.store, self.clock, self.log)
         self.requests = Requests(self.engine, self.clock, self.reload, self.stop)
         self.control = control.Control(folder, self.requests.answer, self._watch, self._unwatch)
         self._dropped_at = 0.0
+        self._beside = self._besides(words)
+
+    def _besides(self, words: argparse.Namespace) -> List[Beside]:
+        """The processes that are asked for beside the monitor."""
+        besides = []
+        if words.nagios_files is not None:
+            notifies = ["--notifies"] if words.on_change is not None else []
+            besides.append(Beside("nagios_files", [str(words.folder), str(words.nagios_files), *notifies], self.log))
+        if words.page is not None:
+            if not places.is_own(words.page):
+                self.log(f"the page on {words.page} is shown to everybody who reaches this address")
+            besides.append(Beside("page", [words.page, str(words.folder)], self.log))
+        return besides
 
     def log(self, line: str) -> None:
         print(line, flush=True)
@@ -64,6 +81,7 @@ class Monitor:
         self.log(f"begins: {len(self.site.objects)} objects, {len(self.site.setups)} parts")
         for line in changes.standing_problems([(known.name, known.standing) for known in self.scheduling.known.objects.values() if known.standing]):
             self.log(f"at the start {line}")
+        self._service.ready(f"{len(self.site.objects)} objects")
         while not self._is_ended:
             begun = time.monotonic()
             wanted = self.engine.turn()
@@ -71,6 +89,9 @@ class Monitor:
                 self.log(changes.line_of(change, self.site.zone))
             self._notifier.work()
             self._drop_old_changes()
+            self._service.alive()
+            for process in self._beside:
+                process.work()
             if self._is_reload_wanted:
                 self._is_reload_wanted = False
                 self._reload_by_signal()
@@ -152,11 +173,14 @@ class Monitor:
 
     def close(self) -> None:
         """Ends: plugins that run are killed, and their checks given up at the next start."""
+        self._service.stopping()
         self.control.close()
+        for process in self._beside:
+            process.close()
         self.runners.close()
         self._notifier.close()
         try:
-            self.engine.save()
+            self.engine.close()
         except (NotStored, ConversationEnded) as fault:
             self.log(f"the state isn't saved: {fault}")
         self.log("ends")
@@ -178,6 +202,8 @@ def words_of(given: Optional[List[str]]) -> argparse.Namespace:
     parser.add_argument("folder", metavar="DIR", type=pathlib.Path, help="the folder of the site")
     parser.add_argument("--program", default=default_program(), metavar="PATH", help="the program nagsched; on the path or beside this one without it")
     parser.add_argument("--on-change", metavar="COMMAND", help="run this for each hard change, with a JSON object on its standard input")
+    parser.add_argument("--page", metavar="ADDRESS:PORT", help="show a page for browsers there, and figures for Prometheus")
+    parser.add_argument("--nagios-files", metavar="DIRECTORY", type=pathlib.Path, help="keep Nagios's status.dat and its pipe nagios.cmd there")
     words = parser.add_subparsers(dest="word", metavar="WORD", help="without a word it runs the monitor; else it asks the one that runs")
     status = words.add_parser("status", help="prints how objects stand")
     status.add_argument("pattern", nargs="?", default="*")
@@ -253,7 +279,9 @@ def main(given: Optional[List[str]] = None) -> int:
                 raise MonitorFault(answer["error"])
             print(printed(answer, getattr(words, "long", False)))
             return 0
-        monitor = Monitor(words.folder, words.program, words.on_change)
+        if words.page is not None:
+            places.place_of(words.page)
+        monitor = Monitor(words)
     except MonitorFault as fault:
         print(f"nagsched-monitor: {fault}", file=sys.stderr)
         return 1

@@ -1,7 +1,7 @@
 """The rows of a site's database: its tables, what a row says, and the checksum of one."""
 import hashlib
 from dataclasses import dataclass
-from typing import Dict, Optional, Sequence, Union
+from typing import Dict, NamedTuple, Optional, Sequence, Union
 
 Cell = Union[int, float, str, bytes, None]
 
@@ -12,6 +12,9 @@ TABLES: Dict[str, str] = {
     "passive": "name TEXT, code INTEGER, words TEXT",
     "changes": "time REAL, name TEXT, state TEXT, kind TEXT, attempt INTEGER, flapping INTEGER, words TEXT",
     "outbox": "document TEXT",
+    "figures": "name TEXT UNIQUE, value REAL",
+    "standings": "name TEXT UNIQUE, state TEXT, kind TEXT, attempt INTEGER, flapping INTEGER, since REAL, hard_since REAL, last_check REAL, "
+    "next_check REAL, is_on INTEGER, out_since REAL, took REAL, late REAL, words TEXT",
 }
 
 
@@ -59,6 +62,39 @@ class KeptChange:
     attempt: int
     flapping: bool
     words: str
+
+
+class KeptStanding(NamedTuple):
+    """How an object stands. Times are seconds since 1970 of the wall clock, None where there is none."""
+
+    name: str
+    state: Optional[str]
+    kind: Optional[str]
+    attempt: Optional[int]
+    flapping: bool
+    # The last change of its state, and of its hard one.
+    since: Optional[float]
+    hard_since: Optional[float]
+    # When the last check that gave a result began.
+    last_check: Optional[float]
+    next_check: Optional[float]
+    is_on: bool
+    # When the run was taken that is out.
+    out_since: Optional[float]
+    # How long the last check took, and how long behind its time the last one began, in seconds.
+    took: Optional[float]
+    late: Optional[float]
+    words: str
+
+
+@dataclass
+class LastChanges:
+    """What the kept changes of an object say: its last state and its last hard one, each with the time at which it began."""
+
+    state: str
+    since: float
+    hard_state: Optional[str] = None
+    hard_since: Optional[float] = None
 
 
 def checksum_of(table: str, number: int, cells: Sequence[Cell]) -> str:

@@ -9,9 +9,10 @@ from .calls import Abandon, Answer, Call, Report, Standing, Status, Take, read_c
 from .clock import Clock
 from .conversation import Conversation
 from .faults import MonitorFault
-from .known import AllKnown
+from .known import AllKnown, Known
 from .rows import Generation, KeptChange
 from .site import Site
+from .standings import Standings
 from .store import BeginGeneration, KeepCalls, KeepChange, Store, Write
 
 # Calls that are made again at a time, and how often it is said how many are left, in seconds.
@@ -42,6 +43,7 @@ class Scheduling:
         self._conversations: Dict[int, Conversation] = {}
         # What is to be written with the next calls.
         self._later: List[Write] = []
+        self._standings = Standings(store, clock)
         self._printed: List[KeptChange] = []
 
     # ---- opening
@@ -51,6 +53,7 @@ class Scheduling:
         kept = self._store.generations()
         for watched in self.site.objects.values():
             self.known.add(watched, watched.enabled)
+        self._standings.read(self.known.objects)
         for part, setup in enumerate(self.site.setups):
             generation = kept.get(part)
             if generation is None:
@@ -61,6 +64,7 @@ class Scheduling:
                 self._carry_over(generation, setup)
         self._give_up()
         self._ask_unknown()
+        self._standings.settle(self.known.objects)
 
     def _begin(self, generation: Generation) -> None:
         """Opens a scheduler, and keeps how."""
@@ -130,6 +134,7 @@ class Scheduling:
         if None in saved.values():
             raise MonitorFault("another setup is taken over from a saved state, and this nagsched saves none: stop, and move monitor.db away to begin anew")
         changed = [line for part, state in saved.items() if state is not None for line in carried(self._program, others[part], state)]
+        self._standings.hurry()
         self.flush()
         self.site = site
         for part in [part for part in self._conversations if part >= len(site.setups) or part in others]:
@@ -139,6 +144,7 @@ class Scheduling:
         self.known.become(site.objects)
         self._read_saved(list(others))
         self._ask_unknown()
+        self._standings.become(self.known.objects)
         return changed
 
     def _read_saved(self, parts: Sequence[int]) -> None:
@@ -176,11 +182,13 @@ class Scheduling:
         return answer
 
     def _make(self, asked: Sequence[Tuple[int, Call, Optional[str]]], writes: Sequence[Write]) -> List[Answer]:
-        if not asked and not writes and not self._later:
+        if not asked and not writes and not self._later and not self._standings.is_overdue():
             return []
         number = self._store.last_call
-        self._store.write(*self._later, *writes, KeepCalls([(part, call.line(), words) for part, call, words in asked]))
+        standings = self._standings.writes()
+        self._store.write(*self._later, *writes, *standings, KeepCalls([(part, call.line(), words) for part, call, words in asked]))
         self._later = []
+        self._standings.written(standings)
         answers: List[Answer] = []
         first = 0
         while first < len(asked):
@@ -191,27 +199,34 @@ class Scheduling:
             first = last
         for (_, call, words), answer in zip(asked, answers):
             number += 1
-            self._hear(call, words, answer, number)
+            known = self._hear(call, words, answer, number)
+            if known is not None:
+                self._standings.hear(known, call, answer)
         return answers
 
-    def _hear(self, call: Call, words: Optional[str], answer: Answer, number: int) -> None:
-        """Takes an answer in, and what it changed."""
+    def _hear(self, call: Call, words: Optional[str], answer: Answer, number: int) -> Optional[Known]:
+        """Takes an answer in, and what it changed; returns the object that it speaks of."""
         name = getattr(call, "name", None)
         before = self.known.objects[name].standing if name in self.known.objects else None
         known = self.known.hear(call, answer)
         if known is None or not isinstance(call, Report) or not isinstance(answer, Standing):
-            return
+            return known
         known.words = words or ""
         if number > self._store.last_change and changes.is_change(before, answer):
             change = KeptChange(number, self._clock.wall(), known.name, answer.state, answer.kind, answer.attempt, answer.flapping, known.words)
             document = changes.document_of(change, before) if self._notified and changes.is_important(before, answer) else None
             self._later.append(KeepChange(change, document))
             self._printed.append(change)
+        return known
 
     def changed(self) -> List[KeptChange]:
         """The changes since it was asked last."""
         printed, self._printed = self._printed, []
         return printed
+
+    def keep(self, *writes: Write) -> None:
+        """Has these written with the next calls."""
+        self._later.extend(writes)
 
     def flush(self) -> None:
         """Writes what was left for the next calls."""
@@ -221,6 +236,7 @@ class Scheduling:
 
     def save(self) -> bool:
         """Saves the state of each scheduler, and lets go of the calls before it. False where the program has no saved states."""
+        self._standings.hurry()
         self.flush()
         for part, conversation in self._conversations.items():
             saved = conversation.save()

@@ -6,6 +6,8 @@
     passive       results that came through the socket and weren't reported yet
     changes       changes of state, by the number of the call that made them
     outbox        changes that the command for changes hasn't taken yet
+    standings     how each object stands, a second old at most
+    figures       what the monitor counts of itself, a name and a number each
 
 Each row has a checksum over its table and its members, so that a row that was changed since is found.
 """
@@ -18,7 +20,7 @@ from typing import Dict, Iterator, List, Optional, Sequence, Tuple
 
 from .calls import Abandon, Take, read_call
 from .faults import DamagedRow, MonitorFault, NotStored
-from .rows import TABLES, Cell, Generation, KeptCall, KeptChange, KeptResult, checksum_of
+from .rows import TABLES, Cell, Generation, KeptCall, KeptChange, KeptResult, KeptStanding, LastChanges, checksum_of
 
 class Store:
     """The database of one monitor. A second one of the same site is refused."""
@@ -108,6 +110,25 @@ class Store:
 
     def outbox(self) -> List[Tuple[int, str]]:
         return list(self._database.execute("SELECT id, document FROM outbox ORDER BY id"))
+
+    def figures(self) -> Dict[str, float]:
+        return {name: float(value) for name, value in self._database.execute("SELECT name, value FROM figures")}
+
+    def standings(self) -> List[Tuple[int, KeptStanding]]:
+        """The standings that were kept, each with the number of its row."""
+        rows = self._database.execute(f"SELECT id, {', '.join(KeptStanding._fields)} FROM standings")
+        return [(number, KeptStanding(*cells)) for number, *cells in rows]
+
+    def last_changes(self) -> Dict[str, LastChanges]:
+        """Of each object that has a change among the kept ones, since when it is in its last state, and in its last hard one."""
+        last: Dict[str, LastChanges] = {}
+        for time, name, state, kind in self._database.execute("SELECT time, name, state, kind FROM changes ORDER BY id"):
+            known = last.setdefault(name, LastChanges(state, time))
+            if known.state != state:
+                known.state, known.since = state, time
+            if kind == "HARD" and known.hard_state != state:
+                known.hard_state, known.hard_since = state, time
+        return last
 
     # ---- writing
 
@@ -232,6 +253,27 @@ class KeepChange(Write):
         store.last_change = max(store.last_change, made.id)
         if self.document is not None:
             store.insert("outbox", None, (self.document,))
+
+
+@dataclass(frozen=True)
+class KeepStandings(Write):
+    """How objects stand, each with the number of its row."""
+
+    standings: Sequence[Tuple[int, KeptStanding]]
+
+    def carry_out(self, store: Store) -> None:
+        store.insert_all("standings", [(number, (*kept[:4], int(kept.flapping), *kept[5:9], int(kept.is_on), *kept[10:])) for number, kept in self.standings])
+
+
+@dataclass(frozen=True)
+class DropStandings(Write):
+    """Objects that aren't part of the site any more."""
+
+    names: Sequence[str]
+
+    def carry_out(self, store: Store) -> None:
+        for name in self.names:
+            store.delete("standings", "name = ?", name)
 
 
 @dataclass(frozen=True)

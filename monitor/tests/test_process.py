@@ -9,44 +9,15 @@ import sqlite3
 import subprocess
 import sys
 import time
-from typing import Any, Dict, List, Optional
+from typing import List
 
-from .simulated import PROGRAM, SiteTest
+from .running import MONITOR, ProcessTest
+from .simulated import PROGRAM
 
-MONITOR = pathlib.Path(__file__).resolve().parent.parent / "nagsched-monitor"
 KILLS = 10
 
 
-class Running(SiteTest):
-    def begin(self, *words: str, environment: Optional[Dict[str, str]] = None) -> "subprocess.Popen[str]":
-        command = [sys.executable, str(MONITOR), "--program", PROGRAM, *words, str(self.folder)]
-        running = subprocess.Popen(command, stdout=subprocess.PIPE, text=True, env=environment)
-        self.addCleanup(self.end, running)
-        self.await_socket(running)
-        return running
-
-    def end(self, running: "subprocess.Popen[str]", number: int = signal.SIGTERM) -> str:
-        if running.poll() is None:
-            running.send_signal(number)
-        output, _ = running.communicate(timeout=30) if running.stdout is not None and not running.stdout.closed else ("", None)
-        return output
-
-    def await_socket(self, running: "subprocess.Popen[str]") -> None:
-        for _ in range(400):
-            if self.ask("status", "no such object").returncode == 0 or running.poll() is not None:
-                return
-            time.sleep(0.02)
-
-    def ask(self, *words: str) -> "subprocess.CompletedProcess[str]":
-        return subprocess.run([sys.executable, str(MONITOR), str(self.folder), *words], capture_output=True, text=True, check=False)
-
-    def children_of(self, process: int) -> List[int]:
-        told = subprocess.run(["ps", "-o", "pid=", "--ppid", str(process)], stdout=subprocess.PIPE, text=True, check=False).stdout
-        return [int(each) for each in told.split()]
-
-    def objects(self, count: int, **members: Any) -> List[Dict[str, Any]]:
-        return [{"name": f"h{number:02}", "check_interval": 1, "max_check_attempts": 2, **members} for number in range(count)]
-
+class Running(ProcessTest):
     def calls(self, database: sqlite3.Connection) -> List[str]:
         return [line for (line,) in database.execute("SELECT line FROM calls ORDER BY id")]
 
@@ -130,7 +101,8 @@ class Running(SiteTest):
         self.assertEqual(second.returncode, 1)
         self.assertIn("another monitor", second.stderr)
         self.assertEqual(self.ask("stop").stdout, "stop: done\n")
-        output = running.communicate(timeout=30)[0]
+        running.wait(timeout=30)
+        output = self.end(running)
         self.assertRegex(output, r"\d\d:\d\d:\d\d[+-]\d\d:\d\d h00;trap is CRITICAL HARD 1: door open")
         self.assertEqual(json.loads((self.folder / "changes").read_text())["name"], "h00;trap")
         self.assertEqual(running.returncode, 0)

@@ -1,0 +1,46 @@
+"""What a service manager such as systemd hears: that the monitor is ready, that it is alive, and that it ends. Each is a datagram to its socket."""
+import os
+import socket
+import time
+from typing import Callable, MutableMapping, Optional
+
+MICROSECOND = 1e-6
+
+
+class Service:
+    """The service manager that started the monitor; nothing is sent where there is none."""
+
+    def __init__(self, environment: MutableMapping[str, str] = os.environ, clock: Callable[[], float] = time.monotonic) -> None:
+        """Takes the names of the socket out of the environment, so that no plugin has them."""
+        self._clock = clock
+        self._address = environment.pop("NOTIFY_SOCKET", None)
+        watched, of = environment.pop("WATCHDOG_USEC", ""), environment.pop("WATCHDOG_PID", str(os.getpid()))
+        is_mine = watched.isdigit() and of == str(os.getpid())
+        # Half of the time behind which the monitor counts as stuck, in seconds.
+        self._interval: Optional[float] = int(watched) * MICROSECOND / 2 if is_mine else None
+        self._said = clock()
+
+    def ready(self, words: str) -> None:
+        """The monitor works; the words are what `systemctl status` shows."""
+        self._send(f"READY=1\nSTATUS={words}")
+
+    def alive(self) -> None:
+        """The loop goes round; it is said twice within the time that the manager waits."""
+        if self._interval is not None and self._clock() - self._said >= self._interval:
+            self._said = self._clock()
+            self._send("WATCHDOG=1")
+
+    def stopping(self) -> None:
+        self._send("STOPPING=1")
+
+    def _send(self, lines: str) -> None:
+        if not self._address:
+            return
+        # A name that begins with @ is none of a file.
+        address = f"\0{self._address[1:]}" if self._address.startswith("@") else self._address
+        with socket.socket(socket.AF_UNIX, socket.SOCK_DGRAM | socket.SOCK_CLOEXEC) as there:
+            there.setblocking(False)
+            try:
+                there.sendto(lines.encode(), address)
+            except OSError:
+                pass  # the manager is gone, or doesn't read: monitoring goes on without it

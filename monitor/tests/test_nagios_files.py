@@ -1,0 +1,381 @@
+"""Nagios's own files: what `status.dat` says is what the monitor says, and the pipe's lines are obeyed."""
+import json
+import os
+import pathlib
+import signal
+import subprocess
+import sys
+import threading
+import time
+from typing import Any, Dict, List, Mapping, Tuple
+
+from nagsched_monitor.faults import MonitorFault, RequestFault
+from nagsched_monitor.nagios_blocks import HOST_STATES, SERVICE_STATES, Program, Settings, status_file
+from nagsched_monitor.nagios_files import NagiosFiles, services_of
+from nagsched_monitor.nagios_pipe import LONGEST_LINE, NAME, Pipe, requests_of
+from nagsched_monitor.requests import Requests
+from nagsched_monitor.rows import KeptStanding
+
+from .running import ProcessTest
+from .simulated import BEGIN, SiteTest
+
+Block = Dict[str, str]
+TOP = pathlib.Path(__file__).resolve().parent.parent
+WELL = KeptStanding("web", "UP", "HARD", 1, False, 1000.5, 1000.5, 2000.25, 2060.9, True, None, 0.5, 0.25, "fine|rta=0.8ms;1;2")
+BAD = KeptStanding("web;http", "CRITICAL", "SOFT", 2, True, 1500.0, 900.0, 2001.0, None, False, 2002.0, None, None, "no\x07answer\nof\\it")
+NEW = KeptStanding("web;new", "PENDING", "HARD", 1, False, None, None, None, 3000.0, True, None, None, None, "")
+# The members that the pages of nagios4-cgi 4.4.6 read of a host and of a service.
+READ = (
+    "host_name has_been_checked should_be_scheduled check_execution_time check_latency check_type current_state last_hard_state plugin_output "
+    "long_plugin_output performance_data current_attempt max_attempts last_check next_check check_options state_type last_state_change "
+    "last_hard_state_change last_notification next_notification no_more_notifications current_notification_number notifications_enabled "
+    "problem_has_been_acknowledged acknowledgement_type active_checks_enabled passive_checks_enabled event_handler_enabled flap_detection_enabled "
+    "process_performance_data obsess last_update is_flapping percent_state_change scheduled_downtime_depth"
+).split()
+READ_OF_HOSTS = [*READ, "last_time_up", "last_time_down", "last_time_unreachable"]
+READ_OF_SERVICES = [*READ, "service_description", "last_time_ok", "last_time_warning", "last_time_critical", "last_time_unknown"]
+READ_OF_PROGRAM = (
+    "nagios_pid daemon_mode program_start last_log_rotation enable_notifications active_service_checks_enabled passive_service_checks_enabled "
+    "active_host_checks_enabled passive_host_checks_enabled enable_event_handlers obsess_over_services obsess_over_hosts check_service_freshness "
+    "check_host_freshness enable_flap_detection process_performance_data active_scheduled_host_check_stats active_ondemand_host_check_stats "
+    "passive_host_check_stats active_scheduled_service_check_stats active_ondemand_service_check_stats passive_service_check_stats "
+    "cached_host_check_stats cached_service_check_stats external_command_stats parallel_host_check_stats serial_host_check_stats"
+).split()
+
+
+def blocks_of(data: bytes) -> List[Tuple[str, Block]]:
+    """The blocks of a status file, read as Nagios's pages do: by lines, each a name and a value."""
+    blocks: List[Tuple[str, Block]] = []
+    for line in data.split(b"\n"):
+        text = line.decode().strip()
+        if text.endswith(" {"):
+            blocks.append((text[:-2], {}))
+        elif "=" in text:
+            name, _, value = text.partition("=")
+            assert name not in blocks[-1][1], (name, blocks[-1])
+            blocks[-1][1][name] = value
+        else:
+            assert text in ("", "}"), text
+    return blocks
+
+
+def objects_of(data: bytes) -> Dict[str, Block]:
+    """The blocks of hosts and services by their full names."""
+    objects = {}
+    for kind, block in blocks_of(data):
+        if kind == "hoststatus":
+            objects[block["host_name"]] = block
+        elif kind == "servicestatus":
+            objects[f"{block['host_name']};{block['service_description']}"] = block
+    return objects
+
+
+def line_of(name: str, block: Block) -> str:
+    """What `status` prints of an object, as a block says it."""
+    states = {number: word for word, number in (SERVICE_STATES if ";" in name else HOST_STATES).items()}
+    state = states[int(block["current_state"])] if block["has_been_checked"] == "1" else "PENDING"
+    marks = f"{' FLAPPING' if block['is_flapping'] == '1' else ''}{'' if block['active_checks_enabled'] == '1' else ' off'}"
+    output = block["plugin_output"] + (f"|{block['performance_data']}" if block["performance_data"] else "")
+    return f"{state} {'HARD' if block['state_type'] == '1' else 'SOFT'} {block['current_attempt']}{marks} {name}: {output}"
+
+
+class Blocks(SiteTest):
+    def written(self) -> bytes:
+        program = Program(77, 500, True, {"web;http": {"OK": 1500.0}})
+        settings = {"web": Settings(5, 1, 3, "check_ping", "always"), "web;http": Settings(10, 2, 4, is_passive=True)}
+        return status_file(program, settings, [WELL, BAD, NEW], 2050.7).encode()
+
+    def test_members(self) -> None:
+        (_, info), (_, program), (_, web), (_, http), (_, new) = blocks = blocks_of(self.written())
+        self.assertEqual([kind for kind, _ in blocks], ["info", "programstatus", "hoststatus", "servicestatus", "servicestatus"])
+        self.assertEqual((info["created"], info["version"]), ("2050", "4.4.6"))
+        for block, wanted in ((program, READ_OF_PROGRAM), (web, READ_OF_HOSTS), (http, READ_OF_SERVICES), (new, READ_OF_SERVICES)):
+            self.assertEqual([name for name in wanted if name not in block], [])
+
+    def test_values(self) -> None:
+        _, (_, program), (_, web), (_, http), (_, new) = blocks_of(self.written())
+        rows: List[Tuple[Block, Mapping[str, str]]] = [
+            (program, {"nagios_pid": "77", "program_start": "500", "enable_notifications": "1", "active_scheduled_host_check_stats": "1,1,1",
+                       "active_scheduled_service_check_stats": "0,0,0", "passive_service_check_stats": "1,1,1"}),
+            (web, {"current_state": "0", "last_hard_state": "0", "state_type": "1", "current_attempt": "1", "max_attempts": "3", "last_state_change": "1000",
+                   "plugin_output": "fine", "performance_data": "rta=0.8ms;1;2", "last_check": "2000", "next_check": "2060", "check_execution_time": "0.500",
+                   "check_latency": "0.250", "check_period": "always", "check_command": "check_ping", "check_interval": "5.000000", "last_time_up": "2000",
+                   "last_time_down": "0", "check_type": "0", "should_be_scheduled": "1", "last_update": "2050"}),
+            (http, {"current_state": "2", "last_hard_state": "0", "state_type": "0", "current_attempt": "2", "plugin_output": "no answer\\nof\\it",
+                    "is_flapping": "1", "active_checks_enabled": "0", "should_be_scheduled": "0", "next_check": "0", "last_time_critical": "2001",
+                    "last_time_ok": "1500", "last_hard_state_change": "900", "check_type": "1", "check_execution_time": "0.000"}),
+            (new, {"has_been_checked": "0", "current_state": "0", "last_check": "0", "next_check": "3000", "last_state_change": "0", "current_attempt": "1"}),
+        ]
+        for block, wanted in rows:
+            self.assertEqual({name: block[name] for name in wanted}, wanted)
+
+
+class Lines(SiteTest):
+    SERVICES: Dict[str, List[str]] = {"web": ["http", "ssh"], "db": []}
+
+    def test_commands(self) -> None:
+        def at(name: str, forced: bool) -> Dict[str, Any]:
+            return {"do": "reschedule", "name": name, "at": 1795766400, "force": forced}
+
+        rows: List[Tuple[str, List[Dict[str, Any]]]] = [
+            ("SCHEDULE_HOST_CHECK;web;1795766400", [at("web", False)]),
+            ("SCHEDULE_FORCED_HOST_CHECK;web;1795766400", [at("web", True)]),
+            ("SCHEDULE_SVC_CHECK;web;http;1795766400", [at("web;http", False)]),
+            ("SCHEDULE_FORCED_SVC_CHECK;web;http;1795766400", [at("web;http", True)]),
+            ("SCHEDULE_HOST_SVC_CHECKS;web;1795766400", [at("web;http", False), at("web;ssh", False)]),
+            ("SCHEDULE_FORCED_HOST_SVC_CHECKS;web;1795766400", [at("web;http", True), at("web;ssh", True)]),
+            ("SCHEDULE_HOST_SVC_CHECKS;db;1795766400", []),
+            ("ENABLE_HOST_CHECK;web", [{"do": "enable", "name": "web"}]),
+            ("DISABLE_HOST_CHECK;web", [{"do": "disable", "name": "web"}]),
+            ("ENABLE_SVC_CHECK;web;http", [{"do": "enable", "name": "web;http"}]),
+            ("DISABLE_SVC_CHECK;web;http", [{"do": "disable", "name": "web;http"}]),
+            ("PROCESS_HOST_CHECK_RESULT;web;0;up", [{"do": "result", "name": "web", "code": 0, "output": "up"}]),
+            ("PROCESS_HOST_CHECK_RESULT;web;1;down;for long", [{"do": "result", "name": "web", "code": 2, "output": "down;for long"}]),
+            ("PROCESS_HOST_CHECK_RESULT;web;2", [{"do": "result", "name": "web", "code": 2, "output": ""}]),
+            ("PROCESS_SERVICE_CHECK_RESULT;web;http;3;what?\\nmore", [{"do": "result", "name": "web;http", "code": 3, "output": "what?"}]),
+            ("PROCESS_SERVICE_CHECK_RESULT;web;http;1;a|b=1;2;3\r", [{"do": "result", "name": "web;http", "code": 1, "output": "a|b=1;2;3"}]),
+            ("PROCESS_SERVICE_CHECK_RESULT;web;http;1", [{"do": "result", "name": "web;http", "code": 1, "output": ""}]),
+        ]
+        for text, wanted in rows:
+            with self.subTest(text):
+                name, requests = requests_of(f"[1795766400] {text}".encode(), self.SERVICES)
+                self.assertEqual((name, requests), (text.partition(";")[0], wanted))
+
+    def test_others_are_named(self) -> None:
+        rows = [
+            (b"[1] ACKNOWLEDGE_HOST_PROBLEM;web;1;1;1;me;soon", "ACKNOWLEDGE_HOST_PROBLEM isn't obeyed here"),
+            (b"[1] RESTART_PROGRAM", "RESTART_PROGRAM isn't obeyed here"),
+            (b"", "no command"), (b"SCHEDULE_HOST_CHECK;web;1", "no command"), (b"[x] SCHEDULE_HOST_CHECK;web;1", "no command"),
+            (b"[1] schedule", "no command"), (b"[1]SCHEDULE_HOST_CHECK;web;1", "no command"), (b"\xff\x00", "no command"),
+            (b"[1] SCHEDULE_HOST_CHECK", "SCHEDULE_HOST_CHECK: it has 2 words"),
+            (b"[1] SCHEDULE_HOST_CHECK;web;soon", "SCHEDULE_HOST_CHECK: no number: 'soon'"),
+            (b"[1] SCHEDULE_HOST_CHECK;web;-1", "no number"), (b"[1] SCHEDULE_HOST_CHECK;web;" + b"9" * 400, "no number"),
+            (b"[1] SCHEDULE_HOST_SVC_CHECKS;gone;1", "there is no host 'gone'"), (b"[1] DISABLE_SVC_CHECK;web", "it has 2 words"),
+            (b"[1] PROCESS_HOST_CHECK_RESULT;web;3;x", "no state of a host"), (b"[1] PROCESS_HOST_CHECK_RESULT;web", "it has 3 words"),
+            (b"[1] PROCESS_SERVICE_CHECK_RESULT;web;http", "it has 4 words"), (b"[1] PROCESS_SERVICE_CHECK_RESULT;web;http;;x", "no number: ''"),
+            (b"[1] A;" + b"x" * LONGEST_LINE, "longer than 65536 bytes"),
+        ]
+        for line, word in rows:
+            with self.subTest(line[:60]), self.assertRaises(RequestFault) as caught:
+                requests_of(line, self.SERVICES)
+            self.assertIn(word, str(caught.exception))
+            self.assertLess(len(str(caught.exception)), 400)
+
+
+class Fifo(SiteTest):
+    def pipe(self) -> Pipe:
+        pipe = Pipe(self.folder)
+        self.addCleanup(lambda: os.close(pipe.file))
+        return pipe
+
+    def read(self, pipe: Pipe, count: int, seconds: float = 20) -> List[bytes]:
+        """So many lines."""
+        lines: List[bytes] = []
+        end = time.monotonic() + seconds
+        while len(lines) < count and time.monotonic() < end:
+            lines += pipe.read()
+            time.sleep(0.001)
+        return lines
+
+    def test_parts_of_lines(self) -> None:
+        pipe = self.pipe()
+        self.assertEqual((self.folder / NAME).stat().st_mode & 0o777, 0o660)
+        for part, wanted in ((b"[1] ONE", []), (b";a\n[1] TW", [b"[1] ONE;a"]), (b"O\n\n[1] THREE\n", [b"[1] TWO", b"", b"[1] THREE"]), (b"", [])):
+            with open(self.folder / NAME, "wb", buffering=0) as there:
+                there.write(part)
+            self.assertEqual(pipe.read(), wanted)
+
+    def test_long_lines(self) -> None:
+        pipe = self.pipe()
+        longest, longer = b"[1] A;".ljust(LONGEST_LINE, b"x"), b"[1] B;".ljust(3 * LONGEST_LINE, b"y")
+
+        def write() -> None:
+            with open(self.folder / NAME, "wb") as there:
+                there.write(longest + b"\n" + longer + b"\n[1] C\n" + longer[: LONGEST_LINE + 1] + b"\n[1] D\n")
+
+        writer = threading.Thread(target=write)
+        writer.start()
+        lines = self.read(pipe, 5)
+        writer.join()
+        self.assertEqual([lines[0] == longest, lines[2], lines[4]], [True, b"[1] C", b"[1] D"])
+        self.assertEqual([(len(line), line[:5]) for line in (lines[1], lines[3])], [(LONGEST_LINE + 1, b"[1] B")] * 2)
+
+    def test_many_writers(self) -> None:
+        pipe = self.pipe()
+
+        def write(who: int) -> None:
+            for number in range(200):
+                with open(self.folder / NAME, "wb", buffering=0) as there:
+                    there.write(b"[1] W%d;%d;%s\n" % (who, number, b"x" * 1000))
+
+        writers = [threading.Thread(target=write, args=(who,)) for who in range(8)]
+        for writer in writers:
+            writer.start()
+        lines = self.read(pipe, 1600)
+        for writer in writers:
+            writer.join()
+        for who in range(8):
+            begin = b"[1] W%d;" % who
+            self.assertEqual([int(line.split(b";")[1]) for line in lines if line.startswith(begin)], list(range(200)))
+
+    def test_something_else_is_there(self) -> None:
+        (self.folder / NAME).write_text("a file\n")
+        with self.assertRaisesRegex(MonitorFault, "no pipe"):
+            Pipe(self.folder)
+        with self.assertRaises(MonitorFault):
+            Pipe(self.folder / "gone")
+        self.assertEqual((self.folder / NAME).read_text(), "a file\n")
+
+
+class Outage(SiteTest):
+    def test_object_by_object(self) -> None:
+        """Through an outage the status file says of each object what the monitor says."""
+        hosts = [{"name": "gate", "check_interval": 20, "retry_interval": 5, "max_check_attempts": 2}]
+        hosts += [{"name": f"h{n}", "parents": ["gate"], "check_interval": 30, "retry_interval": 10, "max_check_attempts": 3} for n in range(4)]
+        services = [{"host": f"h{n}", "description": word, "check_interval": 20, "retry_interval": 10, "max_check_attempts": 3}
+                    for n in range(4) for word in ("http", "load")]
+        self.write_site(hosts, services, passive={"h3;load": {"only": True}})
+
+        def plugin(name: str, moment: int) -> Tuple[int, int, str]:
+            seconds = (moment - BEGIN) // 1000
+            if 60 <= seconds < 160 and not name.endswith("load"):
+                return 300, 2, f"{name} gives no answer|rta=0"
+            return 200, 1 if name == "h1;load" and seconds // 20 % 2 else 0, f"{name} is fine|load={seconds % 7}"
+
+        monitor = self.monitor(plugin)
+        files = NagiosFiles(self.folder, self.folder / "nagios", True)
+        requests = Requests(monitor.engine, monitor.clock, dict, lambda: None)
+        requests.answer(b'{"do":"disable","name":"h2;load"}')
+        states, compared = set(), 0
+        for _ in range(80):
+            monitor.run(3)
+            # Nothing is taken for more than a second, so that the table is as the monitor is.
+            if monitor.engine.out() or monitor.scheduling._standings._marked:
+                continue
+            files.write()
+            blocks = objects_of((self.folder / "nagios/status.dat").read_bytes())
+            objects = json.loads(requests.answer(b'{"do":"status"}'))["objects"]
+            self.assertEqual(list(sorted(blocks)), [it["name"] for it in objects])
+            for it in objects:
+                block = blocks[it["name"]]
+                marks = f"{' FLAPPING' if it['flapping'] else ''}{'' if it['on'] else ' off'}"
+                self.assertEqual(line_of(it["name"], block), f"{it['state']} {it['kind']} {it['attempt']}{marks} {it['name']}: {it['output']}")
+                self.assertEqual(int(block["next_check"]), int(it["next"] or 0))
+                states.add((it["state"], it["kind"]))
+                compared += 1
+        self.assertGreater(compared, 100)
+        wanted = {("DOWN", "HARD"), ("DOWN", "SOFT"), ("UNREACHABLE", "HARD"), ("CRITICAL", "HARD"), ("OK", "HARD"), ("UP", "HARD"), ("PENDING", "HARD"),
+                  ("WARNING", "SOFT")}
+        self.assertEqual(wanted - states, set())
+        gate = blocks["gate"]
+        self.assertTrue(60 <= int(gate["last_time_down"]) - BEGIN // 1000 <= 180, gate)
+        self.assertEqual((gate["check_interval"], gate["max_attempts"], blocks["h3;load"]["check_type"]), ("20.000000", "2", "1"))
+        files._pipe.close()
+
+
+class Process(ProcessTest):
+    def setUp(self) -> None:
+        super().setUp()
+        self.nagios = self.folder / "nagios"
+        self.write_site(self.objects(2, check_interval=3600, retry_interval=3600), [
+            {"host": "h00", "description": name, "check_interval": 3600, "max_check_attempts": 1} for name in ("http", "ssh")
+        ])
+        self.write("commands.json", {name: {"line": f"echo run >> '{self.folder}/{name}.runs'; echo fine", "shell": True}
+                                     for name in ("h00", "h01", "h00;http", "h00;ssh")})
+
+    def command(self, *lines: str) -> None:
+        with open(self.nagios / NAME, "wb") as there:
+            there.write("".join(f"[{int(time.time())}] {line}\n" for line in lines).encode())
+
+    def runs(self, name: str) -> int:
+        path = self.folder / f"{name}.runs"
+        return path.read_text().count("run") if path.exists() else 0
+
+    def wait(self, what: Any, seconds: float = 20) -> None:
+        end = time.monotonic() + seconds
+        while not what():
+            self.assertLess(time.monotonic(), end)
+            time.sleep(0.05)
+
+    def helper_of(self, running: "subprocess.Popen[str]") -> int:
+        for child in self.children_of(running.pid):
+            if b"nagios_files" in pathlib.Path(f"/proc/{child}/cmdline").read_bytes():
+                return child
+        return 0
+
+    def test_the_pipe(self) -> None:
+        running = self.begin("--nagios-files", str(self.nagios))
+        names = ("h00", "h01", "h00;http", "h00;ssh")
+        self.wait(lambda: (self.nagios / NAME).exists() and all(self.runs(name) == 1 for name in names))
+        self.assertIn("h00;ssh", objects_of((self.nagios / "status.dat").read_bytes()))
+        now = int(time.time())
+        self.command(f"SCHEDULE_FORCED_HOST_CHECK;h01;{now}")
+        self.wait(lambda: self.runs("h01") == 2)
+        self.command(f"SCHEDULE_HOST_SVC_CHECKS;h00;{now}")
+        self.wait(lambda: (self.runs("h00;http"), self.runs("h00;ssh")) == (2, 2))
+        self.command("DISABLE_SVC_CHECK;h00;ssh", f"SCHEDULE_SVC_CHECK;h00;ssh;{now}", "DISABLE_HOST_CHECK;h01")
+        self.wait(lambda: self.ask("status", "h*").stdout.count(" off ") == 2)
+        self.command(f"SCHEDULE_FORCED_SVC_CHECK;h00;ssh;{now}", "ENABLE_HOST_CHECK;h01")
+        self.wait(lambda: self.runs("h00;ssh") == 3)
+        self.command("PROCESS_SERVICE_CHECK_RESULT;h00;http;2;no answer;at all", "PROCESS_HOST_CHECK_RESULT;h01;1;it is gone")
+        self.command("REMOVE_HOST_ACKNOWLEDGEMENT;h00", "ENABLE_HOST_CHECK;h07", "nonsense")
+        self.wait(lambda: "CRITICAL HARD 1 h00;http: no answer;at all" in self.ask("status").stdout)
+        self.wait(lambda: "DOWN SOFT 1 h01: it is gone" in self.ask("status").stdout)
+        # A burst, of which no result is lost and the last stands.
+        self.command(*[f"PROCESS_SERVICE_CHECK_RESULT;h00;http;{number % 3};number {number}" for number in range(300)])
+        self.wait(lambda: ": number 299" in self.ask("status", "h00;http").stdout)
+        output = self.end(running)
+        self.assertIn("nagios files: REMOVE_HOST_ACKNOWLEDGEMENT isn't obeyed here\n", output)
+        self.assertIn("nagios files: ENABLE_HOST_CHECK: there is no object 'h07'\n", output)
+        self.assertEqual((self.runs("h00;ssh"), (self.nagios / NAME).exists()), (3, False))
+
+    def test_begun_again_and_ended(self) -> None:
+        running = self.begin("--nagios-files", str(self.nagios))
+        self.wait(lambda: (self.nagios / "status.dat").exists())
+        first = self.helper_of(running)
+        os.kill(first, signal.SIGKILL)
+        self.wait(lambda: self.helper_of(running) not in (0, first))
+        second = self.helper_of(running)
+        self.command("DISABLE_HOST_CHECK;h01")
+        self.wait(lambda: " off " in self.ask("status", "h01").stdout)
+        os.kill(running.pid, signal.SIGKILL)
+        self.wait(lambda: not pathlib.Path(f"/proc/{second}").exists() or " Z " in pathlib.Path(f"/proc/{second}/stat").read_text())
+        running.communicate(timeout=10)
+
+    def test_the_same_as_status(self) -> None:
+        """Beside a monitor that runs: each object's block is its line of `status`."""
+        self.write("commands.json", {name: {"line": f"echo 'of {name}|a=1'; exit {code}", "shell": True}
+                                     for name, code in (("h00", 0), ("h01", 2), ("h00;http", 1), ("h00;ssh", 2))})
+        self.begin()
+        words = [sys.executable, "-m", "nagsched_monitor.nagios_files", "--every", "0.2", str(self.folder), str(self.nagios)]
+        helper = subprocess.Popen(words, stdin=subprocess.PIPE, cwd=TOP)
+        self.addCleanup(helper.wait, 10)
+        assert helper.stdin is not None
+        self.addCleanup(helper.stdin.close)
+
+        def same() -> bool:
+            try:
+                blocks = objects_of((self.nagios / "status.dat").read_bytes())
+            except FileNotFoundError:
+                return False
+            lines = self.ask("status").stdout.splitlines()
+            return len(lines) == 4 and "PENDING" not in "".join(lines) and [line_of(name, blocks[name]) for name in sorted(blocks)] == lines
+
+        self.wait(same)
+
+
+class Size(SiteTest):
+    def test_4096_objects(self) -> None:
+        """Written within 200 ms of a processor."""
+        settings = {f"h{n // 15:03};s{n:04}": Settings(5, 1, 3) for n in range(3840)}
+        settings.update((f"h{n:03}", Settings()) for n in range(256))
+        words = "PING OK - Packet loss = 0%, RTA = 0.80 ms|rta=0.8ms;3;5"
+        standings = [WELL._replace(name=name, state="OK" if ";" in name else "UP", words=words) for name in settings]
+        times = []
+        for _ in range(5):
+            begun = time.process_time()
+            data = status_file(Program(1, 1, False), settings, standings, 3000.0).encode()
+            times.append(time.process_time() - begun)
+        self.assertEqual(len(objects_of(data)), 4096)
+        self.assertEqual(sum(map(len, services_of(standings).values())), 3840)
+        self.assertLess(min(times), 0.2)

@@ -1,0 +1,148 @@
+"""The table of standings: it says what the monitor knows, and a restart goes on with it."""
+import pathlib
+import sqlite3
+from typing import Dict, Tuple
+
+from nagsched_monitor.requests import Requests
+from nagsched_monitor.rows import KeptStanding
+from nagsched_monitor.site import read_site
+
+from .simulated import BEGIN, PROGRAM, SimulatedMonitor, SiteTest, fine
+
+HOSTS = [{"name": name, "check_interval": 60, "retry_interval": 10, "max_check_attempts": 3} for name in ("db", "web")]
+SERVICES = [{"host": "web", "description": "http", "check_interval": 60, "max_check_attempts": 1}]
+DOWN_FROM, DOWN_TO = BEGIN + 100_000, BEGIN + 400_000
+
+
+def outage(name: str, moment: int) -> Tuple[int, int, str]:
+    """A plugin that takes half a second, of a site whose host `web` and its service are down for five minutes."""
+    if name.startswith("web") and DOWN_FROM <= moment < DOWN_TO:
+        return 500, 2, "no answer|rta=0"
+    return 500, 0, "fine"
+
+
+def table(folder: pathlib.Path) -> Dict[str, KeptStanding]:
+    """The standings as another process reads them."""
+    with sqlite3.connect(f"file:{folder}/monitor.db?mode=ro", uri=True) as database:
+        rows = database.execute(f"SELECT {', '.join(KeptStanding._fields)} FROM standings").fetchall()
+    return {row[0]: KeptStanding(*row) for row in rows}
+
+
+class Table(SiteTest):
+    def setUp(self) -> None:
+        super().setUp()
+        self.write_site(HOSTS, SERVICES)
+
+    def wall(self, seconds: float) -> float:
+        return BEGIN / 1000 + seconds
+
+    def assert_same(self, monitor: SimulatedMonitor) -> Dict[str, KeptStanding]:
+        """What the table has is what a request says, but for what changed within the last second."""
+        kept = table(self.folder)
+        objects = monitor.scheduling.known.objects
+        self.assertEqual(set(kept), set(objects))
+        for name, known in objects.items():
+            row, standing = kept[name], known.standing
+            assert standing is not None
+            self.assertEqual((row.state, row.kind, row.attempt, bool(row.flapping)), (standing.state, standing.kind, standing.attempt, standing.flapping))
+            self.assertEqual((bool(row.is_on), row.words, row.out_since is None), (known.on, known.words, known.run is None))
+            self.assertEqual(row.next_check, None if known.next is None else known.next / 1000)
+        return kept
+
+    def test_a_site_in_an_outage(self) -> None:
+        monitor = self.monitor(outage)
+        monitor.run(30)
+        before = self.assert_same(monitor)
+        self.assertEqual((before["web"].since, before["web"].hard_since, before["web"].last_check), (self.wall(0.5), self.wall(0.5), self.wall(0)))
+        self.assertEqual((before["web"].took, before["web"].late, before["web"].words), (0.5, 0.0, "fine"))
+        monitor.run(270)
+        during = self.assert_same(monitor)
+        web, http = during["web"], during["web;http"]
+        self.assertEqual((web.state, web.kind, web.attempt, web.words), ("DOWN", "HARD", 3, "no answer|rta=0"))
+        assert web.since is not None and web.hard_since is not None
+        self.assertTrue(self.wall(100) < web.since < web.hard_since < self.wall(200), web)
+        self.assertEqual((http.state, http.since == http.hard_since), ("CRITICAL", True))
+        self.assertEqual(during["db"].since, self.wall(0.5))
+        monitor.run(200)
+        after = self.assert_same(monitor)
+        assert after["web"].since is not None
+        self.assertEqual((after["web"].state, after["web"].since == after["web"].hard_since), ("UP", True))
+        self.assertGreater(after["web"].since, self.wall(400))
+
+    def test_what_is_out(self) -> None:
+        monitor = self.monitor(lambda name, moment: (5_000, 0, "slow"))
+        monitor.run(3)
+        self.assertEqual(self.assert_same(monitor)["db"].out_since, self.wall(0))
+        monitor.run(5)
+        db = self.assert_same(monitor)["db"]
+        self.assertEqual((db.out_since, db.took, db.last_check), (None, 5.0, self.wall(0)))
+
+    def test_switches_and_periods(self) -> None:
+        monitor = self.monitor(fine)
+        monitor.run(3)
+        requests = Requests(monitor.engine, monitor.clock, dict, lambda: None)
+        requests.answer(b'{"do":"disable","name":"db"}')
+        monitor.run(3)
+        self.assertEqual({name: row.is_on for name, row in self.assert_same(monitor).items()}, {"db": 0, "web": 1, "web;http": 1})
+
+    def test_a_restart_keeps_words_and_times(self) -> None:
+        """Killed behind a saved state or without one: times and words are those of before."""
+        for saves in (False, True):
+            with self.subTest(saves=saves):
+                (self.folder / "monitor.db").unlink(missing_ok=True)
+                monitor = self.monitor(outage)
+                monitor.run(350)
+                if saves:
+                    monitor.engine.save()
+                before = self.assert_same(monitor)
+                monitor.close()
+                again = self.monitor(outage, monitor.clock)
+                self.assertEqual({name: known.words for name, known in again.scheduling.known.objects.items()},
+                                 {"db": "fine", "web": "no answer|rta=0", "web;http": "no answer|rta=0"})
+                again.run(0.1)
+                after = self.assert_same(again)
+                self.assertEqual(after, before)
+                again.close()
+
+    def test_a_row_that_lags_behind(self) -> None:
+        """The table lost what came last: the kept changes say since when an object is what it is."""
+        monitor = self.monitor(outage)
+        monitor.run(350)
+        before = self.assert_same(monitor)
+        monitor.close()
+        with sqlite3.connect(self.folder / "monitor.db") as database:
+            database.execute("DELETE FROM standings WHERE name <> 'db'")
+        again = self.monitor(outage, monitor.clock)
+        again.run(0.1)
+        after = self.assert_same(again)
+        for name, row in before.items():
+            self.assertEqual((after[name].since, after[name].hard_since, after[name].words), (row.since, row.hard_since, row.words))
+
+    def test_a_reload_drops_rows(self) -> None:
+        monitor = self.monitor(outage)
+        monitor.run(350)
+        before = table(self.folder)
+        self.write_site([HOSTS[1], {**HOSTS[0], "name": "new"}], SERVICES)
+        monitor.engine.reload(read_site(self.folder, PROGRAM))
+        monitor.run(5)
+        after = self.assert_same(monitor)
+        self.assertEqual(sorted(after), ["new", "web", "web;http"])
+        self.assertEqual([after["web"][index] for index in (1, 2, 5, 6, 13)], [before["web"][index] for index in (1, 2, 5, 6, 13)])
+        monitor.close()
+        self.monitor(outage, monitor.clock)
+
+    def test_no_write_of_its_own_before_a_second(self) -> None:
+        monitor = self.monitor(fine)
+        monitor.run(3)
+        writes = 0
+
+        def count(statement: str) -> None:
+            nonlocal writes
+            writes += statement == "COMMIT"
+
+        monitor.store._database.set_trace_callback(count)
+        monitor.run(50)
+        self.assertEqual(writes, 0)
+        monitor.run(20)
+        # Each of the three checks is taken and reported; all that is behind is written once.
+        self.assertLessEqual(writes, 2 + 2 + 1)
