@@ -20,13 +20,24 @@ Modules, lowest first:
     sooner       checks at other times than their own, and the rhythm behind them
     passive      passive results, and objects of which no result came in time
     verdict      what the end of a plugin counts as
+    counters     what the monitor counts of itself
     engine       one turn of the monitor: results in, checks out
     requests     what can be asked of a monitor that runs
     control      the socket through which it is asked
+    places       addresses at which something is served
     notify       what a service manager hears
     beside       a process of its own beside the monitor
     nagios_blocks the blocks of Nagios's status file
     nagios_pipe  the lines of Nagios's pipe
     nagios_files the process that keeps both
     main         the words, and the loop
+
+and of the process that shows a page:
+
+    shown        what is read from the database
+    style        colours, and what a browser may load
+    picture      the last day of an object
+    drawing      the pages
+    metrics      figures for Prometheus, and the status as data
+    page         the server
 """

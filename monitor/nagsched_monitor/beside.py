@@ -7,8 +7,9 @@ from typing import Callable, Optional, Sequence
 
 from .runners import FOLDER
 
-# From one beginning to the next at least, and how long it may take to end, in seconds.
-PAUSE = 5.0
+# From one beginning to the next at least, and how long it may take to end, in seconds. The pause is twice as long each time, up to the longest, where a
+# process ends sooner than that.
+PAUSE, LONGEST_PAUSE = 5.0, 60.0
 GRACE = 5.0
 
 
@@ -18,7 +19,8 @@ class Beside:
     def __init__(self, module: str, words: Sequence[str], log: Callable[[str], None], clock: Callable[[], float] = time.monotonic) -> None:
         self._module, self._words, self._log, self._clock = module, words, log, clock
         self._process: Optional["subprocess.Popen[bytes]"] = None
-        self._not_before = clock()
+        self._begun = self._not_before = clock()
+        self._pause = PAUSE
 
     def work(self) -> None:
         """Begins the process, where it doesn't run."""
@@ -26,10 +28,13 @@ class Beside:
             status = self._process.poll()
             if status is None:
                 return
+            self._pause = PAUSE if self._clock() - self._begun >= LONGEST_PAUSE else self._pause
+            self._not_before = self._begun + self._pause
+            self._pause = min(LONGEST_PAUSE, 2 * self._pause)
             self._log(f"{self._module} ended with status {status}; it is begun again")
             self._let_go()
         if self._clock() >= self._not_before:
-            self._not_before = self._clock() + PAUSE
+            self._begun = self._clock()
             command = [sys.executable, "-m", f"nagsched_monitor.{self._module}", *self._words]
             self._process = subprocess.Popen(command, stdin=subprocess.PIPE, env={**os.environ, "PYTHONPATH": str(FOLDER)})
 

@@ -5,8 +5,9 @@ Clock, runners and database are its parameters, so that a day can be simulated i
 import collections
 from typing import Callable, Counter, Deque, Dict, List, Mapping, Optional, Sequence, Set, Tuple
 
-from .calls import Abandon, Answer, Call, Enable, PutOff, Refused, Report, Reschedule, Standing, Take, Taken
+from .calls import Abandon, Answer, Call, Enable, Freed, PutOff, Refused, Report, Reschedule, Standing, Take, Taken
 from .clock import Clock
+from .counters import Counters
 from .faults import ConversationEnded, NotStored
 from .known import Known
 from .passive import Passive, is_stale
@@ -49,6 +50,7 @@ class Engine:
         self._last_save = (self._opened, store.last_call)
         self._is_stuck = False
         self._can_save = True
+        self.counters = Counters(store.figures(), clock)
         self.made = self.latest_start = 0
 
     # ---- a turn
@@ -81,6 +83,7 @@ class Engine:
         return now + LONGEST_WAIT if first is None else min(first, now + LONGEST_WAIT)
 
     def _turn(self, now: int) -> None:
+        self.scheduling.keep(*([] if self._is_stuck else self.counters.due(self.store.last_call)))
         begun = self._follow_periods()
         is_behind_pause = self._last_turn is None or now - self._last_turn > PAUSE
         # What is overdue is spread before it is taken.
@@ -180,6 +183,8 @@ class Engine:
         late = 0 if time is None else self._clock.moment() - time
         known.past.late = max(0, late) / 1000
         self.latest_start = max(self.latest_start, late)
+        if time is not None:
+            self.counters.started(late)
         words, limit = ((), 0.0) if watched.command is None else (watched.command.words, watched.command.limit)
         job = Job(taken.name, taken.run, words, limit)
         self._jobs[taken.name, taken.run] = job
@@ -214,9 +219,13 @@ class Engine:
         """What follows from a result."""
         if isinstance(answer, Refused):
             self._log(f"{job.name}: the result of run {job.run} came too late ({answer.why})")
+            self.counters.result("refused")
+        if isinstance(answer, Freed):
+            self.counters.result("given_up")
         if not isinstance(answer, Standing):
             return
         self.made += 1
+        self.counters.result(answer.state)
         known = self.scheduling.known.objects[job.name]
         known.last_result = self._clock.moment()
         self._sooner.set_again(known, answer)
@@ -237,7 +246,14 @@ class Engine:
         self._last_save = (self._clock.moment(), self.store.last_call)
         if self._can_save:
             self._can_save = self.scheduling.save()
+            if self._can_save:
+                self.counters.saved()
         return self._can_save
+
+    def close(self) -> None:
+        """Saves the state and the figures."""
+        self.save()
+        self.store.write(self.counters.write(self.store.last_call))
 
     def set_switch(self, name: str, on: bool) -> None:
         """An operator's switch, which was stored."""

@@ -12,6 +12,7 @@ TABLES: Dict[str, str] = {
     "passive": "name TEXT, code INTEGER, words TEXT",
     "changes": "time REAL, name TEXT, state TEXT, kind TEXT, attempt INTEGER, flapping INTEGER, words TEXT",
     "outbox": "document TEXT",
+    "figures": "name TEXT UNIQUE, value REAL",
     "standings": "name TEXT UNIQUE, state TEXT, kind TEXT, attempt INTEGER, flapping INTEGER, since REAL, hard_since REAL, last_check REAL, "
     "next_check REAL, is_on INTEGER, out_since REAL, took REAL, late REAL, words TEXT",
 }

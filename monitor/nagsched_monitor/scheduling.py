@@ -224,6 +224,10 @@ class Scheduling:
         printed, self._printed = self._printed, []
         return printed
 
+    def keep(self, *writes: Write) -> None:
+        """Has these written with the next calls."""
+        self._later.extend(writes)
+
     def flush(self) -> None:
         """Writes what was left for the next calls."""
         self._make((), ())

@@ -7,6 +7,7 @@
     changes       changes of state, by the number of the call that made them
     outbox        changes that the command for changes hasn't taken yet
     standings     how each object stands, a second old at most
+    figures       what the monitor counts of itself, a name and a number each
 
 Each row has a checksum over its table and its members, so that a row that was changed since is found.
 """
@@ -109,6 +110,9 @@ class Store:
 
     def outbox(self) -> List[Tuple[int, str]]:
         return list(self._database.execute("SELECT id, document FROM outbox ORDER BY id"))
+
+    def figures(self) -> Dict[str, float]:
+        return {name: float(value) for name, value in self._database.execute("SELECT name, value FROM figures")}
 
     def standings(self) -> List[Tuple[int, KeptStanding]]:
         """The standings that were kept, each with the number of its row."""

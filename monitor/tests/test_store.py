@@ -1,6 +1,7 @@
 """The database: what was changed is found, what can't be written changes nothing."""
 import sqlite3
 
+from nagsched_monitor.counters import KeepFigures
 from nagsched_monitor.faults import DamagedRow, MonitorFault, NotStored
 from nagsched_monitor.rows import TABLES, Generation, KeptChange, KeptStanding
 from nagsched_monitor.store import BeginGeneration, DropChangesBefore, DropStandings, KeepCalls, KeepChange, KeepResult, KeepStandings, SetSwitch, Store
@@ -23,6 +24,7 @@ class Database(SiteTest):
             KeepResult("web", 1, "slow"),
             KeepChange(CHANGE, '{"name":"web"}'),
             KeepStandings([(1, STANDING)]),
+            KeepFigures({"saves": 3.0}),
         )
         return store
 
@@ -33,10 +35,18 @@ class Database(SiteTest):
         self.assertEqual([call.line for call in store.calls_since(0, 0)], ['["take",8]', '["report","web",1,2]'])
         self.assertEqual((store.switches(), [result.words for result in store.waiting()]), ({"web": False}, ["slow"]))
         self.assertEqual((store.generations()[0].saved, store.last_call, store.last_change, store.last_moment()), (b'{"format":1}', 2, 2, 8))
-        self.assertEqual(store.outbox(), [(1, '{"name":"web"}')])
+        self.assertEqual((store.outbox(), store.figures()), ([(1, '{"name":"web"}')], {"saves": 3.0}))
         self.assertEqual(store.standings(), [(1, STANDING)])
         store.write(DropStandings(["web"]))
         self.assertEqual(store.standings(), [])
+
+    def test_figures_are_replaced(self) -> None:
+        store = self.filled()
+        store.write(KeepFigures({"calls": 7.0, "saves": 4.0}))
+        store.write(KeepFigures({"calls": 8.0, "late.sum": 0.25}))
+        self.assertEqual(store.figures(), {"saves": 4.0, "calls": 8.0, "late.sum": 0.25})
+        store.close()
+        Store(self.folder).close()
 
     def test_a_changed_byte_in_each_table(self) -> None:
         self.filled().close()

@@ -1,0 +1,123 @@
+"""Pictures of the page in a browser, to be looked at, and what promtool says of the figures.
+
+    cd monitor; python3 -m tests.page_pictures FOLDER
+
+Three moments, quiet, an outage, and a site of 500 services, and the page of one object, each 1280 and 400 pixels wide. What isn't on the machine is named.
+"""
+import pathlib
+import random
+import shutil
+import subprocess
+import sys
+import tempfile
+import threading
+import time
+import urllib.parse
+import urllib.request
+from typing import Any, Dict, List, Tuple
+
+from nagsched_monitor.page import Server, Site
+from nagsched_monitor.rows import KeptChange
+
+from .shown_site import fill, standing
+
+BROWSERS = ("chromium-headless-shell", "chrome-headless-shell", "chromium", "google-chrome")
+SERVICES = {
+    "http": "HTTP OK: HTTP/1.1 200 OK - 10975 bytes in 0.042 second response time |time=0.042s;;;0 size=10975B",
+    "disk /": "DISK OK - free space: / 21034 MiB (63% inode=91%)|/=12010MiB;28000;31000;0;34000",
+    "load": "OK - load average: 0.12, 0.20, 0.18",
+    "certificate": "OK - Certificate 'example.org' will expire on 2027-02-11 09:13 +0000/UTC.",
+}
+PING = "PING OK - Packet loss = 0%, RTA = 0.80 ms|rta=0.8ms;100;500;0 pl=0%;20;60"
+UNREACHABLE = "CRITICAL - Host Unreachable (10.0.3.17)"
+Objects = Dict[str, Dict[str, Any]]
+
+
+def quiet(hosts: int) -> Objects:
+    """A site on which all is well, with four services a host."""
+    chance, now = random.Random(3), time.time()
+    objects: Objects = {}
+    for number in range(hosts):
+        host = f"{('web', 'db')[number % 2]}-{number // 2:02}"
+        for name, state, words in ((host, "UP", PING), *((f"{host};{service}", "OK", words) for service, words in SERVICES.items())):
+            objects[name] = standing(name, state, words=words, since=now - chance.uniform(1e4, 9e5), next_check=now + chance.uniform(1, 300))
+    return objects
+
+
+def outage() -> Tuple[Objects, List[KeptChange]]:
+    """A host and its services are down, one behind it can't be reached, and there is some trouble elsewhere. The host was down before on this day."""
+    now, objects = time.time(), quiet(24)
+    wrong = [("web-00", "DOWN", "HARD", 2400, UNREACHABLE), ("web-01", "UNREACHABLE", "HARD", 2300, UNREACHABLE)]
+    wrong += [(f"web-00;{service}", "CRITICAL", "HARD", 2350 + len(service), "connect to address 10.0.3.17: No route to host") for service in SERVICES]
+    wrong += [
+        ("db-01;disk /", "WARNING", "HARD", 90_000, "DISK WARNING - free space: / 3034 MiB (9% inode=91%)|/=31010MiB;28000;31000;0;34000"),
+        ("db-00;load", "UNKNOWN", "HARD", 700, "NRPE: Unable to read output"),
+        ("db-02;http", "CRITICAL", "SOFT", 45, "CRITICAL - Socket timeout after 10 seconds"),
+        ("db-03;http", "WARNING", "SOFT", 12, "HTTP WARNING: HTTP/1.1 403 Forbidden - 291 bytes in 0.002 second response time"),
+    ]
+    for name, state, kind, ago, words in wrong:
+        hard = now - ago + 60 if kind == "HARD" else now - 9e5
+        objects[name].update(state=state, kind=kind, attempt=3 if kind == "HARD" else 1, since=now - ago, hard_since=hard, words=words)
+    objects["db-02;http"].update(flapping=True)
+    objects["web-02;http"].update(out_since=now - 3, next_check=None)
+    objects["db-04"].update(out_since=now - 1, next_check=None)
+    objects["db-04;disk /"].update(is_on=False)
+    objects["db-05;load"].update(state="PENDING", since=None, hard_since=None, last_check=None, words="")
+    day = [(80_000, "DOWN", "SOFT"), (79_000, "DOWN", "HARD"), (70_000, "UP", "HARD"), (52_000, "UNREACHABLE", "HARD"), (49_000, "UP", "HARD")]
+    day += [(20_000, "DOWN", "SOFT"), (17_000, "UP", "SOFT"), (2_400, "DOWN", "SOFT"), (2_340, "DOWN", "HARD")]
+    changes: List[KeptChange] = []
+    for ago, state, kind in day:
+        words = PING if state == "UP" else UNREACHABLE
+        changes.append(KeptChange(len(changes) + 1, now - ago, "web-00", state, kind, 3 if kind == "HARD" and state != "UP" else 1, False, words))
+    return objects, changes
+
+
+def figures(count: int) -> Dict[str, float]:
+    """Figures of a monitor that keeps up with so many objects."""
+    return {
+        "checks_a_second": count / 300, "latest_start": 0.81, "latest_start_lately": 0.06, "calls": 81234, "saves": 12, "saved_at": time.time() - 77,
+        "checks.OK": 70000, "checks.UP": 9000, "checks.DOWN": 31, "late.0.05": 60000, "late.0.1": 19000, "late.1": 31, "late.sum": 3011.5,
+    }
+
+
+def drawn(browser: str, url: str, width: int, picture: pathlib.Path) -> None:
+    """A picture of a page. Each browser has a home of its own."""
+    with tempfile.TemporaryDirectory() as home:
+        words = [browser, "--headless", "--no-sandbox", "--disable-gpu", "--hide-scrollbars", f"--user-data-dir={home}", f"--window-size={width},1400"]
+        subprocess.run([*words, f"--screenshot={picture}", url], stdout=subprocess.DEVNULL, stderr=subprocess.DEVNULL, timeout=120, check=True)
+
+
+def complaints(url: str) -> None:
+    """What promtool says of the figures: nothing, where they are right."""
+    with urllib.request.urlopen(f"{url}metrics", timeout=30) as answer:
+        checked = subprocess.run(["promtool", "check", "metrics"], input=answer.read(), stdout=subprocess.PIPE, stderr=subprocess.STDOUT, check=False)
+    print(f"promtool ended with {checked.returncode}: {checked.stdout.decode() or 'no complaint'}")
+
+
+def main() -> int:
+    folder = pathlib.Path(sys.argv[1]).resolve()
+    found = [browser for browser in BROWSERS if shutil.which(browser)]
+    moments: List[Tuple[str, Tuple[Objects, List[KeptChange]]]] = [("quiet", (quiet(6), [])), ("outage", outage()), ("campus", (quiet(125), []))]
+    for name, (objects, kept) in moments:
+        site = folder / name
+        site.mkdir(parents=True, exist_ok=True)
+        fill(site, list(objects.values()), figures(len(objects)), tuple(kept))
+        server = Server(("127.0.0.1", 0), Site(site))
+        threading.Thread(target=server.serve_forever, daemon=True).start()
+        pages = {name: ""} if not kept else {name: "", "object": "object?name=" + urllib.parse.quote("web-00")}
+        for width in (1280, 400):
+            for page, path in pages.items():
+                if found:
+                    drawn(found[0], server.url() + path, width, folder / f"{page}-{width}.png")
+        if kept and shutil.which("promtool"):
+            complaints(server.url())
+        server.shutdown()
+        server.server_close()
+    for what, there in (("a browser", bool(found)), ("promtool", shutil.which("promtool") is not None)):
+        if not there:
+            print(f"passed over: {what} isn't here")
+    return 0
+
+
+if __name__ == "__main__":
+    sys.exit(main())

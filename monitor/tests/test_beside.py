@@ -1,0 +1,193 @@
+"""The page as a process of a monitor: started and ended with it, and started anew where it is killed."""
+import http.client
+import json
+import os
+import pathlib
+import signal
+import subprocess
+import sys
+import time
+from typing import List, Tuple
+
+from nagsched_monitor import control
+from nagsched_monitor.beside import LONGEST_PAUSE, Beside
+from nagsched_monitor.faults import MonitorFault
+from nagsched_monitor.places import is_own, place_of
+
+from .simulated import PROGRAM, SiteTest
+
+MONITOR = pathlib.Path(__file__).resolve().parent.parent / "nagsched-monitor"
+
+
+def children_of(process: int) -> List[int]:
+    found = subprocess.run(["ps", "-o", "pid=", "--ppid", str(process)], stdout=subprocess.PIPE, text=True, check=False).stdout
+    return [int(each) for each in found.split()]
+
+
+def is_page(process: int) -> bool:
+    path = pathlib.Path(f"/proc/{process}/cmdline")
+    return path.exists() and b"nagsched_monitor.page" in path.read_bytes()
+
+
+class PageProcess(SiteTest):
+    def setUp(self) -> None:
+        super().setUp()
+        self.log = self.folder / "log"
+
+    def started(self, *words: str) -> "subprocess.Popen[bytes]":
+        """A monitor whose lines and those of its page go to a file."""
+        self.write_site([{"name": f"h{number}", "check_interval": 1, "max_check_attempts": 2} for number in range(3)], [])
+        self.write("commands.json", {f"h{number}": {"line": f"echo number {number}; exit {number}", "shell": True} for number in range(3)})
+        with self.log.open("ab") as log:
+            running = subprocess.Popen([sys.executable, str(MONITOR), "--program", PROGRAM, *words, str(self.folder)], stdout=log, stderr=log)
+        self.addCleanup(self.killed, running)
+        return running
+
+    def killed(self, running: "subprocess.Popen[bytes]", number: int = signal.SIGTERM) -> None:
+        if running.poll() is None:
+            running.send_signal(number)
+        running.wait(timeout=30)
+
+    def await_page(self, count: int) -> int:
+        """The port of the page when it was started so often."""
+        lines: List[str] = []
+        for _ in range(600):
+            lines = [line for line in self.log.read_text().splitlines() if line.startswith("the page is at http://127.0.0.1:")]
+            if len(lines) == count:
+                return int(lines[-1].rstrip("/").rpartition(":")[2])
+            time.sleep(0.05)
+        self.fail(f"the page wasn't started {count} times: {self.log.read_text()}")
+
+    def get(self, port: int, path: str) -> Tuple[int, str]:
+        connection = http.client.HTTPConnection("127.0.0.1", port, timeout=30)
+        connection.request("GET", path)
+        answer = connection.getresponse()
+        text = answer.read().decode()
+        connection.close()
+        return answer.status, text
+
+    def page_of(self, running: "subprocess.Popen[bytes]") -> int:
+        (found,) = [each for each in children_of(running.pid) if is_page(each)]
+        return found
+
+    def await_end(self, process: int) -> None:
+        for _ in range(200):
+            if not pathlib.Path(f"/proc/{process}").exists():
+                return
+            time.sleep(0.05)
+        self.fail("the page goes on")
+
+    def test_killed_and_started_anew(self) -> None:
+        """It shows what the monitor counts; killed, it is started anew; it ends with the monitor."""
+        running = self.started("--page", "127.0.0.1:0")
+        port = self.await_page(1)
+        self.await_results(port, 6)
+        self.compare(port)
+        came = json.loads(self.get(port, "/status.json")[1])
+        self.assertEqual((came["site"], came["is_silent"]), (self.folder.name, False))
+        self.assertEqual(self.get(port, "/")[0], 200)
+        before = self.page_of(running)
+        os.kill(before, signal.SIGTERM)  # ignored: it ends with the monitor
+        os.kill(before, signal.SIGKILL)
+        port = self.await_page(2)
+        self.assertEqual(self.get(port, "/metrics")[0], 200)
+        self.assertNotEqual(self.page_of(running), before)
+        self.assertIn("page ended with status -9; it is begun again", self.log.read_text())
+        process = self.page_of(running)
+        self.killed(running)
+        self.await_end(process)
+        self.assertEqual(running.returncode, 0)
+
+    def await_results(self, port: int, count: int) -> None:
+        """Waits until so many hosts were found up."""
+        up = 0.0
+        for _ in range(60):
+            status, text = self.get(port, "/metrics")
+            self.assertEqual(status, 200, text)
+            up = float(text.partition('nagsched_checks_total{result="UP"} ')[2].partition("\n")[0])
+            if up >= count:
+                return
+            time.sleep(0.5)
+        self.fail(f"{up:g} results")
+
+    def compare(self, port: int) -> None:
+        """The page shows each object as the monitor says that it stands, a second or two later."""
+        answer = control.ask(self.folder, b'{"do":"status"}')
+        time.sleep(2)
+        wanted = [(it["name"], it["state"], it["kind"], it["attempt"], it["output"]) for it in json.loads(answer)["objects"]]
+        came = [(it["name"], it["state"], it["kind"], it["attempt"], it["words"]) for it in json.loads(self.get(port, "/status.json")[1])["objects"]]
+        self.assertEqual(came, wanted)
+        self.assertEqual([state for _, state, *_ in came], ["UP", "UP", "DOWN"])
+
+    def test_a_monitor_that_is_killed(self) -> None:
+        running = self.started("--page", "127.0.0.1:0")
+        self.await_page(1)
+        process = self.page_of(running)
+        self.killed(running, signal.SIGKILL)
+        self.await_end(process)
+
+    def test_an_address_of_others(self) -> None:
+        self.started("--page", "0.0.0.0:0")
+        for _ in range(200):
+            if "the page is at http://0.0.0.0:" in self.log.read_text():
+                break
+            time.sleep(0.05)
+        lines = self.log.read_text()
+        self.assertIn("the page on 0.0.0.0:0 is shown to everybody who reaches this address\n", lines)
+        self.assertIn("the page is at http://0.0.0.0:", lines)
+
+    def test_an_address_that_is_none(self) -> None:
+        self.write_site([{"name": "h", "max_check_attempts": 2}], [])
+        words = [sys.executable, str(MONITOR), "--program", PROGRAM, "--page", "here", str(self.folder)]
+        ran = subprocess.run(words, capture_output=True, text=True, check=False)
+        self.assertEqual((ran.returncode, ran.stderr), (1, "nagsched-monitor: --page: no ADDRESS:PORT: 'here'\n"))
+
+    def test_no_page(self) -> None:
+        running = self.started()
+        self.await_any(running)
+        self.assertFalse([each for each in children_of(running.pid) if is_page(each)])
+
+    def await_any(self, running: "subprocess.Popen[bytes]") -> None:
+        for _ in range(200):
+            if subprocess.run([sys.executable, str(MONITOR), str(self.folder), "status"], capture_output=True, check=False).returncode == 0:
+                return
+            time.sleep(0.05)
+        self.fail("the monitor doesn't answer")
+
+
+class Pauses(SiteTest):
+    def test_one_that_ends_at_once(self) -> None:
+        """It is started anew at pauses that grow, up to a minute."""
+        lines: List[str] = []
+        now = [0.0]
+        beside = Beside("faults", [], lines.append, lambda: now[0])
+        self.addCleanup(beside.close)
+        begun = []
+        for second in range(220):
+            now[0] = float(second)
+            before = beside.process_id()
+            beside.work()
+            if beside._process is not None:
+                beside._process.wait(timeout=30)
+                if beside.process_id() != before:
+                    begun.append(second)
+        self.assertEqual(begun, [0, 5, 15, 35, 75, 135, 195])
+        self.assertEqual(LONGEST_PAUSE, 60)
+        self.assertEqual(set(lines), {"faults ended with status 0; it is begun again"})
+
+
+class Places(SiteTest):
+    def test_places(self) -> None:
+        for given, place, own in (
+            ("127.0.0.1:80", ("127.0.0.1", 80), True), ("localhost:0", ("127.0.0.1", 0), True), ("[::1]:8080", ("::1", 8080), True),
+            ("0.0.0.0:1", ("0.0.0.0", 1), False), ("[::]:65535", ("::", 65535), False), ("10.0.0.1:80", ("10.0.0.1", 80), False),
+        ):
+            self.assertEqual((place_of(given), is_own(given)), (place, own), given)
+
+    def test_what_is_none(self) -> None:
+        for given in (
+            "", ":", "80", "::1:80", "[::1]", "127.0.0.1:", "127.0.0.1:x", "127.0.0.1:65536", "127.0.0.1:-1", "256.0.0.1:80", "[127.0.0.1:80", "host:80",
+            "127.0.0.1:²",
+        ):
+            with self.assertRaises(MonitorFault, msg=given):
+                place_of(given)

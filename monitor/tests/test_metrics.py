@@ -1,0 +1,120 @@
+"""The figures for Prometheus: each line by the rules of the text format, and the sums of the histogram."""
+import re
+import time
+from typing import Dict, List, Tuple
+
+from nagsched_monitor.counters import BOUNDS, RESULTS
+from nagsched_monitor.metrics import escaped, family
+
+from .shown_site import ShownSite, fill, standing
+from .simulated import SiteTest
+
+NAME = r"[a-zA-Z_:][a-zA-Z0-9_:]*"
+LABEL = r'[a-zA-Z_][a-zA-Z0-9_]*="(?:[^"\\\n]|\\["\\n])*"'
+SAMPLE = re.compile(rf"({NAME})(?:\{{({LABEL}(?:,{LABEL})*)\}})? (-?\d+(?:\.\d+)?(?:e-?\d+)?)")
+SUFFIXES = ("_bucket", "_sum", "_count")
+Labels = Tuple[Tuple[str, str], ...]
+
+
+def unescaped(text: str) -> str:
+    return re.sub(r"\\(.)", lambda found: "\n" if found.group(1) == "n" else found.group(1), text)
+
+
+class Families:
+    """A text in the format, read line by line. Each family begins with its help and its type, and stands once."""
+
+    def __init__(self, text: str) -> None:
+        self.kinds: Dict[str, str] = {}
+        self.helps: Dict[str, str] = {}
+        self.samples: Dict[Tuple[str, Labels], float] = {}
+        self.wrong: List[str] = []
+        self._now = ""
+        if not text.endswith("\n"):
+            self.wrong.append("the last line has no end")
+        for line in text.split("\n")[:-1]:
+            self._line(line)
+
+    def _line(self, line: str) -> None:
+        words = line.split(" ", 3)
+        if words[:2] == ["#", "HELP"] and words[2] not in self.helps and len(words) == 4:
+            self._now, self.helps[words[2]] = words[2], words[3]
+        elif words[:2] == ["#", "TYPE"] and words[2] == self._now and words[2] not in self.kinds and words[3] in ("counter", "gauge", "histogram"):
+            self.kinds[words[2]] = words[3]
+        else:
+            self._sample(line)
+
+    def _sample(self, line: str) -> None:
+        found = SAMPLE.fullmatch(line)
+        if found is None:
+            self.wrong.append(line)
+            return
+        name, inner, value = found.groups()
+        names = [name] if self.kinds.get(self._now) != "histogram" else [name[: -len(each)] for each in SUFFIXES if name.endswith(each)]
+        labels = tuple((label, unescaped(text)) for label, text in re.findall(r'(\w+)="((?:[^"\\]|\\.)*)"', inner or ""))
+        if self._now not in names or (name, labels) in self.samples or len({label for label, _ in labels}) != len(labels):
+            self.wrong.append(line)
+        self.samples[name, labels] = float(value)
+
+    def of(self, name: str, **labels: str) -> float:
+        return self.samples[name, tuple(labels.items())]
+
+
+class Metrics(ShownSite):
+    def families(self) -> Families:
+        status, headers, text = self.ask("/metrics")
+        self.assertEqual((status, headers["content-type"]), (200, "text/plain; version=0.0.4; charset=utf-8"))
+        families = Families(text)
+        self.assertEqual(families.wrong, [])
+        self.assertEqual(sorted(families.kinds), sorted(families.helps))
+        return families
+
+    def test_a_site(self) -> None:
+        now = time.time()
+        objects = [standing("a"), standing("b", out_since=now), standing("c", "DOWN", "SOFT", next_check=now - 1)]
+        objects += [standing("d", "PENDING", None, next_check=None), standing("e", 'a "state"\\\n', "HARD"), standing("f", is_on=False, next_check=now - 1)]
+        figures = {"checks.OK": 7.0, "checks.given_up": 1.0, "calls": 3e9, "saves": 2.0, "saved_at": now - 30}
+        figures |= {"late.0.05": 5.0, "late.0.25": 2.0, "late.more": 1.0, "late.sum": 61.5}
+        fill(self.folder, objects, figures)
+        self.serve()
+        families = self.families()
+        self.assertEqual({name: kind for name, kind in families.kinds.items() if kind != "gauge"}, {
+            "nagsched_checks_total": "counter", "nagsched_calls_total": "counter", "nagsched_saves_total": "counter",
+            "nagsched_check_latency_seconds": "histogram",
+        })
+        self.assertEqual((families.of("nagsched_due"), families.of("nagsched_out")), (1, 1))
+        self.assertEqual([families.of("nagsched_checks_total", result=result) for result in RESULTS], [7, 0, 0, 0, 0, 0, 0, 1, 0])
+        self.assertEqual((families.of("nagsched_calls_total"), families.of("nagsched_saves_total")), (3e9, 2))
+        self.assertAlmostEqual(families.of("nagsched_seconds_since_save"), 30, delta=10)
+        self.assertEqual(families.of("nagsched_objects", state="UP", kind="HARD"), 3)
+        self.assertEqual(families.of("nagsched_objects", state="DOWN", kind="SOFT"), 1)
+        self.assertEqual(families.of("nagsched_objects", state="PENDING", kind="NONE"), 1)
+        self.assertEqual(families.of("nagsched_objects", state='a "state"\\\n', kind="HARD"), 1)
+        self.assertEqual(sum(value for (name, _), value in families.samples.items() if name == "nagsched_objects"), len(objects))
+
+    def test_the_histogram(self) -> None:
+        """Each bucket has the one before in it; the last is the count."""
+        fill(self.folder, [], {"late.0.05": 5.0, "late.0.25": 2.0, "late.60": 4.0, "late.more": 1.0, "late.sum": 161.5})
+        self.serve()
+        families = self.families()
+        name = "nagsched_check_latency_seconds"
+        buckets = [families.of(f"{name}_bucket", le=bound) for bound in (*(f"{bound:g}" for bound in BOUNDS), "+Inf")]
+        self.assertEqual(buckets, [5, 5, 7, 7, 7, 7, 7, 7, 7, 11, 12])
+        self.assertEqual((families.of(f"{name}_count"), families.of(f"{name}_sum")), (12, 161.5))
+        bounds = [dict(labels)["le"] for (sample, labels), _ in families.samples.items() if sample == f"{name}_bucket"]
+        self.assertEqual(bounds, [*(f"{bound:g}" for bound in BOUNDS), "+Inf"])
+
+    def test_nothing_yet(self) -> None:
+        """A site whose monitor has counted nothing has all families; where no state was saved there are no seconds since."""
+        fill(self.folder, [])
+        self.serve()
+        families = self.families()
+        self.assertEqual(len(families.kinds), 8)
+        self.assertEqual([name for name, _ in families.samples if "since_save" in name], [])
+
+
+class Format(SiteTest):
+    def test_escaping(self) -> None:
+        for text in ("plain", '"', "\\", "\n", '\\n"\n\\', "ä", "{}=,"):
+            families = Families("\n".join(family("x", "gauge", "Some help.", [("", {"a": text, "b": text}, 1.5)])) + "\n")
+            self.assertEqual((families.wrong, families.samples), ([], {("x", (("a", text), ("b", text))): 1.5}))
+            self.assertEqual(unescaped(escaped(text)), text)

@@ -1,0 +1,223 @@
+"""The page of a site: every object is on it, nothing that comes from a site becomes a tag, and what isn't a page is refused."""
+import html.parser
+import json
+import time
+import urllib.parse
+from typing import Dict, List, Optional, Tuple
+
+from nagsched_monitor import page, style
+from nagsched_monitor.rows import KeptChange
+from nagsched_monitor.shown import LONGEST_WORDS
+
+from .shown_site import ShownSite, fill, standing
+
+VOID = ("meta",)
+EVIL = '"><script>alert(1)</script><img src=x onerror=\'alert(2)\'>&amp;'
+
+
+class Reader(html.parser.HTMLParser):
+    """Reads a page: its tables row by row, its texts, and each tag with what it has; tags are closed in the order in which they were opened."""
+
+    def __init__(self, text: str) -> None:
+        super().__init__()
+        self.open: List[str] = []
+        self.tags: List[Tuple[str, Dict[str, Optional[str]]]] = []
+        self.tables: List[List[List[str]]] = []
+        self.texts: List[str] = []
+        self.wrong: List[str] = []
+        self.feed(text)
+        self.close()
+
+    def handle_starttag(self, tag: str, attrs: List[Tuple[str, Optional[str]]]) -> None:
+        self.tags.append((tag, dict(attrs)))
+        if tag not in VOID:
+            self.open.append(tag)
+        if tag == "table":
+            self.tables.append([])
+        elif tag == "tr" and "tbody" in self.open:
+            self.tables[-1].append([])
+        elif tag == "td":
+            self.tables[-1][-1].append("")
+
+    def handle_endtag(self, tag: str) -> None:
+        if not self.open or self.open.pop() != tag:
+            self.wrong.append(tag)
+
+    def handle_data(self, data: str) -> None:
+        self.texts.append(data)
+        if "td" in self.open:
+            self.tables[-1][-1][-1] += data
+
+    def links(self) -> List[str]:
+        return [str(attributes["href"]) for tag, attributes in self.tags if tag == "a"]
+
+
+class Page(ShownSite):
+    def read(self, path: str = "/") -> Reader:
+        status, headers, text = self.ask(path)
+        self.assertEqual((status, headers["content-type"]), (200, "text/html; charset=utf-8"))
+        reader = Reader(text)
+        self.assertEqual((reader.wrong, reader.open), ([], []))
+        return reader
+
+    def test_every_object(self) -> None:
+        objects = [standing(f"h{number}") for number in range(30)]
+        objects += [standing(f"h{number};disk {kind}", "OK", words=f"{number} free") for number in range(30) for kind in "ab"]
+        objects.append(standing("new", "PENDING", None, "", since=None, hard_since=None, last_check=None, attempt=1, took=None, late=None))
+        fill(self.folder, objects)
+        self.serve()
+        hosts, services = self.read().tables
+        self.assertEqual([row[1] for row in hosts], sorted([f"h{number}" for number in range(30)] + ["new"]))
+        self.assertEqual(sorted(row[1] for row in services), sorted(it["name"] for it in objects if ";" in it["name"]))
+        self.assertEqual([row[0] for row in hosts[-2:]], ["UP", "PENDING"])
+        self.assertEqual(services[0][2:4][0], "1")
+        self.assertRegex(services[0][3], r"^(\d\d \w{3} \d\d:\d\d|\d\d:\d\d:\d\d) 1 h 0 min$")
+        self.assertEqual(services[0][5], "0 free")
+
+    def test_what_is_wrong(self) -> None:
+        """Hard before soft, the longest first; since when a hard one is hard."""
+        now = time.time()
+        fill(self.folder, [
+            standing("soft and long", "DOWN", "SOFT", since=now - 9000, hard_since=now - 99999),
+            standing("hard and young", "DOWN", since=now - 500, hard_since=now - 60),
+            standing("hard and old", "UNREACHABLE", since=now - 7200, hard_since=now - 7200),
+            standing("fine"),
+            standing("fine;soft", "WARNING", "SOFT", since=now - 30, attempt=2, flapping=True),
+            standing("fine;waits", "PENDING", None),
+        ])
+        self.serve()
+        reader = self.read()
+        wrong = reader.tables[0]
+        self.assertEqual([row[1] for row in wrong], ["hard and old", "hard and young", "soft and long", "fine;soft"])
+        self.assertEqual([row[0] for row in wrong], ["UNREACHABLE hard", "DOWN hard", "DOWN soft", "WARNING soft FLAPPING"])
+        self.assertTrue(wrong[1][3].endswith("1 min"), wrong[1][3])
+        self.assertTrue(any(text.startswith("4 wrong: ") for text in reader.texts))
+
+    def test_when_it_is_checked(self) -> None:
+        now = time.time()
+        fill(self.folder, [
+            standing("a", out_since=now - 4, next_check=None), standing("b", is_on=False), standing("c", next_check=now - 10),
+            standing("d", next_check=None), standing("e", next_check=now + 86400 * 40), standing("f", next_check=1e15), standing("g", next_check=0.001),
+            standing("h", next_check=-1e300),
+        ])
+        self.serve()
+        reader = self.read()
+        checks = [row[4] for row in reader.tables[0]]
+        date = r"^\d\d \w{3} (\d{4} )?\d\d:\d\d$"
+        for check, wanted in zip(checks, (r"^runs since .* [45] s$", "^off$", "^due since ", "^none$", date, "^never$", "^due$", "^due$")):
+            self.assertRegex(check, wanted)
+        self.assertIn("Out: 1", reader.texts)
+        self.assertIn("Nothing is wrong.", reader.texts)
+
+    def test_names_and_words_are_escaped(self) -> None:
+        """Nothing of a site becomes a tag or an attribute, on any page; characters that are none of a text are replaced."""
+        name = "h;" + EVIL
+        change = KeptChange(1, time.time() - 3600, name, "CRITICAL", "HARD", 3, False, EVIL)
+        fill(self.folder, [standing(name, "CRITICAL", words=EVIL + "\x1b[31m\u202e\x00"), standing(EVIL, out_since=time.time())], {}, (change,))
+        self.serve()
+        for path in ("/", "/object?name=" + urllib.parse.quote(name)):
+            reader = self.read(path)
+            self.assertFalse([tag for tag, _ in reader.tags if tag in ("script", "img")])
+            self.assertFalse([attributes for _, attributes in reader.tags if any(each.startswith("on") for each in attributes)])
+            self.assertIn(EVIL, "".join(reader.texts))
+            self.assertFalse([text for text in reader.texts if "\x1b" in text or "\u202e" in text or "\x00" in text])
+        reader = self.read()
+        self.assertEqual([row[1] for row in reader.tables[0]], [name])
+        self.assertEqual(urllib.parse.unquote(reader.links()[1]), f"/object?name={name}")
+        status, _, text = self.ask(reader.links()[1])
+        self.assertEqual(status, 200)
+        _, _, text = self.ask("/status.json")
+        self.assertEqual({it["name"] for it in json.loads(text)["objects"]}, {name, EVIL})
+
+    def test_nothing_from_elsewhere(self) -> None:
+        fill(self.folder, [standing("h")])
+        self.serve()
+        for path in ("/", "/object?name=h"):
+            _, headers, text = self.ask(path)
+            reader = Reader(text)
+            self.assertFalse([tag for tag, _ in reader.tags if tag in ("link", "script", "img", "iframe")])
+            self.assertFalse([tag for tag, attributes in reader.tags if "src" in attributes or "style" in attributes])
+            self.assertTrue(all(link.startswith("/") for link in reader.links()), reader.links())
+            self.assertTrue(headers["content-security-policy"].startswith("default-src 'none'; style-src 'sha256-"))
+            self.assertEqual(headers["cache-control"], "no-store")
+            self.assertIn(f"<style>{style.STYLE}</style>", text)
+            self.assertIn(("meta", {"http-equiv": "refresh", "content": "15"}), reader.tags)
+
+    def test_long_words(self) -> None:
+        """In lists they are cut; on the page of the object they are whole."""
+        fill(self.folder, [standing("h", words="x" * 60_000)])
+        self.serve()
+        self.assertEqual(self.read().tables[0][0][5], "x" * LONGEST_WORDS + "…")
+        self.assertIn("x" * 60_000, self.read("/object?name=h").texts)
+
+    def test_an_object(self) -> None:
+        """Its day from the last change before it; each stretch is as long as it lasted."""
+        now = time.time()
+        changes = (
+            KeptChange(1, now - 90_000, "h", "DOWN", "HARD", 3, False, "no answer"),
+            KeptChange(2, now - 43_200, "h", "UP", "HARD", 1, False, "there again"),
+            KeptChange(3, now - 7_200, "other", "DOWN", "HARD", 1, False, "of another"),
+            KeptChange(4, now - 3_600, "h", "DOWN", "SOFT", 1, True, "again"),
+        )
+        fill(self.folder, [standing("h", "DOWN", "SOFT")], {}, changes)
+        self.serve()
+        reader = self.read("/object?name=h")
+        widths = [(attributes["class"], round(float(str(attributes["width"])[:-1]), 1)) for tag, attributes in reader.tags if tag == "rect"]
+        self.assertEqual(widths, [("down", 50.0), ("up", 45.8), ("down", 4.2)])
+        self.assertEqual([row[1:] for row in reader.tables[0]], [["DOWN soft FLAPPING", "1", "again"], ["UP", "1", "there again"]])
+        self.assertNotIn("of another", "".join(reader.texts))
+        self.assertIn("DOWN hard, DOWN soft, UP; soft ones are low", "".join(reader.texts))
+
+    def test_a_day_of_which_nothing_is_known(self) -> None:
+        fill(self.folder, [standing("h", since=time.time() - 21_600), standing("new", "PENDING", None, since=None, next_check=None)])
+        self.serve()
+        for name, wanted in (("h", [("none thin", "75.000%"), ("up", "25.000%")]), ("new", [("none thin", "100.000%")])):
+            reader = self.read(f"/object?name={name}")
+            came = [(attributes["class"], attributes["width"]) for tag, attributes in reader.tags if tag == "rect"]
+            self.assertEqual([each for each, _ in came], [each for each, _ in wanted])
+            for (_, width), (_, its) in zip(came, wanted):
+                self.assertAlmostEqual(float(str(width)[:-1]), float(its[:-1]), delta=0.01)
+
+    def test_no_monitor_at_work(self) -> None:
+        fill(self.folder, [standing("h")], {"written_at": time.time() - 600})
+        self.serve()
+        self.assertTrue(any("written nothing for 10 min" in text for text in self.read().texts))
+        fill(self.folder, [standing("h")])
+        self.assertFalse(any("written nothing" in text for text in self.read().texts))
+
+    def test_the_zone(self) -> None:
+        """Times are those of the site's zone; while its file is bad those of the zone before."""
+        self.write("monitor.json", {"zone": "Asia/Kathmandu"})
+        fill(self.folder, [standing("h")])
+        self.serve()
+        for document in ({"zone": "Asia/Kathmandu"}, "{"):
+            self.write("monitor.json", document)
+            self.assertTrue(any("+05:45" in text for text in self.read().texts))
+
+
+class Data(ShownSite):
+    def test_status(self) -> None:
+        objects = [standing("h", out_since=5.0, next_check=None), standing("h;a", "CRITICAL", "SOFT", "bad", attempt=2, flapping=True, next_check=1.0)]
+        fill(self.folder, objects, {"checks_a_second": 2.5, "latest_start": 0.75, "calls": 8})
+        self.serve()
+        status, headers, text = self.ask("/status.json")
+        came = json.loads(text)
+        self.assertEqual((status, headers["content-type"], headers["content-length"]), (200, "application/json", str(len(text.encode()))))
+        self.assertEqual(came["objects"], objects)
+        self.assertEqual((came["wrong"], came["out"], came["due"], came["is_silent"]), (["h;a"], 1, 1, False))
+        self.assertEqual((came["checks_a_second"], came["latest_start"], came["calls"], came["saved_at"]), (2.5, 0.75, 8, None))
+
+
+class Measured(ShownSite):
+    def test_4096_objects(self) -> None:
+        """The page of a full site is made in under 300 milliseconds of processor time."""
+        words = "PING OK - Packet loss = 0%, RTA = 0.80 ms | rta=0.8ms;100;500 pl=0%;20;60"
+        fill(self.folder, [standing(f"host-{number:04};disk <root>", "OK", words=words) for number in range(4096)])
+        site = page.Site(self.folder)
+        times = []
+        for _ in range(3):
+            begun = time.process_time()
+            _, text = site.document("/", "")
+            times.append(time.process_time() - begun)
+        self.assertEqual(len(Reader(text).tables[0]), 4096)
+        self.assertLess(min(times), 0.3, times)

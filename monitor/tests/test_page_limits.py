@@ -1,0 +1,118 @@
+"""What the page's server refuses: other paths and methods, requests that are too long, clients that send nothing, a database that can't be read."""
+import pathlib
+import socket
+import sqlite3
+import time
+
+from nagsched_monitor import page
+
+from .shown_site import ShownSite, fill, standing
+
+
+class Refused(ShownSite):
+    def raw(self, sent: bytes, is_all: bool = True) -> bytes:
+        """The answer to these bytes, behind which the client ends, or sends nothing more."""
+        with socket.create_connection(("127.0.0.1", self.port), timeout=20) as connection:
+            connection.sendall(sent)
+            if is_all:
+                connection.shutdown(socket.SHUT_WR)
+            came = b""
+            while data := connection.recv(65_536):
+                came += data
+            return came
+
+    def test_paths_and_methods(self) -> None:
+        fill(self.folder, [standing("h")])
+        self.serve()
+        queries = ("", "name=", "name=g", "name=h&name=h", "a=b&" * 200)
+        for path in ("/x", "/../monitor.db", "/monitor.db", "/index.html", "*", "/object", *(f"/object?{query}" for query in queries)):
+            self.assertEqual(self.ask(path)[0::2], (404, "404 Not Found\n"), path)
+        for method in ("POST", "PUT", "DELETE", "OPTIONS", "TRACE", "CONNECT", "BREW"):
+            status, headers, _ = self.ask("/", method)
+            self.assertEqual((status, headers["allow"]), (405, "GET, HEAD"), method)
+        for path in ("/", "/status.json", "/metrics", "/object?name=h"):
+            status, headers, text = self.ask(path, "HEAD")
+            self.assertEqual((status, text), (200, ""))
+            self.assertGreater(int(headers["content-length"]), 100)
+
+    def test_limits(self) -> None:
+        """Lines and headers one past what is read, too many of them, and what is no request."""
+        fill(self.folder, [standing("h")])
+        self.serve()
+        line = b"GET /%s HTTP/1.1\r\n\r\n"
+        fits = page.LONGEST_LINE - len(line) + 4
+        self.assertIn(b" 404 ", self.raw(line % (b"a" * fits)))
+        self.assertIn(b" 414 ", self.raw(line % (b"a" * (fits + 1))))
+        self.assertIn(b" 414 ", self.raw(b"G" * 500_000))
+        self.assertIn(b" 431 ", self.raw(b"GET / HTTP/1.1\r\nx: " + b"a" * page.LONGEST_LINE + b"\r\n\r\n"))
+        self.assertIn(b" 431 ", self.raw(b"GET / HTTP/1.1\r\n" + b"x: y\r\n" * 101 + b"\r\n"))
+        self.assertIn(b" 431 ", self.raw(b"GET / HTTP/1.1\r\n" + (b"x: " + b"a" * 4000 + b"\r\n") * 9 + b"\r\n"))
+        for wrong in (b"\r\n\r\n", b"GET\r\n\r\n", b"GET / HTTP/9\r\n\r\n", b"\x16\x03\x01\x02\x00\r\n\r\n", b"GET / HTTP/1.1 more\r\n\r\n"):
+            self.assertRegex(self.raw(wrong), rb"^(HTTP/1\.0 (400|505) |400 |$)", wrong)
+        self.assertTrue(self.raw(b"POST / HTTP/1.1\r\nContent-Length: 200000\r\n\r\n" + b"a" * 200_000).startswith(b"HTTP/1.0 405 "))
+        self.assertEqual(self.ask("/")[0], 200)
+
+    def test_a_client_that_sends_nothing(self) -> None:
+        fill(self.folder, [standing("h")])
+        self.serve()
+        self.assertEqual(page.Handler.timeout, 5)
+        self.addCleanup(setattr, page.Handler, "timeout", 5)
+        page.Handler.timeout = 1
+        for sent in (b"", b"GET / HT", b"GET / HTTP/1.1\r\nx: "):
+            begun = time.monotonic()
+            self.assertEqual(self.raw(sent, False), b"")
+            self.assertTrue(0.9 < time.monotonic() - begun < 6)
+        self.assertIn(b" 404 ", self.raw(b"GET /x HTTP/1.1\r\n\r\n", False))
+
+    def test_clients_that_take_too_long_and_too_many(self) -> None:
+        """Each past the most is let go at once; those that drip are let go behind the longest time, and others have room again."""
+        fill(self.folder, [standing("h")])
+        self.serve()
+        before, page.LONGEST_REQUEST = page.LONGEST_REQUEST, 2
+        self.addCleanup(setattr, page, "LONGEST_REQUEST", before)
+        clients = [socket.create_connection(("127.0.0.1", self.port), timeout=20) for _ in range(page.MOST_CLIENTS)]
+        for client in clients:
+            self.addCleanup(client.close)
+            client.sendall(b"GET / HT")
+        time.sleep(0.5)
+        with self.assertRaises((ConnectionError, OSError)):
+            self.ask("/")
+        until = time.monotonic() + 4
+        while time.monotonic() < until:
+            time.sleep(0.5)
+            try:
+                clients[0].sendall(b"T")
+            except ConnectionError:
+                break
+        self.assertLess(time.monotonic(), until)
+        self.assertEqual(self.ask("/")[0], 200)
+
+    def test_no_database(self) -> None:
+        self.serve()
+        for path in ("/", "/status.json", "/metrics", "/object?name=h"):
+            status, _, text = self.ask(path)
+            self.assertEqual((status, text.count("\n")), (503, 1))
+            self.assertTrue(text.startswith("monitor.db can't be read: "), text)
+        self.assertFalse((self.folder / "monitor.db").exists())
+        (self.folder / "monitor.db").write_text("this is no database" * 100)
+        self.assertEqual(self.ask("/")[0], 503)
+
+    def test_a_locked_database(self) -> None:
+        fill(self.folder, [standing("h")])
+        self.serve()
+        database = sqlite3.connect(self.folder / "monitor.db", isolation_level=None)
+        database.execute("PRAGMA journal_mode=DELETE")
+        database.execute("BEGIN EXCLUSIVE")
+        status, _, text = self.ask("/")
+        self.assertEqual((status, text), (503, "monitor.db can't be read: database is locked\n"))
+        database.execute("ROLLBACK")
+        database.close()
+        self.assertEqual(self.ask("/")[0], 200)
+
+    def test_nothing_is_written(self) -> None:
+        fill(self.folder, [standing("h")])
+        before = pathlib.Path(self.folder / "monitor.db").read_bytes()
+        self.serve()
+        for path in ("/", "/status.json", "/metrics", "/object?name=h"):
+            self.ask(path)
+        self.assertEqual((self.folder / "monitor.db").read_bytes(), before)
