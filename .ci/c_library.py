@@ -33,6 +33,7 @@ PROVED = sys.argv[2:]
 COUNTED = ["-Wl,--wrap=malloc,--wrap=realloc"]
 EMBEDDING = {"embed.c": TOP / "docs" / "EMBEDDING_C.md", "embed.py": TOP / "docs" / "EMBEDDING_PYTHON.md"}
 DEFINITIONS = [
+    TOP / "crates" / "check_drafts" / "specs" / "Place.antt",
     TOP / "crates" / "check_rules" / "specs" / "Numbers.antt",
     TOP / "crates" / "check_records" / "specs" / "Plain.antt",
     TOP / "crates" / "check_records" / "specs" / "SavedFaults.antt",

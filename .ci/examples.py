@@ -31,7 +31,7 @@ page = EMBEDDING.read_text(encoding="utf-8")
 held.compare(f"{EMBEDDING.name} shows {EMBEDDED.name}", True, shown in page)
 sources = "\n".join(file.read_text(encoding="utf-8") for file in sorted(MACHINE_ROOM.glob("*.rt")))
 blocks = re.findall(r"```rust\n(.*?)```", section(page, MONTHS), re.DOTALL)
-held.compare(f"{EMBEDDING.name}, {MONTHS}: code blocks", 3, len(blocks))
+held.compare(f"{EMBEDDING.name}, {MONTHS}: code blocks", 4, len(blocks))
 for block in blocks:
     held.compare(f"{EMBEDDING.name}, {MONTHS}: {block.splitlines()[0]}", True, block in sources)
 held.end()

@@ -19,7 +19,7 @@ NAME = re.compile(r"[A-Za-z_][A-Za-z0-9_]*(::[A-Za-z_][A-Za-z0-9_]*)*(<[A-Z]>)?(
 FILE = re.compile(r"[\w./-]*\w\.\w+")
 # Names of the kit's and of Nagios's, which stand in no file of ours.
 OF_OTHERS = {"Backoff::snooze", "Shared::exchange", "std::sync::atomic::raw", "test_checks.c", "retain_state_information",
-             "use_retained_scheduling_info"}
+             "use_retained_scheduling_info", "retention.dat"}
 # The files of a site, which stand in its folder.
 OF_A_SITE = {"setup.json", "commands.json", "periods.json", "passive.json", "monitor.json", "part-1.json", "part-2.json"}
 

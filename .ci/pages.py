@@ -64,7 +64,7 @@ def formats(page):
     given, answers, resumed, later = re.findall(r"```\n(.*?)```", saved, re.S)
     compare("a state that is saved", answers, output(given.splitlines()))
     compare("a state that is gone on from", later, output(resumed.splitlines(), "run", "--resume"))
-    explained = page[page.index("#### Explanations"):page.index("## Saved states")]
+    explained = (TOP / "docs/EXPLANATIONS.md").read_text()
     for example, told in re.findall(r"`({[^`]*)`: `([^`]*)`", explained):
         refused, _, explanation = output([example], "check").partition("\n")
         compare(f"an explanation: {example}", told + "\n", explanation)

@@ -6,19 +6,25 @@
  *
  *     struct nagsched_handle setup = NAGSCHED_EMPTY, callers[2] = {NAGSCHED_EMPTY, NAGSCHED_EMPTY};
  *     struct nagsched_refusal refusal;
- *     nagsched_read(document, bytes, &setup, &refusal);
- *     nagsched_open(&setup, 0, 1000, callers, 2);           a desk, and a caller for each of two threads
+ *     nagsched_read(document, bytes, &setup, &refusal);     REFUSED: nagsched_refusal_text has why
+ *     nagsched_open(&setup, now, 1000, callers, 2);         a desk, and a caller for each of two threads
  *     nagsched_take(&callers[0], now, &reply);              in a thread; and so on with its reply
  *     nagsched_gather(&callers[0], &callers[1]);            when the threads have ended
  *     nagsched_close(&callers[0]);                          now it is a book, with the history
  *     nagsched_free(&callers[0]);
  *
- * Moments and times are milliseconds of one clock that the caller chooses, 0 to 2^60; a next check may be as late as 2^61.
+ * A program that runs for months does this again and again, since the history grows by an entry of 56 bytes for each call, also for a take that
+ * was answered IDLE: it lets no call be made for a moment, gathers, closes, saves, renews the book (nagsched_renew hands the entries out) and opens
+ * a desk on it; the new callers have all their calls again, too. examples/loop.c is such a program. Plugins may run meanwhile.
+ *
+ * Moments and times are milliseconds of one clock that the caller chooses, 0 to 2^60; a next check may be as late as 2^61. Moments needn't rise from
+ * call to call: each call goes by its own. A saved state has moments in it, so its clock has to go on over restarts of program and machine: begin at
+ * the wall clock, and go on by one that nobody sets. The next check after a report is counted from the moment of the take that began its run.
  *
  * Every function except nagsched_version returns a status (enum nagsched_result) and writes its results through pointers. Texts come in
- * by pointer and length, and go out into a buffer of the caller's: they have no zero at their end. No pointer may be NULL, even for an
- * empty text or buffer, and one call may not get the same pointer for two arguments of one type: WRONG. What is written stays good for
- * as long as the caller keeps it: no function returns memory of its own.
+ * by pointer and length, without a zero at their end (strlen(text), not sizeof), and go out so into a buffer of the caller's. No pointer
+ * may be NULL, even for an empty text or buffer, and one call may not get the same pointer for two arguments of one type: WRONG. What is
+ * written stays good for as long as the caller keeps it: no function returns memory of its own.
  *
  * Which calls may run at the same time:
  *
@@ -36,7 +42,7 @@
  *   - what a pointer leads to is as large as its type, or as the length says, and no two pointers of a call lead to the same memory;
  *   - the process has one allocator (malloc, free) for the whole life of a handle.
  *
- * The library starts no thread, never sleeps, opens no file and reads no clock.
+ * The library starts no thread, never sleeps, opens no file and reads no clock. The pages that are named here are installed in share/doc/nagsched.
  */
 #ifndef NAGSCHED_H
 #define NAGSCHED_H
@@ -202,7 +208,8 @@ uint32_t nagsched_version(void);
  * isn't used after the call.
  *
  * OK. REFUSED: the document breaks a rule; refusal has the first fault, in the order of docs/FORMATS.md, and nagsched_refusal_text its
- * line. NO_MEMORY. WRONG: the handle isn't empty. Only REFUSED writes refusal. Allocates; takes longer with more bytes. */
+ * line; the program's `nagsched check` explains it in words. NO_MEMORY. WRONG: the handle isn't empty. Only REFUSED writes refusal.
+ * Allocates; takes longer with more bytes. */
 uint32_t nagsched_read(const uint8_t *document, size_t bytes, struct nagsched_handle *setup, struct nagsched_refusal *refusal);
 
 /* The lines that the program nagsched writes, each with its line feed: of a refusal, of the reply to a call as `run` writes it, and of an
@@ -251,10 +258,12 @@ uint32_t nagsched_open_with(struct nagsched_handle *setup_or_book, uint64_t star
 /* The six calls, one try each; nagsched_take and so on below try until the turn has come.
  *
  *     take         now: which object is to be checked at this moment? TAKEN: it begins to run; check it, and report or abandon it under
- *                  this run. PUT_OFF: it was due, but a dependency forbids its check; take again. IDLE: nothing is due before time.
- *                  AT_LIMIT: a service is due, but as many run as may: take again after a report. TIME_RANGE, RUNS_SPENT
- *     report       the check of object under this run returned code, 0 to 3. STANDING: how it stands now, whether its state changed, and
- *                  its next check. NOT_RUNNING, WRONG_RUN: the result comes too late
+ *                  this run. PUT_OFF: it was due, but a dependency forbids its check; take again. IDLE: nothing is due before time,
+ *                  unless a report, abandon, reschedule or enable of any caller makes something due sooner: sleep until time, and wake who
+ *                  sleeps after each of these. AT_LIMIT: a service is due, but as many run as may: take again after a report. TIME_RANGE,
+ *                  RUNS_SPENT
+ *     report       the check of object under this run returned code, 0 to 3. STANDING: how it stands now, whether its state changed (a soft
+ *                  problem that becomes hard has the same state: compare kind, too), and its next check. NOT_RUNNING, WRONG_RUN: the result comes too late
  *     abandon      the check of object under this run is given up at the moment now; no result will come. FREED, with its next check.
  *                  NOT_RUNNING, WRONG_RUN, TIME_RANGE
  *     reschedule   the next check of object is at this time; forced: also where it is switched off or a dependency forbids it. DONE.

@@ -68,7 +68,7 @@ libdir=\${prefix}/lib
 
 Name: nagsched
 Description: The proved scheduler of active checks
-Version: $version
+Version: $(cat "$top/VERSION")
 Libs: -L\${libdir} -lnagsched
 Cflags: -I\${includedir}
 END

@@ -53,8 +53,14 @@ done
 place 644 "$top/tools/completion/nagsched.bash" share/bash-completion/completions/nagsched
 ln -sf nagsched "$root/share/bash-completion/completions/nagsched-monitor"
 place 644 "$top/tools/completion/_nagsched" share/zsh/site-functions/_nagsched
-for page in README.md CHANGELOG.md docs/FORMATS.md docs/MONITOR.md docs/OPERATING.md docs/setup.schema.json; do
+for page in README.md CHANGELOG.md docs/setup.schema.json; do
     place 644 "$top/$page" "share/doc/nagsched/$(basename "$page")"
+done
+for page in EMBEDDING EMBEDDING_C EMBEDDING_PYTHON EXPLANATIONS FORMATS GLOSSARY MONITOR NAGIOS OPERATING SCHEDULING; do
+    place 644 "$top/docs/$page.md" "share/doc/nagsched/$page.md"
+done
+for example in embed.c embed.py loop.c loop.py monitor.py mail_change.py alert_change.py; do
+    place 644 "$top/examples/$example" "share/doc/nagsched/examples/$example"
 done
 [ -n "$library" ] || exit 0
 place 644 "$built/include/nagsched.h" include/nagsched.h

@@ -3,7 +3,7 @@
 
     tools/manual.py DIRECTORY
 
-They are the pages docs/FORMATS.md and docs/MONITOR.md, and a section of docs/OPERATING.md, in the form that `man` shows, so that nothing is written twice:
+They are the pages docs/FORMATS.md, EXPLANATIONS.md and MONITOR.md, and a section of OPERATING.md, in the form that `man` shows, so that nothing is written twice:
 nagsched(1) has the words, exit statuses and input, nagsched(5) the setup, commands, answers, saved states and refusals. The gate compares the words with the
 program's help.
 """
@@ -21,10 +21,19 @@ SUMMARY = {
     ("nagsched-monitor", 1): "runs the plugins of a site, on the scheduler nagsched",
     ("nagsched-from-nagios", 1): "makes a setup or a site from a Nagios configuration",
 }
+# What is called otherwise where it is installed.
+INSTALLED = {
+    "tools/from_nagios.py": "nagsched-from-nagios",
+    "monitor/nagsched-monitor": "nagsched-monitor",
+    "crates/nagsched/out/nagsched": "nagsched",
+    "monitor/nagsched_monitor/plugins.py": "lib/nagsched/nagsched_monitor/plugins.py",
+    "examples/": "share/doc/nagsched/examples/",
+    "docs/": "share/doc/nagsched/",
+}
 # The sections of FORMATS that stand on the page of the program; the others stand on that of the formats.
 OF_THE_PROGRAM = ("The words", "Exit statuses")
 SEE = {
-    ("nagsched", 1): "nagsched(5), nagsched-monitor(1)",
+    ("nagsched", 1): "nagsched(5), nagsched-monitor(1), nagsched-from-nagios(1)",
     ("nagsched", 5): "nagsched(1), nagsched-monitor(1)",
     ("nagsched-monitor", 1): "nagsched(1), nagsched(5), nagsched-from-nagios(1)",
     ("nagsched-from-nagios", 1): "nagsched(1), nagsched(5), nagsched-monitor(1)",
@@ -62,8 +71,16 @@ def inline(text):
     """A text with its links as words, and what stands between backticks in bold."""
     text = re.sub(r"!\[[^]]*\]\([^)]*\)", "", text)
     text = re.sub(r"\[([^]]*)\]\([^)]*\)", r"\1", text)
+    text = installed(text)
     parts = re.split(r"`([^`]*)`", text)
     return "".join(f"\\fB{escaped(part)}\\fR" if place % 2 else escaped(part.replace("**", "")) for place, part in enumerate(parts))
+
+
+def installed(text):
+    """A text with the names under which files are installed."""
+    for path, name in INSTALLED.items():
+        text = text.replace(path, name)
+    return text
 
 
 def line(text):
@@ -77,7 +94,9 @@ def cells_of(row):
 
 def table(rows):
     """A table as a list: the first cell of each row, and the others behind it, each after its heading."""
-    head, *body = [cells_of(row) for row in rows if not re.fullmatch(r"[|\-: ]+", row)]
+    head, *body = [cells_of(row) for row in [rows[0], *rows[2:]]]
+    if any(head):
+        yield from [".PP", line("\\fI" + "\\fR, \\fI".join(escaped(name) for name in head if name) + "\\fR:")]
     for first, *others in body:
         yield ".TP"
         yield line(inline(first) or "\\&")
@@ -126,7 +145,7 @@ def section(title, lines):
     yield f".SH {escaped(title.upper())}"
     for kind, block in blocks_of(lines):
         if kind == "code":
-            yield from [".PP", ".nf", ".RS 4", *(line(escaped(text)) for text in block), ".RE", ".fi"]
+            yield from [".PP", ".nf", ".RS 4", *(line(escaped(installed(text))) for text in block), ".RE", ".fi"]
         elif kind == "table":
             yield from table(block)
             yield ".PP"
@@ -146,11 +165,12 @@ def tidy(lines):
     kept, in_code = [], False
     for text in lines:
         in_code = text == ".nf" or in_code and text != ".fi"
+        is_tag = bool(kept) and kept[-1] == ".TP"
         if text.startswith((".SH", ".SS", ".PP", ".TP", ".IP")) and kept and kept[-1] == ".PP":
             kept.pop()
         if text == ".PP" and kept and kept[-1].startswith((".SH", ".SS")):
             continue
-        if text.startswith(".") or in_code:
+        if text.startswith(".") or in_code or is_tag:
             kept.append(text)
         else:
             kept += [line(part) for part in textwrap.wrap(text, WIDTH, break_long_words=False, break_on_hyphens=False)]
@@ -167,16 +187,20 @@ def page_of(name, number, version, sections):
     for title, lines in sections:
         yield from section(title, lines)
     yield ".SH SEE ALSO"
+    yield ".PP"
+    yield "The C library has its reference in nagsched.h (\\fBpkg\\-config \\-\\-cflags \\-\\-libs nagsched\\fR), and EMBEDDING.md beside the other pages."
+    yield ".PP"
     yield ", ".join(f"\\fB{escaped(other.split('(')[0])}\\fR({other.split('(')[1]}" for other in SEE[name, number].split(", "))
 
 
 def pages():
     """The text of each page by the name of its file."""
     version = (TOP / "VERSION").read_text().strip()
+    ((_, explanations),) = sections_of(TOP / "docs/EXPLANATIONS.md")
     formats, monitor = sections_of(TOP / "docs/FORMATS.md"), sections_of(TOP / "docs/MONITOR.md")
     parts = {
         ("nagsched", 1): [part for part in formats if part[0] in OF_THE_PROGRAM],
-        ("nagsched", 5): [part for part in formats if part[0] not in OF_THE_PROGRAM],
+        ("nagsched", 5): [*(part for part in formats if part[0] not in OF_THE_PROGRAM), ("Explanations", explanations)],
         ("nagsched-monitor", 1): monitor,
         ("nagsched-from-nagios", 1): [part for part in sections_of(TOP / "docs/OPERATING.md") if part[0] == "Coming from Nagios"],
     }

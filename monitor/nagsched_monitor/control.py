@@ -97,8 +97,10 @@ def ask_all(folder: pathlib.Path, requests: Sequence[bytes], seconds: float = 30
             connection.connect(short_path(folder / NAME))
             connection.sendall(b"".join(request + b"\n" for request in requests))
             return answers_from(connection, len(requests))
+        except (FileNotFoundError, ConnectionRefusedError):
+            raise MonitorFault(f"no monitor runs on {folder}") from None
         except OSError as error:
-            raise MonitorFault(f"no monitor of {folder} answers: {error.strerror or error}") from None
+            raise MonitorFault(f"the monitor of {folder} doesn't answer: {error.strerror or error}") from None
 
 
 def answers_from(connection: socket.socket, count: int) -> List[bytes]:

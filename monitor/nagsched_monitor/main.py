@@ -1,9 +1,11 @@
 """The words of `nagsched-monitor`, and the loop of a monitor."""
 import argparse
+import datetime
 import json
 import os
 import pathlib
 import selectors
+import shutil
 import signal
 import socket
 import sys
@@ -76,6 +78,7 @@ class Monitor:
     def work(self) -> None:
         """Works until it is asked to stop."""
         self._take_signals()
+        self.log(f"begins: {len(self.site.objects)} objects, {len(self.site.setups)} parts")
         for line in changes.standing_problems([(known.name, known.standing) for known in self.scheduling.known.objects.values() if known.standing]):
             self.log(f"at the start {line}")
         self._service.ready(f"{len(self.site.objects)} objects")
@@ -180,6 +183,7 @@ class Monitor:
             self.engine.close()
         except (NotStored, ConversationEnded) as fault:
             self.log(f"the state isn't saved: {fault}")
+        self.log("ends")
         self.scheduling.close()
         self.store.close()
 
@@ -187,25 +191,32 @@ class Monitor:
 # ---- words
 
 
+def default_program() -> str:
+    """The program nagsched: on the path, or beside the script that was started."""
+    beside = pathlib.Path(sys.argv[0]).parent / "nagsched"
+    return str(beside) if shutil.which("nagsched") is None and os.access(beside, os.X_OK) else "nagsched"
+
+
 def words_of(given: Optional[List[str]]) -> argparse.Namespace:
     parser = argparse.ArgumentParser(prog="nagsched-monitor", description="Monitors a site: it runs plugins, and nagsched decides which is due.")
     parser.add_argument("folder", metavar="DIR", type=pathlib.Path, help="the folder of the site")
-    parser.add_argument("--program", default="nagsched", metavar="PATH", help="the program nagsched")
+    parser.add_argument("--program", default=default_program(), metavar="PATH", help="the program nagsched; on the path or beside this one without it")
     parser.add_argument("--on-change", metavar="COMMAND", help="run this for each hard change, with a JSON object on its standard input")
     parser.add_argument("--page", metavar="ADDRESS:PORT", help="show a page for browsers there, and figures for Prometheus")
     parser.add_argument("--nagios-files", metavar="DIRECTORY", type=pathlib.Path, help="keep Nagios's status.dat and its pipe nagios.cmd there")
     words = parser.add_subparsers(dest="word", metavar="WORD", help="without a word it runs the monitor; else it asks the one that runs")
     status = words.add_parser("status", help="prints how objects stand")
     status.add_argument("pattern", nargs="?", default="*")
+    status.add_argument("--long", action="store_true", help="with the time of each next check")
     reschedule = words.add_parser("reschedule", help="sets the next check of an object")
     reschedule.add_argument("name")
-    reschedule.add_argument("--at", type=float, metavar="T", help="seconds since 1970; now without it")
+    reschedule.add_argument("--at", type=time_of, metavar="T", help="a date and time such as 2026-11-27T18:00, or seconds since 1970; now without it")
     reschedule.add_argument("--force", action="store_true", help="also where it is switched off or held back")
     for word, what in (("enable", "on"), ("disable", "off")):
         words.add_parser(word, help=f"switches an object's checks {what}").add_argument("name")
     result = words.add_parser("result", help="gives a passive result")
     result.add_argument("name")
-    result.add_argument("code", type=int)
+    result.add_argument("code", type=code_of, help="0 to 3, or OK, WARNING, CRITICAL or UNKNOWN")
     result.add_argument("output", nargs="?", default="")
     for word, what in (("test", "reads the site and tests it"), ("reload", "reads the site anew"), ("save", "saves the state"), ("stop", "ends the monitor")):
         words.add_parser(word, help=what)
@@ -220,15 +231,38 @@ def request_of(words: argparse.Namespace) -> Dict[str, Any]:
     return {"do": words.word, **{member: value for member, value in asked.items() if value is not None}}
 
 
-def printed(answer: Dict[str, Any]) -> str:
+def time_of(text: str) -> float:
+    """A time as it is typed: seconds since 1970, or a date and time by this machine's zone, such as 2026-11-27T18:00."""
+    try:
+        return float(text)
+    except ValueError:
+        return datetime.datetime.fromisoformat(text).timestamp()
+
+
+def code_of(text: str) -> int:
+    """A plugin's code as it is typed: 0 to 3, or the word of a state."""
+    words = ("OK", "WARNING", "CRITICAL", "UNKNOWN")
+    return words.index(text.upper()) if text.upper() in words else int(text)
+
+
+def clock_time(seconds: float) -> str:
+    """A time by this machine's zone."""
+    return datetime.datetime.fromtimestamp(seconds).astimezone().isoformat(sep=" ", timespec="seconds")
+
+
+def printed(answer: Dict[str, Any], is_long: bool = False) -> str:
     """An answer in words."""
+    if "at" in answer:
+        return f"reschedule: {answer['name']} at {clock_time(answer['at'])}{'' if answer['on'] else ', but its checks are off'}"
     if "objects" not in answer:
         others = [f"{word}: {name}" for word in ("new", "dropped") for name in answer.get(word, ())]
         return "\n".join([f"{answer['done']}: {answer.get('name', 'done')}", *others, *answer.get("changed", ())])
-    lines = []
+    lines = [] if answer["objects"] else ["no object has such a name"]
     for it in answer["objects"]:
         marks = "".join(word for word, there in ((" FLAPPING", it["flapping"]), (" out", it["out"]), (" off", not it["on"])) if there)
         lines.append(f"{it['state']} {it['kind']} {it['attempt']}{marks} {it['name']}: {it['output']}")
+        if is_long:
+            lines[-1] += f"; next check {'none' if it['next'] is None else clock_time(it['next'])}"
     return "\n".join(lines)
 
 
@@ -243,7 +277,7 @@ def main(given: Optional[List[str]] = None) -> int:
             answer = json.loads(control.ask(words.folder, json.dumps(request_of(words)).encode()) or b'{"error": "the monitor ended"}')
             if "error" in answer:
                 raise MonitorFault(answer["error"])
-            print(printed(answer))
+            print(printed(answer, getattr(words, "long", False)))
             return 0
         if words.page is not None:
             places.place_of(words.page)

@@ -116,7 +116,7 @@ class Requests:
         if not 0 <= time <= LAST_MOMENT:
             raise RequestFault(f"no time at which a check can be: {at!r}")
         self.engine.reschedule(known.name, time, forced)
-        return {"done": "reschedule", "name": known.name}
+        return {"done": "reschedule", "name": known.name, "at": wall + (time - now) / 1000, "on": known.on or forced}
 
     def _switch(self, members: Members, on: bool) -> Dict[str, Any]:
         self._only(members, "name")

@@ -137,8 +137,9 @@ def shown(row: Sequence[object]) -> Shown:
     text = str(words or "")
     text = text if len(text) <= LONGEST_WORDS else text[:LONGEST_WORDS] + "…"
     return Shown(
-        str(name), "PENDING" if state is None else str(state), None if kind is None else str(kind), None if attempt is None else int(str(attempt)), bool(flapping), time_of(since),
-        time_of(hard_since), time_of(last_check), time_of(next_check), bool(is_on), time_of(out_since), time_of(took), time_of(late), text,
+        str(name), "PENDING" if state is None else str(state), None if kind is None else str(kind), None if attempt is None else int(str(attempt)),
+        bool(flapping), time_of(since), time_of(hard_since), time_of(last_check), time_of(next_check), bool(is_on), time_of(out_since), time_of(took),
+        time_of(late), text,
     )
 
 

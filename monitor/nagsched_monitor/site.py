@@ -117,7 +117,10 @@ def setup_files(folder: pathlib.Path) -> List[pathlib.Path]:
 
 def setup_line(path: pathlib.Path, program: str) -> bytes:
     """A setup on one line, as the scheduler reads it; one that it refuses is a fault, in its own words."""
-    checked = subprocess.run([program, "check"], input=path.read_bytes(), stdout=subprocess.PIPE, check=False)
+    try:
+        checked = subprocess.run([program, "check"], input=path.read_bytes(), stdout=subprocess.PIPE, check=False)
+    except (FileNotFoundError, PermissionError):
+        raise SiteFault(f"there is no program {program}: put it on the path, or name it with --program") from None
     if checked.returncode != 0:
         raise SiteFault(f"{path.name}: {'; '.join(checked.stdout.decode(errors='replace').splitlines()) or 'the scheduler gives no answer'}")
     return subprocess.run([program, "check", "--line"], input=path.read_bytes(), stdout=subprocess.PIPE, check=True).stdout.rstrip(b"\n")
@@ -200,13 +203,26 @@ def plain_words(line: str, place: str) -> List[str]:
     """The words of a line that no shell runs; the first is a program that is there."""
     try:
         words = shlex.split(line)
+        signs = shell_signs(line)
     except ValueError as error:
         raise SiteFault(f"{place}: its line can't be split into words: {error}") from None
     if not words:
         raise SiteFault(f"{place}: its line is empty")
+    if "\0" in line:
+        raise SiteFault(f"{place}: its line has a zero byte")
+    if signs:
+        raise SiteFault(f'{place}: only a shell gives {signs[0]} a meaning: add "shell": true, or put it in quotes')
     if shutil.which(words[0]) is None:
         raise SiteFault(f"{place}: there is no program {words[0]}")
     return words
+
+
+def shell_signs(line: str) -> List[str]:
+    """What stands in a line outside of quotes that only a shell takes for more than letters."""
+    signs = ";|&<>()"
+    lexer = shlex.shlex(line, posix=True, punctuation_chars=signs)
+    lexer.whitespace_split, lexer.commenters = True, ""
+    return [word for word in lexer if word and not word.strip(signs)]
 
 
 def shell_words(line: str, place: str) -> List[str]:

@@ -13,7 +13,12 @@ def verdict(event: Finished, is_host: bool, timeout_code: int) -> Tuple[int, str
     if event.end == "exited" and event.code <= GREATEST_CODE:
         return event.code, words
     if event.end == "limit":
-        return CRITICAL if is_host else timeout_code, f"timed out after {event.job.limit:g} seconds: {words}"
+        return CRITICAL if is_host else timeout_code, with_words(f"timed out after {event.job.limit:g} seconds", words)
     if event.end == "failed":
-        return CRITICAL, f"not started: {words}"
-    return CRITICAL, f"ended by {'signal' if event.end == 'signal' else 'exit code'} {event.code}: {words}"
+        return CRITICAL, with_words("not started", words)
+    return CRITICAL, with_words(f"ended by {'signal' if event.end == 'signal' else 'exit code'} {event.code}", words)
+
+
+def with_words(what: str, words: str) -> str:
+    """What happened, and what the plugin said if it said something."""
+    return f"{what}: {words}" if words else what

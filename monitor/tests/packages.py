@@ -210,9 +210,9 @@ def by_nsca(site: Site, daemon: str, sender: str) -> bool:
         port = free.getsockname()[1]
     (site.nagios / "nsca.cfg").write_text(
         f"server_port={port}\nserver_address=127.0.0.1\ncommand_file={site.nagios}/nagios.cmd\nalternate_dump_file=/dev/null\n"
-        "aggregate_writes=0\nappend_to_file=0\nmax_packet_age=30\npassword=\ndecryption_method=1\ndebug=0\n"
+        "aggregate_writes=0\nappend_to_file=0\nmax_packet_age=30\npassword=of-a-trial\ndecryption_method=1\ndebug=0\n"
     )
-    (site.nagios / "send_nsca.cfg").write_text("password=\nencryption_method=1\n")
+    (site.nagios / "send_nsca.cfg").write_text("password=of-a-trial\nencryption_method=1\n")
     running = subprocess.Popen([daemon, "-c", str(site.nagios / "nsca.cfg"), "-f", "--single"])
     try:
         time.sleep(1)

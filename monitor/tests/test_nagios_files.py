@@ -298,11 +298,8 @@ class Process(ProcessTest):
             time.sleep(0.05)
 
     def helper_of(self, running: "subprocess.Popen[str]") -> int:
-        for child in self.children_of(running.pid):
-            path = pathlib.Path(f"/proc/{child}/cmdline")
-            if path.exists() and b"nagios_files" in path.read_bytes():
-                return child
-        return 0
+        words = subprocess.run(["ps", "-o", "pid=,args=", "--ppid", str(running.pid)], stdout=subprocess.PIPE, text=True, check=False).stdout
+        return next((int(line.split()[0]) for line in words.splitlines() if "nagios_files" in line), 0)
 
     def test_the_pipe(self) -> None:
         running = self.begin("--nagios-files", str(self.nagios))

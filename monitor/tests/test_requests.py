@@ -39,7 +39,8 @@ class Words(SiteTest):
         self.assertEqual(web["next"] - self.monitored.clock.wall(), 30)
 
     def test_reschedule(self) -> None:
-        self.assertEqual(self.ask(do="reschedule", name="web", at=self.monitored.clock.wall() + 5), {"done": "reschedule", "name": "web"})
+        at = self.monitored.clock.wall() + 5
+        self.assertEqual(self.ask(do="reschedule", name="web", at=at), {"done": "reschedule", "name": "web", "at": at, "on": True})
         self.monitored.run(10)
         self.assertEqual(self.monitored.starts()["web"], [0, 35_000])
 
@@ -107,5 +108,5 @@ class Socket(SiteTest):
         self.assertEqual(answers, [b"heard one\n", b"heard two\n"])
 
     def test_no_monitor(self) -> None:
-        with self.assertRaisesRegex(MonitorFault, "no monitor of"):
+        with self.assertRaisesRegex(MonitorFault, "no monitor runs on"):
             control.ask(self.folder, b"{}")

@@ -2,7 +2,7 @@
 import json
 
 from nagsched_monitor.faults import SiteFault
-from nagsched_monitor.site import read_site
+from nagsched_monitor.site import Command, read_site
 
 from .simulated import PROGRAM, SiteTest
 
@@ -114,3 +114,17 @@ class SiteFiles(SiteTest):
             with self.subTest(words):
                 self.write("periods.json", document)
                 self.refused("periods.json", *words)
+
+    def test_what_only_a_shell_reads(self) -> None:
+        self.write_site([HOST], [])
+        for line, sign in (("echo no; exit 2", ";"), ("echo a | cat", "|"), ("echo a>b", ">"), ("a=$(true)", "("), ("sleep 1 &", "&")):
+            with self.subTest(line):
+                self.write("commands.json", {"web": {"line": line}})
+                self.refused("commands.json", "web", f"only a shell gives {sign}")
+        self.write("commands.json", {"web": {"line": "echo 'no; exit 2' \"a|b\" # c"}})
+        self.assertEqual(read_site(self.folder, PROGRAM).objects["web"].command, Command(["echo", "no; exit 2", "a|b", "#", "c"], 60.0))
+
+    def test_no_program(self) -> None:
+        self.write_site([HOST], [])
+        with self.assertRaisesRegex(SiteFault, "there is no program /no/such: put it on the path, or name it with --program"):
+            read_site(self.folder, "/no/such")

@@ -9,6 +9,7 @@ ghost use Rattle.check_book.specs.Books.{entries_of, refused_of};
 use crate::fault::Fault;
 use crate::job::Job;
 use crate::operator::{Runs, begin_the_night, operate};
+use crate::restart::restart;
 use crate::room::{Machines, OBJECTS, moments};
 use crate::told::{Board, Past, write_day};
 use check_book::Book;
@@ -21,7 +22,8 @@ use std::thread;
 use std::thread::{Threads, join};
 use ticket_steps::Kept;
 
-/// Watches the room for a day, writes what came of it, and gives the next day's book.
+/// Watches the room for a day, writes what came of it, and gives the next day's book, which goes on from
+/// what was saved of this one.
 pub(crate) fn watch_day<R: Threads + Wait + Sync, W: Write>(
     rt: &R,
     alloc: Global,
@@ -55,7 +57,7 @@ pub(crate) fn watch_day<R: Threads + Wait + Sync, W: Write>(
         refused,
     };
     write_day(alloc, book.sched().setup(), &past, writer)?;
-    Ok(book)
+    restart(alloc, book, job.room())
 }
 
 /// The day of all passes at a desk: workers and operator, and a look at the board before and after.

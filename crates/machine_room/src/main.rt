@@ -1,6 +1,7 @@
 #![tactic(auto)]
 //! The program `machine_room`: a machine room that is watched for days, to show embedders how a desk
-//! runs for months. Each day is one generation of the book.
+//! runs for months. Each day is one generation of the book, and each night the program is as if it ended and
+//! started again: the book is put down as text, and another one goes on from it.
 //!
 //! Its words are `DAYS [WORKERS]`, 1 to 10,000 days and 1 to 64 workers, 2 where none are named. It
 //! writes the setup, and then for each day:
@@ -17,12 +18,13 @@
 //!
 //! It ends in status 0, and in 2 where the words are wrong, 3 where the output can't be written, 4 out
 //! of memory. `job` has its words, `room` the setup and the plugin, `operator` the operator's calls,
-//! `day` a day of all, and `told` the lines.
+//! `day` a day of all, `restart` what a restart does, and `told` the lines.
 
 mod day;
 mod fault;
 mod job;
 mod operator;
+mod restart;
 mod room;
 mod told;
 

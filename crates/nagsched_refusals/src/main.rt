@@ -16,6 +16,7 @@ mod crews;
 mod locks;
 mod openings;
 mod outcome;
+mod savings;
 mod setups;
 mod words;
 
@@ -38,6 +39,7 @@ fn make_all<R: AllocGlobal + Print + Threads + Wait + Sync>(rt: &R) -> Result<()
     let alloc = rt.alloc();
     find_times(rt, alloc)?;
     make_schedulers(rt, alloc)?;
+    save_and_resume(rt, alloc)?;
     make_locks(rt, alloc)?;
     tell(rt, "Book::record", calls::record(alloc))?;
     run_workers(rt, alloc)?;
@@ -64,6 +66,16 @@ fn make_schedulers(rt: &impl Print, alloc: Global) -> Result<(), Wrong> {
     tell(rt, "CounterBook::open", openings::open_counter(alloc))?;
     let counter = openings::open_counter_of_any_room(alloc);
     tell(rt, "CounterBook::open of any room", counter)
+}
+
+/// Puts schedulers and books down, and goes on from what is saved.
+fn save_and_resume(rt: &impl Print, alloc: Global) -> Result<(), Wrong> {
+    tell(rt, "Saved::read", savings::read(alloc))?;
+    tell(rt, "Saved::write", savings::write(alloc))?;
+    tell(rt, "Sched::save", savings::save_sched(alloc))?;
+    tell(rt, "Sched::resume", savings::resume_sched(alloc))?;
+    tell(rt, "Book::save", savings::save_book(alloc))?;
+    tell(rt, "Book::resume", savings::resume_book(alloc))
 }
 
 /// Makes a core and a lock.

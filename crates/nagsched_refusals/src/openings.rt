@@ -103,7 +103,7 @@ pub(crate) fn where_new(
 }
 
 /// Whether a book has no entries, no refusals and room for 4 entries.
-fn is_empty(book: &Book) -> bool {
+pub(crate) fn is_empty(book: &Book) -> bool {
     book.entries().is_empty() && book.refused() == 0 && book.room() == 4
 }
 
