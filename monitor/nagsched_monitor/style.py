@@ -6,8 +6,8 @@ import base64
 import hashlib
 
 STYLE = """
-:root{color-scheme:light dark;--back:#fff;--text:#16181d;--faint:#59606e;--line:#d5d8df;--card:#f3f4f7;--link:#0a4f9c;--grey:#a9aeb8}
-@media(prefers-color-scheme:dark){:root{--back:#14161a;--text:#e7e9ed;--faint:#a0a7b5;--line:#353b46;--card:#1e2127;--link:#8dbaf2;--grey:#8b919d}}
+:root{color-scheme:light dark;--back:#fff;--text:#16181d;--faint:#59606e;--line:#d5d8df;--card:#f3f4f7;--link:#0a4f9c;--grey:#6b7280}
+@media(prefers-color-scheme:dark){:root{--back:#14161a;--text:#e7e9ed;--faint:#a0a7b5;--line:#353b46;--card:#1e2127;--link:#8dbaf2;--grey:#6b7280}}
 *{box-sizing:border-box}
 body{margin:0 auto;max-width:1280px;padding:12px 16px 40px;font:15px/1.4 system-ui,sans-serif;background:var(--back);color:var(--text)}
 h1{font-size:22px;margin:0}h2{font-size:17px;margin:24px 0 6px}p{margin:6px 0}a{color:var(--link)}
@@ -23,7 +23,7 @@ td{overflow-wrap:anywhere}.o td:nth-child(1),.o td:nth-child(4),.o td:nth-child(
 .s{display:inline-block;border-radius:4px;border:2px solid var(--c);background:var(--c);color:#111;padding:0 6px;font-weight:600;font-size:13px}
 .soft{background:none;border-style:dashed;color:var(--text)}
 .up{--c:#009e73}.warn{--c:#e69f00}.down{--c:#d55e00}.unknown{--c:#cc79a7}.far{--c:#56b4e9}.none{--c:var(--grey)}
-.up.s{background:none;color:var(--text)}
+.up.s,.none.s{background:none;color:var(--text)}
 .silent{border:3px solid #d55e00;border-radius:6px;padding:8px 12px;font-weight:600}
 pre{white-space:pre-wrap;overflow-wrap:anywhere;background:var(--card);border-radius:6px;padding:8px 12px;font:14px/1.4 ui-monospace,monospace}
 svg{display:block;width:100%;height:86px;margin:8px 0}svg text{fill:var(--faint);font-size:12px}
