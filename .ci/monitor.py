@@ -14,7 +14,7 @@ import shutil
 import subprocess
 import sys
 import tempfile
-import unittest
+from concurrent.futures import ThreadPoolExecutor
 
 TOP = pathlib.Path(__file__).resolve().parent.parent
 SETUP = {
@@ -67,14 +67,24 @@ def complaints():
     return told
 
 
+def tests_of(module):
+    """How many tests of a module passed, and how many didn't; what these print."""
+    ran = subprocess.run([sys.executable, "-m", "unittest", f"tests.{module}"], cwd=TOP / "monitor", stdout=subprocess.PIPE, stderr=subprocess.STDOUT, text=True)
+    count = int((re.search(r"^Ran (\d+) tests?", ran.stdout, re.MULTILINE) or [0, "0"])[1])
+    if ran.returncode == 0 and count > 0:
+        return count, 0
+    print(ran.stdout)
+    wrong = sum(int(number) for number in re.findall(r"(?:failures|errors)=(\d+)", ran.stdout)) or 1
+    return max(count - wrong, 0), wrong
+
+
 def main():
     program = str(pathlib.Path(sys.argv[1]).resolve())
     os.environ["NAGSCHED"] = program
-    sys.path.insert(0, str(TOP / "monitor"))
-    tests = unittest.defaultTestLoader.discover(str(TOP / "monitor/tests"), top_level_dir=str(TOP / "monitor"))
-    result = unittest.TextTestRunner(stream=sys.stdout, verbosity=0).run(tests)
-    wrong = len(result.failures) + len(result.errors)
-    passed = result.testsRun - wrong
+    modules = sorted(file.stem for file in (TOP / "monitor/tests").glob("test_*.py"))
+    with ThreadPoolExecutor(os.cpu_count()) as several:
+        counts = list(several.map(tests_of, modules))
+    passed, wrong = sum(count[0] for count in counts), sum(count[1] for count in counts)
     for what, wanted, came in (
         ("the loop", ["gateway;web page is CRITICAL SOFT 1"], [line for line in loop(program) if "SOFT 1" in line]),
         ("types", "", complaints()),
