@@ -180,7 +180,8 @@ def legend_of(one: OneObject) -> str:
     """The states that the picture has, each by its word and colour."""
     day = stretches(one)
     states = sorted({(it.state, it.kind or "") for it in day if it.state is not None})
-    names = [badge(state, kind) for state, kind in states] + (["a thin line where no change is known"] if any(it.state is None for it in day) else [])
+    names = list(dict.fromkeys(badge(state, kind) for state, kind in states))
+    names += ["a thin line where no change is known"] if any(it.state is None for it in day) else []
     return f"<p>{', '.join(names)}{'; soft ones are low' if any(kind == 'SOFT' for _, kind in states) else ''}</p>"
 
 

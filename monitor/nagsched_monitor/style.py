@@ -33,7 +33,7 @@ body{padding:10px 10px 40px;font-size:16px}dl div{padding:4px 9px}
 table,tbody,tr{display:block}thead{display:none}
 tr{border-bottom:1px solid var(--line);padding:6px 0}
 td,.o td:nth-child(n),.c td:nth-child(n){display:inline;border:0;padding:0 8px 0 0;white-space:normal}
-.o td:nth-child(2){font-weight:600}td:empty,.o td:nth-child(n):empty{display:none}.o td:last-child,.c td:last-child{display:block;padding:2px 0 0}
+.o td:nth-child(2){font-weight:600}td:empty,.o td:nth-child(n):empty{display:none}.o td:last-child,.c td:last-child{display:block;width:auto;padding:2px 0 0}
 .o td:nth-child(3)::before{content:"attempt ";color:var(--faint)}.o td:nth-child(4)::before{content:"since ";color:var(--faint)}
 .c td:nth-child(3)::before{content:"attempt ";color:var(--faint)}.o td:nth-child(5)::before{content:"next ";color:var(--faint)}
 }
