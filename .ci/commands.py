@@ -67,6 +67,8 @@ IN_THE_GATE = {
     "tools/install.sh [PREFIX]": ".ci/install.py",
     "monitor/nagsched-monitor": ".ci/monitor.py",
     "monitor/nagsched-monitor office": ".ci/monitor.py",
+    "monitor/nagsched-monitor --page 127.0.0.1:8080 office": ".ci/monitor.py",
+    "monitor/nagsched-monitor --nagios-files /var/lib/nagsched/office/nagios office": ".ci/monitor.py",
     'monitor/nagsched-monitor --on-change "examples/mail_change.py monitor@example.org oncall@example.org" office': ".ci/monitor.py",
     'monitor/nagsched-monitor --on-change "examples/alert_change.py http://localhost:9093" office': ".ci/monitor.py",
     "tools/from_nagios.py --site office /etc/nagios4/nagios.cfg /var/lib/nagios4/objects.precache": ".ci/monitor.py",

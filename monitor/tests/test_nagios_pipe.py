@@ -1,0 +1,127 @@
+"""The lines of Nagios's pipe: each that has a meaning here is obeyed, every other one is named; bursts, long lines and many writers."""
+import os
+import threading
+import time
+from typing import Any, Dict, List, Tuple
+
+from nagsched_monitor.faults import MonitorFault, RequestFault
+from nagsched_monitor.nagios_pipe import LONGEST_LINE, NAME, Pipe, requests_of
+
+from .simulated import SiteTest
+
+
+class Lines(SiteTest):
+    SERVICES: Dict[str, List[str]] = {"web": ["http", "ssh"], "db": []}
+
+    def test_commands(self) -> None:
+        def at(name: str, forced: bool) -> Dict[str, Any]:
+            return {"do": "reschedule", "name": name, "at": 1795766400, "force": forced}
+
+        rows: List[Tuple[str, List[Dict[str, Any]]]] = [
+            ("SCHEDULE_HOST_CHECK;web;1795766400", [at("web", False)]),
+            ("SCHEDULE_FORCED_HOST_CHECK;web;1795766400", [at("web", True)]),
+            ("SCHEDULE_SVC_CHECK;web;http;1795766400", [at("web;http", False)]),
+            ("SCHEDULE_FORCED_SVC_CHECK;web;http;1795766400", [at("web;http", True)]),
+            ("SCHEDULE_HOST_SVC_CHECKS;web;1795766400", [at("web;http", False), at("web;ssh", False)]),
+            ("SCHEDULE_FORCED_HOST_SVC_CHECKS;web;1795766400", [at("web;http", True), at("web;ssh", True)]),
+            ("SCHEDULE_HOST_SVC_CHECKS;db;1795766400", []),
+            ("ENABLE_HOST_CHECK;web", [{"do": "enable", "name": "web"}]),
+            ("DISABLE_HOST_CHECK;web", [{"do": "disable", "name": "web"}]),
+            ("ENABLE_SVC_CHECK;web;http", [{"do": "enable", "name": "web;http"}]),
+            ("DISABLE_SVC_CHECK;web;http", [{"do": "disable", "name": "web;http"}]),
+            ("PROCESS_HOST_CHECK_RESULT;web;0;up", [{"do": "result", "name": "web", "code": 0, "output": "up"}]),
+            ("PROCESS_HOST_CHECK_RESULT;web;1;down;for long", [{"do": "result", "name": "web", "code": 2, "output": "down;for long"}]),
+            ("PROCESS_HOST_CHECK_RESULT;web;2", [{"do": "result", "name": "web", "code": 2, "output": ""}]),
+            ("PROCESS_SERVICE_CHECK_RESULT;web;http;3;what?\\nmore", [{"do": "result", "name": "web;http", "code": 3, "output": "what?"}]),
+            ("PROCESS_SERVICE_CHECK_RESULT;web;http;1;a|b=1;2;3\r", [{"do": "result", "name": "web;http", "code": 1, "output": "a|b=1;2;3"}]),
+            ("PROCESS_SERVICE_CHECK_RESULT;web;http;1", [{"do": "result", "name": "web;http", "code": 1, "output": ""}]),
+        ]
+        for text, wanted in rows:
+            with self.subTest(text):
+                name, requests = requests_of(f"[1795766400] {text}".encode(), self.SERVICES)
+                self.assertEqual((name, requests), (text.partition(";")[0], wanted))
+
+    def test_others_are_named(self) -> None:
+        rows = [
+            (b"[1] ACKNOWLEDGE_HOST_PROBLEM;web;1;1;1;me;soon", "ACKNOWLEDGE_HOST_PROBLEM isn't obeyed here"),
+            (b"[1] RESTART_PROGRAM", "RESTART_PROGRAM isn't obeyed here"),
+            (b"", "no command"), (b"SCHEDULE_HOST_CHECK;web;1", "no command"), (b"[x] SCHEDULE_HOST_CHECK;web;1", "no command"),
+            (b"[1] schedule", "no command"), (b"[1]SCHEDULE_HOST_CHECK;web;1", "no command"), (b"\xff\x00", "no command"),
+            (b"[1] SCHEDULE_HOST_CHECK", "SCHEDULE_HOST_CHECK: it has 2 words"),
+            (b"[1] SCHEDULE_HOST_CHECK;web;soon", "SCHEDULE_HOST_CHECK: no number: 'soon'"),
+            (b"[1] SCHEDULE_HOST_CHECK;web;-1", "no number"), (b"[1] SCHEDULE_HOST_CHECK;web;" + b"9" * 400, "no number"),
+            (b"[1] SCHEDULE_HOST_SVC_CHECKS;gone;1", "there is no host 'gone'"), (b"[1] DISABLE_SVC_CHECK;web", "it has 2 words"),
+            (b"[1] PROCESS_HOST_CHECK_RESULT;web;3;x", "no state of a host"), (b"[1] PROCESS_HOST_CHECK_RESULT;web", "it has 3 words"),
+            (b"[1] PROCESS_SERVICE_CHECK_RESULT;web;http", "it has 4 words"), (b"[1] PROCESS_SERVICE_CHECK_RESULT;web;http;;x", "no number: ''"),
+            (b"[1] A;" + b"x" * LONGEST_LINE, "longer than 65536 bytes"),
+        ]
+        for line, word in rows:
+            with self.subTest(line[:60]), self.assertRaises(RequestFault) as caught:
+                requests_of(line, self.SERVICES)
+            self.assertIn(word, str(caught.exception))
+            self.assertLess(len(str(caught.exception)), 400)
+
+
+class Fifo(SiteTest):
+    def pipe(self) -> Pipe:
+        pipe = Pipe(self.folder)
+        self.addCleanup(lambda: os.close(pipe.file))
+        return pipe
+
+    def read(self, pipe: Pipe, count: int, seconds: float = 20) -> List[bytes]:
+        """So many lines."""
+        lines: List[bytes] = []
+        end = time.monotonic() + seconds
+        while len(lines) < count and time.monotonic() < end:
+            lines += pipe.read()
+            time.sleep(0.001)
+        return lines
+
+    def test_parts_of_lines(self) -> None:
+        pipe = self.pipe()
+        self.assertEqual((self.folder / NAME).stat().st_mode & 0o777, 0o660)
+        for part, wanted in ((b"[1] ONE", []), (b";a\n[1] TW", [b"[1] ONE;a"]), (b"O\n\n[1] THREE\n", [b"[1] TWO", b"", b"[1] THREE"]), (b"", [])):
+            with open(self.folder / NAME, "wb", buffering=0) as there:
+                there.write(part)
+            self.assertEqual(pipe.read(), wanted)
+
+    def test_long_lines(self) -> None:
+        pipe = self.pipe()
+        longest, longer = b"[1] A;".ljust(LONGEST_LINE, b"x"), b"[1] B;".ljust(3 * LONGEST_LINE, b"y")
+
+        def write() -> None:
+            with open(self.folder / NAME, "wb") as there:
+                there.write(longest + b"\n" + longer + b"\n[1] C\n" + longer[: LONGEST_LINE + 1] + b"\n[1] D\n")
+
+        writer = threading.Thread(target=write)
+        writer.start()
+        lines = self.read(pipe, 5)
+        writer.join()
+        self.assertEqual([lines[0] == longest, lines[2], lines[4]], [True, b"[1] C", b"[1] D"])
+        self.assertEqual([(len(line), line[:5]) for line in (lines[1], lines[3])], [(LONGEST_LINE + 1, b"[1] B")] * 2)
+
+    def test_many_writers(self) -> None:
+        pipe = self.pipe()
+
+        def write(who: int) -> None:
+            for number in range(200):
+                with open(self.folder / NAME, "wb", buffering=0) as there:
+                    there.write(b"[1] W%d;%d;%s\n" % (who, number, b"x" * 1000))
+
+        writers = [threading.Thread(target=write, args=(who,)) for who in range(8)]
+        for writer in writers:
+            writer.start()
+        lines = self.read(pipe, 1600)
+        for writer in writers:
+            writer.join()
+        for who in range(8):
+            begin = b"[1] W%d;" % who
+            self.assertEqual([int(line.split(b";")[1]) for line in lines if line.startswith(begin)], list(range(200)))
+
+    def test_something_else_is_there(self) -> None:
+        (self.folder / NAME).write_text("a file\n")
+        with self.assertRaisesRegex(MonitorFault, "no pipe"):
+            Pipe(self.folder)
+        with self.assertRaises(MonitorFault):
+            Pipe(self.folder / "gone")
+        self.assertEqual((self.folder / NAME).read_text(), "a file\n")
