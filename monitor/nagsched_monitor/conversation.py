@@ -16,7 +16,8 @@ class Conversation:
     def __init__(self, program: str, setup: bytes, start: int, saved: Optional[bytes] = None) -> None:
         """Over this setup, from its start on, or from the state that was saved."""
         words = [program, "live", *([] if saved is None else ["--resume"]), "--start", str(start)]
-        self._process = subprocess.Popen(words, stdin=subprocess.PIPE, stdout=subprocess.PIPE)
+        # In a session of its own: a Ctrl-C in the terminal is for the monitor, which saves the state before it ends.
+        self._process = subprocess.Popen(words, stdin=subprocess.PIPE, stdout=subprocess.PIPE, start_new_session=True)
         assert self._process.stdin is not None and self._process.stdout is not None
         self._there: IO[bytes] = self._process.stdin
         self._back: IO[bytes] = self._process.stdout

@@ -16,7 +16,7 @@ class ProcessTest(SiteTest):
 
     def begin(self, *words: str, environment: Optional[Dict[str, str]] = None) -> "subprocess.Popen[str]":
         command = [sys.executable, str(MONITOR), "--program", PROGRAM, *words, str(self.folder)]
-        running = subprocess.Popen(command, stdout=subprocess.PIPE, text=True, env=environment)
+        running = subprocess.Popen(command, stdout=subprocess.PIPE, text=True, env=environment, start_new_session=True)
         self.addCleanup(self.end, running)
         self.await_socket(running)
         return running

@@ -168,6 +168,17 @@ class Running(ProcessTest):
         self.assertIn("off h02", after)
         self.end(running)
 
+    def test_a_signal_to_all_of_its_processes(self) -> None:
+        """Ctrl-C in a terminal reaches the whole group: the state is saved all the same."""
+        self.write_site(self.objects(2), [])
+        running = self.begin("--page", "127.0.0.1:0", "--nagios-files", str(self.folder))
+        time.sleep(0.5)
+        os.killpg(running.pid, signal.SIGINT)
+        output = running.communicate(timeout=30)[0]
+        self.assertEqual((running.returncode, "isn't saved" in output), (0, False))
+        with sqlite3.connect(self.folder / "monitor.db") as database:
+            self.assertEqual(self.calls(database), [])
+
     def test_no_site(self) -> None:
         told = subprocess.run([sys.executable, str(MONITOR), str(self.folder), "test"], capture_output=True, text=True, check=False)
         self.assertEqual(told.returncode, 1)
