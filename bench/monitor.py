@@ -4,9 +4,10 @@
     bench/monitor.py PROGRAM [RATE..]      by hand; wants cc, and Debian's package nagios4-core, which it fetches and unpacks into a temporary folder
 
 For each rate (18, 200, 500, 800 and 2,000 checks due a second) both run the same services for SECONDS, one after the other: each service every ten seconds,
-with a plugin in C that ends at once. At 500 the monitor also runs with a disk whose sync takes ten milliseconds more. Latency is how late a check starts, in
-milliseconds: of Nagios as its status file has it, of the monitor by the calls that it kept. Processor time is that of all processes but plugins, in milliseconds
-a check. Restart is how long the monitor takes from its start until it answers, reload how long its word `reload` takes, both over the site of that rate.
+with a plugin in C that ends at once. At 500 the monitor also runs with a disk whose sync takes ten milliseconds more. Latency is how late the last check of
+each service started, in milliseconds: of Nagios as its status file has it, of the monitor as its database does. Processor time is that of all processes but plugins,
+in milliseconds a check. Restart is how long the monitor takes from its start until it answers, reload how long its word `reload` takes, both over the site of
+that rate.
 """
 import functools
 import json
@@ -141,7 +142,7 @@ def monitor(work, program, plugin, rate, environment=None):
     (folder / "monitor.json").write_text(json.dumps({"slots": 500}))
     (folder / "count").touch()
     figures, _ = watched([sys.executable, MONITOR, "--program", program, folder], folder / "count", folder / "none", environment)
-    late = percentiles(late_of(folder, program))
+    late = percentiles(late_of(folder))
     return figures, late, restarted(folder, program)
 
 
@@ -163,25 +164,10 @@ def asked(folder, *words):
     return subprocess.run([sys.executable, MONITOR, folder, *words], stdout=subprocess.DEVNULL, stderr=subprocess.DEVNULL, check=False)
 
 
-def late_of(folder, program):
-    """How late each check started, by the calls that were kept."""
-    late = []
+def late_of(folder):
+    """How late the last check of each object started, in milliseconds, as the table of standings has it."""
     with sqlite3.connect(folder / "monitor.db") as database:
-        for part, setup, start, saved in database.execute("SELECT part, setup, start, saved FROM generations"):
-            calls = [line for (line,) in database.execute("SELECT line FROM calls WHERE part = ? ORDER BY id", (part,))]
-            given = "\n".join([setup.decode(), *([] if saved is None else [saved.decode()]), *calls]) + "\n"
-            words = [program, "run", *([] if saved is None else ["--resume"]), "--start", str(start)]
-            answers = subprocess.run(words, input=given, stdout=subprocess.PIPE, text=True, check=True).stdout.splitlines()
-            due = {}
-            for call, answer in zip(calls, answers):
-                words_of = answer.split(" ")
-                if words_of[0] == "standing":
-                    due[json.loads(call)[1]] = words_of[6]
-                elif words_of[0] == "taken":
-                    name = answer.split(" ", 2)[2]
-                    if due.get(name, "none") != "none":
-                        late.append(json.loads(call)[1] - int(due[name]))
-    return late
+        return [late * 1000 for (late,) in database.execute("SELECT late FROM standings WHERE late IS NOT NULL")]
 
 
 def main(program, *rates):
@@ -195,7 +181,8 @@ def main(program, *rates):
         shim = work / "slow_sync.so"
         subprocess.run(["cc", "-shared", "-fPIC", "-o", shim, TOP / "monitor/tests/slow_sync.c", "-ldl"], check=True)
         slow = {**os.environ, "LD_PRELOAD": str(shim)}
-        print(f"{'due a second':>14} {'':10} {'checks a second':>16} {'median ms':>10} {'95th ms':>8} {'CPU ms a check':>15} {'MB':>6} {'restart s':>9} {'reload s':>8}")
+        heads = f"{'due a second':>14} {'':10} {'checks a second':>16} {'median ms':>10} {'95th ms':>8} {'CPU ms a check':>15} {'MB':>6}"
+        print(heads, f"{'restart s':>8} {'reload s':>8}")
         for rate in [int(rate) for rate in rates] or RATES:
             sides = {"Nagios": (nagios, work / "nagios/usr/sbin/nagios4"), "monitor": (monitor, program)}
             if rate == SLOW:
