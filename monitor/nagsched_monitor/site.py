@@ -7,8 +7,10 @@
     monitor.json      options of the monitor (may be left out)
 """
 import datetime
+import functools
 import json
 import pathlib
+import re
 import shlex
 import shutil
 import subprocess
@@ -16,10 +18,12 @@ import zoneinfo
 from dataclasses import dataclass, replace
 from typing import Any, Dict, List, Mapping, Optional, Sequence, Tuple
 
+from .documents import MOST_SECONDS, only_known, only_object, read_object, seconds
 from .faults import SiteFault
 from .periods import Periods, read_periods
 
-MOST_SECONDS = 86_400
+# A line that no quote, no escape and no sign of a shell is in.
+PLAIN = re.compile(r"[\w ./:,=%@+!#*?$~^{}\[\]-]*", re.ASCII)
 CODES_BY_LETTER = {"w": 1, "c": 2, "u": 3}
 
 
@@ -151,41 +155,10 @@ def children_of(objects: Mapping[str, Watched]) -> Dict[str, List[str]]:
 # ---- the other files
 
 
-def read_object(folder: pathlib.Path, name: str, required: bool) -> Dict[str, Any]:
-    """The members of a file that is a JSON object. A file that may be left out has none then."""
-    path = folder / name
-    if not required and not path.exists():
-        return {}
-    try:
-        document = json.loads(path.read_bytes())
-    except OSError as error:
-        raise SiteFault(f"{name}: {error.strerror}") from None
-    except ValueError as error:
-        raise SiteFault(f"{name}: {error}") from None
-    if not isinstance(document, dict):
-        raise SiteFault(f"{name}: it has to be an object")
-    return document
-
-
-def only_known(members: object, known: Sequence[str], place: str) -> Dict[str, Any]:
-    """An object that has no other members than these."""
-    if not isinstance(members, dict):
-        raise SiteFault(f"{place}: it has to be an object")
-    for member in members:
-        if member not in known:
-            raise SiteFault(f"{place}: a member {member!r} isn't known here")
-    return members
-
-
-def seconds(value: object, place: str) -> float:
-    if isinstance(value, bool) or not isinstance(value, (int, float)) or not 0 < value <= MOST_SECONDS:
-        raise SiteFault(f"{place}: no number of seconds up to {MOST_SECONDS}: {value!r}")
-    return value
-
-
 def read_commands(folder: pathlib.Path, objects: Mapping[str, Watched]) -> Dict[str, Command]:
     """The command of each object. Each line can be split, and has a program that is there."""
     commands = {}
+    is_program.cache_clear()
     for name, members in read_object(folder, "commands.json", required=True).items():
         place = f"commands.json: {name}"
         if name not in objects:
@@ -194,6 +167,8 @@ def read_commands(folder: pathlib.Path, objects: Mapping[str, Watched]) -> Dict[
         line, shell = members.get("line"), members.get("shell", False)
         if not isinstance(line, str) or not isinstance(shell, bool):
             raise SiteFault(f"{place}: a line is a text, and shell is true or false")
+        if "\0" in line:
+            raise SiteFault(f"{place}: its line has a zero byte")
         limit = seconds(members.get("limit", 60), f"{place}: limit")
         commands[name] = Command(shell_words(line, place) if shell else plain_words(line, place), limit)
     return commands
@@ -201,20 +176,28 @@ def read_commands(folder: pathlib.Path, objects: Mapping[str, Watched]) -> Dict[
 
 def plain_words(line: str, place: str) -> List[str]:
     """The words of a line that no shell runs; the first is a program that is there."""
-    try:
-        words = shlex.split(line)
-        signs = shell_signs(line)
-    except ValueError as error:
-        raise SiteFault(f"{place}: its line can't be split into words: {error}") from None
+    words, signs = (line.split(), []) if PLAIN.fullmatch(line) else split_words(line, place)
     if not words:
         raise SiteFault(f"{place}: its line is empty")
-    if "\0" in line:
-        raise SiteFault(f"{place}: its line has a zero byte")
     if signs:
         raise SiteFault(f'{place}: only a shell gives {signs[0]} a meaning: add "shell": true, or put it in quotes')
-    if shutil.which(words[0]) is None:
+    if not is_program(words[0]):
         raise SiteFault(f"{place}: there is no program {words[0]}")
     return words
+
+
+@functools.lru_cache(maxsize=None)
+def is_program(name: str) -> bool:
+    """Whether a program is there; what was found is forgotten when a site is read anew."""
+    return shutil.which(name) is not None
+
+
+def split_words(line: str, place: str) -> Tuple[List[str], List[str]]:
+    """The words of a line that has quotes or other signs, and what only a shell reads in it."""
+    try:
+        return shlex.split(line), shell_signs(line)
+    except ValueError as error:
+        raise SiteFault(f"{place}: its line can't be split into words: {error}") from None
 
 
 def shell_signs(line: str) -> List[str]:
@@ -252,12 +235,6 @@ def read_period_file(folder: pathlib.Path, objects: Mapping[str, Watched], zone:
         if period not in periods:
             raise SiteFault(f"periods.json: {name}: there is no period {period!r}")
     return Periods(periods, zone), period_of
-
-
-def only_object(value: object, place: str) -> Dict[str, Any]:
-    if not isinstance(value, dict):
-        raise SiteFault(f"{place}: it has to be an object")
-    return value
 
 
 def read_passive(folder: pathlib.Path, objects: Mapping[str, Watched]) -> Dict[str, Tuple[bool, Optional[int]]]:

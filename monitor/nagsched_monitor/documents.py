@@ -1,0 +1,46 @@
+"""Reading the JSON files of a site: what is wrong in one is a `SiteFault` that names the place."""
+import json
+import pathlib
+from typing import Any, Dict, Sequence
+
+from .faults import SiteFault
+
+MOST_SECONDS = 86_400
+
+
+def read_object(folder: pathlib.Path, name: str, required: bool) -> Dict[str, Any]:
+    """The members of a file that is a JSON object. A file that may be left out has none then."""
+    path = folder / name
+    if not required and not path.exists():
+        return {}
+    try:
+        document = json.loads(path.read_bytes())
+    except OSError as error:
+        raise SiteFault(f"{name}: {error.strerror}") from None
+    except ValueError as error:
+        raise SiteFault(f"{name}: {error}") from None
+    if not isinstance(document, dict):
+        raise SiteFault(f"{name}: it has to be an object")
+    return document
+
+
+def only_known(members: object, known: Sequence[str], place: str) -> Dict[str, Any]:
+    """An object that has no other members than these."""
+    if not isinstance(members, dict):
+        raise SiteFault(f"{place}: it has to be an object")
+    for member in members:
+        if member not in known:
+            raise SiteFault(f"{place}: a member {member!r} isn't known here")
+    return members
+
+
+def seconds(value: object, place: str) -> float:
+    if isinstance(value, bool) or not isinstance(value, (int, float)) or not 0 < value <= MOST_SECONDS:
+        raise SiteFault(f"{place}: no number of seconds up to {MOST_SECONDS}: {value!r}")
+    return value
+
+
+def only_object(value: object, place: str) -> Dict[str, Any]:
+    if not isinstance(value, dict):
+        raise SiteFault(f"{place}: it has to be an object")
+    return value
