@@ -19,7 +19,7 @@ SYNTAX = re.compile(r"nagsched(?: \w+)?(?: \[.*)?")
 # The commands that are run here, in a folder with these files: the file that each writes, none where it is standard output, and how
 # what is written begins.
 FILES = {"setup.json": "setup", "my.setup.json": "setup", "input": "office.txt", "INPUT": "office.txt", "OUTPUT": "office.out"}
-OFFICE, PICTURE = ((TOP / file).read_text(encoding="utf-8") for file in ("examples/office.out", "docs/office.svg"))
+OFFICE, PICTURE, SEQUENCE = ((TOP / file).read_text(encoding="utf-8") for file in ("examples/office.out", "docs/office.svg", "docs/sequence.svg"))
 SETUP = (TOP / "examples/office.txt").read_text(encoding="utf-8").split("\n", 1)[0]
 LINE_OF_SETUP = json.dumps(json.loads(SETUP), sort_keys=True, separators=(",", ":"), ensure_ascii=False) + "\n"
 VERSION = (TOP / "VERSION").read_text(encoding="utf-8").strip()
@@ -37,6 +37,7 @@ RUN = {
     "nagsched --version": ("", f"nagsched {VERSION}\n"),
     "tools/timeline.py INPUT OUTPUT > picture.svg": ("picture.svg", PICTURE[: PICTURE.index("office.txt")]),
     "tools/timeline.py examples/office.txt examples/office.out > docs/office.svg": ("docs/office.svg", PICTURE),
+    "tools/timeline.py examples/sequence.txt examples/sequence.out --objects 'web;http' > docs/sequence.svg": ("docs/sequence.svg", SEQUENCE),
 }
 # What a script of the gate makes.
 IN_THE_GATE = {

@@ -3,7 +3,7 @@
 
     .ci/examples.py [PROGRAM]     crates/nagsched/out/nagsched where no program is named
 
-What office.out and drill.out say was worked out by hand from the rules. The whole program that the page on embedding shows is a
+What office.out, sequence.out and drill.out say was worked out by hand from the rules. The whole program that the page on embedding shows is a
 test of desk_tests, byte for byte, and the code of its section on months stands in the sources of machine_room.
 """
 import re
@@ -14,7 +14,7 @@ EMBEDDING = TOP / "docs" / "EMBEDDING_RATTLE.md"
 EMBEDDED = TOP / "crates" / "desk_tests" / "src" / "workers" / "own_threads.rt"
 MONTHS = "## For months"
 MACHINE_ROOM = TOP / "crates" / "machine_room" / "src"
-RUNS = {"office": ["run"], "drill": ["drill", "--workers", "1"]}
+RUNS = {"office": ["run"], "sequence": ["run"], "drill": ["drill", "--workers", "1"]}
 
 
 def section(page, heading):

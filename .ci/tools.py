@@ -259,6 +259,9 @@ def pictures():
     drawn = [subprocess.run([sys.executable, TOP / "tools/timeline.py", TOP / f"examples/{name}.txt", TOP / f"examples/{name}.out"],
                             capture_output=True, text=True).stdout for name in ("office", "drill")]
     yield "the picture of README", drawn[0] == (TOP / "docs/office.svg").read_text()
+    words = [sys.executable, TOP / "tools/timeline.py", TOP / "examples/sequence.txt", TOP / "examples/sequence.out", "--objects", "web;http"]
+    sequence = subprocess.run(words, capture_output=True, text=True).stdout
+    yield "the picture of a sequence", sequence == (TOP / "docs/sequence.svg").read_text()
     yield "the picture of a drill", len(xml.dom.minidom.parseString(drawn[1]).getElementsByTagName("rect")) > 20
 
 

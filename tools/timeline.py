@@ -226,7 +226,7 @@ def main():
     first, last = history.first or 0, history.last or 0
     begin = first if words.begin is None else words.begin
     end = last + (last - first) // 5 + 1 if words.end is None else words.end
-    sys.stdout.write(Picture(names, begin, end).written(f"{words.given.name}, as nagsched tells it", history))
+    sys.stdout.write(Picture(names, begin, end).written(f"{words.given.name}, as nagsched reports it", history))
     return 0
 
 
