@@ -195,7 +195,7 @@ class Picture:
                   "Hollow triangle: put off by a dependency. Filled: an operator's call.", ink="#777")
 
     def written(self, title, history):
-        self.add(f'<svg xmlns="http://www.w3.org/2000/svg" width="{LEFT + WIDTH + 30}" height="{self.height}" font-family="sans-serif">')
+        self.add(f'<svg xmlns="http://www.w3.org/2000/svg" width="{LEFT + WIDTH + 60}" height="{self.height}" font-family="sans-serif">')
         self.add('<rect width="100%" height="100%" fill="white"/>')
         self.text(10, 22, title, size=15, ink="black")
         self.axis()
