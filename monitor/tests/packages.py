@@ -1,15 +1,17 @@
 """The monitor beside Debian's packages: Nagios's pages over its files, and NSCA's daemon on its pipe.
 
-    tests/packages.py PROGRAM CGIS [NSCA SEND_NSCA]
+    cd monitor; python3 -m tests.packages PROGRAM UNPACKED CGIS PICTURES [NSCA SEND_NSCA]
 
-PROGRAM is `nagsched`, CGIS the folder of Nagios's pages. A site in an outage is monitored; what status.cgi shows of each object is compared with what
-the monitor prints of it. `packages.sh` fetches the packages and runs this.
+PROGRAM is `nagsched`, UNPACKED the folder of the unpacked packages, CGIS that of Nagios's pages in it, PICTURES one for pictures of the pages, or an empty
+word. A site in an outage is monitored; what status.cgi shows of each object is compared with what the monitor prints of it. `packages.sh` fetches the
+packages and runs this.
 """
 import html
 import json
 import os
 import pathlib
 import re
+import shutil
 import socket
 import subprocess
 import sys
@@ -17,6 +19,8 @@ import tempfile
 import time
 import urllib.parse
 from typing import Callable, Dict, List, Optional, Tuple
+
+from .page_pictures import BROWSERS, drawn
 
 MONITOR = pathlib.Path(__file__).resolve().parent.parent / "nagsched-monitor"
 # Hosts behind a router that is down, hosts that answer, and services of each kind of state; the trap gets its results through the pipe alone.
@@ -224,7 +228,23 @@ def by_nsca(site: Site, daemon: str, sender: str) -> bool:
         running.wait(timeout=10)
 
 
-def main(program: str, cgis: str, *nsca: str) -> int:
+def draw(cgis: pathlib.Path, unpacked: pathlib.Path, site: Site, pictures: pathlib.Path) -> None:
+    """Pictures of status.cgi, of hosts and of services, with Nagios's own styles."""
+    browser = next((browser for browser in BROWSERS if shutil.which(browser)), None)
+    if browser is None:
+        print("passed over: a browser isn't here")
+        return
+    for name, query in (("hosts", "hostgroup=all&style=hostdetail&limit=0"), ("services", "host=all&limit=0")):
+        text = page(cgis, site, "status.cgi", query).split("\n\n", 1)[-1]
+        text = text.replace("/nagios4/stylesheets/", f"{(unpacked / 'etc/nagios4/stylesheets').as_uri()}/")
+        text = text.replace("/nagios4/", f"{(unpacked / 'usr/share/nagios4/htdocs').as_uri()}/")
+        file = site.folder / f"{name}.html"
+        file.write_text(text)
+        drawn(browser, file.as_uri(), 1280, pictures / f"status-cgi-{name}.png")
+        print(f"status.cgi: a picture of its {name}")
+
+
+def main(program: str, unpacked: str, cgis: str, pictures: str, *nsca: str) -> int:
     wrong: List[str] = []
     with tempfile.TemporaryDirectory() as holder:
         site, pages = Site(pathlib.Path(holder), program), pathlib.Path(cgis)
@@ -233,6 +253,8 @@ def main(program: str, cgis: str, *nsca: str) -> int:
             hard = wait(lambda: "UNREACHABLE" in {state for state, _ in site.status().values()} and not compared(pages, site))
             wrong += [] if hard else compared(pages, site) or ["no host became UNREACHABLE"]
             print(f"status.cgi: {len(site.status())} objects, {len(wrong)} differ")
+            if pictures:
+                draw(pages, pathlib.Path(unpacked), site, pathlib.Path(pictures))
             wrong += by_page(pages, site)
             for name, query, word in (("extinfo.cgi", "type=1&host=router", "DOWN"), ("extinfo.cgi", "type=0", str(running.pid)), ("tac.cgi", "", "1 Down")):
                 found = word in page(pages, site, name, query)
