@@ -1,15 +1,16 @@
 -- The changes among results, with one more of them.
-use Rattle.std.proofs.Common.{◌≡◌, ◌≢◌, ℕ, ◌+◌, ◌-◌, ◌*◌, ◌<◌, ◌≤◌, ◌%◌, ◌==◌, zero, suc, Bool, true, false, cond, not, List, [], ◌∷◌, ◌++◌, length}
+use Rattle.std.proofs.Common.{◌≡◌, ◌≢◌, ℕ, ◌+◌, ◌-◌, ◌*◌, ◌≤◌, ◌/◌, ◌==◌, suc, Bool, true, false, cond, List, [], ◌∷◌, ◌++◌, length, replicate}
 use Rattle.std.proofs.Common.{refl, sym, ap, ◌∙◌, arith, length-append}
-use Rattle.std.proofs.lemmas.Bool.{eqb-true, eqb-false}
+use Rattle.std.proofs.lemmas.Bool.{eqb-true, eqb-false, not-false}
 use Rattle.std.proofs.lemmas.Bool.Decides.{nat_tests}
 use Rattle.check_rules.specs.declared.state.State.{State}
 use Rattle.check_rules.specs.Board.{flag}
 use Rattle.check_rules.specs.Flapping.{changes_weight, kept_after, percent_of}
 use Rattle.check_rules.specs.FlappingWalk.{weight_after}
-use Rattle.check_rules.specs.LastResults.{changes_after, changes_in, is_change, last_after, loses_change, weight_to}
+use Rattle.check_rules.specs.LastResults.{changes_after, changes_in, is_change, last_after, loses_change, state_of_digit, weight_to}
+use Rattle.check_rules.specs.Numbers.{state_number}
 use Rattle.check_rules.specs.State.{is_another_state}
-use Rattle.check_rules.proofs.DigitLemmas.{full_kept, short_kept}
+use Rattle.check_rules.proofs.DigitLemmas.{full_kept, number_read, short_kept}
 use Rattle.check_rules.proofs.FlappingLemmas.{in_two, pairs_are_walked}
 
 -- ---- among 21
@@ -198,13 +199,45 @@ one_later [] found few = one_later_short [] found (omega arith)
 one_later (oldest ∷ []) found few = one_later_short (oldest ∷ []) found (omega arith)
 one_later (oldest ∷ second ∷ rest) found few = one_later_by (length rest == 19) oldest second rest found refl (omega (arith, few))
 
--- where there is no change, and one more result is none, nothing weighs and nothing counts
-pub quiet_later : (results : List State) (found : State) → length results ≤ 21 → changes_in results ≡ 0 → is_change results found ≡ false
-    → (weight_to 95 results ≡ weight_to 95 (kept_after results found)) × (changes_in results ≡ changes_in (kept_after results found))
-quiet_later results found few none same =
-    let l = one_later results found few in
+-- ---- no change
+
+same_state_found : (found before : State) → is_another_state found before ≡ false → found ≡ before
+same_state_found found before e =
+    let same : state_number found ≡ state_number before = eqb-true (state_number found) (state_number before) (not-false (state_number found == state_number before) e) in
+    sym (number_read found).0 ∙ ap state_of_digit same ∙ (number_read before).0
+
+none_of_sum : (b : Bool) (n : ℕ) → flag b + n ≡ 0 → (b ≡ false) × (n ≡ 0)
+none_of_sum true n e = absurd (let more : 1 + n ≡ 0 = e in omega (arith, more))
+none_of_sum false n e = (refl, omega (arith, e))
+
+-- where there is no change, all results are the oldest
+no_change : (before : State) (rest : List State) → changes_after before rest ≡ 0 → rest ≡ replicate (length rest) before
+no_change before [] e = refl
+no_change before (found ∷ rest) e =
+    let none = none_of_sum (is_another_state found before) (changes_after found rest) e in
+    let same = same_state_found found before none.0 in
+    ap (λ more. found ∷ more) (no_change found rest none.1) ∙ ap (λ s. s ∷ replicate (length rest) s) same
+
+settled_by : (oldest : State) (rest : List State) (found : State) → length rest ≡ 20 → changes_after oldest rest ≡ 0
+    → is_another_state found (last_after oldest rest) ≡ false → kept_after (oldest ∷ rest) found ≡ oldest ∷ rest
+settled_by oldest rest found e none same =
+    let all : rest ≡ replicate 20 oldest = no_change oldest rest none ∙ ap (λ n. replicate n oldest) e in
+    let last : last_after oldest rest ≡ oldest = ap (last_after oldest) all in
+    let last_found : found ≡ oldest = same_state_found found (last_after oldest rest) same ∙ last in
+    full_kept oldest rest found e ∙ ap (λ s. rest ++ s ∷ []) last_found ∙ ap (λ more. more ++ oldest ∷ []) all ∙ ap (λ more. oldest ∷ more) (sym all)
+
+-- where 21 results weigh nothing, and one more is no change, it leaves them as they are
+pub settled : (results : List State) (found : State) → length results ≡ 21 → weight_to 95 results ≡ 0 → is_change results found ≡ false
+    → kept_after results found ≡ results
+settled [] found e none same = absurd (omega (arith, e))
+settled (oldest ∷ rest) found e none same =
+    let l = one_later (oldest ∷ rest) found (omega (arith, e)) in
     let there = l.there in
-    let weight = l.weight in
-    let count = l.count in
-    let new : flag (is_change results found) ≡ 0 = ap flag same in
-    (omega (arith, none, there, weight, new), omega (arith, none, there, count, new))
+    let heavy = l.heavy in
+    settled_by oldest rest found (omega (arith, e)) (omega (arith, there, heavy, none)) same
+
+-- where they weigh nothing, the percent is 0
+pub no_percent : (results : List State) → length results ≡ 21 → weight_to 95 results ≡ 0 → percent_of results ≡ 0
+no_percent results e none =
+    let weight : changes_weight results ≡ 0 = sym (full_weight results e) ∙ none in
+    ap (λ n. cond (n == 21) (100 * changes_weight results / 1520) 0) e ∙ ap (λ n. 100 * n / 1520) weight

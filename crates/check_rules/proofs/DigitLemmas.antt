@@ -1,5 +1,5 @@
 -- The digits of packed results.
-use Rattle.std.proofs.Common.{◌≡◌, ◌≢◌, ℕ, ◌+◌, ◌-◌, ◌*◌, ◌/◌, ◌%◌, ◌<◌, ◌≤◌, ◌==◌, zero, suc, Bool, true, false, cond, not, List, [], ◌∷◌, ◌++◌, length, drop}
+use Rattle.std.proofs.Common.{◌≡◌, ℕ, ◌+◌, ◌-◌, ◌*◌, ◌/◌, ◌%◌, ◌<◌, ◌≤◌, ◌==◌, zero, suc, Bool, true, false, cond, List, [], ◌∷◌, ◌++◌, length, drop}
 use Rattle.std.proofs.Common.{refl, sym, ap, ◌∙◌, arith, length-append}
 use Rattle.std.proofs.lemmas.Bool.{eqb-true, eqb-false}
 use Rattle.std.proofs.Math.Nat.{div-add-mod, div-div-eq-div-mul}
@@ -106,7 +106,7 @@ oldest_read word = ap (λ p. word / p % 8) (omega arith) ∙ sym (digit_is 20 wo
 
 -- ---- numbers of states
 
-number_read : (s : State) → (state_of_digit (state_number s) ≡ s) × (state_number s < 7)
+pub number_read : (s : State) → (state_of_digit (state_number s) ≡ s) × (state_number s < 7)
 number_read =
     each_state (λ s. (state_of_digit (state_number s) ≡ s) × (state_number s < 7))
     (refl, omega arith) (refl, omega arith) (refl, omega arith) (refl, omega arith) (refl, omega arith) (refl, omega arith) (refl, omega arith)

@@ -64,7 +64,7 @@ pub(crate) fn percent_of_weight(weight: u32) -> u8
 }
 
 /// Whether an object flaps whose results have this percent.
-pub(crate) fn flaps_at(percent: u8, was: bool, low: u8, high: u8) -> bool
+pub fn flaps_at(percent: u8, was: bool, low: u8, high: u8) -> bool
     ensures { (results : List State) → percent ≡ percent_of results → result ≡ is_flapping results was low high }
 {
     if was { percent >= low } else { percent >= high }

@@ -1,14 +1,12 @@
 //! The last results of an object, packed into two words with what their changes weigh, so that one more
 //! of them costs no walk over all.
 
-ghost use Rattle.std.specs.Prelude.{◌≡◌, ◌≤◌, ◌<◌, ◌+◌, ◌-◌, ◌*◌, IfOk, length};
+ghost use Rattle.std.specs.Prelude.{◌≡◌, ◌≤◌, ◌<◌, ◌+◌, ◌-◌, ◌*◌, IfOk, IsTrue, length};
 ghost use Rattle.check_rules.specs.Board.{flag};
-ghost use Rattle.check_rules.specs.Flapping.{is_flapping, kept_after, percent_of};
+ghost use Rattle.check_rules.specs.Flapping.{kept_after, percent_of};
 ghost use Rattle.check_rules.specs.LastResults.{changes_in, count_after, is_change, loses_change, state_of_digit, weight_to};
 
-use crate::flapping::{
-    KEPT_RESULTS, NEWEST_WEIGHT, OLDEST_WEIGHT, WEIGHT_STEP, flaps_at, percent_of_weight,
-};
+use crate::flapping::{KEPT_RESULTS, NEWEST_WEIGHT, OLDEST_WEIGHT, WEIGHT_STEP, percent_of_weight};
 use crate::state::State;
 use std::alloc::{AllocError, Global};
 use std::marker::Model;
@@ -99,18 +97,23 @@ impl LastResults {
         Ok(copy)
     }
 
-    /// Keeps one more result; of 21, the oldest goes.
-    pub fn push(&mut self, found: State)
-        ensures { self.new ≡ kept_after self.old found }
+    /// Keeps one more result; of 21, the oldest goes. Returns how much the state changed over the results
+    /// that are kept then, in whole percents, as [`percent`](crate::percent) has it.
+    pub fn push(&mut self, found: State) -> u8
+        ensures kept { self.new ≡ kept_after self.old found }
+        ensures percent { result ≡ percent_of (kept_after self.old found) }
     {
-        let changes = self.changes_after(found);
+        if self.are_all(found) {
+            return 0;
+        }
+        let changes = self.changes_with(found);
         self.digits = self.digits % OLDEST_DIGIT * BASE + u64::from(found.number());
         self.changes = changes;
         self.count = count_after(self.count);
+        self.percent()
     }
 
-    /// How much the state changed over these results, in whole percents, as [`percent`](crate::percent)
-    /// has it.
+    /// How much the state changed over these results, in whole percents.
     fn percent(&self) -> u8
         ensures { result ≡ percent_of self.now }
     {
@@ -121,23 +124,25 @@ impl LastResults {
         }
     }
 
-    /// Whether an object with these results flaps, as [`flaps`](crate::flaps) has it.
-    pub fn flaps(&self, was: bool, low: u8, high: u8) -> bool
-        ensures { result ≡ is_flapping self.now was low high }
+    /// Whether there are as many results as are kept, and all are this state, so that one more of it
+    /// leaves them as they are.
+    fn are_all(&self, found: State) -> bool
+        ensures kept { IsTrue result → kept_after self.now found ≡ self.now }
+        ensures percent { IsTrue result → percent_of self.now ≡ 0 }
     {
-        flaps_at(self.percent(), was, low, high)
+        if self.changes.weight > 0 {
+            return false;
+        }
+        self.count as usize == KEPT_RESULTS && !self.is_change(found)
     }
 
     /// The changes among the results with one more.
-    fn changes_after(&self, found: State) -> Changes
+    fn changes_with(&self, found: State) -> Changes
         ensures weight { result.weight ≡ weight_to 95 (kept_after self.now found) }
         ensures count { result.count ≡ changes_in (kept_after self.now found) }
     {
-        let comes = self.is_change(found);
-        if !comes && self.changes.count == 0 {
-            return self.changes;
-        }
-        self.changes.after(self.loses_change(), comes)
+        self.changes
+            .after(self.loses_change(), self.is_change(found))
     }
 
     /// Whether one more result is a change.

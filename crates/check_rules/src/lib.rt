@@ -29,7 +29,7 @@ mod words;
 
 pub use board::{decode, encode};
 pub use dependencies::blocked;
-pub use flapping::{KEPT_RESULTS, flaps, percent};
+pub use flapping::{KEPT_RESULTS, flaps, flaps_at, percent};
 pub use last_results::LastResults;
 pub use reachability::host_state;
 pub use standing::{Kind, Standing, lawful, pending};

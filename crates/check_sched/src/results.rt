@@ -6,7 +6,7 @@ ghost use Rattle.check_rules.specs.Flapping.{is_flapping, kept_after};
 ghost use Rattle.check_sched.specs.State.{results_at};
 ghost use Rattle.check_sched.specs.Step.{update_at};
 
-use check_rules::{KEPT_RESULTS, LastResults, State};
+use check_rules::{KEPT_RESULTS, LastResults, State, flaps_at};
 use std::alloc::{AllocError, Global};
 use std::marker::Model;
 
@@ -114,7 +114,7 @@ impl Ring {
         ensures kept { self.new ≡ kept_after self.old found }
         ensures flaps { result ≡ is_flapping (kept_after self.old found) was thresholds.0 thresholds.1 }
     {
-        self.results.push(found);
-        self.results.flaps(was, thresholds.0, thresholds.1)
+        let percent = self.results.push(found);
+        flaps_at(percent, was, thresholds.0, thresholds.1)
     }
 }

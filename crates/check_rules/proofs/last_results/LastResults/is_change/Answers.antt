@@ -1,4 +1,4 @@
-use Rattle.std.proofs.Common.{◌≡◌, ap, sym, ◌∙◌}
+use Rattle.std.proofs.Common.{◌∙◌}
 use Rattle.check_rules.proofs.ResultsLemmas.{newest_differs, newest_same}
 use Rattle.check_rules.proofs.last_results.LastResults.is_change.Goals as goal
 

@@ -1,5 +1,3 @@
-use Rattle.std.proofs.Common.{◌≡◌, ap, sym, ◌∙◌}
-use Rattle.check_rules.specs.LastResults.{loses_change, results_of, unpacked}
 use Rattle.check_rules.proofs.ResultsLemmas.{none_goes, oldest_goes}
 use Rattle.check_rules.proofs.last_results.LastResults.loses_change.Goals as goal
 

@@ -1,6 +1,6 @@
-use Rattle.std.proofs.Common.{◌≡◌, ◌≢◌, ◌≤◌, ap, sym, arith, length, ◌∙◌}
+use Rattle.std.proofs.Common.{◌≡◌, ◌≢◌, arith, length, ◌∙◌}
 use Rattle.check_rules.specs.Flapping.{changes_weight}
-use Rattle.check_rules.specs.LastResults.{results_of, weight_to}
+use Rattle.check_rules.specs.LastResults.{results_of}
 use Rattle.check_rules.proofs.ChangeLemmas.{full_weight, other_percent}
 use Rattle.check_rules.proofs.DigitLemmas.{length_unpacked}
 use Rattle.check_rules.proofs.FlappingLemmas.{within_all}

@@ -1,13 +1,12 @@
-use Rattle.std.proofs.Common.{◌≡◌, ◌≤◌, Bool, false, ap, sym, arith, ◌∙◌, length}
-use Rattle.std.proofs.lemmas.Bool.{not-true}
+use Rattle.std.proofs.Common.{◌≡◌, ◌≤◌, ap, sym, arith, ◌∙◌, length}
 use Rattle.check_rules.specs.declared.state.State.{State}
 use Rattle.check_rules.specs.declared.last_results.LastResults.TheInside.{Inside}
 use Rattle.check_rules.specs.Board.{flag}
 use Rattle.check_rules.specs.Flapping.{kept_after}
 use Rattle.check_rules.specs.LastResults.{IsPacked, changes_in, is_change, loses_change, results_of, weight_to}
-use Rattle.check_rules.proofs.ChangeLemmas.{IsOneLater, one_later, quiet_later}
+use Rattle.check_rules.proofs.ChangeLemmas.{IsOneLater, one_later}
 use Rattle.check_rules.proofs.DigitLemmas.{length_unpacked}
-use Rattle.check_rules.proofs.last_results.LastResults.changes_after.Goals as goal
+use Rattle.check_rules.proofs.last_results.LastResults.changes_with.Goals as goal
 
 -- no more are there than are kept
 all_kept : (r : Inside) → IsPacked r → length (results_of r) ≤ 21
@@ -18,22 +17,6 @@ all_kept r packed =
 
 later : (r : Inside) (found : State) → IsPacked r → IsOneLater (results_of r) found
 later r found packed = one_later (results_of r) found (all_kept r packed)
-
-pub returns-then-self-eq0-clause-weight : goal.returns-then-self-eq0-clause-weight
-returns-then-self-eq0-clause-weight c =
-    let same : is_change (results_of c.self.inside) c.args.found ≡ false =
-    ap (λ results. is_change results c.args.found) c.self.view_is ∙ sym c.is_change-comes.ensures ∙ c.if-not-comes.true in
-    rw (← c.self.view_is)
-    (c.self.invariant.weighed
-    ∙ (quiet_later (results_of c.self.inside) c.args.found (all_kept c.self.inside c.self.invariant) (sym c.self.invariant.counted ∙ c.if-self-eq0.true) same).0)
-
-pub returns-then-self-eq0-clause-count : goal.returns-then-self-eq0-clause-count
-returns-then-self-eq0-clause-count c =
-    let same : is_change (results_of c.self.inside) c.args.found ≡ false =
-    ap (λ results. is_change results c.args.found) c.self.view_is ∙ sym c.is_change-comes.ensures ∙ c.if-not-comes.true in
-    rw (← c.self.view_is)
-    (c.self.invariant.counted
-    ∙ (quiet_later (results_of c.self.inside) c.args.found (all_kept c.self.inside c.self.invariant) (sym c.self.invariant.counted ∙ c.if-self-eq0.true) same).1)
 
 pub after-requires-clause-there : goal.after-requires-clause-there
 after-requires-clause-there c =
@@ -53,8 +36,8 @@ pub returns-clause-weight : goal.returns-clause-weight
 returns-clause-weight c =
     let r = c.self.inside in
     let goes : flag c.loses_change.result ≡ flag (loses_change (results_of r)) = ap flag (c.loses_change.ensures ∙ ap loses_change (sym c.self.view_is)) in
-    let comes : flag c.is_change-comes.result ≡ flag (is_change (results_of r) c.args.found) =
-    ap flag (c.is_change-comes.ensures ∙ ap (λ results. is_change results c.args.found) (sym c.self.view_is)) in
+    let comes : flag c.is_change.result ≡ flag (is_change (results_of r) c.args.found) =
+    ap flag (c.is_change.ensures ∙ ap (λ results. is_change results c.args.found) (sym c.self.view_is)) in
     let counted = c.self.invariant.counted in
     let weighed = c.self.invariant.weighed in
     let made = c.after.ensures.weight in
@@ -66,8 +49,8 @@ pub returns-clause-count : goal.returns-clause-count
 returns-clause-count c =
     let r = c.self.inside in
     let goes : flag c.loses_change.result ≡ flag (loses_change (results_of r)) = ap flag (c.loses_change.ensures ∙ ap loses_change (sym c.self.view_is)) in
-    let comes : flag c.is_change-comes.result ≡ flag (is_change (results_of r) c.args.found) =
-    ap flag (c.is_change-comes.ensures ∙ ap (λ results. is_change results c.args.found) (sym c.self.view_is)) in
+    let comes : flag c.is_change.result ≡ flag (is_change (results_of r) c.args.found) =
+    ap flag (c.is_change.ensures ∙ ap (λ results. is_change results c.args.found) (sym c.self.view_is)) in
     let counted = c.self.invariant.counted in
     let made = c.after.ensures.count in
     let wanted = (later r c.args.found c.self.invariant).count in
