@@ -9,11 +9,12 @@ use Rattle.check_rules.specs.declared.state.State.{State}
 use Rattle.check_rules.specs.State.{is_another_state}
 use Rattle.check_rules.specs.Flapping.{changes_weight, weight_between}
 use Rattle.check_rules.specs.FlappingWalk.{weight_after}
+use Rattle.check_rules.specs.LastResults.{last_after}
 
 -- ---- the definition by pairs and the walk
 
 -- from change i on, the weights of the pairs are those of the walk
-pairs_are_walked : (i : ℕ) (before : State) (rest : List State)
+pub pairs_are_walked : (i : ℕ) (before : State) (rest : List State)
     → sum_by weight_between (enumerate_from i (zip (before ∷ rest) rest)) ≡ weight_after before rest (57 + 2 * i)
 pairs_are_walked i before [] = refl
 pairs_are_walked i before (found ∷ rest) =
@@ -31,11 +32,6 @@ from_oldest oldest rest = rw (same_state oldest) (omega arith ∙ sym (pairs_are
 
 -- ---- a walk in two parts
 
--- the last of some results, or the one before them
-abbrev last_after : State → List State → State
-last_after before [] = before
-last_after before (found ∷ rest) = last_after found rest
-
 plus_none : (n : ℕ) → n ≡ n + 0
 plus_none n = omega arith
 
@@ -48,7 +44,7 @@ one_step weight n = omega arith
 grouped : (a b c : ℕ) → a + (b + c) ≡ a + b + c
 grouped a b c = omega arith
 
-in_two : (before : State) (older newer : List State) (weight : ℕ)
+pub in_two : (before : State) (older newer : List State) (weight : ℕ)
     → weight_after before (older ++ newer) weight ≡ weight_after before older weight + weight_after (last_after before older) newer (weight + 2 * length older)
 in_two before [] newer weight = ap (λ w. weight_after before newer w) (plus_none weight) ∙ none_plus (weight_after before newer (weight + 0))
 in_two before (found ∷ rest) newer weight =

@@ -1,6 +1,9 @@
 pub mod Cases
 pub mod BoardLemmas
 pub mod BlockedLaws
+pub mod ChangeLemmas
+pub mod DigitLemmas
 pub mod FlappingLemmas
 pub mod MarkLemmas
+pub mod ResultsLemmas
 pub mod VerdictLaws

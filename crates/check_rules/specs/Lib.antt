@@ -6,6 +6,7 @@ pub mod Reachability
 pub mod Verdict
 pub mod Flapping
 pub mod FlappingWalk
+pub mod LastResults
 pub mod Board
 pub mod Dependencies
 pub mod Marks

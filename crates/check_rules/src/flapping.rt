@@ -2,7 +2,8 @@
 //! Flapping"; the weights, and that a percent equal to the high threshold starts flapping too, are our
 //! own profile.)
 
-ghost use Rattle.std.specs.Prelude.{◌≡◌, ◌+◌, ◌≤◌, ◌∷◌, length};
+ghost use Rattle.std.specs.Prelude.{◌≡◌, ◌+◌, ◌*◌, ◌/◌, ◌≤◌, ◌∷◌, List, length};
+ghost use Rattle.check_rules.specs.declared.state.State.{State};
 ghost use Rattle.check_rules.specs.Flapping.{changes_weight, is_flapping, percent_of};
 ghost use Rattle.check_rules.specs.FlappingWalk.{weight_after};
 
@@ -13,9 +14,12 @@ use circular_buffer::HeapCircularBuffer;
 pub const KEPT_RESULTS: usize = 21;
 
 /// What the oldest change weighs; each newer one weighs `WEIGHT_STEP` more.
-const OLDEST_WEIGHT: u32 = 57;
+pub(crate) const OLDEST_WEIGHT: u32 = 57;
 
-const WEIGHT_STEP: u32 = 2;
+pub(crate) const WEIGHT_STEP: u32 = 2;
+
+/// What the newest change weighs.
+pub(crate) const NEWEST_WEIGHT: u32 = 95;
 
 /// What all 20 changes weigh together.
 const WEIGHT_OF_ALL: u32 = 1520;
@@ -32,7 +36,7 @@ pub fn percent(results: &HeapCircularBuffer<State>) -> u8
     ensures within { result ≤ 100 }
 {
     if results.is_full() {
-        (100 * changes_weight(results) / WEIGHT_OF_ALL) as u8
+        percent_of_weight(changes_weight(results))
     } else {
         0
     }
@@ -47,7 +51,22 @@ pub fn flaps(results: &HeapCircularBuffer<State>, was: bool, low: u8, high: u8) 
     requires { results.now.capacity ≡ KEPT_RESULTS }
     ensures { result ≡ is_flapping results.now.items was low high }
 {
-    let percent = percent(results);
+    flaps_at(percent(results), was, low, high)
+}
+
+/// What changes of this weight are of all that could be, in whole percents, rounded down.
+pub(crate) fn percent_of_weight(weight: u32) -> u8
+    requires { weight ≤ WEIGHT_OF_ALL }
+    ensures value { result ≡ 100 * weight / WEIGHT_OF_ALL }
+    ensures within { result ≤ 100 }
+{
+    (100 * weight / WEIGHT_OF_ALL) as u8
+}
+
+/// Whether an object flaps whose results have this percent.
+pub fn flaps_at(percent: u8, was: bool, low: u8, high: u8) -> bool
+    ensures { (results : List State) → percent ≡ percent_of results → result ≡ is_flapping results was low high }
+{
     if was { percent >= low } else { percent >= high }
 }
 

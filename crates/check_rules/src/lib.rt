@@ -6,17 +6,19 @@
 //! The rules are those of the Nagios Core 4 manual, chapters "Plugin API", "Host Checks",
 //! "Determining Status and Reachability of Network Hosts", "State Types", "Detection and Handling of
 //! State Flapping" and "Host and Service Dependencies"; where the manual leaves a choice, the profile
-//! of this project makes it, and the item says so. Every function changes nothing but the scratch that
-//! it is handed, and takes no memory.
+//! of this project makes it, and the item says so. Every function changes nothing but what it is handed
+//! for that, and takes no memory but for a copy of results.
 //!
 //! The modules: `state` has return codes and states, `standing` what is known of an object, `numbers`
 //! and `words` their numbers and words, `verdicts` the verdict on a result, `flapping` whether a state
-//! keeps changing, `reachability` the state of a host by its parents, `dependencies` whether a
-//! dependency holds a check back, `board` a standing as one word, `laws` what it is worth.
+//! keeps changing, `last_results` the results that this goes by, `reachability` the state of a host by
+//! its parents, `dependencies` whether a dependency holds a check back, `board` a standing as one word,
+//! `laws` what it is worth.
 
 mod board;
 mod dependencies;
 mod flapping;
+mod last_results;
 pub mod laws;
 mod numbers;
 mod reachability;
@@ -27,7 +29,8 @@ mod words;
 
 pub use board::{decode, encode};
 pub use dependencies::blocked;
-pub use flapping::{KEPT_RESULTS, flaps, percent};
+pub use flapping::{KEPT_RESULTS, flaps, flaps_at, percent};
+pub use last_results::LastResults;
 pub use reachability::host_state;
 pub use standing::{Kind, Standing, lawful, pending};
 pub use state::{Code, State, service_state};

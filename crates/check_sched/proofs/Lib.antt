@@ -15,7 +15,6 @@ pub mod PublicLaws
 pub mod ReplyCases
 pub mod ReplyLaws
 pub mod ReportLaws
-pub mod ResultsLaws
 pub mod RosterLaws
 pub mod ResumedLaws
 pub mod RunLaws

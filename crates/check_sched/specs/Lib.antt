@@ -9,7 +9,6 @@ pub mod Report
 pub mod Step
 pub mod Sched
 pub mod Runs
-pub mod Results
 pub mod Flapping
 pub mod Board
 pub mod BoardLaws
