@@ -1,11 +1,23 @@
 -- Laws of one place changed in a list, and of what is true at each place.
-use Rattle.std.proofs.Common.{◌≡◌, ℕ, zero, suc, ◌<◌, ◌≤◌, Bool, true, List, [], ◌∷◌, length, get_or, set, Some, None, refl, ap}
+use Rattle.std.proofs.Common.{◌≡◌, ◌≢◌, ℕ, zero, suc, ◌<◌, ◌≤◌, Bool, true, List, [], ◌∷◌, length, get_or, set, Some, None, refl, ap}
 use Rattle.std.proofs.Common.{subst, arith}
 use Rattle.std.specs.Prelude.{slice_get}
 use Rattle.std.specs.List.{list_all}
 use Rattle.std.proofs.lemmas.Bool.{and_parts, and_from}
 use Rattle.check_sched.specs.Step.{update_at}
-pub use Rattle.check_sched.specs.BoardLaws.{length-update_at, update_at_apart}
+
+pub length-update_at : {X : Type 0} (n : ℕ) (f : X → X) (xs : List X) → length (update_at n f xs) ≡ length xs
+length-update_at n f [] = refl
+length-update_at zero f (x ∷ xs) = refl
+length-update_at (suc n) f (x ∷ xs) = ap suc (length-update_at n f xs)
+
+-- what is read at another place than the one that changed
+pub update_at_apart : {X : Type 0} (n k : ℕ) (f : X → X) (xs : List X) → n ≢ k → slice_get (update_at n f xs) k ≡ slice_get xs k
+update_at_apart n k f [] h = refl
+update_at_apart zero zero f (x ∷ xs) h = absurd (h refl)
+update_at_apart zero (suc k) f (x ∷ xs) h = refl
+update_at_apart (suc n) zero f (x ∷ xs) h = refl
+update_at_apart (suc n) (suc k) f (x ∷ xs) h = update_at_apart n k f xs (λ e. h (ap suc e))
 
 pub set_is_update : {X : Type 0} (n : ℕ) (f : X → X) (xs : List X) (d y : X) → n < length xs → y ≡ f (get_or xs n d) → set xs n y ≡ update_at n f xs
 set_is_update n f [] d y h e = absurd (omega arith)

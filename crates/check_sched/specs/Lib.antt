@@ -12,6 +12,5 @@ pub mod Runs
 pub mod Results
 pub mod Flapping
 pub mod Board
-pub mod BoardLaws
 pub mod Saved
 pub mod Places
