@@ -23,6 +23,7 @@ pub mod ResumedLaws
 pub mod RunLaws
 pub mod SavedLaws
 pub mod StandingLaws
+pub mod SteadyLaws
 pub mod StateLaws
 pub mod StepLaws
 pub mod TakeLaws

@@ -42,7 +42,7 @@ newest_after n results found few e =
 -- ---- results that are all the same
 
 -- where no more than n are there, the last n are all
-keep_all : (n : ℕ) (results : List State) → length results ≤ n → keep_last n results ≡ results
+pub keep_all : (n : ℕ) (results : List State) → length results ≤ n → keep_last n results ≡ results
 keep_all n results few = let none : length results - n ≡ 0 = omega (arith, few) in ap (λ place. drop place results) none
 
 -- where all results are a state, they are with one more of it

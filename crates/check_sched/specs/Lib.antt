@@ -7,6 +7,7 @@ pub mod Change
 pub mod Reply
 pub mod Report
 pub mod Step
+pub mod Steady
 pub mod Sched
 pub mod Runs
 pub mod Results

@@ -1,6 +1,6 @@
 //! The last results of each object, by which it is told whether it flaps.
 
-ghost use Rattle.std.specs.Prelude.{◌≡◌, ◌<◌, ◌≤◌, List, [], IfOk, length, replicate};
+ghost use Rattle.std.specs.Prelude.{◌≡◌, ◌<◌, ◌≤◌, List, [], IfOk, length, replicate, true};
 ghost use Rattle.circular_buffer.specs.Buffer.{keep_last};
 ghost use Rattle.check_rules.specs.declared.state.State.{State};
 ghost use Rattle.check_rules.specs.Flapping.{is_flapping, kept_after, percent_of};
@@ -199,4 +199,15 @@ fn flaps_at_zero(was: bool, thresholds: (u8, u8)) -> bool
     let (low, high) = thresholds;
     let threshold = if was { low } else { high };
     threshold == 0
+}
+
+impl Results {
+    /// Whether as many results of the object with this number as are kept are all this state.
+    pub(crate) fn are_all(&self, number: u32, state: State) -> bool
+        requires { number < length self.now }
+        ensures { result ≡ true → keep_last 21 (results_at self.now number) ≡ replicate 21 state }
+    {
+        let ring = &self.rings[number as usize];
+        ring.count_newest(state) as usize == KEPT_RESULTS
+    }
 }
