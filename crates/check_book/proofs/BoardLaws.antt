@@ -18,7 +18,7 @@ use Rattle.check_sched.specs.declared.call.Call.{Call}
 use Rattle.check_sched.specs.declared.call.Reply.{Reply}
 use Rattle.check_sched.specs.State.{State, IsState, max_attempts_of, standing_at}
 use Rattle.check_sched.specs.Step.{step}
-use Rattle.check_sched.specs.BoardLaws.{length-board_of, word_at}
+use Rattle.check_sched.proofs.BoardLaws.{length-board_of, word_at}
 use Rattle.check_sched.proofs.OpeningLaws.{count_is}
 use Rattle.check_sched.proofs.ReplyLaws.{replay_objects}
 use Rattle.check_sched.proofs.ReportLaws.{object_in_range}

@@ -3,5 +3,3 @@ pub mod Logs
 pub mod Books
 pub mod Resumed
 pub mod Board
-pub mod BoardLaws
-pub mod SetupLaws

@@ -6,11 +6,11 @@ ghost use Rattle.check_objects.specs.Configuration.{IsSetup};
 ghost use Rattle.check_sched.specs.Saved.{resumed, saved_of};
 ghost use Rattle.check_sched.specs.State.{IsState, opening};
 ghost use Rattle.check_sched.specs.Step.{step};
+ghost use Rattle.check_sched.proofs.BoardLaws.{step_posted, step_unposted, step_within};
+ghost use Rattle.check_sched.proofs.PropLaws.{IsSetup-prop, IsState-prop};
 ghost use Rattle.check_book.specs.BookState.{BookState, book_at, book_opening, book_step};
 ghost use Rattle.check_book.specs.Logs.{log_opening, log_state};
 ghost use Rattle.check_book.specs.Board.{book_board, book_place};
-ghost use Rattle.check_book.specs.BoardLaws.{board_within, board_unposted, board_posted};
-ghost use Rattle.check_book.specs.SetupLaws.{IsSetup-prop, IsState-prop};
 ghost use Rattle.std.proofs.Props.{props};
 ghost use Rattle.ticket_steps.specs.History.{entry, replay, IsLegal, IsLegal-prop};
 
@@ -240,11 +240,11 @@ impl Kept for Book {
 
     ghost replayed = { λ book. book.replayed };
 
-    ghost within = { board_within };
+    ghost within = { λ s. step_within s.sched };
 
-    ghost unposted = { board_unposted };
+    ghost unposted = { λ s. step_unposted s.sched };
 
-    ghost posted = { board_posted };
+    ghost posted = { λ s. step_posted s.sched };
 
     /// Makes one call on the scheduler, and keeps it with its reply. Room for the entry is made
     /// first; where there is no memory for it, the call isn't made, but counted. `NoMemory` comes

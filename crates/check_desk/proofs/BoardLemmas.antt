@@ -2,9 +2,9 @@
 use Rattle.std.proofs.Common.{◌≡◌, ℕ, ◌<◌, [], length, sym, ap, ◌∙◌, arith, Option, Some, None, IfSome}
 use Rattle.check_objects.specs.Configuration.{object_count}
 use Rattle.check_sched.specs.declared.call.Call.{Call}
+use Rattle.check_sched.proofs.BoardLaws.{step_within}
 use Rattle.check_book.specs.declared.book.Book.{Book}
 use Rattle.check_book.specs.Board.{book_board, book_place}
-use Rattle.check_book.specs.BoardLaws.{board_within}
 use Rattle.check_book.specs.BookState.{BookState}
 use Rattle.check_book.specs.Books.{entries_of, opening_of, state_of}
 use Rattle.check_book.proofs.PublicLaws.{state_words}
@@ -24,5 +24,5 @@ pub place_within : (book : Book) (opened : BookState) (call : Call) (place : Opt
     → opening_of book ≡ opened → IfSome place (λ at. at < object_count opened.sched.setup)
 place_within book opened call None is opening = tt
 place_within book opened call (Some at) is opening =
-    let less : at < length (book_board (state_of book)) = board_within (state_of book) call at (sym is) in
+    let less : at < length (book_board (state_of book)) = step_within (state_of book).sched call at (sym is) in
     omega (arith, less, words_in book, ap (λ (o : BookState). object_count o.sched.setup) opening)

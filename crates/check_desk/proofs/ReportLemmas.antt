@@ -15,7 +15,7 @@ use Rattle.check_sched.specs.declared.call.Call.TheVariants as call
 use Rattle.check_sched.specs.declared.call.Reply.{Reply}
 use Rattle.check_sched.specs.declared.call.Reply.TheVariants as reply
 use Rattle.check_sched.specs.Board.{place_by}
-use Rattle.check_sched.specs.BoardLaws.{length-update_at, update_at_apart}
+use Rattle.check_sched.proofs.UpdateLaws.{length-update_at, update_at_apart}
 use Rattle.check_sched.specs.State.{State, standing_at}
 use Rattle.check_sched.specs.Step.{found_in, judged_in, step, update_at}
 use Rattle.check_sched.proofs.OperatorLaws.{abandon_cases, enable_cases, reschedule_cases, status_cases}

@@ -126,7 +126,7 @@ impl LastResults {
 
     /// Whether there are as many results as are kept, and all are this state, so that one more of it
     /// leaves them as they are.
-    fn are_all(&self, found: State) -> bool
+    pub fn are_all(&self, found: State) -> bool
         ensures kept { IsTrue result → kept_after self.now found ≡ self.now }
         ensures percent { IsTrue result → percent_of self.now ≡ 0 }
     {

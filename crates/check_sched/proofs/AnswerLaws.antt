@@ -1,14 +1,32 @@
 -- Laws of refusals: what is true of every refusal, and of the answer where nothing is refused, is true
 -- of the step.
-use Rattle.std.proofs.Common.{◌≡◌, ℕ, ◌<◌, ◌≤◌, ◌^◌, Bool, true, false, ◌==◌, cond, Option, Some, None, Ok, Err, refl, ap, arith}
-use Rattle.std.specs.Prelude.{nat_lt}
+use Rattle.std.proofs.Common.{◌≡◌, ℕ, ◌<◌, ◌≤◌, ◌^◌, Bool, true, false, ◌==◌, cond, Option, Some, None, Result, Ok, Err, refl, ap, arith}
+use Rattle.std.specs.Prelude.{nat_lt, ok_or, slice_get}
 use Rattle.std.proofs.lemmas.Bool.Decides.{nat_tests}
 use Rattle.check_sched.specs.Scheduling.{run_under}
-use Rattle.check_saved.specs.Scheduling.{OpenRun}
+use Rattle.check_saved.specs.Scheduling.{OpenRun, Scheduling}
+use Rattle.check_sched.specs.declared.call.Refusal.{Refusal}
 use Rattle.check_sched.specs.declared.call.Refusal.TheVariants as refusal
+use Rattle.check_sched.specs.declared.call.Reply.{Reply}
+use Rattle.check_sched.specs.declared.call.Reply.TheVariants as reply
 use Rattle.check_sched.specs.State.{State}
-pub use Rattle.check_sched.specs.BoardLaws.{by_test, known_is}
-use Rattle.check_sched.specs.Step.{run_left, within_range}
+use Rattle.check_sched.specs.Step.{◌>>=◌, known, run_left, settled, within_range}
+
+-- ---- refusals
+
+-- What is true of every refusal, and of the answer where nothing is refused, is true of the step: one test after another.
+pub by_test : {A : Type 0} (P : State × Reply → Type 0) (s : State) (test : Result A Refusal) (more : A → Result (State × Reply) Refusal)
+    → ((why : Refusal) → P (s, reply.Refused why)) → ((x : A) → test ≡ Ok x → P (settled s (more x))) → P (settled s (test >>= more))
+by_test P s (Ok x) more refused passed = passed x refl
+by_test P s (Err why) more refused passed = refused why
+
+known_by : (found : Option Scheduling) (o : Scheduling) → ok_or found refusal.UnknownObject ≡ Ok o → found ≡ Some o
+known_by None o e = cc
+known_by (Some x) o e = let same : x ≡ o = cc in ap Some same
+
+-- an object that is known is there
+pub known_is : (n : ℕ) (s : State) (o : Scheduling) → known n s ≡ Ok o → slice_get s.objects n ≡ Some o
+known_is n s o e = known_by (slice_get s.objects n) o e
 
 -- ---- what a passed test tells
 

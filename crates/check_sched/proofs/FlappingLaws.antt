@@ -70,13 +70,13 @@ opening_places setup start =
 
 -- ---- one call
 
-results_here : (xs : List (List rules.State)) (n : ℕ) (found : rules.State) → n < length xs
+pub results_here : (xs : List (List rules.State)) (n : ℕ) (found : rules.State) → n < length xs
     → results_at (update_at n (λ kept. kept_after kept found) xs) n ≡ kept_after (results_at xs n) found
 results_here [] n found l = absurd (omega arith)
 results_here (x ∷ xs) zero found l = refl
 results_here (x ∷ xs) (suc n) found l = results_here xs n found (omega arith)
 
-standing_here : (xs : List Standing) (n : ℕ) (t : Standing) → n < length xs → standing_at (update_at n (λ before. t) xs) n ≡ t
+pub standing_here : (xs : List Standing) (n : ℕ) (t : Standing) → n < length xs → standing_at (update_at n (λ before. t) xs) n ≡ t
 standing_here [] n t l = absurd (omega arith)
 standing_here (x ∷ xs) zero t l = refl
 standing_here (x ∷ xs) (suc n) t l = standing_here xs n t (omega arith)

@@ -1,4 +1,5 @@
 pub mod AnswerLaws
+pub mod BoardLaws
 pub mod CandidateLaws
 pub mod EligibleLaws
 pub mod FlappingLaws
@@ -11,6 +12,7 @@ pub mod OperatorLaws
 pub mod OrderedLaws
 pub mod OutLaws
 pub mod PendingLaws
+pub mod PropLaws
 pub mod PublicLaws
 pub mod ReplyCases
 pub mod ReplyLaws
@@ -20,6 +22,7 @@ pub mod ResumedLaws
 pub mod RunLaws
 pub mod SavedLaws
 pub mod StandingLaws
+pub mod SteadyLaws
 pub mod StateLaws
 pub mod StepLaws
 pub mod TakeLaws

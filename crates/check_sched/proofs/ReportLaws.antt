@@ -28,7 +28,7 @@ use Rattle.check_sched.specs.declared.call.Refusal.{Refusal}
 use Rattle.check_sched.specs.declared.call.Call.TheVariants as call
 use Rattle.check_sched.specs.State.{State, AreResultsOf, IsState, IsStandingOf, is_host}
 use Rattle.check_sched.specs.State.{max_attempts_of, standing_at}
-use Rattle.check_sched.specs.Step.{found_in, judged_in, known, report_taken, reported, standing_reply, step}
+use Rattle.check_sched.specs.Step.{found_in, judged_in, known, report_taken, report_told, reported, standing_reply, step}
 use Rattle.check_sched.proofs.AnswerLaws.{by_test, known_is, under_is}
 use Rattle.check_sched.proofs.LimitLaws.{limit_kept}
 use Rattle.check_sched.proofs.OutLaws.{numbered_kept, once_kept, timed_if, timed_then}
@@ -143,11 +143,14 @@ pub standing_of_state : (s : State) (n : ℕ) → IsState s → n < object_count
 standing_of_state s n is_state h = standing_by s n (slice_get s.standings n) is_state h refl
 
 -- a run began at 2^60 at the latest
+pub run_of_state : (s : State) (n : ℕ) (o : Scheduling) → IsState s → slice_get s.objects n ≡ Some o → is_moment o.run ≡ true
+run_of_state s n o is_state e = (and_parts (is_time o.next) (is_moment o.run) (all_at_place is_in_time s.objects n o is_state.times e)).1
+
+pub start_in_time : (run : Option OpenRun) (r : OpenRun) → is_moment run ≡ true → run ≡ Some r → r.start ≤ 2 ^ 60
+start_in_time run r e f = let moment : is_moment (Some r) ≡ true = ap is_moment (sym f) ∙ e in grind (arith, nat_tests, moment)
+
 pub start_of_state : (s : State) (n : ℕ) (o : Scheduling) (r : OpenRun) → IsState s → slice_get s.objects n ≡ Some o → o.run ≡ Some r → r.start ≤ 2 ^ 60
-start_of_state s n o r is_state e f =
-    let both = and_parts (is_time o.next) (is_moment o.run) (all_at_place is_in_time s.objects n o is_state.times e) in
-    let moment : is_moment (Some r) ≡ true = ap is_moment (sym f) ∙ both.1 in
-    grind (arith, nat_tests, moment)
+start_of_state s n o r is_state e f = start_in_time o.run r (run_of_state s n o is_state e) f
 
 -- a next time is at most 2^61
 pub next_of_state : (s : State) (n : ℕ) (o : Scheduling) → IsState s → slice_get s.objects n ≡ Some o → is_time o.next ≡ true
@@ -198,22 +201,22 @@ report_cases P n run c s refused take =
     (λ o e. by_test P s (run_under run o.run) _ refused
     (λ r f. take o r (known_is n s o e) (under_is run o.run r f)))
 
--- what a Report answers, by the state that it finds, and by the standing and the next time that it makes
-pub report_answers : (n run : ℕ) (c : Code) (s : State) (o : Scheduling) (r : OpenRun) (found : rules.State) (standing : Standing) (next : Option ℕ)
-    → known n s ≡ Ok o → run_under run o.run ≡ Ok r
-    → found ≡ found_in s n c → standing ≡ judged_in s n found → next ≡ next_after s.setup n standing r.start o.next
-    → step s (call.Report n run c) ≡ (reported n found standing next s, standing_reply n standing next s)
-report_answers n run c s o r found standing next e f i j k =
-    taken_then
-    ∙ ap (λ u. answered u (judged_in s n u) (next_after s.setup n (judged_in s n u) r.start o.next)) (sym i)
-    ∙ ap (λ t. answered found t (next_after s.setup n t r.start o.next)) (sym j)
+-- what a Report of a run that is out answers
+pub reported_run : (n run : ℕ) (c : Code) (s : State) (o : Scheduling) (r : OpenRun) → known n s ≡ Ok o → run_under run o.run ≡ Ok r
+    → step s (call.Report n run c) ≡ report_told n r.start c o.next s
+reported_run n run c s o r e f = rw (e, f) refl
+
+-- by the state that it finds, and by the standing and the next time that it makes
+pub told_answers : (n start : ℕ) (c : Code) (already : Option ℕ) (s : State) (found : rules.State) (standing : Standing) (next : Option ℕ)
+    → found ≡ found_in s n c → standing ≡ judged_in s n found → next ≡ next_after s.setup n standing start already
+    → report_told n start c already s ≡ (reported n found standing next s, standing_reply n standing next s)
+told_answers n start c already s found standing next i j k =
+    ap (λ u. answered u (judged_in s n u) (next_after s.setup n (judged_in s n u) start already)) (sym i)
+    ∙ ap (λ t. answered found t (next_after s.setup n t start already)) (sym j)
     ∙ ap (λ x. answered found standing x) (sym k)
   where
     answered : rules.State → Standing → Option ℕ → State × Reply
     answered u t x = (reported n u t x s, standing_reply n t x s)
-
-    taken_then : step s (call.Report n run c) ≡ report_taken n r.start c o s
-    taken_then = rw (e, f) refl
 
 -- ---- what is read at a place
 

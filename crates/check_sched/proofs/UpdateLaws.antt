@@ -1,11 +1,35 @@
 -- Laws of one place changed in a list, and of what is true at each place.
-use Rattle.std.proofs.Common.{◌≡◌, ℕ, zero, suc, ◌<◌, ◌≤◌, Bool, true, List, [], ◌∷◌, length, get_or, set, Some, None, refl, ap}
+use Rattle.std.proofs.Common.{◌≡◌, ◌≢◌, ℕ, zero, suc, ◌<◌, ◌≤◌, Bool, true, List, [], ◌∷◌, length, get_or, set, Some, None, refl, ap}
 use Rattle.std.proofs.Common.{subst, arith}
 use Rattle.std.specs.Prelude.{slice_get}
 use Rattle.std.specs.List.{list_all}
 use Rattle.std.proofs.lemmas.Bool.{and_parts, and_from}
 use Rattle.check_sched.specs.Step.{update_at}
-pub use Rattle.check_sched.specs.BoardLaws.{length-update_at, update_at_apart}
+
+pub length-update_at : {X : Type 0} (n : ℕ) (f : X → X) (xs : List X) → length (update_at n f xs) ≡ length xs
+length-update_at n f [] = refl
+length-update_at zero f (x ∷ xs) = refl
+length-update_at (suc n) f (x ∷ xs) = ap suc (length-update_at n f xs)
+
+-- what is read at another place than the one that changed
+pub update_at_apart : {X : Type 0} (n k : ℕ) (f : X → X) (xs : List X) → n ≢ k → slice_get (update_at n f xs) k ≡ slice_get xs k
+update_at_apart n k f [] h = refl
+update_at_apart zero zero f (x ∷ xs) h = absurd (h refl)
+update_at_apart zero (suc k) f (x ∷ xs) h = refl
+update_at_apart (suc n) zero f (x ∷ xs) h = refl
+update_at_apart (suc n) (suc k) f (x ∷ xs) h = update_at_apart n k f xs (λ e. h (ap suc e))
+
+-- a place that stays as it is
+pub update_at_still : {X : Type 0} (n : ℕ) (f : X → X) (xs : List X) → ((x : X) → slice_get xs n ≡ Some x → f x ≡ x) → update_at n f xs ≡ xs
+update_at_still n f [] h = refl
+update_at_still zero f (x ∷ xs) h = ap (λ y. y ∷ xs) (h x refl)
+update_at_still (suc n) f (x ∷ xs) h = ap (λ l. x ∷ l) (update_at_still n f xs h)
+
+-- what was put in a place is what is read there
+pub update_at_read : {X : Type 0} (n : ℕ) (y x : X) (xs : List X) → slice_get (update_at n (λ before. y) xs) n ≡ Some x → y ≡ x
+update_at_read n y x [] e = cc
+update_at_read zero y x (z ∷ xs) e = cc
+update_at_read (suc n) y x (z ∷ xs) e = update_at_read n y x xs e
 
 pub set_is_update : {X : Type 0} (n : ℕ) (f : X → X) (xs : List X) (d y : X) → n < length xs → y ≡ f (get_or xs n d) → set xs n y ≡ update_at n f xs
 set_is_update n f [] d y h e = absurd (omega arith)

@@ -7,10 +7,10 @@ pub mod Change
 pub mod Reply
 pub mod Report
 pub mod Step
+pub mod Steady
 pub mod Sched
 pub mod Runs
 pub mod Flapping
 pub mod Board
-pub mod BoardLaws
 pub mod Saved
 pub mod Places

@@ -1,7 +1,8 @@
 -- The scheduler of the code as contracts see it.
-use Rattle.std.specs.Prelude.{◌≡◌, length}
+use Rattle.std.specs.Prelude.{ℕ, ◌≡◌, length, true, Some, slice_get}
 use Rattle.check_objects.specs.Configuration.{host_count, object_count}
 use Rattle.check_sched.specs.State.{State, IsState}
+use Rattle.check_sched.specs.Steady.{IsSteadyIn}
 use Rattle.check_sched.specs.declared.sched.Sched.TheInside.{Inside}
 
 -- the state that the fields hold; the marks are scratch, and no part of it
@@ -22,3 +23,6 @@ pub record IsKept (s : Inside) : Type 0 where
   pub marks : length s.marks.items ≡ object_count s.setup
   -- the first objects are the hosts
   pub hosts : s.roster.hosts ≡ host_count s.setup
+  -- what is marked as steady is so
+  pub steady_each : length s.steady.items ≡ object_count s.setup
+  pub steady : (number : ℕ) → slice_get s.steady.items number ≡ Some true → IsSteadyIn (state_of s) number

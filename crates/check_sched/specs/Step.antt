@@ -152,13 +152,16 @@ found_in s number code = state_found s.setup s.standings number code
 abbrev pub judged_in : State → ℕ → rules.State → Standing
 judged_in s number found = judged s.setup s.standings number found (flaps_with s.setup s.standings s.results number found)
 
--- the answer to the result of a run that began at start
-abbrev pub report_taken : ℕ → ℕ → Code → Scheduling → State → State × Reply
-report_taken number start code o s =
+-- the answer to the result of a run that began at start, where the next time was set already or not
+abbrev pub report_told : ℕ → ℕ → Code → Option ℕ → State → State × Reply
+report_told number start code already s =
     let found = found_in s number code in
     let standing = judged_in s number found in
-    let next = next_after s.setup number standing start o.next in
+    let next = next_after s.setup number standing start already in
     (reported number found standing next s, standing_reply number standing next s)
+
+abbrev pub report_taken : ℕ → ℕ → Code → Scheduling → State → State × Reply
+report_taken number start code o s = report_told number start code o.next s
 
 abbrev pub report_answer : ℕ → ℕ → Code → State → Result (State × Reply) Refusal
 report_answer number run code s = known number s >>= λ o. (run_under run o.run >>= λ r. Ok (report_taken number r.start code o s))

@@ -1,6 +1,6 @@
 //! The last results of each object, by which it is told whether it flaps.
 
-ghost use Rattle.std.specs.Prelude.{◌≡◌, ◌<◌, ◌≤◌, List, [], IfOk, length, replicate};
+ghost use Rattle.std.specs.Prelude.{◌≡◌, ◌<◌, ◌≤◌, List, [], IfOk, length, replicate, true};
 ghost use Rattle.check_rules.specs.declared.state.State.{State};
 ghost use Rattle.check_rules.specs.Flapping.{is_flapping, kept_after};
 ghost use Rattle.check_sched.specs.State.{results_at};
@@ -64,6 +64,15 @@ impl Results {
     {
         self.rings[number as usize].add(found, was, thresholds)
     }
+
+    /// Whether the object with this number has as many results as are kept, and all are this state, so
+    /// that one more of it leaves them as they are.
+    pub(crate) fn are_all(&self, number: u32, state: State) -> bool
+        requires { number < length self.now }
+        ensures { result ≡ true → kept_after (results_at self.now number) state ≡ results_at self.now number }
+    {
+        self.rings[number as usize].are_all(state)
+    }
 }
 
 /// The last results of one object. Contracts see them as a list, the oldest first.
@@ -107,6 +116,13 @@ impl Ring {
         ensures { IfOk result (λ copy. copy.items ≡ self.now) }
     {
         self.results.to_vec(alloc)
+    }
+
+    /// Whether there are as many results as are kept, and all are this state.
+    fn are_all(&self, state: State) -> bool
+        ensures { result ≡ true → kept_after self.now state ≡ self.now }
+    {
+        self.results.are_all(state)
     }
 
     /// Keeps one more result, and tells whether the object flaps with it, as [`Results::add`] does.

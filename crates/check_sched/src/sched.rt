@@ -5,7 +5,7 @@ ghost use Rattle.std.specs.List.{All};
 ghost use Rattle.check_objects.specs.Configuration.{IsSetup, object_count};
 ghost use Rattle.check_spread.specs.Spread.{initial_times};
 ghost use Rattle.check_sched.specs.State.{IsStandingOf, IsState, next_of, objects_at, opening_objects, opening, opening_standings, run_number_of, standing_at};
-ghost use Rattle.check_saved.specs.Scheduling.{is_time};
+ghost use Rattle.check_saved.specs.Scheduling.{is_moment, is_time};
 ghost use Rattle.check_sched.specs.Step.{is_forced, known, step, with_object};
 ghost use Rattle.check_sched.specs.Change.{changed, is_quiet, keeps_timed};
 ghost use Rattle.check_sched.specs.Board.{board_of, place_of};
@@ -41,6 +41,8 @@ pub struct Sched {
     // call reads and writes stands behind what a setup says of services, with which it ends.
     results: Results,
     standings: Vec<Standing>,
+    /// Which objects an OK leaves as they stand, as far as reports found it.
+    steady: Vec<bool>,
     setup: Setup,
     roster: Roster,
     runs: u64,
@@ -86,12 +88,16 @@ impl Sched {
         let Ok(marks) = vec![in alloc; false; setup.len()] else {
             return Err(setup);
         };
+        let Ok(steady) = vec![in alloc; false; setup.len()] else {
+            return Err(setup);
+        };
         Ok(Sched {
             setup,
             start,
             roster,
             standings,
             results,
+            steady,
             runs: 0,
             marks,
         })
@@ -145,6 +151,7 @@ impl Sched {
         ensures refused { IfErr result (λ why. known number self.now ≡ Err why) }
         ensures there { OnOk result (number < object_count self.now.setup) }
         ensures times { IfOk result (λ object. IsTrue (is_time object.now.next)) }
+        ensures moments { IfOk result (λ object. IsTrue (is_moment object.now.run)) }
     {
         match self.roster.get(number) {
             Some(object) => Ok(object),

@@ -2,9 +2,11 @@
 
 ghost use Rattle.std.specs.Prelude.{◌≡◌, ◌+◌, ◌<◌, ◌≤◌, IfSome, IsTrue, Ok, OnOk, None, false, length, slice_set, true};
 ghost use Rattle.check_objects.specs.Configuration.{object_count};
-ghost use Rattle.check_sched.specs.State.{has_room};
+ghost use Rattle.check_rules.specs.Flapping.{kept_after};
+ghost use Rattle.check_sched.specs.State.{has_room, next_of, results_at};
+ghost use Rattle.check_sched.specs.Steady.{IsSteadyIn};
 ghost use Rattle.check_queue.specs.Order.{least};
-ghost use Rattle.check_sched.specs.Step.{eligible, is_forced, is_held_back, is_open, put_off, step, taken, waiting_reply, within_range};
+ghost use Rattle.check_sched.specs.Step.{eligible, is_forced, is_held_back, is_open, put_off, report_told, step, taken, waiting_reply, within_range};
 ghost use Rattle.check_sched.specs.Report.{put_off_until};
 ghost use Rattle.check_sched.specs.Reply.{NamesObjectOf, TellsTimesUpTo, reply_of};
 
@@ -13,7 +15,8 @@ use crate::call::{Call, Refusal, Reply};
 use crate::candidate::{Candidate, if_due};
 use crate::object_state::{Change, Run};
 use crate::report::{flap_thresholds, is_changed, judged, next_after, put_off_until, state_found};
-use check_rules::{Code, Standing, blocked};
+use crate::results::Results;
+use check_rules::{Code, Standing, State, blocked};
 use check_spread::{LAST_MOMENT, LAST_TIME};
 
 impl Sched {
@@ -135,21 +138,80 @@ impl Sched {
     {
         let state = self.object(object)?;
         let running = state.run_under(run)?;
+        let start = running.start();
         let already = state.next();
+        if code == Code::Ok && self.is_steady(object) {
+            Ok(self.stay(object, start, already))
+        } else {
+            Ok(self.judge(object, code, start, already))
+        }
+    }
+
+    /// Whether it is known that an OK leaves the object with this number as it stands.
+    fn is_steady(&self, object: u32) -> bool
+        requires { object < object_count self.now.setup }
+        ensures { result ≡ true → IsSteadyIn self.now object }
+    {
+        self.steady[object as usize]
+    }
+
+    /// Ends a run that began at `start` by an OK that leaves the object as it stands, except for its next
+    /// time, which may be set already.
+    fn stay(&mut self, object: u32, start: u64, already: Option<u64>) -> Reply
+        requires there { object < object_count self.old.setup }
+        requires moment { start ≤ LAST_MOMENT }
+        requires in_time { IfSome already (λ time. time ≤ LAST_TIME) }
+        requires already { next_of object self.old ≡ already }
+        requires steady { IsSteadyIn self.old object }
+        ensures state { self.new ≡ (report_told object start Code.Ok already self.old).0 }
+        ensures reply { result ≡ (report_told object start Code.Ok already self.old).1 }
+        ensures times { TellsTimesUpTo LAST_TIME result }
+    {
+        let standing = self.standing(object);
+        let next = next_after(&self.setup, object, standing, start, already);
+        self.change(object, Change::End(next));
+        Reply::Standing {
+            standing,
+            changed: false,
+            next,
+        }
+    }
+
+    /// Ends a run that began at `start` by the rules: standing and next time, which may be set already,
+    /// follow from what its code means.
+    // A call of its own, so that an OK which changes nothing doesn't pay for what this one keeps.
+    #[inline(never)]
+    fn judge(&mut self, object: u32, code: Code, start: u64, already: Option<u64>) -> Reply
+        requires there { object < object_count self.old.setup }
+        requires moment { start ≤ LAST_MOMENT }
+        requires in_time { IfSome already (λ time. time ≤ LAST_TIME) }
+        requires already { next_of object self.old ≡ already }
+        ensures state { self.new ≡ (report_told object start code already self.old).0 }
+        ensures reply { result ≡ (report_told object start code already self.old).1 }
+        ensures times { TellsTimesUpTo LAST_TIME result }
+    {
         let before = self.standings[object as usize];
         let found = state_found(&self.setup, &self.standings, object, code);
         let thresholds = flap_thresholds(&self.setup, object);
         let flapping = self.results.add(object, found, before.flapping, thresholds);
         let standing = judged(&self.setup, &self.standings, object, found, flapping);
         let changed = is_changed(before, standing);
-        let next = next_after(&self.setup, object, standing, running.start(), already);
+        let next = next_after(&self.setup, object, standing, start, already);
         self.roster.change(object, Change::End(next));
+        self.steady[object as usize] = is_steady_after(
+            &self.results,
+            object,
+            code,
+            found,
+            before,
+            standing,
+        );
         put_standing(&mut self.standings, object, standing);
-        Ok(Reply::Standing {
+        Reply::Standing {
             standing,
             changed,
             next,
-        })
+        }
     }
 
     /// Ends a run without a result.
@@ -165,6 +227,24 @@ impl Sched {
         self.change(object, Change::End(Some(next)));
         Ok(Reply::Freed { next })
     }
+}
+
+/// Whether the OK that made this standing of the one before leaves the object as it stands when it comes
+/// again: it did now, and all results that are kept are the state that it means.
+fn is_steady_after(
+    results: &Results,
+    number: u32,
+    code: Code,
+    found: State,
+    before: Standing,
+    after: Standing,
+) -> bool
+    requires { number < length results.now }
+    ensures ok { result ≡ true → code ≡ Code.Ok }
+    ensures same { result ≡ true → before ≡ after }
+    ensures kept { result ≡ true → kept_after (results_at results.now number) found ≡ results_at results.now number }
+{
+    code == Code::Ok && is_same(before, after) && results.are_all(number, found)
 }
 
 /// Puts the standing of an object in its place. One that stands there already isn't written again, so

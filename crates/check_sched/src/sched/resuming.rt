@@ -1,6 +1,6 @@
 //! A scheduler that goes on from what was saved of another.
 
-ghost use Rattle.std.specs.Prelude.{◌≡◌, ◌≤◌, ◌++◌, IfErr, IfOk, IfSome, OnOk, drop, length, map, option_map, take};
+ghost use Rattle.std.specs.Prelude.{◌≡◌, ◌≤◌, ◌++◌, IfErr, IfOk, IfSome, OnOk, drop, false, length, map, option_map, replicate, take};
 ghost use Rattle.check_objects.specs.Configuration.{IsSetup, host_count, object_count};
 ghost use Rattle.check_saved.specs.Saved.{IsSaved};
 ghost use Rattle.check_spread.specs.Spread.{initial_times};
@@ -23,6 +23,7 @@ use std::alloc::{AllocError, Global};
 #[derive(Drop)]
 struct Parts {
     marks: Vec<bool>,
+    steady: Vec<bool>,
     results: Results,
     standings: Vec<Standing>,
     roster: Roster,
@@ -60,6 +61,7 @@ impl Sched {
         };
         let Parts {
             marks,
+            steady,
             results,
             standings,
             roster,
@@ -70,6 +72,7 @@ impl Sched {
             roster,
             standings,
             results,
+            steady,
             runs: saved.runs(),
             marks,
         })
@@ -93,6 +96,7 @@ fn resumed_parts(
     ensures standings { IfOk result (λ parts. parts.standings.items ≡ standings_resumed setup.now saved.now) }
     ensures results { IfOk result (λ parts. parts.results ≡ results_resumed setup.now saved.now) }
     ensures marks { IfOk result (λ parts. length parts.marks.items ≡ object_count setup.now) }
+    ensures steady { IfOk result (λ parts. parts.steady.items ≡ replicate (object_count setup.now) false) }
 {
     // for the proof: what is true of everything that is saved
     saved.is_saved();
@@ -100,6 +104,7 @@ fn resumed_parts(
     let objects = resumed_objects(alloc, setup, saved, &places, start)?;
     Ok(Parts {
         marks: vec![in alloc; false; setup.len()]?,
+        steady: vec![in alloc; false; setup.len()]?,
         results: resumed_results(alloc, setup, saved, &places)?,
         standings: resumed_standings(alloc, setup, saved, &places)?,
         roster: Roster::new(alloc, setup.hosts(), objects)?,

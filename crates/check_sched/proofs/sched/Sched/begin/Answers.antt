@@ -17,6 +17,8 @@ invariant_of-self c =
           (taken_is_state c.args.now c.args.object s c.self.invariant.state c.requires.moment spare may);
       marks = c.self.invariant.marks;
       hosts = rw c.change.ensures c.self.invariant.hosts;
+      steady_each = c.self.invariant.steady_each;
+      steady = c.self.invariant.steady;
     }
 
 pub returns-clause-state : goal.returns-clause-state

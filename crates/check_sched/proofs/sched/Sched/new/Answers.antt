@@ -1,7 +1,9 @@
-use Rattle.std.proofs.Common.{[], replicate, refl, ap, arith, ◌∙◌}
+use Rattle.std.proofs.Common.{[], replicate, refl, sym, ap, arith, ◌∙◌}
+use Rattle.std.specs.Prelude.{slice_get}
 use Rattle.check_spread.specs.Spread.{initial_times}
 use Rattle.check_sched.specs.Roster.{RosterState}
 use Rattle.check_sched.proofs.OpeningLaws.{opened_few, opened_hosts, opened_is_state}
+use Rattle.check_sched.proofs.SteadyLaws.{none_marked}
 use Rattle.check_sched.proofs.sched.Sched.new.Goals as goal
 
 pub new-requires-clause-few : goal.new-requires-clause-few
@@ -27,4 +29,7 @@ invariant_of-result c =
           (c.in-Ok-none.ensures ∙ ap (λ count. replicate count []) c.len.ensures.count));
       marks = let l = c.in-Ok-vec.ensures.len in let m = c.len-2.ensures.count in omega (arith, l, m);
       hosts = ap (λ (r : RosterState). r.hosts) c.in-Ok-new.ensures ∙ c.hosts.ensures.count;
+      steady_each = let l = c.in-Ok-vec-2.ensures.len in let m = c.len-3.ensures.count in omega (arith, l, m);
+      steady = λ number set. absurd (none_marked c.len-3.result number
+          (sym (ap (λ marks. slice_get marks number) (c.in-Ok-vec-2.ensures.items_if_clones_equal (λ y e. e))) ∙ set));
     }

@@ -1,7 +1,7 @@
 use Rattle.std.proofs.Common.{◌<◌, ap, arith, length, sym, ◌∙◌}
 use Rattle.check_rules.specs.Board.{encoded}
 use Rattle.check_sched.specs.Board.{board_of}
-use Rattle.check_sched.specs.BoardLaws.{length-board_of, word_at}
+use Rattle.check_sched.proofs.BoardLaws.{length-board_of, word_at}
 use Rattle.check_sched.specs.Sched.{state_of}
 use Rattle.check_sched.proofs.ReportLaws.{standing_read}
 use Rattle.check_sched.proofs.sched.Sched.word.Goals as goal

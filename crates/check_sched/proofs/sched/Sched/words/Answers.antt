@@ -1,5 +1,5 @@
 use Rattle.std.proofs.Common.{sym, ◌∙◌}
-use Rattle.check_sched.specs.BoardLaws.{length-board_of}
+use Rattle.check_sched.proofs.BoardLaws.{length-board_of}
 use Rattle.check_sched.specs.Sched.{state_of}
 use Rattle.check_sched.proofs.sched.Sched.words.Goals as goal
 

@@ -1,7 +1,7 @@
 -- Laws of the board: which calls change which words.
-use Rattle.std.proofs.Common.{◌≡◌, ◌≢◌, ℕ, zero, suc, ◌+◌, ◌<◌, ◌==◌, Bool, true, false, cond, List, [], ◌∷◌, length, map, get_or, Option, Some, None}
-use Rattle.std.proofs.Common.{Result, Ok, Err, refl, sym, ap, subst, ◌∙◌, arith, get_or-set_same, get_or-set_other, length-set}
-use Rattle.std.specs.Prelude.{ok_or, slice_get, slice_index, slice_set, unwrap_or}
+use Rattle.std.proofs.Common.{◌≡◌, ◌≢◌, ℕ, ◌+◌, ◌<◌, ◌==◌, Bool, true, false, cond, List, length, map, get_or, Option, Some, None}
+use Rattle.std.proofs.Common.{refl, sym, ap, subst, ◌∙◌, arith, get_or-set_same, get_or-set_other, length-set}
+use Rattle.std.specs.Prelude.{slice_get, slice_index, slice_set, unwrap_or}
 use Rattle.std.specs.List.{range_with_len}
 use Rattle.std.proofs.lemmas.Bool.{eqb-true, eqb-false}
 use Rattle.std.proofs.lemmas.List.FromFn.{fill_by_all, get_or-map-range_with_len, length-map-range_with_len}
@@ -16,46 +16,16 @@ use Rattle.check_sched.specs.declared.call.Call.TheVariants as call
 use Rattle.check_sched.specs.declared.call.Reply.{Reply}
 use Rattle.check_sched.specs.declared.call.Reply.TheVariants as reply
 use Rattle.check_sched.specs.declared.call.Refusal.{Refusal}
-use Rattle.check_sched.specs.declared.call.Refusal.TheVariants as refusal
 use Rattle.check_sched.specs.Scheduling.{run_under}
 use Rattle.check_saved.specs.Scheduling.{Scheduling, OpenRun}
 use Rattle.check_sched.specs.Candidate.{Candidate}
 use Rattle.check_sched.specs.Report.{put_off_until}
 use Rattle.check_sched.specs.State.{State, standing_at}
-use Rattle.check_sched.specs.Step.{◌>>=◌, eligible, found_in, is_held_back, judged_in, known, put_off, report_taken, run_left, settled, step, take_least, taken}
+use Rattle.check_sched.specs.Step.{eligible, found_in, is_held_back, judged_in, known, put_off, report_taken, run_left, step, take_least, taken}
 use Rattle.check_sched.specs.Step.{update_at, within_range}
 use Rattle.check_sched.specs.Board.{board_of, place_by}
-
--- ---- one place changed in a list
-
-pub length-update_at : {X : Type 0} (n : ℕ) (f : X → X) (xs : List X) → length (update_at n f xs) ≡ length xs
-length-update_at n f [] = refl
-length-update_at zero f (x ∷ xs) = refl
-length-update_at (suc n) f (x ∷ xs) = ap suc (length-update_at n f xs)
-
--- what is read at another place than the one that changed
-pub update_at_apart : {X : Type 0} (n k : ℕ) (f : X → X) (xs : List X) → n ≢ k → slice_get (update_at n f xs) k ≡ slice_get xs k
-update_at_apart n k f [] h = refl
-update_at_apart zero zero f (x ∷ xs) h = absurd (h refl)
-update_at_apart zero (suc k) f (x ∷ xs) h = refl
-update_at_apart (suc n) zero f (x ∷ xs) h = refl
-update_at_apart (suc n) (suc k) f (x ∷ xs) h = update_at_apart n k f xs (λ e. h (ap suc e))
-
--- ---- refusals
-
--- What is true of every refusal, and of the answer where nothing is refused, is true of the step: one test after another.
-pub by_test : {A : Type 0} (P : State × Reply → Type 0) (s : State) (test : Result A Refusal) (more : A → Result (State × Reply) Refusal)
-    → ((why : Refusal) → P (s, reply.Refused why)) → ((x : A) → test ≡ Ok x → P (settled s (more x))) → P (settled s (test >>= more))
-by_test P s (Ok x) more refused passed = passed x refl
-by_test P s (Err why) more refused passed = refused why
-
-known_by : (found : Option Scheduling) (o : Scheduling) → ok_or found refusal.UnknownObject ≡ Ok o → found ≡ Some o
-known_by None o e = cc
-known_by (Some x) o e = let same : x ≡ o = cc in ap Some same
-
--- an object that is known is there
-pub known_is : (n : ℕ) (s : State) (o : Scheduling) → known n s ≡ Ok o → slice_get s.objects n ≡ Some o
-known_is n s o e = known_by (slice_get s.objects n) o e
+use Rattle.check_sched.proofs.AnswerLaws.{by_test, known_is}
+use Rattle.check_sched.proofs.UpdateLaws.{length-update_at, update_at_apart}
 
 -- ---- a board, place by place
 

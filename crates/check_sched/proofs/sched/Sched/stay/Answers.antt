@@ -1,0 +1,48 @@
+use Rattle.std.proofs.Common.{◌≡◌, ◌<◌, ◌∙◌, ap, arith, false, subst, sym}
+use Rattle.check_objects.specs.Configuration.{object_count}
+use Rattle.check_rules.specs.declared.state.Code.TheVariants as code
+use Rattle.check_sched.specs.declared.call.Reply.{Reply}
+use Rattle.check_sched.specs.declared.call.Reply.TheVariants as reply
+use Rattle.check_sched.specs.Report.{next_after}
+use Rattle.check_sched.specs.Scheduling.{ended}
+use Rattle.check_sched.specs.Sched.{state_of}
+use Rattle.check_sched.specs.State.{State, next_of, standing_at}
+use Rattle.check_sched.specs.Steady.{IsSteadyIn}
+use Rattle.check_sched.specs.Step.{report_told, with_object}
+use Rattle.check_sched.proofs.SteadyLaws.{report_timed, steady_answer}
+use Rattle.check_sched.proofs.sched.Sched.stay.Goals as goal
+
+pub change-requires-clause-timed : goal.change-requires-clause-timed
+change-requires-clause-timed c =
+    let s = state_of c.self.inside in
+    let already = ap (λ (t : State). next_of c.args.object t) c.self.view_is ∙ c.requires.already in
+    rw (c.next_after-next.ensures.value, ← c.self.view_is)
+    (report_timed s c.args.object c.args.start c.standing-standing.result c.args.already c.self.invariant.state already)
+
+-- the next time is that of the standing that stays
+next : (c : goal.After-change) → let s = state_of c.self.inside in
+    c.next_after-next.result ≡ next_after s.setup c.args.object (standing_at s.standings c.args.object) c.args.start c.args.already
+next c =
+    let standing = c.standing-standing.ensures.value ∙ ap (λ (t : State). standing_at t.standings c.args.object) (sym c.self.view_is) in
+    c.next_after-next.ensures.value ∙ ap (λ standing. next_after c.self.inside.setup c.args.object standing c.args.start c.args.already) standing
+
+-- what is answered
+answer : (c : goal.After-change) → let s = state_of c.self.inside in
+    report_told c.args.object c.args.start code.Ok c.args.already s
+    ≡ (with_object c.args.object (ended c.next_after-next.result) s, reply.Standing (standing_at s.standings c.args.object) false c.next_after-next.result)
+answer c =
+    let s = state_of c.self.inside in
+    let there : c.args.object < object_count c.self.inside.setup =
+    let count = ap (λ (t : State). object_count t.setup) c.self.view_is in omega (arith, c.requires.there, count) in
+    let steady = subst (λ t. IsSteadyIn t c.args.object) (sym c.self.view_is) c.requires.steady in
+    steady_answer s c.args.object c.args.start c.args.already there steady
+    ∙ (λ i. (with_object c.args.object (ended (sym (next c) i)) s, reply.Standing (standing_at s.standings c.args.object) false (sym (next c) i)))
+
+pub returns-clause-state : goal.returns-clause-state
+returns-clause-state c = rw (c.change.ensures, ← c.self.view_is) (ap (λ (a : State × Reply). a.0) (sym (answer c)))
+
+pub returns-clause-reply : goal.returns-clause-reply
+returns-clause-reply c =
+    let standing = c.standing-standing.ensures.value ∙ ap (λ (t : State). standing_at t.standings c.args.object) (sym c.self.view_is) in
+    rw (← c.self.view_is)
+    (ap (λ standing. reply.Standing standing false c.next_after-next.result) standing ∙ ap (λ (a : State × Reply). a.1) (sym (answer c)))
