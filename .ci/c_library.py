@@ -5,7 +5,7 @@
 
 With --proved the library is built over what `rt ci` has just proved in this tree, by `tools/build_c.sh --proved`.
 
-The examples, in C with four workers and an operator and in Python with two workers, tell their histories: each caller's entries
+The examples, in C with four workers and an operator and in Python with two workers, tell their histories: each pass's entries
 are its calls, runs are 1, 2, 3 and on, and the answers are what the program answers to the same calls in that order. Mistakes change
 nothing; each request for memory is refused in turn; the conformance cases of `run` are answered alike by the library. Header, Python
 file and definition have the same numbers; two threads read the same handles at once, under ThreadSanitizer where the compiler has it.
@@ -102,9 +102,9 @@ def defined_numbers():
 
 
 def same_numbers(held):
-    """Header, Python file and definition give each name the same number."""
+    """Header, Python package and definition give each name the same number."""
     header = numbers_of(HEADER.read_text(encoding="utf-8"), r"^enum (\w+) \{(.*?)\};")
-    python = numbers_of((BINDING / "nagsched.py").read_text(encoding="utf-8"), r"^class (\w+)\(enum.IntEnum\):(.*?)\n\n\n")
+    python = numbers_of((BINDING / "nagsched" / "kinds.py").read_text(encoding="utf-8"), r"^class (\w+)\(enum.IntEnum\):(.*?)(?:\n\n\n|\Z)")
     defined = defined_numbers()
     held.compare("enumerations in Python", sorted(python), sorted(name for name, *_ in ENUMERATIONS.values()))
     held.compare("enumerations of the header", sorted(ENUMERATIONS), sorted(header))
@@ -142,12 +142,12 @@ def surface(held, library):
 
 
 def split(history):
-    """The calls and answers of a history as the examples tell it, each with its caller."""
-    entry = collections.namedtuple("entry", "call caller answer")
+    """The calls and answers of a history as the examples tell it, each with its pass."""
+    entry = collections.namedtuple("entry", "call pass_number answer")
     for line in history:
         call, told = line.split("\t")
-        caller, answer = told.split(" ", 1)
-        yield entry(call, int(caller), answer)
+        number, answer = told.split(" ", 1)
+        yield entry(call, int(number), answer)
 
 
 def of_worker(answers, minutes, code):
@@ -181,16 +181,16 @@ def told_by(held, what, text, minutes, code):
     held.compare(f"{what}: the program's answers", (answered, 0), held.run(["run"], script))
     runs = [int(entry.answer.split(" ")[1]) for entry in entries if entry.answer.startswith("taken ")]
     held.compare(f"{what}: runs", list(range(1, len(runs) + 1)), runs)
-    by_caller = collections.defaultdict(list)
+    by_pass = collections.defaultdict(list)
     for entry in entries:
-        by_caller[entry.caller].append(entry)
+        by_pass[entry.pass_number].append(entry)
     workers = WORKERS[what.split(",")[0]]
-    held.compare(f"{what}: callers", list(range(workers + (workers == 4))), sorted(by_caller))
-    for caller in range(workers):
-        mine = by_caller[caller]
+    held.compare(f"{what}: passes", list(range(workers + (workers == 4))), sorted(by_pass))
+    for number in range(workers):
+        mine = by_pass[number]
         wanted = list(of_worker(iter([entry.answer for entry in mine]), minutes, code))
-        held.compare(f"{what}: the calls of {caller}", wanted, [entry.call for entry in mine])
-    return by_caller
+        held.compare(f"{what}: the calls of {number}", wanted, [entry.call for entry in mine])
+    return by_pass
 
 
 def operator(held, what, mine, minutes):
@@ -207,8 +207,8 @@ def examples(held, library):
         for minutes in MINUTES:
             what, made = f"embed.c, {how}, {minutes}", ran(program, minutes)
             held.compare(f"{what}: status", (0, b""), (made.returncode, made.stderr))
-            by_caller = told_by(held, what, made.stdout, minutes, lambda run: 0 if run % 5 < 3 else 2)
-            operator(held, what, by_caller[WORKERS["embed.c"]], minutes)
+            by_pass = told_by(held, what, made.stdout, minutes, lambda run: 0 if run % 5 < 3 else 2)
+            operator(held, what, by_pass[WORKERS["embed.c"]], minutes)
     for minutes in MINUTES:
         what, made = f"embed.py, {minutes}", library.in_python(EXAMPLES / "embed.py", minutes)
         held.compare(f"{what}: status", 0, made.returncode)
@@ -224,7 +224,7 @@ def counting(held, what, made):
 
 
 def mistakes(held, library):
-    """Each mistake, in C and in Python, texts that no case comes to, desks of several callers, books, and each request for memory refused."""
+    """Each mistake, in C and in Python, texts that no case comes to, desks of several passes, books, and each request for memory refused."""
     common = [f"-I{TESTS}/c", library.archive]
     counting(held, "mistakes in C", ran(library.compiled(TESTS / "c" / "wrong.c", *common, *COUNTED)))
     counting(held, "texts in C", ran(library.compiled(TESTS / "c" / "texts.c", *common)))

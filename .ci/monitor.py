@@ -58,7 +58,7 @@ def complaints():
     if not shutil.which("mypy"):
         print("monitor: passed over what mypy says of the types, which isn't here")
         return ""
-    checks = [(["nagsched_monitor", "tests"], TOP / "monitor", ""), (["bindings/python/nagsched.py", "examples/loop.py"], TOP, "bindings/python")]
+    checks = [(["nagsched_monitor", "tests"], TOP / "monitor", ""), (["bindings/python/nagsched", "examples/loop.py"], TOP, "bindings/python")]
     told = ""
     with tempfile.TemporaryDirectory() as cache:
         for files, folder, path in checks:

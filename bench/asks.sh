@@ -5,9 +5,9 @@
 #   BEFORE=FOLDER               where another build of it lies: a row more, by turns with ours
 # Microseconds of a call, takes and reports alike, over 4, 16 and 4,096 objects on all cores, and over 16 on two cores:
 # the time of the slowest thread, by the calls of all. Nothing is read or written meanwhile. The rows, by turns:
-#   desk     each thread has a caller of its own
-#   apart    the same, where no two of these callers share a cache line
-#   ticket   all threads use one caller, behind a ticket lock of C's that yields while it waits
+#   desk     each thread has a pass of its own
+#   apart    the same, where no two of these passes share a cache line
+#   ticket   all threads use one pass, behind a ticket lock of C's that yields while it waits
 #   mutex    the same behind a mutex
 #   before   as desk, by the other build
 set -eu -o pipefail

@@ -3,11 +3,11 @@
  *
  *     c_asks WORKLOAD THREADS OBJECTS TAKES [untimed]     prints ns=TIME ops=CALLS sum=SUM, the slowest thread's time
  *
- * one     one caller takes a check at the time of the first object and reports it: the calls of the workload `cycle` of nagsched_bench
- * turns   as one, by two callers that share no cache line, in one thread: each for one check, after the other's
- * desk    TAKES takes, each with its report, divided among the threads, each by a caller of its own
- * apart   as desk, where the callers that are used don't share a cache line
- * ticket  as desk, but all threads use one caller, behind a ticket lock that yields while it waits
+ * one     one pass takes a check at the time of the first object and reports it: the calls of the workload `cycle` of nagsched_bench
+ * turns   as one, by two passes that share no cache line, in one thread: each for one check, after the other's
+ * desk    TAKES takes, each with its report, divided among the threads, each by a pass of its own
+ * apart   as desk, where the passes that are used don't share a cache line
+ * ticket  as desk, but all threads use one pass, behind a ticket lock that yields while it waits
  * mutex   the same behind a mutex
  * glance  each thread glances TAKES times, while one thread more takes and reports; with 0 threads one glances alone
  * entry   makes no call: prints the bytes that an entry of the history takes, by what a desk with room for TAKES of them asks for
@@ -29,13 +29,13 @@ enum { MOST_THREADS = 64, APART = 8, MINUTES_5 = 300000, GLANCES_A_CHECK = 20 };
 static const char *workload;
 static uint32_t objects;
 static uint64_t takes;
-static struct nagsched_handle callers[MOST_THREADS * APART];
+static struct nagsched_handle passes[MOST_THREADS * APART];
 static pthread_mutex_t mutex = PTHREAD_MUTEX_INITIALIZER;
 static struct { _Alignas(128) atomic_ullong next; _Alignas(128) atomic_ullong served; } ticket;
 static pthread_barrier_t all_there;
 
 struct thread {
-    _Alignas(128) struct nagsched_handle *caller;
+    _Alignas(128) struct nagsched_handle *pass;
     uint64_t takes, calls, sum, ns;
     pthread_t id;
 };
@@ -75,11 +75,11 @@ static void read_setup(struct nagsched_handle *setup) {
 #define CYCLE(me, now, TAKE, REPORT)                                    \
     do {                                                                \
         struct nagsched_reply reply;                                    \
-        must(TAKE((me)->caller, (now), &reply));                        \
+        must(TAKE((me)->pass, (now), &reply));                        \
         (me)->calls++;                                                  \
         if (reply.kind == NAGSCHED_REPLY_TAKEN) {                       \
             const uint32_t object = reply.object;                       \
-            must(REPORT((me)->caller, object, reply.run, 0, &reply));   \
+            must(REPORT((me)->pass, object, reply.run, 0, &reply));   \
             (me)->calls++;                                              \
             (me)->sum = ((me)->sum ^ object) * 0x100000001B3u;          \
         }                                                               \
@@ -98,33 +98,33 @@ static uint64_t ticket_lock(void) {
     return mine;
 }
 
-static uint32_t ticket_take(struct nagsched_handle *caller, uint64_t now, struct nagsched_reply *reply) {
+static uint32_t ticket_take(struct nagsched_handle *pass, uint64_t now, struct nagsched_reply *reply) {
     uint32_t status;
     uint64_t mine;
-    LOCKED(mine = ticket_lock(), atomic_store_explicit(&ticket.served, mine + 1, memory_order_release), nagsched_take(caller, now, reply));
+    LOCKED(mine = ticket_lock(), atomic_store_explicit(&ticket.served, mine + 1, memory_order_release), nagsched_take(pass, now, reply));
     return status;
 }
 
-static uint32_t ticket_report(struct nagsched_handle *caller, uint32_t object, uint64_t run, uint32_t code, struct nagsched_reply *reply) {
+static uint32_t ticket_report(struct nagsched_handle *pass, uint32_t object, uint64_t run, uint32_t code, struct nagsched_reply *reply) {
     uint32_t status;
     uint64_t mine;
-    LOCKED(mine = ticket_lock(), atomic_store_explicit(&ticket.served, mine + 1, memory_order_release), nagsched_report(caller, object, run, code, reply));
+    LOCKED(mine = ticket_lock(), atomic_store_explicit(&ticket.served, mine + 1, memory_order_release), nagsched_report(pass, object, run, code, reply));
     return status;
 }
 
-static uint32_t mutex_take(struct nagsched_handle *caller, uint64_t now, struct nagsched_reply *reply) {
+static uint32_t mutex_take(struct nagsched_handle *pass, uint64_t now, struct nagsched_reply *reply) {
     uint32_t status;
-    LOCKED(pthread_mutex_lock(&mutex), pthread_mutex_unlock(&mutex), nagsched_take(caller, now, reply));
+    LOCKED(pthread_mutex_lock(&mutex), pthread_mutex_unlock(&mutex), nagsched_take(pass, now, reply));
     return status;
 }
 
-static uint32_t mutex_report(struct nagsched_handle *caller, uint32_t object, uint64_t run, uint32_t code, struct nagsched_reply *reply) {
+static uint32_t mutex_report(struct nagsched_handle *pass, uint32_t object, uint64_t run, uint32_t code, struct nagsched_reply *reply) {
     uint32_t status;
-    LOCKED(pthread_mutex_lock(&mutex), pthread_mutex_unlock(&mutex), nagsched_report(caller, object, run, code, reply));
+    LOCKED(pthread_mutex_lock(&mutex), pthread_mutex_unlock(&mutex), nagsched_report(pass, object, run, code, reply));
     return status;
 }
 
-/* One caller's checks, each taken when the first object is due. */
+/* One pass's checks, each taken when the first object is due. */
 static void report_often(struct thread *me) {
     uint64_t now = 0;
     uint32_t left = objects - 1;
@@ -132,7 +132,7 @@ static void report_often(struct thread *me) {
     for (uint64_t cycle = 0; cycle < me->takes; cycle++) {
         if (left == 0) left = objects - 1, now += MINUTES_5;
         left--;
-        if (by_turns) me->caller = &callers[cycle % 2 * APART];
+        if (by_turns) me->pass = &passes[cycle % 2 * APART];
         CYCLE(me, now, nagsched_take, nagsched_report);
     }
 }
@@ -140,7 +140,7 @@ static void report_often(struct thread *me) {
 static void glance_often(struct thread *me) {
     struct nagsched_standing standing;
     for (uint64_t glance = 0; glance < me->takes; glance++) {
-        must(nagsched_glance(me->caller, (uint32_t)(glance % objects), &standing));
+        must(nagsched_glance(me->pass, (uint32_t)(glance % objects), &standing));
         me->sum += standing.attempt;
     }
     me->calls = me->takes;
@@ -151,7 +151,7 @@ static void *work(void *given) {
     pthread_barrier_wait(&all_there);
     const uint64_t begun = now_ns();
     uint64_t now = 0;
-    if (is("one") || is("turns") || (is("glance") && me->caller == callers && me[1].caller)) {
+    if (is("one") || is("turns") || (is("glance") && me->pass == passes && me[1].pass)) {
         report_often(me);
     } else if (is("glance")) {
         glance_often(me);
@@ -179,14 +179,14 @@ int main(int argc, char **argv) {
     read_setup(&setup);
     if (is("entry")) {
         const size_t before = mallinfo2().hblkhd;
-        must(nagsched_open(&setup, 0, (size_t)takes, callers, 1));
+        must(nagsched_open(&setup, 0, (size_t)takes, passes, 1));
         printf("%zu\n", (mallinfo2().hblkhd - before) / (size_t)takes);
         return 0;
     }
-    must(nagsched_open(&setup, 0, glances ? 0 : (size_t)takes * 2, callers, (size_t)(shared ? 1 : is("turns") ? APART + 1 : count * apart)));
+    must(nagsched_open(&setup, 0, glances ? 0 : (size_t)takes * 2, passes, (size_t)(shared ? 1 : is("turns") ? APART + 1 : count * apart)));
     pthread_barrier_init(&all_there, NULL, (unsigned)count);
     for (int at = 0; at < count; at++) {
-        threads[at].caller = &callers[shared ? 0 : at * apart];
+        threads[at].pass = &passes[shared ? 0 : at * apart];
         threads[at].sum = !glances;
         threads[at].takes = glances && at == 0 && count > 1 ? takes / GLANCES_A_CHECK : glances ? takes : takes / (uint64_t)count;
     }

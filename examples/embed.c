@@ -22,7 +22,7 @@ SIZE(nagsched_reply, 56); AT(nagsched_reply, run, 8); AT(nagsched_reply, time, 1
 AT(nagsched_reply, changed, 28); AT(nagsched_reply, standing, 32);
 SIZE(nagsched_entry, 96); AT(nagsched_entry, call, 8); AT(nagsched_entry, reply, 40);
 
-enum { WORKERS = 4, CALLERS = WORKERS + 1, MINUTE = 60000 };
+enum { WORKERS = 4, PASSES = WORKERS + 1, MINUTE = 60000 };
 
 /* A machine room, which is never checked itself, and its thermometers. */
 static const char ROOM[] = "{\"options\":{\"service_inter_check_delay_method\":\"n\"},"
@@ -31,7 +31,7 @@ static const char ROOM[] = "{\"options\":{\"service_inter_check_delay_method\":\
                            "{\"host\":\"room\",\"description\":\"rack\",\"check_interval\":1,\"max_check_attempts\":3}]}";
 
 struct thread {
-    struct nagsched_handle *caller;
+    struct nagsched_handle *pass;
     uint32_t object;   /* the operator's: the thermometer at the door */
     uint64_t minutes;
     pthread_t id;
@@ -54,9 +54,9 @@ static void *work(void *given) {
     struct thread *me = given;
     struct nagsched_reply reply;
     for (uint64_t minute = 0; minute < me->minutes; minute++) {
-        must(nagsched_take(me->caller, minute * MINUTE, &reply), "take");
+        must(nagsched_take(me->pass, minute * MINUTE, &reply), "take");
         if (reply.kind != NAGSCHED_REPLY_TAKEN) continue;
-        must(nagsched_report(me->caller, reply.object, reply.run, check(reply.run), &reply), "report");
+        must(nagsched_report(me->pass, reply.object, reply.run, check(reply.run), &reply), "report");
     }
     return NULL;
 }
@@ -67,14 +67,14 @@ static void *operate(void *given) {
     struct nagsched_reply reply;
     struct nagsched_standing door;
     for (uint64_t minute = 0; minute < me->minutes; minute++) {
-        must(nagsched_glance(me->caller, me->object, &door), "glance");
-        must(nagsched_enable(me->caller, me->object, door.state == NAGSCHED_STATE_OK, &reply), "enable");
-        must(nagsched_reschedule(me->caller, me->object, minute * MINUTE, 1, &reply), "reschedule");
-        must(nagsched_take(me->caller, minute * MINUTE, &reply), "take");
+        must(nagsched_glance(me->pass, me->object, &door), "glance");
+        must(nagsched_enable(me->pass, me->object, door.state == NAGSCHED_STATE_OK, &reply), "enable");
+        must(nagsched_reschedule(me->pass, me->object, minute * MINUTE, 1, &reply), "reschedule");
+        must(nagsched_take(me->pass, minute * MINUTE, &reply), "take");
         if (reply.kind == NAGSCHED_REPLY_TAKEN) {
-            must(nagsched_abandon(me->caller, reply.object, reply.run, minute * MINUTE, &reply), "abandon");
+            must(nagsched_abandon(me->pass, reply.object, reply.run, minute * MINUTE, &reply), "abandon");
         }
-        must(nagsched_status(me->caller, me->object, &reply), "status");
+        must(nagsched_status(me->pass, me->object, &reply), "status");
     }
     return NULL;
 }
@@ -113,24 +113,24 @@ static void write_history(const struct nagsched_handle *book) {
 
 int main(int argc, char **argv) {
     const uint64_t minutes = argc > 1 ? strtoull(argv[1], NULL, 10) : 3;
-    struct nagsched_handle setup = NAGSCHED_EMPTY, callers[CALLERS];
+    struct nagsched_handle setup = NAGSCHED_EMPTY, passes[PASSES];
     struct nagsched_refusal refusal;
-    struct thread threads[CALLERS];
+    struct thread threads[PASSES];
     uint32_t door;
     if (nagsched_version() != NAGSCHED_VERSION) return 1;
-    memset(callers, 0, sizeof callers);
+    memset(passes, 0, sizeof passes);
     must(nagsched_read((const uint8_t *)ROOM, strlen(ROOM), &setup, &refusal), "read");
     must(nagsched_number(&setup, (const uint8_t *)"room;door", strlen("room;door"), &door), "number");
-    must(nagsched_open(&setup, 0, 1000, callers, CALLERS), "open");
-    for (size_t at = 0; at < CALLERS; at++) {
-        threads[at] = (struct thread){.caller = &callers[at], .object = door, .minutes = minutes};
+    must(nagsched_open(&setup, 0, 1000, passes, PASSES), "open");
+    for (size_t at = 0; at < PASSES; at++) {
+        threads[at] = (struct thread){.pass = &passes[at], .object = door, .minutes = minutes};
         if (pthread_create(&threads[at].id, NULL, at < WORKERS ? work : operate, &threads[at]) != 0) return 1;
     }
-    for (size_t at = 0; at < CALLERS; at++) pthread_join(threads[at].id, NULL);
-    for (size_t at = 1; at < CALLERS; at++) must(nagsched_gather(&callers[0], &callers[at]), "gather");
-    must(nagsched_close(&callers[0]), "close");
+    for (size_t at = 0; at < PASSES; at++) pthread_join(threads[at].id, NULL);
+    for (size_t at = 1; at < PASSES; at++) must(nagsched_gather(&passes[0], &passes[at]), "gather");
+    must(nagsched_close(&passes[0]), "close");
     puts(ROOM);
-    write_history(&callers[0]);
-    must(nagsched_free(&callers[0]), "free");
+    write_history(&passes[0]);
+    must(nagsched_free(&passes[0]), "free");
     return 0;
 }

@@ -28,8 +28,8 @@ extern char **environ;
 enum { WORKERS = 4, ROOM = 10000, TEXT = 1024, LIMIT_MS = 5000, GENERATION_MS = 2000, AT_LIMIT_MS = 1000 };
 
 struct monitor {
-    struct nagsched_handle callers[2][WORKERS]; /* of the desk: each is opened from the book that the one before becomes */
-    size_t generation;                          /* the desk is that of callers[generation % 2] */
+    struct nagsched_handle passes[2][WORKERS];  /* of the desk: each is opened from the book that the one before becomes */
+    size_t generation;                          /* the desk is that of passes[generation % 2] */
     pthread_rwlock_t desk;                      /* of both: held to read by whoever makes a call, to write while the desk is closed */
     pthread_mutex_t lock;                       /* of what follows */
     pthread_cond_t news;                        /* a result came, or the end */
@@ -44,9 +44,9 @@ struct worker {
     pthread_t thread;
 };
 
-/* The callers of the desk that is open now. */
-static struct nagsched_handle *callers(struct monitor *monitor) {
-    return monitor->callers[monitor->generation % 2];
+/* The passes of the desk that is open now. */
+static struct nagsched_handle *passes(struct monitor *monitor) {
+    return monitor->passes[monitor->generation % 2];
 }
 
 static void must(uint32_t status, const char *what) {
@@ -102,17 +102,17 @@ static void check(const struct worker *me, const struct nagsched_reply *taken) {
     uint8_t name[TEXT], text[TEXT];
     size_t length;
     pthread_rwlock_rdlock(&monitor->desk);
-    must(nagsched_name(&callers(monitor)[me->place], taken->object, name, sizeof name - 1, &length), "name");
+    must(nagsched_name(&passes(monitor)[me->place], taken->object, name, sizeof name - 1, &length), "name");
     pthread_rwlock_unlock(&monitor->desk);
     name[length] = '\0';
     int code = run_plugin(monitor, (const char *)name); /* nothing is held meanwhile: the desk may be closed and opened again */
     pthread_rwlock_rdlock(&monitor->desk);
-    struct nagsched_handle *caller = &callers(monitor)[me->place];
+    struct nagsched_handle *pass = &passes(monitor)[me->place];
     if (code < 0) {
-        must(nagsched_abandon(caller, taken->object, taken->run, now(), &reply), "abandon");
+        must(nagsched_abandon(pass, taken->object, taken->run, now(), &reply), "abandon");
     } else {
-        must(nagsched_report(caller, taken->object, taken->run, (uint32_t)code, &reply), "report");
-        must(nagsched_reply_text(caller, &call, &reply, text, sizeof text, &length), "reply_text");
+        must(nagsched_report(pass, taken->object, taken->run, (uint32_t)code, &reply), "report");
+        must(nagsched_reply_text(pass, &call, &reply, text, sizeof text, &length), "reply_text");
         printf("%.*s", (int)length, text);
     }
     pthread_rwlock_unlock(&monitor->desk);
@@ -149,7 +149,7 @@ static void *work(void *given) {
         if (is_ended) return NULL;
         const uint64_t moment = now();
         pthread_rwlock_rdlock(&monitor->desk);
-        must(nagsched_take(&callers(monitor)[me->place], moment, &reply), "take");
+        must(nagsched_take(&passes(monitor)[me->place], moment, &reply), "take");
         pthread_rwlock_unlock(&monitor->desk);
         if (reply.kind == NAGSCHED_REPLY_TAKEN) {
             check(me, &reply);
@@ -206,14 +206,14 @@ static void save(const struct nagsched_handle *book, const char *path) {
 static void begin_generation(struct monitor *monitor, const char *path) {
     struct nagsched_handle history = NAGSCHED_EMPTY;
     pthread_rwlock_wrlock(&monitor->desk);
-    struct nagsched_handle *before = callers(monitor);
+    struct nagsched_handle *before = passes(monitor);
     for (size_t at = 1; at < WORKERS; at++) must(nagsched_gather(&before[0], &before[at]), "gather");
     must(nagsched_close(&before[0]), "close");
     save(&before[0], path);
     must(nagsched_renew(&before[0], ROOM, &history), "renew");
     must(nagsched_free(&history), "free"); /* who keeps histories writes its entries out first */
     monitor->generation++;
-    must(nagsched_open(&before[0], 0, 0, callers(monitor), WORKERS), "open");
+    must(nagsched_open(&before[0], 0, 0, passes(monitor), WORKERS), "open");
     pthread_rwlock_unlock(&monitor->desk);
 }
 
@@ -240,7 +240,7 @@ static void open_desk(struct monitor *monitor, const char *setup_path, const cha
     free(document);
     uint8_t *state = read_file(state_path, &bytes);
     if (state == NULL) {
-        must(nagsched_open(&setup, now(), ROOM, callers(monitor), WORKERS), "open");
+        must(nagsched_open(&setup, now(), ROOM, passes(monitor), WORKERS), "open");
         return;
     }
     status = nagsched_resume(&setup, state, bytes, now(), ROOM, &book, &refusal);
@@ -254,24 +254,24 @@ static void open_desk(struct monitor *monitor, const char *setup_path, const cha
         status = nagsched_running(&book, object, &runs[object], &start);
         if (status != NAGSCHED_MISSING) must(status, "running");
     }
-    must(nagsched_open(&book, 0, 0, callers(monitor), WORKERS), "open");
+    must(nagsched_open(&book, 0, 0, passes(monitor), WORKERS), "open");
     for (uint32_t object = 0; object < objects; object++) {
-        if (runs[object] != 0) must(nagsched_abandon(&callers(monitor)[0], object, runs[object], now(), &reply), "abandon");
+        if (runs[object] != 0) must(nagsched_abandon(&passes(monitor)[0], object, runs[object], now(), &reply), "abandon");
     }
     free(runs);
 }
 
 /* Prints how each object stands. */
-static void print_standings(struct nagsched_handle *caller) {
+static void print_standings(struct nagsched_handle *pass) {
     struct nagsched_reply reply;
     uint32_t objects, hosts;
     uint8_t text[TEXT];
     size_t length;
-    must(nagsched_count(caller, &objects, &hosts), "count");
+    must(nagsched_count(pass, &objects, &hosts), "count");
     for (uint32_t object = 0; object < objects; object++) {
         const struct nagsched_call call = {.kind = NAGSCHED_CALL_STATUS, .object = object};
-        must(nagsched_status(caller, object, &reply), "status");
-        must(nagsched_reply_text(caller, &call, &reply, text, sizeof text, &length), "reply_text");
+        must(nagsched_status(pass, object, &reply), "status");
+        must(nagsched_reply_text(pass, &call, &reply, text, sizeof text, &length), "reply_text");
         printf("at the end %.*s", (int)length, text);
     }
 }
@@ -300,8 +300,8 @@ int main(int argc, char **argv) {
     pthread_cond_broadcast(&monitor.news);
     pthread_mutex_unlock(&monitor.lock);
     for (size_t at = 0; at < WORKERS; at++) pthread_join(workers[at].thread, NULL);
-    print_standings(&callers(&monitor)[0]);
+    print_standings(&passes(&monitor)[0]);
     begin_generation(&monitor, argv[2]);
-    for (size_t at = 0; at < WORKERS; at++) must(nagsched_free(&callers(&monitor)[at]), "free");
+    for (size_t at = 0; at < WORKERS; at++) must(nagsched_free(&passes(&monitor)[at]), "free");
     return 0;
 }

@@ -1,21 +1,21 @@
 /* nagsched: the proved scheduler of active checks, for C and for whatever can call C.
  *
- * One desk is shared by any number of threads. Each has a handle of its own, a caller, and makes the six
- * calls by it: take, report, abandon, reschedule, enable, status. The answers are those of one thread that
+ * One desk is shared by any number of threads. Each has a pass of its own, a handle by which it makes the six
+ * calls: take, report, abandon, reschedule, enable, status. The answers are those of one thread that
  * makes all calls one after another, and the desk keeps them all, with their calls, in that order.
  *
- *     struct nagsched_handle setup = NAGSCHED_EMPTY, callers[2] = {NAGSCHED_EMPTY, NAGSCHED_EMPTY};
+ *     struct nagsched_handle setup = NAGSCHED_EMPTY, passes[2] = {NAGSCHED_EMPTY, NAGSCHED_EMPTY};
  *     struct nagsched_refusal refusal;
  *     nagsched_read(document, bytes, &setup, &refusal);     REFUSED: nagsched_refusal_text has why
- *     nagsched_open(&setup, now, 1000, callers, 2);         a desk, and a caller for each of two threads
- *     nagsched_take(&callers[0], now, &reply);              in a thread; and so on with its reply
- *     nagsched_gather(&callers[0], &callers[1]);            when the threads have ended
- *     nagsched_close(&callers[0]);                          now it is a book, with the history
- *     nagsched_free(&callers[0]);
+ *     nagsched_open(&setup, now, 1000, passes, 2);          a desk, and a pass for each of two threads
+ *     nagsched_take(&passes[0], now, &reply);               in a thread; and so on with its reply
+ *     nagsched_gather(&passes[0], &passes[1]);              when the threads have ended
+ *     nagsched_close(&passes[0]);                           now it is a book, with the history
+ *     nagsched_free(&passes[0]);
  *
  * A program that runs for months does this again and again, since the history grows by an entry of 56 bytes for each call, also for a take that
  * was answered IDLE: it lets no call be made for a moment, gathers, closes, saves, renews the book (nagsched_renew hands the entries out) and opens
- * a desk on it; the new callers have all their calls again, too. examples/loop.c is such a program. Plugins may run meanwhile.
+ * a desk on it; the new passes have all their calls again, too. examples/loop.c is such a program. Plugins may run meanwhile.
  *
  * Moments and times are milliseconds of one clock that the caller chooses, 0 to 2^60; a next check may be as late as 2^61. Moments needn't rise from
  * call to call: each call goes by its own. A saved state has moments in it, so its clock has to go on over restarts of program and machine: begin at
@@ -28,7 +28,7 @@
  *
  * Which calls may run at the same time:
  *
- *     with different handles            any, also of callers of the same desk: that is what a desk is for
+ *     with different handles            any, also of passes of the same desk: that is what a desk is for
  *     with the same handle, const       any that take it as const, in any number of threads
  *     with the same handle, otherwise   one at a time; another thread may make the next one if it comes after by a lock, a start or
  *                                       a join
@@ -59,10 +59,10 @@ extern "C" {
  *
  * 2 has all that 1 has, and besides nagsched_save, nagsched_resume, nagsched_running and the refusals 11 to 19, which only
  * nagsched_resume gives. A program that was linked with libnagsched.so.1 goes on with that one, and doesn't load libnagsched.so.2;
- * compiled again with this header it runs as it did. */
+ * compiled again with this header it runs as it did, where it says pass for what 1 called the caller of an entry. */
 #define NAGSCHED_VERSION 2u
 
-/* A setup, a caller, a book or a history; zeroed it is empty. */
+/* A setup, a pass, a book or a history; zeroed it is empty. */
 struct nagsched_handle {
     void *at;
     uint64_t full;
@@ -75,10 +75,10 @@ struct nagsched_handle {
 enum nagsched_result {
     NAGSCHED_OK = 0,
     NAGSCHED_WAIT = 1,      /* the turn hasn't come: the same call again */
-    NAGSCHED_SPENT = 2,     /* the caller has no call left */
+    NAGSCHED_SPENT = 2,     /* the pass has no call left */
     NAGSCHED_NO_MEMORY = 3, /* memory was refused; of the six calls: it wasn't made, but is counted, nagsched_refused */
     NAGSCHED_REFUSED = 4,   /* the document is no setup, or the text no saved state: the refusal reports why and where */
-    NAGSCHED_MISSING = 5,   /* callers that aren't gathered yet, no object of that name, no host of a host, no check that is out */
+    NAGSCHED_MISSING = 5,   /* passes that aren't gathered yet, no object of that name, no host of a host, no check that is out */
     NAGSCHED_WRONG = 6      /* a mistake of the caller's: a handle, a pointer or a number isn't one for this function */
 };
 
@@ -153,9 +153,9 @@ struct nagsched_reply {
     struct nagsched_standing standing;
 };
 
-/* An entry of a history: who called (the number of the caller: its place in the array of nagsched_open), the call, the reply. */
+/* An entry of a history: the pass that made the call (its number: its place in the array of nagsched_open), the call, the reply. */
 struct nagsched_entry {
-    uint64_t caller;
+    uint64_t pass;
     struct nagsched_call call;
     struct nagsched_reply reply;
 };
@@ -214,7 +214,7 @@ uint32_t nagsched_read(const uint8_t *document, size_t bytes, struct nagsched_ha
 
 /* The lines that the program nagsched writes, each with its line feed: of a refusal, of the reply to a call as `run` writes it, and of an
  * entry as `drill` writes it. They go into room bytes at text, and length is the length of the whole line; 1,024 bytes are enough for each.
- * named is a setup, a caller (also one that waits) or a book, whose objects have the names; a number that it doesn't have has no name in
+ * named is a setup, a pass (also one that waits) or a book, whose objects have the names; a number that it doesn't have has no name in
  * the line.
  *
  * OK. WRONG, with length: the line is longer than room, and nothing else is written. WRONG: a struct that no function gives. NO_MEMORY.
@@ -226,40 +226,40 @@ uint32_t nagsched_entry_text(const struct nagsched_handle *named, const struct n
 
 /* Objects by number, from 0: hosts first, in the order of their names' bytes, then services, in the order of their hosts' names and then of
  * their descriptions. A full name is the name of a host, or HOST;DESCRIPTION of a service: at most 511 bytes of UTF-8. named is a setup, a
- * caller (also one that waits) or a book; over its whole life the numbers stay.
+ * pass (also one that waits) or a book; over its whole life the numbers stay.
  *
  *     nagsched_count      how many objects there are, and how many of them are hosts
  *     nagsched_number     the number of the object with this full name. MISSING: there is none
  *     nagsched_name       the full name of an object. WRONG, with length: it is longer than room, and nothing else is written
  *     nagsched_host_of    the host of a service. MISSING: the object is a host
  *
- * OK. WRONG: the handle has no setup, caller or book; a number that no object has. They allocate nothing. */
+ * OK. WRONG: the handle has no setup, pass or book; a number that no object has. They allocate nothing. */
 uint32_t nagsched_count(const struct nagsched_handle *named, uint32_t *objects, uint32_t *hosts);
 uint32_t nagsched_number(const struct nagsched_handle *named, const uint8_t *name, size_t bytes, uint32_t *number);
 uint32_t nagsched_name(const struct nagsched_handle *named, uint32_t number, uint8_t *name, size_t room, size_t *length);
 uint32_t nagsched_host_of(const struct nagsched_handle *named, uint32_t number, uint32_t *host);
 
-/* Opens a desk: a scheduler that as many threads share as there are callers. Each of count handles, 1 to 1,024 empty ones in an array, gets
- * a caller; its number is its place in the array. The handle that was given is empty then.
+/* Opens a desk: a scheduler that as many threads share as there are passes. Each of count handles, 1 to 1,024 empty ones in an array, gets
+ * a pass; its number is its place in the array. The handle that was given is empty then.
  *
  *     of a setup    start, 0 to 2^60, is the moment at which scheduling starts: first checks are spread from it. room is how many entries the
  *                   history has memory for at once; it is no limit, a call past it allocates
  *     of a book     without entries, as nagsched_renew and nagsched_resume leave one: start and room are the book's own, and have to be 0
  *
- * A caller has 2^32 - 1 calls, or with nagsched_open_with as many as calls says, 1 to 2^32 - 1.
+ * A pass has 2^32 - 1 calls, or with nagsched_open_with as many as calls says, 1 to 2^32 - 1.
  *
  * OK. NO_MEMORY: all handles are as they were. WRONG: a handle of another kind or one that isn't empty, a book with entries, a number out of
  * its limits. Allocate. (One case no proof excludes: a count of 63 bits of those who share the desk is full. No machine comes to it;
- * setup_or_book would be the desk's only caller then.) */
-uint32_t nagsched_open(struct nagsched_handle *setup_or_book, uint64_t start, size_t room, struct nagsched_handle *callers, size_t count);
-uint32_t nagsched_open_with(struct nagsched_handle *setup_or_book, uint64_t start, size_t room, uint64_t calls, struct nagsched_handle *callers,
+ * setup_or_book would be the desk's only pass then.) */
+uint32_t nagsched_open(struct nagsched_handle *setup_or_book, uint64_t start, size_t room, struct nagsched_handle *passes, size_t count);
+uint32_t nagsched_open_with(struct nagsched_handle *setup_or_book, uint64_t start, size_t room, uint64_t calls, struct nagsched_handle *passes,
                             size_t count);
 
 /* The six calls, one try each; nagsched_take and so on below try until the turn has come.
  *
  *     take         now: which object is to be checked at this moment? TAKEN: it begins to run; check it, and report or abandon it under
  *                  this run. PUT_OFF: it was due, but a dependency forbids its check; take again. IDLE: nothing is due before time,
- *                  unless a report, abandon, reschedule or enable of any caller makes something due sooner: sleep until time, and wake who
+ *                  unless a report, abandon, reschedule or enable of any pass makes something due sooner: sleep until time, and wake who
  *                  sleeps after each of these. AT_LIMIT: a service is due, but as many run as may: take again after a report. TIME_RANGE,
  *                  RUNS_SPENT
  *     report       the check of object under this run returned code, 0 to 3. STANDING: how it stands now, whether its state changed (a soft
@@ -273,33 +273,33 @@ uint32_t nagsched_open_with(struct nagsched_handle *setup_or_book, uint64_t star
  *
  * A refused call (UNKNOWN_OBJECT to RUNS_SPENT) changes nothing, is recorded like any other, and its status is OK.
  *
- * OK: the call was made and recorded, and reply has the answer. WAIT: another caller's turn comes first; nothing was made, and the same try
- * is to be made again (any other call with this caller is WRONG meanwhile). SPENT: the caller has no call left. NO_MEMORY: the call wasn't
- * made, and is counted (nagsched_refused). WRONG: the handle has no caller; a code above 3; a flag other than 0 and 1. A number that no object
+ * OK: the call was made and recorded, and reply has the answer. WAIT: another pass's turn comes first; nothing was made, and the same try
+ * is to be made again (any other call with this pass is WRONG meanwhile). SPENT: the pass has no call left. NO_MEMORY: the call wasn't
+ * made, and is counted (nagsched_refused). WRONG: the handle has no pass; a code above 3; a flag other than 0 and 1. A number that no object
  * has is refused by the reply UNKNOWN_OBJECT. A try never waits. It allocates only where the history has reached its room. */
-uint32_t nagsched_try_take(struct nagsched_handle *caller, uint64_t now, struct nagsched_reply *reply);
-uint32_t nagsched_try_report(struct nagsched_handle *caller, uint32_t object, uint64_t run, uint32_t code, struct nagsched_reply *reply);
-uint32_t nagsched_try_abandon(struct nagsched_handle *caller, uint32_t object, uint64_t run, uint64_t now, struct nagsched_reply *reply);
-uint32_t nagsched_try_reschedule(struct nagsched_handle *caller, uint32_t object, uint64_t time, uint32_t forced, struct nagsched_reply *reply);
-uint32_t nagsched_try_enable(struct nagsched_handle *caller, uint32_t object, uint32_t on, struct nagsched_reply *reply);
-uint32_t nagsched_try_status(struct nagsched_handle *caller, uint32_t object, struct nagsched_reply *reply);
+uint32_t nagsched_try_take(struct nagsched_handle *pass, uint64_t now, struct nagsched_reply *reply);
+uint32_t nagsched_try_report(struct nagsched_handle *pass, uint32_t object, uint64_t run, uint32_t code, struct nagsched_reply *reply);
+uint32_t nagsched_try_abandon(struct nagsched_handle *pass, uint32_t object, uint64_t run, uint64_t now, struct nagsched_reply *reply);
+uint32_t nagsched_try_reschedule(struct nagsched_handle *pass, uint32_t object, uint64_t time, uint32_t forced, struct nagsched_reply *reply);
+uint32_t nagsched_try_enable(struct nagsched_handle *pass, uint32_t object, uint32_t on, struct nagsched_reply *reply);
+uint32_t nagsched_try_status(struct nagsched_handle *pass, uint32_t object, struct nagsched_reply *reply);
 
 /* Reads how an object stands, without a turn: whoever is in a call, it doesn't wait. It is the standing after some history that begins with all
- * that this caller has seen, so that glances never go back; a caller sees its own reports.
+ * that this pass has seen, so that glances never go back; a pass sees its own reports.
  *
- * OK. WRONG: the handle has no caller, or one that waits; a number that no object has. Allocates nothing; one load of memory. */
-uint32_t nagsched_glance(struct nagsched_handle *caller, uint32_t object, struct nagsched_standing *standing);
+ * OK. WRONG: the handle has no pass, or one that waits; a number that no object has. Allocates nothing; one load of memory. */
+uint32_t nagsched_glance(struct nagsched_handle *pass, uint32_t object, struct nagsched_standing *standing);
 
-/* Adds another caller of the same desk to this one, in any order of their numbers, when the other's thread makes no more calls; the other handle
- * is empty then. This caller goes on under its own number.
+/* Adds another pass of the same desk to this one, in any order of their numbers, when the other's thread makes no more calls; the other handle
+ * is empty then. This pass goes on under its own number.
  *
- * OK. WRONG: a handle without a caller, or with one that waits; callers of two desks. Allocates nothing. */
-uint32_t nagsched_gather(struct nagsched_handle *caller, struct nagsched_handle *other);
+ * OK. WRONG: a handle without a pass, or with one that waits; passes of two desks. Allocates nothing. */
+uint32_t nagsched_gather(struct nagsched_handle *pass, struct nagsched_handle *other);
 
-/* Ends the desk: the caller in which all others are gathered becomes the desk's book, in the same handle.
+/* Ends the desk: the pass in which all others are gathered becomes the desk's book, in the same handle.
  *
- * OK. MISSING: callers are left that have to be gathered first. WRONG: the handle has no caller, or one that waits. Allocates nothing. */
-uint32_t nagsched_close(struct nagsched_handle *caller);
+ * OK. MISSING: passes are left that have to be gathered first. WRONG: the handle has no pass, or one that waits. Allocates nothing. */
+uint32_t nagsched_close(struct nagsched_handle *pass);
 
 /* The history: how many entries a book or an old history has, and the entry with an index from 0, in the order in which the calls were made.
  * nagsched_refused: how many calls of a book weren't made because memory ran out.
@@ -352,48 +352,48 @@ uint32_t nagsched_resume(struct nagsched_handle *setup, const uint8_t *text, siz
  * while others read the book by functions that take it as const. What it gives is so until a call is made by a desk on the book. */
 uint32_t nagsched_running(const struct nagsched_handle *book, uint32_t object, uint64_t *run, uint64_t *start);
 
-/* Frees what a handle has, and makes it empty; an empty one stays so. A desk of which a caller is freed can't be closed any more: its history
- * is freed with the last of its callers.
+/* Frees what a handle has, and makes it empty; an empty one stays so. A desk of which a pass is freed can't be closed any more: its history
+ * is freed with the last of its passes.
  *
- * OK. WRONG: the handle has a caller that waits. */
+ * OK. WRONG: the handle has a pass that waits. */
 uint32_t nagsched_free(struct nagsched_handle *handle);
 
 /* The six calls, each tried until its turn has come; between two tries the processor is yielded. The statuses are those of a try, without WAIT. A
  * program that has its own way to wait, such as coroutines, makes the tries itself. */
-static inline uint32_t nagsched_take(struct nagsched_handle *caller, uint64_t now, struct nagsched_reply *reply) {
+static inline uint32_t nagsched_take(struct nagsched_handle *pass, uint64_t now, struct nagsched_reply *reply) {
     uint32_t status;
-    while ((status = nagsched_try_take(caller, now, reply)) == NAGSCHED_WAIT) sched_yield();
+    while ((status = nagsched_try_take(pass, now, reply)) == NAGSCHED_WAIT) sched_yield();
     return status;
 }
 
-static inline uint32_t nagsched_report(struct nagsched_handle *caller, uint32_t object, uint64_t run, uint32_t code, struct nagsched_reply *reply) {
+static inline uint32_t nagsched_report(struct nagsched_handle *pass, uint32_t object, uint64_t run, uint32_t code, struct nagsched_reply *reply) {
     uint32_t status;
-    while ((status = nagsched_try_report(caller, object, run, code, reply)) == NAGSCHED_WAIT) sched_yield();
+    while ((status = nagsched_try_report(pass, object, run, code, reply)) == NAGSCHED_WAIT) sched_yield();
     return status;
 }
 
-static inline uint32_t nagsched_abandon(struct nagsched_handle *caller, uint32_t object, uint64_t run, uint64_t now, struct nagsched_reply *reply) {
+static inline uint32_t nagsched_abandon(struct nagsched_handle *pass, uint32_t object, uint64_t run, uint64_t now, struct nagsched_reply *reply) {
     uint32_t status;
-    while ((status = nagsched_try_abandon(caller, object, run, now, reply)) == NAGSCHED_WAIT) sched_yield();
+    while ((status = nagsched_try_abandon(pass, object, run, now, reply)) == NAGSCHED_WAIT) sched_yield();
     return status;
 }
 
-static inline uint32_t nagsched_reschedule(struct nagsched_handle *caller, uint32_t object, uint64_t time, uint32_t forced,
+static inline uint32_t nagsched_reschedule(struct nagsched_handle *pass, uint32_t object, uint64_t time, uint32_t forced,
                                            struct nagsched_reply *reply) {
     uint32_t status;
-    while ((status = nagsched_try_reschedule(caller, object, time, forced, reply)) == NAGSCHED_WAIT) sched_yield();
+    while ((status = nagsched_try_reschedule(pass, object, time, forced, reply)) == NAGSCHED_WAIT) sched_yield();
     return status;
 }
 
-static inline uint32_t nagsched_enable(struct nagsched_handle *caller, uint32_t object, uint32_t on, struct nagsched_reply *reply) {
+static inline uint32_t nagsched_enable(struct nagsched_handle *pass, uint32_t object, uint32_t on, struct nagsched_reply *reply) {
     uint32_t status;
-    while ((status = nagsched_try_enable(caller, object, on, reply)) == NAGSCHED_WAIT) sched_yield();
+    while ((status = nagsched_try_enable(pass, object, on, reply)) == NAGSCHED_WAIT) sched_yield();
     return status;
 }
 
-static inline uint32_t nagsched_status(struct nagsched_handle *caller, uint32_t object, struct nagsched_reply *reply) {
+static inline uint32_t nagsched_status(struct nagsched_handle *pass, uint32_t object, struct nagsched_reply *reply) {
     uint32_t status;
-    while ((status = nagsched_try_status(caller, object, reply)) == NAGSCHED_WAIT) sched_yield();
+    while ((status = nagsched_try_status(pass, object, reply)) == NAGSCHED_WAIT) sched_yield();
     return status;
 }
 

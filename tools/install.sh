@@ -59,7 +59,7 @@ done
 for page in EMBEDDING EMBEDDING_C EMBEDDING_PYTHON EXPLANATIONS FORMATS GLOSSARY MONITOR NAGIOS OPERATING SCHEDULING; do
     place 644 "$top/docs/$page.md" "share/doc/nagsched/$page.md"
 done
-for example in embed.c embed.py loop.c loop.py monitor.py mail_change.py alert_change.py; do
+for example in embed.c embed.py loop.c loop.py loop.rt monitor.py mail_change.py alert_change.py; do
     place 644 "$top/examples/$example" "share/doc/nagsched/examples/$example"
 done
 [ -n "$library" ] || exit 0
@@ -71,6 +71,7 @@ for library in "$built"/lib/libnagsched.so.*; do
 done
 sed "s#^prefix=.*#prefix=$prefix#" "$built/lib/pkgconfig/nagsched.pc" > "$unit"
 place 644 "$unit" lib/pkgconfig/nagsched.pc
-# A package of one file, so that py.typed beside it says that its types are to be used.
-place 644 "$top/bindings/python/nagsched.py" lib/python3/dist-packages/nagsched/__init__.py
-place 644 /dev/null lib/python3/dist-packages/nagsched/py.typed
+# py.typed says that the package's types are to be used.
+for file in "$top"/bindings/python/nagsched/*.py "$top/bindings/python/nagsched/py.typed"; do
+    place 644 "$file" "lib/python3/dist-packages/nagsched/$(basename "$file")"
+done

@@ -4,7 +4,7 @@
  * NULL, or where two of one type are the same, and goes on to the proved function otherwise. tools/build_c.sh gives the
  * proved nagsched_open the name nagsched_proved_open, and so on, and links them behind these.
  *
- * The proved functions that open a desk take its mark besides, by which callers of two desks are kept apart.
+ * The proved functions that open a desk take its mark besides, by which passes of two desks are kept apart.
  */
 #include "nagsched.h"
 
@@ -61,29 +61,29 @@ GUARDED_READER(name, named, (const handle *named, uint32_t number, uint8_t *name
                (&copy, number, name, room, length))
 GUARDED_READER(host_of, named, (const handle *named, uint32_t number, uint32_t *host), named && host, (&copy, number, host))
 
-uint32_t nagsched_proved_open(handle *source, uint64_t start, size_t room, uint64_t mark, handle *callers, size_t count);
-uint32_t nagsched_open(handle *source, uint64_t start, size_t room, handle *callers, size_t count) {
-    if (!(source && callers && IS_NONE_OF(source, callers, count))) return NAGSCHED_WRONG;
-    return nagsched_proved_open(source, start, room, new_mark(), callers, count);
+uint32_t nagsched_proved_open(handle *source, uint64_t start, size_t room, uint64_t mark, handle *passes, size_t count);
+uint32_t nagsched_open(handle *source, uint64_t start, size_t room, handle *passes, size_t count) {
+    if (!(source && passes && IS_NONE_OF(source, passes, count))) return NAGSCHED_WRONG;
+    return nagsched_proved_open(source, start, room, new_mark(), passes, count);
 }
 
-uint32_t nagsched_proved_open_with(handle *source, uint64_t start, size_t room, uint64_t mark, uint64_t calls, handle *callers, size_t count);
-uint32_t nagsched_open_with(handle *source, uint64_t start, size_t room, uint64_t calls, handle *callers, size_t count) {
-    if (!(source && callers && IS_NONE_OF(source, callers, count))) return NAGSCHED_WRONG;
-    return nagsched_proved_open_with(source, start, room, new_mark(), calls, callers, count);
+uint32_t nagsched_proved_open_with(handle *source, uint64_t start, size_t room, uint64_t mark, uint64_t calls, handle *passes, size_t count);
+uint32_t nagsched_open_with(handle *source, uint64_t start, size_t room, uint64_t calls, handle *passes, size_t count) {
+    if (!(source && passes && IS_NONE_OF(source, passes, count))) return NAGSCHED_WRONG;
+    return nagsched_proved_open_with(source, start, room, new_mark(), calls, passes, count);
 }
 
-GUARDED(try_take, (handle *caller, uint64_t now, reply *came), caller && came, (caller, now, came))
-GUARDED(try_report, (handle *caller, uint32_t object, uint64_t run, uint32_t code, reply *came), caller && came, (caller, object, run, code, came))
-GUARDED(try_abandon, (handle *caller, uint32_t object, uint64_t run, uint64_t now, reply *came), caller && came, (caller, object, run, now, came))
-GUARDED(try_reschedule, (handle *caller, uint32_t object, uint64_t time, uint32_t forced, reply *came), caller && came,
-        (caller, object, time, forced, came))
-GUARDED(try_enable, (handle *caller, uint32_t object, uint32_t on, reply *came), caller && came, (caller, object, on, came))
-GUARDED(try_status, (handle *caller, uint32_t object, reply *came), caller && came, (caller, object, came))
+GUARDED(try_take, (handle *pass, uint64_t now, reply *came), pass && came, (pass, now, came))
+GUARDED(try_report, (handle *pass, uint32_t object, uint64_t run, uint32_t code, reply *came), pass && came, (pass, object, run, code, came))
+GUARDED(try_abandon, (handle *pass, uint32_t object, uint64_t run, uint64_t now, reply *came), pass && came, (pass, object, run, now, came))
+GUARDED(try_reschedule, (handle *pass, uint32_t object, uint64_t time, uint32_t forced, reply *came), pass && came,
+        (pass, object, time, forced, came))
+GUARDED(try_enable, (handle *pass, uint32_t object, uint32_t on, reply *came), pass && came, (pass, object, on, came))
+GUARDED(try_status, (handle *pass, uint32_t object, reply *came), pass && came, (pass, object, came))
 
-GUARDED(glance, (handle *caller, uint32_t object, standing *seen), caller && seen, (caller, object, seen))
-GUARDED(gather, (handle *caller, handle *other), caller && other && caller != other, (caller, other))
-GUARDED(close, (handle *caller), caller, (caller))
+GUARDED(glance, (handle *pass, uint32_t object, standing *seen), pass && seen, (pass, object, seen))
+GUARDED(gather, (handle *pass, handle *other), pass && other && pass != other, (pass, other))
+GUARDED(close, (handle *pass), pass, (pass))
 
 GUARDED_READER(entries, kept, (const handle *kept, uint64_t *count), kept && count, (&copy, count))
 GUARDED_READER(entry, kept, (const handle *kept, uint64_t index, entry *told), kept && told, (&copy, index, told))

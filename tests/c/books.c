@@ -6,7 +6,7 @@
 #define CALLS 200
 #define RESULTS 37
 
-/* A desk of one caller, which moves to the other handle where the book is renewed. */
+/* A desk of one pass, which moves to the other handle where the book is renewed. */
 struct desk {
     struct nagsched_handle handles[2];
     int at;
@@ -14,7 +14,7 @@ struct desk {
 
 #define NO_DESK {{NAGSCHED_EMPTY, NAGSCHED_EMPTY}, 0}
 
-/* The caller, and the book when the desk has ended. */
+/* The pass, and the book when the desk has ended. */
 static struct nagsched_handle *of(struct desk *desk) { return &desk->handles[desk->at]; }
 
 /* Opens a desk whose book has this room. */
@@ -55,14 +55,14 @@ static void past_the_room(size_t room, uint64_t calls) {
     is_of(of(&desk), calls);
     GIVES(OK, nagsched_refused(of(&desk), &refused));
     GIVES(OK, nagsched_entry(of(&desk), calls - 1, &entry));
-    IS(refused == 0 && entry.caller == 0 && entry.call.kind == NAGSCHED_CALL_STATUS && entry.call.object == 1 && is_same(&entry.reply, &reply));
+    IS(refused == 0 && entry.pass == 0 && entry.call.kind == NAGSCHED_CALL_STATUS && entry.call.object == 1 && is_same(&entry.reply, &reply));
     GIVES(OK, nagsched_free(of(&desk)));
 }
 
 /* The call of this number, from 0 on: takes and reports of the service in turn, reports in two states, some under an old run. */
-static void call(struct nagsched_handle *caller, uint64_t made, struct nagsched_reply *reply) {
-    if (made % 2 == 0) GIVES(OK, nagsched_take(caller, made * 300000, reply));
-    else GIVES(OK, nagsched_report(caller, 1, made / 2 + 1, made % 8 < 4 ? NAGSCHED_CODE_CRITICAL : NAGSCHED_CODE_OK, reply));
+static void call(struct nagsched_handle *pass, uint64_t made, struct nagsched_reply *reply) {
+    if (made % 2 == 0) GIVES(OK, nagsched_take(pass, made * 300000, reply));
+    else GIVES(OK, nagsched_report(pass, 1, made / 2 + 1, made % 8 < 4 ? NAGSCHED_CODE_CRITICAL : NAGSCHED_CODE_OK, reply));
 }
 
 /* Makes 200 calls to both, which answer alike. */
@@ -148,13 +148,13 @@ static void flaps(void) {
 }
 
 /* Makes the calls of a history again, which are answered as before. */
-static void make_again(struct nagsched_handle *caller, const struct nagsched_handle *history) {
+static void make_again(struct nagsched_handle *pass, const struct nagsched_handle *history) {
     for (uint64_t at = 0; at < CALLS; at++) {
         struct nagsched_entry entry;
         struct nagsched_reply reply;
         GIVES(OK, nagsched_entry(history, at, &entry));
-        if (entry.call.kind == NAGSCHED_CALL_TAKE) GIVES(OK, nagsched_take(caller, entry.call.moment, &reply));
-        else GIVES(OK, nagsched_report(caller, entry.call.object, entry.call.run, entry.call.code, &reply));
+        if (entry.call.kind == NAGSCHED_CALL_TAKE) GIVES(OK, nagsched_take(pass, entry.call.moment, &reply));
+        else GIVES(OK, nagsched_report(pass, entry.call.object, entry.call.run, entry.call.code, &reply));
         IS(is_same(&reply, &entry.reply));
     }
 }
@@ -231,7 +231,7 @@ static void without_entries(void) {
 
 /* A document of so many bytes, and a room for so many entries. */
 static void large(size_t bytes, size_t room) {
-    struct nagsched_handle setup = NAGSCHED_EMPTY, caller = NAGSCHED_EMPTY;
+    struct nagsched_handle setup = NAGSCHED_EMPTY, pass = NAGSCHED_EMPTY;
     struct nagsched_refusal refusal;
     struct nagsched_reply reply;
     uint8_t *document = malloc(bytes);
@@ -239,10 +239,10 @@ static void large(size_t bytes, size_t room) {
     memcpy(document + bytes - strlen(ONE_SERVICE), ONE_SERVICE, strlen(ONE_SERVICE));
     GIVES(OK, nagsched_read(document, bytes, &setup, &refusal));
     free(document);
-    GIVES(OK, nagsched_open(&setup, 0, room, &caller, 1));
-    GIVES(OK, nagsched_take(&caller, 0, &reply));
+    GIVES(OK, nagsched_open(&setup, 0, room, &pass, 1));
+    GIVES(OK, nagsched_take(&pass, 0, &reply));
     IS(reply.kind == NAGSCHED_REPLY_TAKEN && reply.object == 1);
-    GIVES(OK, nagsched_free(&caller));
+    GIVES(OK, nagsched_free(&pass));
 }
 
 int main(void) {

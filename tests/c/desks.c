@@ -1,39 +1,39 @@
-/* Desks of several callers: calls out of the order of their numbers, callers that are spent, as many callers and hosts as there
+/* Desks of several passes: calls out of the order of their numbers, passes that are spent, as many passes and hosts as there
  * can be, two threads that call, and one that glances while the other reports.
  */
 #include "counted.h"
 
 #include <pthread.h>
 
-#define CALLERS 1024
+#define PASSES 1024
 #define HOSTS 4096
 #define CALLS 100
 #define CHECKS 190
 #define GLANCES 10000
 
-static struct nagsched_handle callers[CALLERS];
+static struct nagsched_handle passes[PASSES];
 
-/* Opens a desk on a document for so many callers, with so many calls each. */
+/* Opens a desk on a document for so many passes, with so many calls each. */
 static void open_desk(const char *document, size_t count, uint64_t calls) {
     struct nagsched_handle setup = NAGSCHED_EMPTY;
     struct nagsched_refusal refusal;
     GIVES(OK, nagsched_read((const uint8_t *)document, strlen(document), &setup, &refusal));
-    GIVES(OK, nagsched_open_with(&setup, 0, 0, calls, callers, count));
+    GIVES(OK, nagsched_open_with(&setup, 0, 0, calls, passes, count));
 }
 
-/* Puts the callers together and closes their desk, whose book has so many entries. */
+/* Puts the passes together and closes their desk, whose book has so many entries. */
 static void close_desk(size_t count, uint64_t wanted) {
     uint64_t entries, refused;
-    for (size_t at = 1; at < count; at++) GIVES(OK, nagsched_gather(&callers[0], &callers[at]));
-    GIVES(OK, nagsched_close(&callers[0]));
-    GIVES(OK, nagsched_entries(&callers[0], &entries));
-    GIVES(OK, nagsched_refused(&callers[0], &refused));
+    for (size_t at = 1; at < count; at++) GIVES(OK, nagsched_gather(&passes[0], &passes[at]));
+    GIVES(OK, nagsched_close(&passes[0]));
+    GIVES(OK, nagsched_entries(&passes[0], &entries));
+    GIVES(OK, nagsched_refused(&passes[0], &refused));
     IS(entries == wanted && refused == 0);
 }
 
 static struct nagsched_entry entry(uint64_t index) {
     struct nagsched_entry found;
-    GIVES(OK, nagsched_entry(&callers[0], index, &found));
+    GIVES(OK, nagsched_entry(&passes[0], index, &found));
     return found;
 }
 
@@ -45,35 +45,35 @@ static void is_critical(const struct nagsched_reply *reply, uint32_t changed) {
 static void out_of_order(void) {
     struct nagsched_reply reply;
     open_desk(ONE_SERVICE, 3, 10);
-    GIVES(OK, nagsched_take(&callers[2], 0, &reply));
+    GIVES(OK, nagsched_take(&passes[2], 0, &reply));
     IS(reply.kind == NAGSCHED_REPLY_TAKEN && reply.object == 1 && reply.run == 1);
-    GIVES(OK, nagsched_report(&callers[0], 1, 1, NAGSCHED_CODE_CRITICAL, &reply));
+    GIVES(OK, nagsched_report(&passes[0], 1, 1, NAGSCHED_CODE_CRITICAL, &reply));
     is_critical(&reply, 1);
-    GIVES(OK, nagsched_status(&callers[1], 1, &reply));
+    GIVES(OK, nagsched_status(&passes[1], 1, &reply));
     is_critical(&reply, 0);
-    GIVES(MISSING, nagsched_close(&callers[0]));
+    GIVES(MISSING, nagsched_close(&passes[0]));
     close_desk(3, 3);
-    IS(entry(0).caller == 2 && entry(1).caller == 0 && entry(2).caller == 1);
-    GIVES(OK, nagsched_free(&callers[0]));
+    IS(entry(0).pass == 2 && entry(1).pass == 0 && entry(2).pass == 1);
+    GIVES(OK, nagsched_free(&passes[0]));
 }
 
 static void spent(void) {
     struct nagsched_reply reply;
     open_desk(ONE_SERVICE, 2, 2);
-    for (int made = 0; made < 2; made++) GIVES(OK, nagsched_status(&callers[0], 1, &reply));
-    GIVES(SPENT, nagsched_status(&callers[0], 1, &reply));
+    for (int made = 0; made < 2; made++) GIVES(OK, nagsched_status(&passes[0], 1, &reply));
+    GIVES(SPENT, nagsched_status(&passes[0], 1, &reply));
     close_desk(2, 2);
-    IS(entry(0).caller == 0 && entry(1).caller == 0);
-    GIVES(OK, nagsched_free(&callers[0]));
+    IS(entry(0).pass == 0 && entry(1).pass == 0);
+    GIVES(OK, nagsched_free(&passes[0]));
 }
 
-static void most_callers(void) {
+static void most_passes(void) {
     struct nagsched_reply reply;
-    open_desk(ONE_SERVICE, CALLERS, 1);
-    for (size_t at = 0; at < CALLERS; at++) GIVES(OK, nagsched_status(&callers[at], 0, &reply));
-    close_desk(CALLERS, CALLERS);
-    for (size_t at = 0; at < CALLERS; at++) IS(entry(at).caller == at);
-    GIVES(OK, nagsched_free(&callers[0]));
+    open_desk(ONE_SERVICE, PASSES, 1);
+    for (size_t at = 0; at < PASSES; at++) GIVES(OK, nagsched_status(&passes[at], 0, &reply));
+    close_desk(PASSES, PASSES);
+    for (size_t at = 0; at < PASSES; at++) IS(entry(at).pass == at);
+    GIVES(OK, nagsched_free(&passes[0]));
 }
 
 static void most_hosts(void) {
@@ -84,18 +84,18 @@ static void most_hosts(void) {
         length += (size_t)sprintf(document + length, "%s{\"name\":\"h%d\",\"max_check_attempts\":3}", host ? "," : "", host);
     sprintf(document + length, "]}");
     open_desk(document, 1, 1);
-    GIVES(OK, nagsched_glance(&callers[0], HOSTS - 1, &standing));
+    GIVES(OK, nagsched_glance(&passes[0], HOSTS - 1, &standing));
     IS(standing.checked == 0 && standing.state == NAGSCHED_STATE_UP);
-    GIVES(WRONG, nagsched_glance(&callers[0], HOSTS, &standing));
+    GIVES(WRONG, nagsched_glance(&passes[0], HOSTS, &standing));
     close_desk(1, 0);
-    GIVES(OK, nagsched_free(&callers[0]));
+    GIVES(OK, nagsched_free(&passes[0]));
 }
 
-static void *call_often(void *caller) {
+static void *call_often(void *pass) {
     struct nagsched_reply reply;
     for (int made = 0; made < CALLS; made++)
-        if (nagsched_status(caller, 1, &reply) != NAGSCHED_OK) return NULL;
-    return caller;
+        if (nagsched_status(pass, 1, &reply) != NAGSCHED_OK) return NULL;
+    return pass;
 }
 
 static void two_threads(void) {
@@ -103,23 +103,23 @@ static void two_threads(void) {
     void *ended;
     uint64_t of_first = 0;
     open_desk(ONE_SERVICE, 2, CALLS);
-    for (int at = 0; at < 2; at++) IS(pthread_create(&threads[at], NULL, call_often, &callers[at]) == 0);
-    for (int at = 0; at < 2; at++) IS(pthread_join(threads[at], &ended) == 0 && ended == &callers[at]);
+    for (int at = 0; at < 2; at++) IS(pthread_create(&threads[at], NULL, call_often, &passes[at]) == 0);
+    for (int at = 0; at < 2; at++) IS(pthread_join(threads[at], &ended) == 0 && ended == &passes[at]);
     close_desk(2, 2 * CALLS);
-    for (uint64_t at = 0; at < 2 * CALLS; at++) of_first += entry(at).caller == 0;
+    for (uint64_t at = 0; at < 2 * CALLS; at++) of_first += entry(at).pass == 0;
     IS(of_first == CALLS);
-    GIVES(OK, nagsched_free(&callers[0]));
+    GIVES(OK, nagsched_free(&passes[0]));
 }
 
 /* Takes and reports the service again and again; each report leaves another standing than the one before. */
-static void *report_often(void *caller) {
+static void *report_often(void *pass) {
     static const uint32_t codes[] = {NAGSCHED_CODE_CRITICAL, NAGSCHED_CODE_WARNING, NAGSCHED_CODE_OK};
     struct nagsched_reply reply;
     for (uint64_t check = 0; check < CHECKS; check++) {
-        if (nagsched_take(caller, check * 600000, &reply) != NAGSCHED_OK || reply.kind != NAGSCHED_REPLY_TAKEN) return NULL;
-        if (nagsched_report(caller, reply.object, reply.run, codes[check % 3], &reply) != NAGSCHED_OK) return NULL;
+        if (nagsched_take(pass, check * 600000, &reply) != NAGSCHED_OK || reply.kind != NAGSCHED_REPLY_TAKEN) return NULL;
+        if (nagsched_report(pass, reply.object, reply.run, codes[check % 3], &reply) != NAGSCHED_OK) return NULL;
     }
-    return caller;
+    return pass;
 }
 
 static int is_same(const struct nagsched_standing *one, const struct nagsched_standing *other) {
@@ -134,25 +134,25 @@ static void glances(void) {
     size_t told = 1;
     uint64_t at = 0;
     open_desk(ONE_SERVICE, 2, 2 * CHECKS);
-    GIVES(OK, nagsched_glance(&callers[1], 1, &seen[0]));
+    GIVES(OK, nagsched_glance(&passes[1], 1, &seen[0]));
     IS(seen[0].checked == 0);
-    IS(pthread_create(&thread, NULL, report_often, &callers[0]) == 0);
+    IS(pthread_create(&thread, NULL, report_often, &passes[0]) == 0);
     for (int made = 1; made < GLANCES; made++)
-        if (nagsched_glance(&callers[1], 1, &seen[told]) == NAGSCHED_OK && !is_same(&seen[told], &seen[told - 1])) told++;
-    IS(pthread_join(thread, &ended) == 0 && ended == &callers[0]);
+        if (nagsched_glance(&passes[1], 1, &seen[told]) == NAGSCHED_OK && !is_same(&seen[told], &seen[told - 1])) told++;
+    IS(pthread_join(thread, &ended) == 0 && ended == &passes[0]);
     close_desk(2, 2 * CHECKS);
     for (size_t glance = 1; glance < told; glance++) {
         struct nagsched_entry next = {0};
         while (at < 2 * CHECKS && !(next.reply.kind == NAGSCHED_REPLY_STANDING && is_same(&next.reply.standing, &seen[glance]))) next = entry(at++);
         IS(next.reply.kind == NAGSCHED_REPLY_STANDING && is_same(&next.reply.standing, &seen[glance]));
     }
-    GIVES(OK, nagsched_free(&callers[0]));
+    GIVES(OK, nagsched_free(&passes[0]));
 }
 
 int main(void) {
     out_of_order();
     spent();
-    most_callers();
+    most_passes();
     most_hosts();
     two_threads();
     glances();

@@ -1,5 +1,5 @@
-/* Callers put together in other orders than that of their numbers, some from several threads at once, and what they are afterwards;
- * callers of two desks, however often either desk's were put together; and who may end a desk.
+/* Passes put together in other orders than that of their numbers, some from several threads at once, and what they are afterwards;
+ * passes of two desks, however often either desk's were put together; and who may end a desk.
  */
 #include "counted.h"
 
@@ -9,9 +9,9 @@
 #define PARTS 4
 #define PART (MANY / PARTS)
 
-static struct nagsched_handle callers[MANY], others[MANY];
+static struct nagsched_handle passes[MANY], others[MANY];
 
-/* Opens a desk for so many callers. */
+/* Opens a desk for so many passes. */
 static void open_on(struct nagsched_handle *of, size_t count) {
     struct nagsched_handle setup = NAGSCHED_EMPTY;
     struct nagsched_refusal refusal;
@@ -20,29 +20,29 @@ static void open_on(struct nagsched_handle *of, size_t count) {
 }
 
 /* A call by each of these, whose number stands in its entry then. */
-static void call_by(struct nagsched_handle *caller) {
+static void call_by(struct nagsched_handle *pass) {
     struct nagsched_reply reply;
-    GIVES(OK, nagsched_status(caller, 1, &reply));
+    GIVES(OK, nagsched_status(pass, 1, &reply));
 }
 
-/* Ends the desk by this caller: its book has entries of these callers, in this order. */
-static void is_closed(struct nagsched_handle *caller, const uint64_t *by, uint64_t count) {
+/* Ends the desk by this pass: its book has entries of these passes, in this order. */
+static void is_closed(struct nagsched_handle *pass, const uint64_t *by, uint64_t count) {
     struct nagsched_entry entry;
     uint64_t entries = 99;
-    GIVES(OK, nagsched_close(caller));
-    GIVES(OK, nagsched_entries(caller, &entries));
+    GIVES(OK, nagsched_close(pass));
+    GIVES(OK, nagsched_entries(pass, &entries));
     IS(entries == count);
     for (uint64_t at = 0; at < entries && at < count; at++) {
-        GIVES(OK, nagsched_entry(caller, at, &entry));
-        IS(entry.caller == by[at]);
+        GIVES(OK, nagsched_entry(pass, at, &entry));
+        IS(entry.pass == by[at]);
     }
-    GIVES(OK, nagsched_free(caller));
+    GIVES(OK, nagsched_free(pass));
 }
 
 /* A desk of two, put together in each order: the first of the two goes on, under its own number, and closes. */
 static void two(size_t first) {
-    struct nagsched_handle *one = &callers[first], *other = &callers[1 - first];
-    open_on(callers, 2);
+    struct nagsched_handle *one = &passes[first], *other = &passes[1 - first];
+    open_on(passes, 2);
     call_by(other);
     GIVES(MISSING, nagsched_close(one));
     GIVES(MISSING, nagsched_close(other));
@@ -56,10 +56,10 @@ static void two(size_t first) {
     is_closed(one, (const uint64_t[]){1 - first, first, first}, 3);
 }
 
-/* A desk of three, put together in each order by each of its callers, directly and by way of the second. */
+/* A desk of three, put together in each order by each of its passes, directly and by way of the second. */
 static void three(size_t first, size_t second, int by_way) {
-    struct nagsched_handle *one = &callers[first], *other = &callers[second], *last = &callers[3 - first - second];
-    open_on(callers, 3);
+    struct nagsched_handle *one = &passes[first], *other = &passes[second], *last = &passes[3 - first - second];
+    open_on(passes, 3);
     GIVES(OK, by_way ? nagsched_gather(other, last) : nagsched_gather(one, other));
     GIVES(MISSING, nagsched_close(one));
     GIVES(MISSING, nagsched_close(by_way ? other : last));
@@ -77,11 +77,11 @@ static void orders(void) {
                 if (first != second) three(first, second, by_way);
 }
 
-/* Pairs, and then pairs of those that have gathered, up to one caller of many. */
+/* Pairs, and then pairs of those that have gathered, up to one pass of many. */
 static void pairs(void) {
     struct nagsched_handle *left[MANY];
-    open_on(callers, MANY);
-    for (size_t at = 0; at < MANY; at++) left[at] = &callers[at];
+    open_on(passes, MANY);
+    for (size_t at = 0; at < MANY; at++) left[at] = &passes[at];
     for (size_t count = MANY; count > 1; count /= 2)
         for (size_t at = 0; at < count / 2; at++) {
             GIVES(MISSING, nagsched_close(left[2 * at + 1]));
@@ -92,7 +92,7 @@ static void pairs(void) {
     is_closed(left[0], (const uint64_t[]){MANY - 1}, 1);
 }
 
-/* Callers of two desks are never put together, in either order, whatever was gathered at either desk before. */
+/* Passes of two desks are never put together, in either order, whatever was gathered at either desk before. */
 static void are_apart(struct nagsched_handle *one, struct nagsched_handle *other) {
     const struct nagsched_handle one_was = *one, other_was = *other;
     for (int times = 0; times < 20; times++) {
@@ -105,14 +105,14 @@ static void are_apart(struct nagsched_handle *one, struct nagsched_handle *other
 static void two_desks(void) {
     for (size_t mine = 1; mine < MANY; mine += 9)
         for (size_t theirs = 1; theirs < MANY; theirs += 7) {
-            open_on(callers, MANY);
+            open_on(passes, MANY);
             open_on(others, MANY);
-            for (size_t at = 1; at < mine; at++) GIVES(OK, nagsched_gather(&callers[0], &callers[at]));
-            GIVES(WRONG, nagsched_gather(&callers[0], &others[0]));
+            for (size_t at = 1; at < mine; at++) GIVES(OK, nagsched_gather(&passes[0], &passes[at]));
+            GIVES(WRONG, nagsched_gather(&passes[0], &others[0]));
             for (size_t at = 1; at < theirs; at++) GIVES(OK, nagsched_gather(&others[0], &others[at]));
-            are_apart(&callers[0], &others[0]);
-            are_apart(&callers[MANY - 1], &others[MANY - 1]);
-            for (size_t at = 0; at < MANY; at++) nagsched_free(&callers[at]), nagsched_free(&others[at]);
+            are_apart(&passes[0], &others[0]);
+            are_apart(&passes[MANY - 1], &others[MANY - 1]);
+            for (size_t at = 0; at < MANY; at++) nagsched_free(&passes[at]), nagsched_free(&others[at]);
         }
 }
 
@@ -121,11 +121,11 @@ static void desks_after_another(void) {
     struct nagsched_handle history = NAGSCHED_EMPTY, next = NAGSCHED_EMPTY;
     open_on(others, 1);
     for (int times = 0; times < 20; times++) {
-        open_on(callers, 1);
-        are_apart(&callers[0], &others[0]);
-        GIVES(OK, nagsched_close(&callers[0]));
-        GIVES(OK, nagsched_renew(&callers[0], 0, &history));
-        GIVES(OK, nagsched_open(&callers[0], 0, 0, &next, 1));
+        open_on(passes, 1);
+        are_apart(&passes[0], &others[0]);
+        GIVES(OK, nagsched_close(&passes[0]));
+        GIVES(OK, nagsched_renew(&passes[0], 0, &history));
+        GIVES(OK, nagsched_open(&passes[0], 0, 0, &next, 1));
         are_apart(&next, &others[0]);
         GIVES(OK, nagsched_free(&history));
         GIVES(OK, nagsched_free(&next));
@@ -133,7 +133,7 @@ static void desks_after_another(void) {
     GIVES(OK, nagsched_free(&others[0]));
 }
 
-/* A thread's part of a desk's callers: it puts them together while the other threads do so with theirs. */
+/* A thread's part of a desk's passes: it puts them together while the other threads do so with theirs. */
 static void *gather_part(void *given) {
     struct nagsched_handle *mine = given;
     struct nagsched_reply reply;
@@ -149,27 +149,27 @@ static void in_threads(void) {
     pthread_t threads[PARTS];
     void *ended;
     uint64_t entries = 0;
-    open_on(callers, MANY);
-    for (size_t part = 0; part < PARTS; part++) IS(pthread_create(&threads[part], NULL, gather_part, &callers[part * PART]) == 0);
-    for (size_t part = 0; part < PARTS; part++) IS(pthread_join(threads[part], &ended) == 0 && ended == &callers[part * PART]);
+    open_on(passes, MANY);
+    for (size_t part = 0; part < PARTS; part++) IS(pthread_create(&threads[part], NULL, gather_part, &passes[part * PART]) == 0);
+    for (size_t part = 0; part < PARTS; part++) IS(pthread_join(threads[part], &ended) == 0 && ended == &passes[part * PART]);
     for (size_t part = PARTS - 1; part > 0; part--) {
-        GIVES(MISSING, nagsched_close(&callers[0]));
-        GIVES(OK, nagsched_gather(&callers[0], &callers[part * PART]));
+        GIVES(MISSING, nagsched_close(&passes[0]));
+        GIVES(OK, nagsched_gather(&passes[0], &passes[part * PART]));
     }
-    GIVES(OK, nagsched_close(&callers[0]));
-    GIVES(OK, nagsched_entries(&callers[0], &entries));
+    GIVES(OK, nagsched_close(&passes[0]));
+    GIVES(OK, nagsched_entries(&passes[0], &entries));
     IS(entries == MANY - PARTS);
-    GIVES(OK, nagsched_free(&callers[0]));
+    GIVES(OK, nagsched_free(&passes[0]));
 }
 
-/* Where a caller was given up, no other ends the desk. */
+/* Where a pass was given up, no other ends the desk. */
 static void one_is_gone(void) {
-    open_on(callers, 3);
-    GIVES(OK, nagsched_free(&callers[1]));
-    GIVES(OK, nagsched_gather(&callers[0], &callers[2]));
-    call_by(&callers[0]);
-    GIVES(MISSING, nagsched_close(&callers[0]));
-    GIVES(OK, nagsched_free(&callers[0]));
+    open_on(passes, 3);
+    GIVES(OK, nagsched_free(&passes[1]));
+    GIVES(OK, nagsched_gather(&passes[0], &passes[2]));
+    call_by(&passes[0]);
+    GIVES(MISSING, nagsched_close(&passes[0]));
+    GIVES(OK, nagsched_free(&passes[0]));
 }
 
 int main(void) {

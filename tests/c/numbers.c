@@ -3,7 +3,7 @@
  */
 #include "counted.h"
 
-static struct nagsched_handle setup = NAGSCHED_EMPTY, caller = NAGSCHED_EMPTY;
+static struct nagsched_handle setup = NAGSCHED_EMPTY, pass = NAGSCHED_EMPTY;
 
 /* The names of an enumeration have these numbers one after another. */
 #define ARE_FROM(first, ...)                                                                              \
@@ -165,9 +165,9 @@ static void calls(void) {
     struct nagsched_reply reply;
     struct nagsched_entry entry;
     uint64_t made = 0;
-    GIVES(OK, nagsched_read((const uint8_t *)ONE_SERVICE, strlen(ONE_SERVICE), &caller, &(struct nagsched_refusal){0}));
+    GIVES(OK, nagsched_read((const uint8_t *)ONE_SERVICE, strlen(ONE_SERVICE), &pass, &(struct nagsched_refusal){0}));
     struct nagsched_handle desk = NAGSCHED_EMPTY;
-    GIVES(OK, nagsched_open(&caller, 0, 0, &desk, 1));
+    GIVES(OK, nagsched_open(&pass, 0, 0, &desk, 1));
     for (uint32_t code = 0; code < 4; code++, made += 2) {
         GIVES(OK, nagsched_take(&desk, code * 600000, &reply));
         IS(reply.kind == 0 && reply.object == 1 && reply.run == code + 1);
@@ -192,7 +192,7 @@ static void calls(void) {
     const uint32_t kinds[] = {0, 1, 0, 1, 0, 1, 0, 1, 0, 3, 0, 2, 4, 5, 0, 1};
     for (uint64_t at = 0; at < sizeof kinds / sizeof *kinds; at++) {
         GIVES(OK, nagsched_entry(&desk, at, &entry));
-        IS(entry.call.kind == kinds[at] && entry.caller == 0 && (at >= made || at % 2 == 0 || entry.call.code == at / 2));
+        IS(entry.call.kind == kinds[at] && entry.pass == 0 && (at >= made || at % 2 == 0 || entry.call.code == at / 2));
     }
     GIVES(OK, nagsched_free(&desk));
 }

@@ -1,4 +1,4 @@
-/* Two threads that read the same handles at once: a setup, a caller, a book and a history. Meanwhile the handles, and all that they
+/* Two threads that read the same handles at once: a setup, a pass, a book and a history. Meanwhile the handles, and all that they
  * lead to, lie in memory that can't be written: a call that takes a handle as const and writes to it ends the program.
  *
  * Linked with -Wl,--wrap=malloc,--wrap=realloc,--wrap=free: what is asked for before the threads start lies in that memory.
@@ -22,7 +22,7 @@ void __real_free(void *block);
 
 /* The memory that is sealed while the threads read: handles first, then blocks, each behind its size. */
 static struct sealed {
-    struct nagsched_handle setup, caller, book, history;
+    struct nagsched_handle setup, pass, book, history;
     size_t used;
     _Alignas(16) uint8_t blocks[];
 } *sealed;
@@ -112,8 +112,8 @@ static int round_of(uint64_t index) {
     uint64_t refused = 9;
     uint8_t text[64];
     size_t length = 0;
-    int right = named(&sealed->setup) + named(&sealed->caller) + named(&sealed->book);
-    right += kept(&sealed->book, &sealed->setup, index) + kept(&sealed->history, &sealed->caller, index);
+    int right = named(&sealed->setup) + named(&sealed->pass) + named(&sealed->book);
+    right += kept(&sealed->book, &sealed->setup, index) + kept(&sealed->history, &sealed->pass, index);
     right += nagsched_refused(&sealed->book, &refused) == NAGSCHED_OK && refused == 0;
     right += running(&sealed->book) && is_saved(&sealed->book);
     right += nagsched_refused(&sealed->setup, &refused) == NAGSCHED_WRONG && nagsched_count(&sealed->history, NULL, NULL) == NAGSCHED_WRONG;
@@ -129,13 +129,13 @@ static void *read_often(void *given) {
     return given;
 }
 
-/* A desk of one caller that has made calls of which the texts are known. */
-static void open_and_ask(struct nagsched_handle *caller) {
+/* A desk of one pass that has made calls of which the texts are known. */
+static void open_and_ask(struct nagsched_handle *pass) {
     struct nagsched_handle setup = NAGSCHED_EMPTY;
     struct nagsched_reply reply;
     GIVES(OK, read_setup(&setup));
-    GIVES(OK, nagsched_open(&setup, 0, 0, caller, 1));
-    for (uint32_t made = 0; made < ENTRIES; made++) GIVES(OK, nagsched_status(caller, made % 2, &reply));
+    GIVES(OK, nagsched_open(&setup, 0, 0, pass, 1));
+    for (uint32_t made = 0; made < ENTRIES; made++) GIVES(OK, nagsched_status(pass, made % 2, &reply));
 }
 
 static void prepare(void) {
@@ -143,7 +143,7 @@ static void prepare(void) {
     sealed = mmap(NULL, BYTES, PROT_READ | PROT_WRITE, MAP_PRIVATE | MAP_ANONYMOUS, -1, 0);
     if (sealed == MAP_FAILED) exit(2);
     GIVES(OK, read_setup(&sealed->setup));
-    open_and_ask(&sealed->caller);
+    open_and_ask(&sealed->pass);
     open_and_ask(&sealed->book);
     GIVES(OK, nagsched_close(&sealed->book));
     open_and_ask(&old);
@@ -165,7 +165,7 @@ int main(void) {
     IS(mprotect(sealed, BYTES, PROT_READ | PROT_WRITE) == 0);
     is_sealed = 0;
     GIVES(OK, nagsched_free(&sealed->setup));
-    GIVES(OK, nagsched_free(&sealed->caller));
+    GIVES(OK, nagsched_free(&sealed->pass));
     GIVES(OK, nagsched_free(&sealed->book));
     GIVES(OK, nagsched_free(&sealed->history));
     return told("readers");

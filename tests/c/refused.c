@@ -7,7 +7,7 @@
  */
 #include "counted.h"
 
-enum { CALLERS = 3, MINUTES = 8, MINUTE = 60000 };
+enum { PASSES = 3, MINUTES = 8, MINUTE = 60000 };
 
 void *__real_malloc(size_t size);
 void *__real_realloc(void *old, size_t size);
@@ -47,7 +47,7 @@ static const char TWICE[] = "{\"hosts\":[{\"name\":\"h\",\"max_check_attempts\":
 
 /* All that a life has. */
 static struct {
-    struct nagsched_handle setup, first[CALLERS], history, second[CALLERS], again, resumed;
+    struct nagsched_handle setup, first[PASSES], history, second[PASSES], again, resumed;
     struct nagsched_refusal refusal;
 } has, had;
 static long unmade, uncounted;
@@ -91,25 +91,25 @@ static void keep(const uint8_t *text, size_t length) {
     told_length += length;
 }
 
-/* All callers take and report for some minutes, in turn. */
-static void ask(struct nagsched_handle *callers, uint64_t first) {
+/* All passes take and report for some minutes, in turn. */
+static void ask(struct nagsched_handle *passes, uint64_t first) {
     struct nagsched_reply reply = {0};
     struct nagsched_call call = {.kind = NAGSCHED_CALL_STATUS, .object = 2};
     uint8_t text[512];
     size_t length = 0;
     for (uint64_t minute = first; minute < first + MINUTES; minute++) {
-        for (size_t at = 0; at < CALLERS; at++) {
-            ASK(nagsched_take(&callers[at], minute * MINUTE, &reply));
+        for (size_t at = 0; at < PASSES; at++) {
+            ASK(nagsched_take(&passes[at], minute * MINUTE, &reply));
             if (reply.kind == NAGSCHED_REPLY_TAKEN && minute % 4 != 3) {
-                ASK(nagsched_report(&callers[at], reply.object, reply.run, minute % 4, &reply));
+                ASK(nagsched_report(&passes[at], reply.object, reply.run, minute % 4, &reply));
             } else if (reply.kind == NAGSCHED_REPLY_TAKEN) {
-                ASK(nagsched_abandon(&callers[at], reply.object, reply.run, minute * MINUTE, &reply));
+                ASK(nagsched_abandon(&passes[at], reply.object, reply.run, minute * MINUTE, &reply));
             }
         }
-        ASK(nagsched_enable(&callers[0], 1, minute % 2, &reply));
-        ASK(nagsched_reschedule(&callers[1], 3, minute * MINUTE, 1, &reply));
-        ASK(nagsched_status(&callers[2], 2, &reply));
-        OK(nagsched_reply_text(&callers[0], &call, &reply, text, sizeof text, &length));
+        ASK(nagsched_enable(&passes[0], 1, minute % 2, &reply));
+        ASK(nagsched_reschedule(&passes[1], 3, minute * MINUTE, 1, &reply));
+        ASK(nagsched_status(&passes[2], 2, &reply));
+        OK(nagsched_reply_text(&passes[0], &call, &reply, text, sizeof text, &length));
         keep(text, length);
     }
 }
@@ -128,12 +128,12 @@ static void tell(const struct nagsched_handle *names, const struct nagsched_hand
     }
 }
 
-/* Gathers all callers, and makes the first one the book. */
-static void close_desk(struct nagsched_handle *callers) {
+/* Gathers all passes, and makes the first one the book. */
+static void close_desk(struct nagsched_handle *passes) {
     uint64_t count = 0;
-    for (size_t at = 1; at < CALLERS; at++) OK(nagsched_gather(&callers[0], &callers[at]));
-    OK(nagsched_close(&callers[0]));
-    OK(nagsched_refused(&callers[0], &count));
+    for (size_t at = 1; at < PASSES; at++) OK(nagsched_gather(&passes[0], &passes[at]));
+    OK(nagsched_close(&passes[0]));
+    OK(nagsched_refused(&passes[0], &count));
     IS(count == (uint64_t)uncounted);
     uncounted = 0;
 }
@@ -176,14 +176,14 @@ static void live(long refused_request) {
     IS(number == 3);
     OK(nagsched_name(&has.setup, number, text, sizeof text, &length));
     keep(text, length);
-    OK(nagsched_open(&has.setup, 0, 0, has.first, CALLERS));
+    OK(nagsched_open(&has.setup, 0, 0, has.first, PASSES));
     ask(has.first, 0);
     close_desk(has.first);
     tell(has.first, has.first);
     OK(nagsched_renew(has.first, 5, &has.history));
     tell(has.first, &has.history);
     OK(nagsched_free(&has.history));
-    OK(nagsched_open_with(has.first, 0, 0, 1000, has.second, CALLERS));
+    OK(nagsched_open_with(has.first, 0, 0, 1000, has.second, PASSES));
     ask(has.second, MINUTES);
     close_desk(has.second);
     tell(has.second, has.second);

@@ -18,31 +18,31 @@ static void must(uint32_t status, const char *what) {
 }
 
 /* Makes the call that a line says: its word, two numbers at most, and a name. */
-static uint32_t make(struct nagsched_handle *caller, const char *line, size_t bytes, struct nagsched_call *call, struct nagsched_reply *reply) {
+static uint32_t make(struct nagsched_handle *pass, const char *line, size_t bytes, struct nagsched_call *call, struct nagsched_reply *reply) {
     uint64_t first = 0, second = 0;
     uint32_t object;
     int name = 0;
     memset(call, 0, sizeof *call);
-    if (sscanf(line, "take %" SCNu64, &first) == 1) return nagsched_take(caller, first, reply);
+    if (sscanf(line, "take %" SCNu64, &first) == 1) return nagsched_take(pass, first, reply);
     if (sscanf(line, "report %" SCNu64 " %" SCNu64 "%n", &first, &second, &name) == 2) call->kind = NAGSCHED_CALL_REPORT;
     else if (sscanf(line, "abandon %" SCNu64 " %" SCNu64 "%n", &first, &second, &name) == 2) call->kind = NAGSCHED_CALL_ABANDON;
     else if (sscanf(line, "reschedule %" SCNu64 " %" SCNu64 "%n", &first, &second, &name) == 2) call->kind = NAGSCHED_CALL_RESCHEDULE;
     else if (sscanf(line, "enable %" SCNu64 "%n", &first, &name) == 1) call->kind = NAGSCHED_CALL_ENABLE;
     else name = (int)strlen("status"), call->kind = NAGSCHED_CALL_STATUS;
     name++;
-    must(nagsched_number(caller, (const uint8_t *)line + name, bytes - (size_t)name, &object), line);
+    must(nagsched_number(pass, (const uint8_t *)line + name, bytes - (size_t)name, &object), line);
     call->object = object;
     switch (call->kind) {
-    case NAGSCHED_CALL_REPORT: return nagsched_report(caller, object, first, (uint32_t)second, reply);
-    case NAGSCHED_CALL_ABANDON: return nagsched_abandon(caller, object, first, second, reply);
-    case NAGSCHED_CALL_RESCHEDULE: return nagsched_reschedule(caller, object, first, (uint32_t)second, reply);
-    case NAGSCHED_CALL_ENABLE: return nagsched_enable(caller, object, (uint32_t)first, reply);
-    default: return nagsched_status(caller, object, reply);
+    case NAGSCHED_CALL_REPORT: return nagsched_report(pass, object, first, (uint32_t)second, reply);
+    case NAGSCHED_CALL_ABANDON: return nagsched_abandon(pass, object, first, second, reply);
+    case NAGSCHED_CALL_RESCHEDULE: return nagsched_reschedule(pass, object, first, (uint32_t)second, reply);
+    case NAGSCHED_CALL_ENABLE: return nagsched_enable(pass, object, (uint32_t)first, reply);
+    default: return nagsched_status(pass, object, reply);
     }
 }
 
 int main(void) {
-    struct nagsched_handle setup = NAGSCHED_EMPTY, caller = NAGSCHED_EMPTY;
+    struct nagsched_handle setup = NAGSCHED_EMPTY, pass = NAGSCHED_EMPTY;
     struct nagsched_call call;
     struct nagsched_reply reply;
     struct nagsched_refusal refusal;
@@ -54,15 +54,15 @@ int main(void) {
     if (getline(&line, &room, stdin) < 0 || sscanf(line, "%" SCNu64, &start) != 1) return 2;
     if ((bytes = getline(&line, &room, stdin)) < 1) return 2;
     must(nagsched_read((const uint8_t *)line, (size_t)bytes - 1, &setup, &refusal), "read");
-    must(nagsched_open(&setup, start, 0, &caller, 1), "open");
+    must(nagsched_open(&setup, start, 0, &pass, 1), "open");
     while ((bytes = getline(&line, &room, stdin)) > 0) {
         line[bytes - 1] = 0;
-        must(make(&caller, line, (size_t)bytes - 1, &call, &reply), line);
-        must(nagsched_reply_text(&caller, &call, &reply, text, sizeof text, &length), "reply_text");
+        must(make(&pass, line, (size_t)bytes - 1, &call, &reply), line);
+        must(nagsched_reply_text(&pass, &call, &reply, text, sizeof text, &length), "reply_text");
         fwrite(text, 1, length, stdout);
     }
-    must(nagsched_close(&caller), "close");
-    must(nagsched_free(&caller), "free");
+    must(nagsched_close(&pass), "close");
+    must(nagsched_free(&pass), "free");
     free(line);
     return 0;
 }

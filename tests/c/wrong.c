@@ -28,7 +28,7 @@ static struct everything {
 static uint8_t saved[1024];
 static size_t saved_length;
 
-/* The two callers of one desk. */
+/* The two passes of one desk. */
 #define MINE (&it.of_desk[0])
 #define YOURS (&it.of_desk[1])
 
@@ -238,7 +238,7 @@ static void no_names(void) {
     WRONG(nagsched_host_of(&it.setup, 1, NULL));
 }
 
-/* A call, as a try and whole: no caller, and no reply. */
+/* A call, as a try and whole: no pass, and no reply. */
 #define NO_CALL(call, ...)                                            \
     do {                                                              \
         WRONG(nagsched_try_##call(NULL, __VA_ARGS__, &it.reply));     \
@@ -290,7 +290,7 @@ static void no_savings(void) {
     WRONG(nagsched_running(&it.book, 0, &it.count, NULL));
 }
 
-/* One pointer given for two things. A setup that lies beside the callers' handles is none of them. */
+/* One pointer given for two things. A setup that lies beside the passes' handles is none of them. */
 static void one_for_two(void) {
     WRONG(nagsched_count(&it.setup, &it.number, &it.number));
     WRONG(nagsched_gather(MINE, MINE));
@@ -300,13 +300,13 @@ static void one_for_two(void) {
     WRONG(nagsched_open(&it.setup, 0, 0, &it.setup, 1));
     WRONG(nagsched_open_with(&it.setup, 0, 0, 1, &it.setup, 1));
     for (size_t source = 0; source < 2; source++) {
-        struct nagsched_handle *caller = &it.two[1 - source];
+        struct nagsched_handle *pass = &it.two[1 - source];
         GIVES(OK, read_setup(&it.two[source]));
         WRONG(nagsched_open(&it.two[source], 0, 0, it.two, 2));
         WRONG(nagsched_open_with(&it.two[source], 0, 0, 1, it.two, 2));
-        GIVES(OK, nagsched_open(&it.two[source], 0, 0, caller, 1));
-        IS(it.two[source].full == 0 && caller->full != 0);
-        GIVES(OK, nagsched_free(caller));
+        GIVES(OK, nagsched_open(&it.two[source], 0, 0, pass, 1));
+        IS(it.two[source].full == 0 && pass->full != 0);
+        GIVES(OK, nagsched_free(pass));
     }
 }
 
@@ -341,7 +341,7 @@ static void arguments(void) {
     WRONG(nagsched_glance(MINE, 2, &it.standing));
 }
 
-/* Callers that can't be gathered, and a desk that can't be closed. */
+/* Passes that can't be gathered, and a desk that can't be closed. */
 static void gatherings(void) {
     WRONG(nagsched_gather(&it.empty, MINE));
     WRONG(nagsched_gather(MINE, &it.empty));
@@ -370,7 +370,7 @@ static void histories(void) {
     WRONG(nagsched_renew(&it.book, 0, &it.history));
 }
 
-/* A caller that waits has its turn to come, and does nothing else before. */
+/* A pass that waits has its turn to come, and does nothing else before. */
 static void waiting(void) {
     struct nagsched_reply reply;
     waits_for_memory = 1;
@@ -418,7 +418,7 @@ static void refused_calls(void) {
 
 /* What the history has to be, whatever was done wrong meanwhile. */
 static void history_of(const struct nagsched_handle *book) {
-    static const struct { uint64_t caller; uint32_t call, reply; } wanted[] = {
+    static const struct { uint64_t pass; uint32_t call, reply; } wanted[] = {
         {0, NAGSCHED_CALL_TAKE, NAGSCHED_REPLY_TAKEN},          {1, NAGSCHED_CALL_TAKE, NAGSCHED_REPLY_TAKEN},
         {0, NAGSCHED_CALL_REPORT, NAGSCHED_REPLY_STANDING},     {0, NAGSCHED_CALL_TAKE, NAGSCHED_REPLY_TIME_RANGE},
         {0, NAGSCHED_CALL_STATUS, NAGSCHED_REPLY_UNKNOWN_OBJECT}, {0, NAGSCHED_CALL_REPORT, NAGSCHED_REPLY_NOT_RUNNING},
@@ -431,26 +431,26 @@ static void history_of(const struct nagsched_handle *book) {
     IS(count == entries);
     for (uint64_t index = 0; index < entries; index++) {
         GIVES(OK, nagsched_entry(book, index, &entry));
-        IS(entry.caller == wanted[index].caller && entry.call.kind == wanted[index].call && entry.reply.kind == wanted[index].reply);
+        IS(entry.pass == wanted[index].pass && entry.call.kind == wanted[index].call && entry.reply.kind == wanted[index].reply);
     }
     GIVES(OK, nagsched_refused(book, &count));
     IS(count == 0);
 }
 
-/* A caller with one call makes no second one. */
+/* A pass with one call makes no second one. */
 static void spent(void) {
-    struct nagsched_handle setup = NAGSCHED_EMPTY, caller = NAGSCHED_EMPTY;
+    struct nagsched_handle setup = NAGSCHED_EMPTY, pass = NAGSCHED_EMPTY;
     GIVES(OK, read_setup(&setup));
-    GIVES(OK, nagsched_open_with(&setup, 0, 10, 1, &caller, 1));
-    IS(setup.full == 0 && caller.full != 0);
-    GIVES(OK, nagsched_status(&caller, 0, &it.reply));
+    GIVES(OK, nagsched_open_with(&setup, 0, 10, 1, &pass, 1));
+    IS(setup.full == 0 && pass.full != 0);
+    GIVES(OK, nagsched_status(&pass, 0, &it.reply));
     memcpy(&was, &it, sizeof it);
-    GIVES(SPENT, nagsched_status(&caller, 0, &it.reply));
+    GIVES(SPENT, nagsched_status(&pass, 0, &it.reply));
     IS(memcmp(&was, &it, sizeof it) == 0);
-    GIVES(OK, nagsched_close(&caller));
-    GIVES(OK, nagsched_entries(&caller, &it.count));
+    GIVES(OK, nagsched_close(&pass));
+    GIVES(OK, nagsched_entries(&pass, &it.count));
     IS(it.count == 1);
-    GIVES(OK, nagsched_free(&caller));
+    GIVES(OK, nagsched_free(&pass));
 }
 
 /* Another desk, and a book and a history with an entry each. */

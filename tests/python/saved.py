@@ -1,4 +1,4 @@
-"""Saves a book with bindings/python/nagsched.py and goes on from what was saved: over a setup of the same document, and over another.
+"""Saves a book with bindings/python/nagsched and goes on from what was saved: over a setup of the same document, and over another.
 
 Wants NAGSCHED_LIBRARY and PYTHONPATH. The last line counts what was compared.
 """

@@ -1,4 +1,4 @@
-"""Makes mistakes with bindings/python/nagsched.py: each raises, and none changes anything. NULL, which that file gives to no
+"""Makes mistakes with bindings/python/nagsched: each raises, and none changes anything. NULL, which that file gives to no
 function, is WRONG to each of the shared library's.
 
 Wants NAGSCHED_LIBRARY and PYTHONPATH. The last line counts what was compared.
@@ -81,7 +81,7 @@ def calls(desk):
     raises(Wrong, book.open)
     raises(IndexError, book.__getitem__, 2)
     is_so("the history", [entry.call.kind.name for entry in book] == ["TAKE", "STATUS"] and book.refused == 0)
-    raises(Wrong, book.text, book[0]._replace(caller=-1))
+    raises(Wrong, book.text, book[0]._replace(pass_number=-1))
     raises(Wrong, book.text, book[0]._replace(reply=nagsched.Reply(len(ReplyKind))))
     savings(book)
     history = book.renew()
@@ -156,7 +156,7 @@ def interrupted():
 
         def attempt(handle, now, reply):
             if not answers:
-                return nagsched._LIBRARY.try_take(handle, now, reply)
+                return nagsched.library.LIBRARY.try_take(handle, now, reply)
             if isinstance(answers[0], BaseException):
                 raise answers.pop(0)
             return answers.pop(0)
@@ -172,10 +172,10 @@ def interrupted():
 def nothing():
     """Each function that takes pointers, with NULL in place of each."""
     numbers = (ctypes.c_uint32, ctypes.c_uint64, ctypes.c_size_t)
-    for name, arguments in nagsched.FUNCTIONS.items():
+    for name, arguments in nagsched.library.FUNCTIONS.items():
         given = [0 if argument in numbers else None for argument in arguments]
         if None in given:
-            is_so(f"nagsched_{name} of NULL", getattr(nagsched._LIBRARY, name)(*given) == nagsched.Result.WRONG)
+            is_so(f"nagsched_{name} of NULL", getattr(nagsched.library.LIBRARY, name)(*given) == nagsched.Result.WRONG)
 
 
 nothing()

@@ -105,7 +105,7 @@ reply_is (reply.Refused refused.WrongRun) = refl
 reply_is (reply.Refused refused.RunsSpent) = refl
 
 abbrev entry_back : PlainEntry → Entry Call Reply
-entry_back p = record { pass = p.caller; call = call_back p.call; reply = reply_back p.reply }
+entry_back p = record { pass = p.pass; call = call_back p.call; reply = reply_back p.reply }
 
 entry_is : (e : Entry Call Reply) → entry_back (plain_entry e) ≡ e
 entry_is e = λ i. record { pass = e.pass; call = call_is e.call i; reply = reply_is e.reply i }
@@ -168,8 +168,8 @@ few_attempts (reply.Refused why) few = omega arith
 pub no_reply_past : (plain : PlainReply) → 2 ^ 8 ≤ plain.standing.attempt → IsNoReply plain
 no_reply_past plain past r few has = absurd (omega (arith, past, few_attempts r few, ap (λ (p : PlainReply). p.standing.attempt) has))
 
-pub no_entry_past : (plain : PlainEntry) → 2 ^ 32 ≤ plain.caller → IsNoEntry plain
-no_entry_past plain past e few bytes has = absurd (omega (arith, past, few, ap (λ (p : PlainEntry). p.caller) has))
+pub no_entry_past : (plain : PlainEntry) → 2 ^ 32 ≤ plain.pass → IsNoEntry plain
+no_entry_past plain past e few bytes has = absurd (omega (arith, past, few, ap (λ (p : PlainEntry). p.pass) has))
 
 pub no_entry_by : (plain : PlainEntry) → IsNoCall plain.call → IsNoEntry plain
 no_entry_by plain none e few bytes has = none e.call (ap (λ (p : PlainEntry). p.call) has)

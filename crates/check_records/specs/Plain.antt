@@ -93,7 +93,7 @@ plain_reply reply.Done = reply_struct 6 0 0 None
 plain_reply (reply.Refused why) = reply_struct (refusal_number why) 0 0 None
 
 abbrev pub plain_entry : Entry Call Reply → PlainEntry
-plain_entry e = record { caller = e.pass; call = plain_call e.call; reply = plain_reply e.reply }
+plain_entry e = record { pass = e.pass; call = plain_call e.call; reply = plain_reply e.reply }
 
 -- ---- refusals of a document
 

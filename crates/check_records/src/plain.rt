@@ -69,12 +69,12 @@ pub struct PlainReply {
     pub standing: PlainStanding,
 }
 
-/// An entry of a history: who called, the call, the reply.
+/// An entry of a history: the pass that called, the call, the reply.
 #[repr(C)]
 #[derive(Clone, Copy, PartialEq)]
 pub struct PlainEntry {
-    /// The number of the caller, from 0.
-    pub caller: u64,
+    /// The number of the pass, from 0.
+    pub pass: u64,
     /// The call.
     pub call: PlainCall,
     /// What it was answered.
@@ -270,7 +270,7 @@ pub fn plain_entry(entry: &Entry<Call, Reply>) -> PlainEntry
 {
     let Entry { pass, call, reply } = *entry;
     PlainEntry {
-        caller: pass as u64,
+        pass: pass as u64,
         call: plain_call(call),
         reply: plain_reply(reply),
     }

@@ -145,7 +145,7 @@ pub fn entry_of(plain: PlainEntry) -> Option<Entry<Call, Reply>>
     ensures some { IfSome result (λ entry. plain_entry entry ≡ plain) }
     ensures none { IfNone result (IsNoEntry plain) }
 {
-    let Ok(pass) = u32::try_from(plain.caller) else {
+    let Ok(pass) = u32::try_from(plain.pass) else {
         return None;
     };
     let call = call_of(plain.call)?;

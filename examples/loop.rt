@@ -1,0 +1,1 @@
+../crates/machine_room/src/restart.rt
