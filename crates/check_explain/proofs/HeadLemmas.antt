@@ -1,5 +1,5 @@
 -- How an explanation begins.
-use Rattle.std.proofs.Common.{◌≡◌, ℕ, zero, suc, Bool, true, false, cond, List, [], ◌∷◌, ◌++◌, Option, Some, None, String, Global, string_bytes, Ok, Err, refl, sym, subst}
+use Rattle.std.proofs.Common.{◌≡◌, ℕ, zero, suc, Bool, true, false, cond, List, [], ◌∷◌, ◌++◌, Some, None, String, Global, string_bytes, Ok, Err, refl, sym, subst}
 use Rattle.std.specs.Prelude.{IsUtf8, OnOk, Result, option_map, slice_get}
 use Rattle.std.specs.Str.{is_utf8}
 use Rattle.std.proofs.lemmas.Str.{IsUtf8-from_is_utf8, is_utf8-from_IsUtf8}
@@ -11,6 +11,7 @@ use Rattle.serde_json.specs.Read.{read}
 use Rattle.check_drafts.specs.Fault.{Fault}
 use Rattle.check_documents.specs.Tree.{tree_of}
 use Rattle.check_explain.specs.Explanation.{head_by, head_of, key_at, place_of, Begins, IsOfFault}
+use Rattle.check_explain.specs.Rounds.{IsOfWhole, OfWhole}
 
 -- the names of the code's map are the members', by index
 pub key_seen : (es : List (String Global × Value)) (index : ℕ) → key_at index (members_view es) ≡ option_map string_bytes (slice_get (keys_of es) index)
@@ -44,6 +45,16 @@ of_fault document f d old new utf8 is begins none tree tree_is_it =
 -- what is no JSON has no tree
 pub of_none : (document : List ℕ) (f : Fault) (new : List ℕ) → (IsUtf8 document → read document ≡ None) → IsOfFault document f new
 of_none document f new none tree tree_is_it = let not : tree_of document ≡ None = tree_not document none in cc
+
+-- what is said of the document's tree
+pub of_whole : (document : List ℕ) (f : Fault) (d : Data) (old new : List ℕ) → IsUtf8 document → read document ≡ Some d
+    → (old ≡ [] → OfWhole d f new) → old ≡ [] → IsOfWhole document f new
+of_whole document f d old new utf8 is says none tree tree_is_it =
+    let same : d ≡ tree = cc (tree_is document d utf8 is, tree_is_it) in
+    subst (λ t. OfWhole t f new) same (says none)
+
+pub whole_none : (document : List ℕ) (f : Fault) (new : List ℕ) → (IsUtf8 document → read document ≡ None) → IsOfWhole document f new
+whole_none document f new none tree tree_is_it = let not : tree_of document ≡ None = tree_not document none in cc
 
 -- anything explains a fault that has no place
 pub of_nowhere : (document : List ℕ) (f : Fault) (new : List ℕ) → place_of f ≡ None → IsOfFault document f new

@@ -2,6 +2,9 @@ pub mod FeedLemmas
 pub mod ShownLemmas
 pub mod HeadLemmas
 pub mod NameLemmas
+pub mod CountLemmas
+pub mod WordLemmas
+pub mod RoundLemmas
 pub mod KeyLemmas
 pub mod LineLemmas
 pub mod NumberLemmas

@@ -1,9 +1,7 @@
 -- Names that hosts have, and the first that none has.
-use Rattle.std.proofs.Common.{◌≡◌, ◌≢◌, ℕ, ◌+◌, ◌<◌, ◌≤◌, get_or, Bool, true, false, not, cond, ◌||◌, List, [], ◌∷◌, map, drop, length, Option, Some, None, refl, sym, ap, ◌∙◌, arith}
-use Rattle.std.specs.Prelude.{codes, find, option_and_then, option_map}
+use Rattle.std.proofs.Common.{◌≡◌, ◌≢◌, ℕ, ◌+◌, Bool, true, false, not, cond, ◌||◌, List, [], ◌∷◌, map, drop, Option, Some, None, refl, sym, ap, ◌∙◌}
+use Rattle.std.specs.Prelude.{codes, option_and_then}
 use Rattle.std.specs.List.{list_any, position}
-use Rattle.std.proofs.lemmas.Grind.{common_steps}
-use Rattle.std.proofs.lemmas.List.{drop_all}
 use Rattle.serde_json.specs.Data.{Data, Items}
 use Rattle.serde_json.specs.Find.{as_str}
 use Rattle.serde_json.specs.View.{items_view, view}
@@ -14,7 +12,7 @@ use Rattle.check_documents.specs.Places.{items_at}
 use Rattle.check_drafts.proofs.ListLemmas.{position-map}
 use Rattle.check_explain.specs.Explanation.{any_item, first_like, first_unknown, is_host, is_text, items_list, text_before, text_in, texts_among}
 
-list_seen : (vs : List Value) → items_list (items_view vs) ≡ map view vs
+pub list_seen : (vs : List Value) → items_list (items_view vs) ≡ map view vs
 list_seen [] = refl
 list_seen (v ∷ vs) = ap (λ ds. view v ∷ ds) (list_seen vs)
 

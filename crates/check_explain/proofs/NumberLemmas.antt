@@ -1,5 +1,5 @@
 -- A good document has whole numbers alone: each member of each object is read, and where a number is read it is a whole one.
-use Rattle.std.proofs.Common.{◌≡◌, ℕ, ◌+◌, List, [], ◌∷◌, Option, Some, None, Bool, true, false, cond, ◌&&◌, ◌||◌, bytes_eq, Result, Ok, Err, refl, sym, ap, ◌∙◌, subst}
+use Rattle.std.proofs.Common.{◌≡◌, ℕ, ◌+◌, List, [], ◌∷◌, Option, Some, None, Bool, true, false, cond, ◌||◌, bytes_eq, Ok, refl, sym, ap, ◌∙◌, subst}
 use Rattle.std.specs.Prelude.{codes, ok_or, option_and_then, ℤ, Float}
 use Rattle.std.proofs.lemmas.Bool.{and_parts, or_parts}
 use Rattle.std.proofs.lemmas.Slice.Eq.{bytes_eq-Decides}
@@ -20,7 +20,8 @@ use Rattle.check_drafts.specs.Agreement.{◌>>=◌}
 use Rattle.check_drafts.specs.Place.{the_options, the_hosts, host_at, the_services, service_at}
 use Rattle.check_documents.specs.Criteria.{criteria_of}
 use Rattle.check_documents.specs.Tree.{tree_of, is_among, only_members, has_only, whole_number, member_or, texts_of, texts_in, ◌>=>◌}
-use Rattle.check_documents.specs.Reading.{items_from, list_of, check_draft, host_members, host_draft, service_members, service_draft, dependency_members, dependency_draft, service_letters, host_letters, option_members, delay_method, interleave_factor, options_but_thresholds, with_thresholds, options_of, document_members, dependencies_in, drafts_of}
+use Rattle.check_documents.specs.Reading.{items_from, list_of, check_draft, host_draft, service_draft, dependency_members, dependency_draft, service_letters, host_letters, option_members}
+use Rattle.check_documents.specs.Reading.{delay_method, interleave_factor, options_but_thresholds, with_thresholds, options_of, document_members, dependencies_in, drafts_of}
 use Rattle.check_documents.proofs.ReadLemmas.{from_ok_or, guarded, guarded_ok, linked, next}
 use Rattle.check_numbers.specs.Configuration.{Configuration}
 use Rattle.check_objects.specs.Setup.{setup_of, setup_of_tree}

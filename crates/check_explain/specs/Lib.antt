@@ -1,5 +1,7 @@
 pub mod Feeds
 pub mod Shown
 pub mod Explanation
+pub mod Counts
+pub mod Rounds
 pub mod DocumentLine
 pub mod Numbers

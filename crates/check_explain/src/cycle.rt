@@ -1,7 +1,16 @@
 //! Cycles: objects that lead back to themselves, through one link or more.
+ghost use Rattle.std.specs.Prelude.{◌≡◌, ◌⊎◌, ◌<◌, ◌++◌, [], IfOk, IfSome, OnOk, false, length, map, take, true};
+ghost use Rattle.serde_json.specs.View.{view};
+ghost use Rattle.check_drafts.specs.Fault as fault;
+ghost use Rattle.check_drafts.specs.declared.place.Part.TheVariants as part;
+ghost use Rattle.check_documents.specs.Places.{items_at};
+ghost use Rattle.check_explain.specs.Explanation.{items_list};
+ghost use Rattle.check_explain.specs.Feeds.{has_feed};
+ghost use Rattle.check_explain.specs.Rounds.{behind, has_master, has_parent, is_link, left_out_text, more_text, no_fault_text, object_text, objects_text, round_text};
+ghost use Rattle.check_explain.specs.Rounds.{IsRound, OfWhole, TellsMasters};
 
 use crate::line::Line;
-use crate::links::{Link, dependencies_of, dependency_links, parent_links};
+use crate::links::{Link, dependency_links, parent_links};
 use crate::no_fault::push_no_fault;
 use crate::places::push_name;
 use check_documents::items;
@@ -20,13 +29,29 @@ pub(crate) fn push_parent_cycle(
     alloc: Global,
     line: &mut Line,
     tree: &Value,
-) -> Result<(), AllocError> {
-    let hosts = items(tree, Part::Hosts);
-    let links = parent_links(alloc, tree)?;
-    match cycle_in(alloc, hosts.len(), &links)? {
-        Some(cycle) => push_cycle(line, "parents", hosts, Part::Hosts, &cycle),
+) -> Result<(), AllocError>
+    ensures { OnOk result (line.old ≡ [] → OfWhole (view tree.now) fault.parent_cycle line.new) }
+{
+    match parent_cycle(alloc, tree)? {
+        Some(cycle) => push_cycle(
+            line,
+            "parents",
+            items(tree, Part::Hosts),
+            Part::Hosts,
+            &cycle,
+        ),
         None => push_no_fault(line),
     }
+}
+
+/// Hosts each of which has the next one for a parent, and the last the first.
+fn parent_cycle(alloc: Global, tree: &Value) -> Result<Option<Vec<usize>>, AllocError>
+    ensures { IfOk result (λ found. IfSome found (λ cycle.
+        IsRound (has_parent (items_list (items_at (view tree.now) part.Hosts))) cycle.items)) }
+{
+    let hosts = items(tree, Part::Hosts);
+    let links = parent_links(alloc, hosts)?;
+    cycle_in(alloc, hosts.len(), &links)
 }
 
 /// Appends services or hosts each of which depends on the next one, and the last on the first.
@@ -34,36 +59,68 @@ pub(crate) fn push_dependency_cycle(
     alloc: Global,
     line: &mut Line,
     tree: &Value,
-) -> Result<(), AllocError> {
-    if push_cycle_among(alloc, line, tree, Part::Services)? {
-        return Ok(());
+) -> Result<(), AllocError>
+    ensures { OnOk result
+        (line.old ≡ [] → OfWhole (view tree.now) fault.dependency_cycle line.new) }
+{
+    match master_cycle(alloc, tree, Part::Services, Part::ServiceDependencies)? {
+        Some(cycle) => push_masters(
+            line,
+            tree,
+            Part::Services,
+            Part::ServiceDependencies,
+            &cycle,
+        ),
+        None => push_host_cycle(alloc, line, tree),
     }
-    if push_cycle_among(alloc, line, tree, Part::Hosts)? {
-        return Ok(());
-    }
-    push_no_fault(line)
 }
 
-/// Appends a cycle of dependencies among the items of a list, and tells whether there is one.
-fn push_cycle_among(
+/// Appends hosts each of which depends on the next one, and the last on the first.
+fn push_host_cycle(alloc: Global, line: &mut Line, tree: &Value) -> Result<(), AllocError>
+    ensures { OnOk result (line.old ≡ [] →
+        TellsMasters (view tree.now) part.Hosts part.HostDependencies line.new
+        ⊎ (line.new ≡ no_fault_text)) }
+{
+    match master_cycle(alloc, tree, Part::Hosts, Part::HostDependencies)? {
+        Some(cycle) => push_masters(line, tree, Part::Hosts, Part::HostDependencies, &cycle),
+        None => push_no_fault(line),
+    }
+}
+
+/// Items of a list each of which depends on the next one, and the last on the first.
+fn master_cycle(
     alloc: Global,
-    line: &mut Line,
     tree: &Value,
     part: Part,
-) -> Result<bool, AllocError> {
+    dependencies: Part,
+) -> Result<Option<Vec<usize>>, AllocError>
+    ensures { IfOk result (λ found. IfSome found (λ cycle.
+        IsRound (has_master part (items_list (items_at (view tree.now) part))
+        (items_at (view tree.now) dependencies)) cycle.items)) }
+{
     let objects = items(tree, part);
-    let links = dependency_links(alloc, tree, part)?;
-    match cycle_in(alloc, objects.len(), &links)? {
-        Some(cycle) => {
-            let what = dependencies_of(part).name();
-            push_cycle(line, what, objects, part, &cycle)?;
-            Ok(true)
-        }
-        None => Ok(false),
-    }
+    let between = items(tree, dependencies);
+    let links = dependency_links(alloc, objects, part, between)?;
+    cycle_in(alloc, objects.len(), &links)
 }
 
 // ---- how a cycle is told
+
+/// Appends a cycle of dependencies.
+fn push_masters(
+    line: &mut Line,
+    tree: &Value,
+    part: Part,
+    dependencies: Part,
+    cycle: &[usize],
+) -> Result<(), AllocError>
+    requires { IsRound (has_master part (items_list (items_at (view tree.now) part))
+        (items_at (view tree.now) dependencies)) cycle.now }
+    ensures { OnOk result
+        (line.old ≡ [] → TellsMasters (view tree.now) part dependencies line.new) }
+{
+    push_cycle(line, dependencies.name(), items(tree, part), part, cycle)
+}
 
 fn push_cycle(
     line: &mut Line,
@@ -71,22 +128,62 @@ fn push_cycle(
     objects: &[Value],
     part: Part,
     cycle: &[usize],
-) -> Result<(), AllocError> {
+) -> Result<(), AllocError>
+    requires { 0 < length cycle.now }
+    ensures { OnOk result (has_feed what.now ≡ false → line.new
+        ≡ line.old ++ round_text what.now part (map view objects.now) cycle.now) }
+{
     line.push_words(what)?;
     line.push_words(" go round:")?;
-    for object in &cycle[..cycle.len().min(FEW)] {
+    push_objects(line, objects, part, first_few(cycle))?;
+    push_more(line, cycle.len())?;
+    push_object(line, objects, part, cycle[0])
+}
+
+/// At most the first eight objects.
+fn first_few(cycle: &[usize]) -> &[usize]
+    ensures { result.now ≡ take 8 cycle.now }
+{
+    if cycle.len() > FEW {
+        &cycle[..FEW]
+    } else {
+        cycle
+    }
+}
+
+fn push_objects(
+    line: &mut Line,
+    objects: &[Value],
+    part: Part,
+    cycle: &[usize],
+) -> Result<(), AllocError>
+    ensures { OnOk result (line.new
+        ≡ line.old ++ objects_text part (map view objects.now) cycle.now) }
+{
+    for object in cycle {
         push_object(line, objects, part, *object)?;
         line.push_words(" ->")?;
     }
-    if cycle.len() > FEW {
-        line.push_words(" (")?;
-        line.push_number((cycle.len() - FEW) as u64)?;
-        line.push_words(" more) ->")?;
+    Ok(())
+}
+
+/// Appends how many of so many objects aren't among the first eight.
+fn push_more(line: &mut Line, count: usize) -> Result<(), AllocError>
+    ensures { OnOk result (line.new ≡ line.old ++ more_text count) }
+{
+    if count > FEW {
+        push_left_out(line, count - FEW)
+    } else {
+        Ok(())
     }
-    match cycle.first() {
-        Some(object) => push_object(line, objects, part, *object),
-        None => Ok(()),
-    }
+}
+
+fn push_left_out(line: &mut Line, count: usize) -> Result<(), AllocError>
+    ensures { OnOk result (line.new ≡ line.old ++ left_out_text count) }
+{
+    line.push_words(" (")?;
+    line.push_number(count as u64)?;
+    line.push_words(" more) ->")
 }
 
 fn push_object(
@@ -94,7 +191,10 @@ fn push_object(
     objects: &[Value],
     part: Part,
     object: usize,
-) -> Result<(), AllocError> {
+) -> Result<(), AllocError>
+    ensures { OnOk result (line.new
+        ≡ line.old ++ object_text part (map view objects.now) object) }
+{
     match objects.get(object) {
         Some(item) => push_name(line, item, part),
         None => Ok(()),
@@ -106,15 +206,58 @@ fn push_object(
 /// Objects that lead back to themselves, each linked to the next one and the last to the first; they
 /// begin with the first in the document. None where there are none among so many objects with these
 /// links.
-fn cycle_in(alloc: Global, count: usize, links: &[Link]) -> Result<Option<Vec<usize>>, AllocError> {
+fn cycle_in(alloc: Global, count: usize, links: &[Link]) -> Result<Option<Vec<usize>>, AllocError>
+    ensures { IfOk result (λ found.
+        IfSome found (λ cycle. IsRound (is_link links.now) cycle.items)) }
+{
     let onward = endless_links(alloc, count, links)?;
     match onward.iter().position(|next| next.is_some()) {
         Some(object) => {
             let first = first_from(&onward, walk(&onward, object));
-            Ok(Some(round(alloc, &onward, first)?))
+            Ok(checked(links, round(alloc, &onward, first)?))
         }
         None => Ok(None),
     }
+}
+
+/// The objects, where they are a cycle of these links.
+fn checked(links: &[Link], cycle: Vec<usize>) -> Option<Vec<usize>>
+    ensures { IfSome result (λ cycle. IsRound (is_link links.now) cycle.items) }
+{
+    if is_round(links, cycle.as_slice()) {
+        Some(cycle)
+    } else {
+        None
+    }
+}
+
+/// Whether each of these objects is linked to the next one, and the last to the first.
+fn is_round(links: &[Link], cycle: &[usize]) -> bool
+    ensures { result ≡ true → IsRound (is_link links.now) cycle.now }
+{
+    for place in 0..cycle.len() {
+        if !is_link(links, cycle[place], object_behind(cycle, place)) {
+            return false;
+        }
+    }
+    !cycle.is_empty()
+}
+
+/// The object behind the one at a place of a cycle.
+fn object_behind(cycle: &[usize], place: usize) -> usize
+    requires { place < length cycle.now }
+    ensures { result ≡ behind cycle.now place }
+{
+    match cycle.get(place + 1) {
+        Some(next) => *next,
+        None => cycle[0],
+    }
+}
+
+fn is_link(links: &[Link], from: usize, to: usize) -> bool
+    ensures { result ≡ is_link links.now from to }
+{
+    links.iter().any(|link| link.0 == from && link.1 == to)
 }
 
 /// Of each object a link that can be gone on from without an end, where it has one. In each turn

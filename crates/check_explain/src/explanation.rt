@@ -5,6 +5,7 @@ ghost use Rattle.serde_json.specs.View.{view};
 ghost use Rattle.check_drafts.specs.Fault.{seen};
 ghost use Rattle.check_explain.specs.Explanation.{head_by, head_of, place_of, subject_in, Begins, IsOfFault};
 ghost use Rattle.check_explain.specs.Feeds.{HasNoFeed};
+ghost use Rattle.check_explain.specs.Rounds.{IsOfWhole, OfWhole};
 
 use crate::counts::push_count;
 use crate::cycle::{push_dependency_cycle, push_parent_cycle};
@@ -25,13 +26,18 @@ use std::alloc::{AllocError, Global};
 /// Why a setup document was refused, in one line of plain words without a line feed: the place, the
 /// name that stands there, the member or the name that is at fault, and what is wrong with it.
 ///
-/// The fault is the one that `Setup::examine` gave for the document; nothing is looked for again. The
-/// line begins with the fault's place, and names its member. Texts of the document are told as JSON
-/// strings, of which at most 80 characters are shown. The one error is that memory ran out.
+/// The fault is the one that `Setup::examine` gave for the document; but for a cycle nothing is looked
+/// for again. The line begins with the fault's place, and names its member (`begins`). Of a fault that
+/// has no place the whole line is known (`whole`): how much there is and how much there can be, or the
+/// objects of a cycle, each linked to the next one and the last to the first; where no cycle is found, it
+/// says that the document has no such fault. Texts of the document stand there as JSON strings, of which
+/// at most 80 characters are shown. The one error is that memory ran out.
 pub fn explain(alloc: Global, document: &[u8], fault: Fault) -> Result<String, AllocError>
     ensures line { IfOk result (λ text. HasNoFeed (string_bytes text)) }
     ensures begins { IfOk result (λ text.
         IsOfFault document.now (seen fault) (string_bytes text)) }
+    ensures whole { IfOk result (λ text.
+        IsOfWhole document.now (seen fault) (string_bytes text)) }
 {
     let mut line = Line::new(alloc);
     push_explanation(alloc, &mut line, document, fault)?;
@@ -45,7 +51,8 @@ fn push_explanation(
     document: &[u8],
     fault: Fault,
 ) -> Result<(), AllocError>
-    ensures { OnOk result (line.old ≡ [] → IsOfFault document.now (seen fault) line.new) }
+    ensures text { OnOk result (line.old ≡ [] → IsOfFault document.now (seen fault) line.new) }
+    ensures whole { OnOk result (line.old ≡ [] → IsOfWhole document.now (seen fault) line.new) }
 {
     match fault {
         Fault::TooLong => push_too_long(line),
@@ -84,7 +91,8 @@ fn push_unread(line: &mut Line, error: Error) -> Result<(), AllocError>
 
 /// Appends the fault of a document that is JSON.
 fn push_fault(alloc: Global, line: &mut Line, tree: &Value, fault: Fault) -> Result<(), AllocError>
-    ensures { OnOk result (Begins (line.old ++ head_of (view tree.now) (seen fault)) line.new) }
+    ensures text { OnOk result (Begins (line.old ++ head_of (view tree.now) (seen fault)) line.new) }
+    ensures whole { OnOk result (line.old ≡ [] → OfWhole (view tree.now) (seen fault) line.new) }
 {
     match place_of(fault) {
         Some(place) => push_fault_at(alloc, line, tree, fault, place),
@@ -185,14 +193,17 @@ fn push_rest(
 
 /// Appends what is wrong with the document as a whole.
 fn push_whole(alloc: Global, line: &mut Line, tree: &Value, fault: Fault) -> Result<(), AllocError>
-    ensures { OnOk result (Begins line.old line.new) }
+    ensures text { OnOk result (Begins line.old line.new) }
+    ensures whole { OnOk result (line.old ≡ [] → OfWhole (view tree.now) (seen fault) line.new) }
 {
     let rest = rest_of(alloc, tree, fault)?;
     line.push_line(&rest)
 }
 
 /// What is said of a fault that has no place.
-fn rest_of(alloc: Global, tree: &Value, fault: Fault) -> Result<Line, AllocError> {
+fn rest_of(alloc: Global, tree: &Value, fault: Fault) -> Result<Line, AllocError>
+    ensures { IfOk result (λ rest. OfWhole (view tree.now) (seen fault) rest) }
+{
     let mut rest = Line::new(alloc);
     match fault {
         Fault::TooMany(count) => push_count(&mut rest, tree, count)?,

@@ -1,11 +1,14 @@
 //! Laws of the definitions, each the contract of a function without parameters and code.
 
-ghost use Rattle.std.specs.Prelude.{◌≡◌, ℕ, List, false, Ok, Some};
+ghost use Rattle.std.specs.Prelude.{◌≡◌, ◌<◌, ℕ, Err, List, false, Ok, Some};
 ghost use Rattle.serde_json.specs.Data.{Data};
 ghost use Rattle.serde_json.specs.Written.{has_float};
+ghost use Rattle.check_drafts.specs.Fault as fault;
+ghost use Rattle.check_drafts.specs.declared.fault.Count.{Count};
 ghost use Rattle.check_documents.specs.Tree.{tree_of};
 ghost use Rattle.check_numbers.specs.Configuration.{Configuration};
-ghost use Rattle.check_objects.specs.Setup.{setup_of};
+ghost use Rattle.check_objects.specs.Setup.{examined, setup_of};
+ghost use Rattle.check_explain.specs.Counts.{amount_of, limit_of};
 ghost use Rattle.check_explain.specs.Numbers.{has_other_number};
 
 /// Each number that stands anywhere in a good document is a whole number from 0 to 2^64 - 1
@@ -17,4 +20,11 @@ pub fn good_numbers_are_whole()
         → has_other_number tree ≡ false }
     ensures no_float { (document : List ℕ) (tree : Data) (c : Configuration)
         → setup_of document ≡ Ok c → tree_of document ≡ Some tree → has_float tree ≡ false }
+{}
+
+/// A document that is refused for too much of something has more of it than there can be. So the count
+/// that [`explain`](crate::explain) reports is past the limit that it reports.
+pub fn a_refused_count_is_past()
+    ensures { (document : List ℕ) (tree : Data) (c : Count) → tree_of document ≡ Some tree
+        → examined document ≡ Err (fault.too_many c) → limit_of c < amount_of tree c }
 {}

@@ -1,5 +1,9 @@
 //! The links between the items of one list of a document, by their indexes.
+ghost use Rattle.std.specs.Prelude.{◌≡◌, ◌<◌, All, IfOk, IfSome, OnOk, length, map, option_map, slice_get, true};
+ghost use Rattle.serde_json.specs.View.{items_view, view};
+ghost use Rattle.check_explain.specs.Rounds.{has, has_master, has_parent, is_called, is_dependency, is_named};
 
+use crate::names::{is_called, parents_of};
 use crate::places::{text_of, texts_of};
 use check_documents::items;
 use check_drafts::Part;
@@ -15,27 +19,32 @@ pub(crate) type Link = (usize, usize);
 type Key<'v> = (&'v str, &'v str);
 
 /// The links from hosts to their parents.
-pub(crate) fn parent_links(alloc: Global, tree: &Value) -> Result<Vec<Link>, AllocError> {
-    let keys = keys_of(alloc, tree, Part::Hosts)?;
+pub(crate) fn parent_links(alloc: Global, hosts: &[Value]) -> Result<Vec<Link>, AllocError>
+    ensures { IfOk result (λ links.
+        All (λ link. has_parent (map view hosts.now) link.0 link.1 ≡ true) links.items) }
+{
+    let keys = keys_of(alloc, hosts, Part::Hosts)?;
     let mut links = Vec::new(alloc);
-    for (index, host) in items(tree, Part::Hosts).iter().enumerate() {
-        add_parents(&mut links, &keys, index, host)?;
+    for child in 0..hosts.len() {
+        add_parents(&mut links, &keys, hosts, child)?;
     }
     Ok(links)
 }
 
+/// Adds the links from the host at this index to its parents.
 fn add_parents(
     links: &mut Vec<Link>,
     keys: &IndexSet<Key<'_>>,
-    index: usize,
-    host: &Value,
-) -> Result<(), AllocError> {
-    let Some(parents) = host.get("parents").and_then(Value::as_array) else {
-        return Ok(());
-    };
-    for parent in parents {
-        if let Some(parent) = index_of(keys, Part::Hosts, parent.as_str()) {
-            links.push((index, parent))?;
+    hosts: &[Value],
+    child: usize,
+) -> Result<(), AllocError>
+    requires within { child < length hosts.now }
+    requires links { All (λ link. has_parent (map view hosts.now) link.0 link.1 ≡ true) links.old.items }
+    ensures { All (λ link. has_parent (map view hosts.now) link.0 link.1 ≡ true) links.new.items }
+{
+    for parent in parents_of(&hosts[child]) {
+        if let Some(place) = index_of(keys, hosts, Part::Hosts, parent.as_str()) {
+            links.push((child, place))?;
         }
     }
     Ok(())
@@ -44,37 +53,47 @@ fn add_parents(
 /// The links from the hosts or the services to those that they depend on.
 pub(crate) fn dependency_links(
     alloc: Global,
-    tree: &Value,
+    objects: &[Value],
     part: Part,
-) -> Result<Vec<Link>, AllocError> {
-    let keys = keys_of(alloc, tree, part)?;
+    dependencies: &[Value],
+) -> Result<Vec<Link>, AllocError>
+    ensures { IfOk result (λ links.
+        All (λ link. has_master part (map view objects.now) (items_view dependencies.now)
+        link.0 link.1 ≡ true) links.items) }
+{
+    let keys = keys_of(alloc, objects, part)?;
     let mut links = Vec::new(alloc);
-    for dependency in items(tree, dependencies_of(part)) {
-        let dependent = index_of(&keys, part, text_of(dependency, "dependent"));
-        let master = index_of(&keys, part, text_of(dependency, "master"));
-        if let (Some(dependent), Some(master)) = (dependent, master) {
-            links.push((dependent, master))?;
+    for dependency in dependencies {
+        if let Some(link) = link_of(&keys, objects, part, dependency) {
+            links.push(link)?;
         }
     }
     Ok(links)
 }
 
-/// The list of the dependencies between the items of a list.
-pub(crate) fn dependencies_of(part: Part) -> Part {
-    match part {
-        Part::Hosts => Part::HostDependencies,
-        _ => Part::ServiceDependencies,
-    }
+/// The link that a dependency is, where both of its ends are there.
+fn link_of(
+    keys: &IndexSet<Key<'_>>,
+    objects: &[Value],
+    part: Part,
+    dependency: &Value,
+) -> Option<Link>
+    ensures { IfSome result (λ link.
+        is_dependency part (map view objects.now) link.0 link.1 (view dependency.now) ≡ true) }
+{
+    let dependent = index_of(keys, objects, part, text_of(dependency, "dependent"))?;
+    let master = index_of(keys, objects, part, text_of(dependency, "master"))?;
+    Some((dependent, master))
 }
 
 /// The keys of the hosts or the services, in the order of their list.
 fn keys_of<'v>(
     alloc: Global,
-    tree: &'v Value,
+    objects: &'v [Value],
     part: Part,
 ) -> Result<IndexSet<Key<'v>>, AllocError> {
     let mut keys = IndexSet::new(alloc);
-    for item in items(tree, part) {
+    for item in objects {
         keys.insert(key_of(item, part))?;
     }
     Ok(keys)
@@ -88,8 +107,46 @@ fn key_of(item: &Value, part: Part) -> Key<'_> {
 }
 
 /// The index of the item with this full name.
-fn index_of(keys: &IndexSet<Key<'_>>, part: Part, name: Option<&str>) -> Option<usize> {
-    let name = name?;
+fn index_of(
+    keys: &IndexSet<Key<'_>>,
+    objects: &[Value],
+    part: Part,
+    name: Option<&str>,
+) -> Option<usize>
+    ensures { IfSome result (λ index. is_named part (map view objects.now)
+        (option_map (λ name. name.now) name.entry) index ≡ true) }
+{
+    match name {
+        Some(name) => index_by(keys, objects, part, name),
+        None => None,
+    }
+}
+
+fn index_by(keys: &IndexSet<Key<'_>>, objects: &[Value], part: Part, name: &str) -> Option<usize>
+    ensures { IfSome result (λ index. has (is_called part name.now)
+        (slice_get (map view objects.now) index) ≡ true) }
+{
+    let index = index_in(keys, part, name)?;
+    if is_at(objects, index, part, name) {
+        Some(index)
+    } else {
+        None
+    }
+}
+
+/// Whether there is an item at this index, and this is its full name.
+fn is_at(objects: &[Value], index: usize, part: Part, name: &str) -> bool
+    ensures { result
+        ≡ has (is_called part name.now) (slice_get (map view objects.now) index) }
+{
+    match objects.get(index) {
+        Some(object) => is_called(object, part, name),
+        None => false,
+    }
+}
+
+/// Where the keys have a full name.
+fn index_in(keys: &IndexSet<Key<'_>>, part: Part, name: &str) -> Option<usize> {
     match part {
         Part::Hosts => keys.get_index_of(&(name, "")),
         _ => keys.get_index_of(&name.split_once(';')?),

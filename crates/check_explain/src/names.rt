@@ -3,11 +3,13 @@ ghost use Rattle.std.specs.Prelude.{◌≡◌, ◌++◌, [], false, OnOk, codes,
 ghost use Rattle.std.specs.List.{list_any};
 ghost use Rattle.serde_json.specs.Find.{as_array, get};
 ghost use Rattle.serde_json.specs.View.{items_view, view};
+ghost use Rattle.check_drafts.specs.declared.place.Part.TheVariants as part;
 ghost use Rattle.check_documents.specs.Places.{or_no_items};
 ghost use Rattle.check_explain.specs.Explanation.{are_texts, first_like, first_unknown, host_role, is_end, is_host, is_service, is_text, like_text, misnamed_member, named};
 ghost use Rattle.check_explain.specs.Explanation.{service_pair, texts_in, unknown_end};
 ghost use Rattle.check_explain.specs.Explanation.{text_before, text_in, texts_among, unknown_host};
 ghost use Rattle.check_explain.specs.Feeds.{has_feed};
+ghost use Rattle.check_explain.specs.Rounds.{is_called};
 
 use crate::line::Line;
 use crate::no_fault::push_no_fault;
@@ -222,7 +224,7 @@ fn unknown_host<'v>(tree: &Value, item: &'v Value, part: Part) -> Option<&'v str
 }
 
 /// The parents of a host.
-fn parents_of(host: &Value) -> &[Value]
+pub(crate) fn parents_of(host: &Value) -> &[Value]
     ensures { items_view result.now
         ≡ or_no_items (option_and_then as_array (get (codes "parents") (view host.now))) }
 {
@@ -307,6 +309,25 @@ fn have_pair(services: &[Value], host: &str, description: &str) -> bool
     services
         .iter()
         .any(|service| is_pair(service, host, description))
+}
+
+/// Whether this is the full name of a host or a service.
+pub(crate) fn is_called(item: &Value, part: Part, name: &str) -> bool
+    ensures { result ≡ is_called part name.now (view item.now) }
+{
+    match part {
+        Part::Services => is_service_called(item, name),
+        _ => has_text(item, "name", name),
+    }
+}
+
+fn is_service_called(service: &Value, name: &str) -> bool
+    ensures { result ≡ is_called part.Services name.now (view service.now) }
+{
+    match name.split_once(';') {
+        Some((host, description)) => is_pair(service, host, description),
+        None => false,
+    }
 }
 
 // ---- ends that aren't there

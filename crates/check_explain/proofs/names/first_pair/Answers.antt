@@ -1,4 +1,3 @@
-use Rattle.std.proofs.Common.{ap}
 use Rattle.check_explain.proofs.names.first_pair.Goals as goal
 
 pub returns-in-Some : goal.returns-in-Some

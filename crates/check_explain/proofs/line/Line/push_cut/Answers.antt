@@ -1,9 +1,6 @@
-use Rattle.std.proofs.Common.{◌≡◌, ℕ, ◌+◌, ◌-◌, suc, refl, ap, arith, sym}
-use Rattle.std.specs.Prelude.{IsUtf8}
-use Rattle.std.specs.Str.{chars}
+use Rattle.std.proofs.Common.{◌≡◌, ◌+◌, ◌-◌, suc, refl, arith}
 use Rattle.std.proofs.lemmas.Result.{on_ok_weaker}
 use Rattle.std.proofs.lemmas.Str.{IsUtf8-past_char}
-use Rattle.check_explain.specs.Shown.{cut, cut_behind}
 use Rattle.check_explain.proofs.ShownLemmas.{cut_ended, cut_next, cut_off}
 use Rattle.check_explain.proofs.line.Line.push_cut.Goals as goal
 

@@ -1,0 +1,133 @@
+-- Links and cycles of the code are those of the document.
+use Rattle.std.proofs.Common.{◌≡◌, ◌≢◌, ℕ, zero, suc, ◌<◌, ◌==◌, ◌&&◌, ◌||◌, Bool, true, false, List, [], ◌∷◌, ◌++◌, get_or, length, map, Option, Some, None, refl, sym, ap, ◌∙◌}
+use Rattle.std.specs.Prelude.{All, IfOk, IfSome, Result, Ok, Err, codes, option_and_then, slice_get}
+use Rattle.std.proofs.lemmas.Bool.{and_parts, eqb-true}
+use Rattle.std.proofs.lemmas.List.Elements.{All-head, All-push, All-tail}
+use Rattle.std.proofs.lemmas.Option.{slice_get-get_or, slice_get-map}
+use Rattle.serde_json.specs.Data.{Data}
+use Rattle.serde_json.specs.Find.{as_array, as_str, get}
+use Rattle.serde_json.specs.View.{items_view, view}
+use Rattle.serde_json.specs.declared.value.Value.{Value}
+use Rattle.check_drafts.specs.Fault as fault
+use Rattle.check_drafts.specs.Fault.{Fault}
+use Rattle.check_drafts.specs.Members.{part_name}
+use Rattle.check_drafts.specs.declared.place.Part.{Part}
+use Rattle.check_drafts.specs.declared.place.Part.TheVariants as part
+use Rattle.check_drafts.specs.declared.place.Place.{Place}
+use Rattle.check_documents.specs.Places.{or_no_items}
+use Rattle.check_explain.specs.Explanation.{any_item, is_text, place_of, text_in}
+use Rattle.check_explain.specs.Feeds.{has_feed}
+use Rattle.check_explain.specs.Rounds.{has_master, has_parent, is_called, is_dependency, is_link, is_named, round_text, IsRound, OfWhole, TellsRound}
+
+-- ---- links
+
+-- what is no service is called by its name
+pub called_by_name : (p : Part) (name : List ℕ) (d : Data) → p ≢ part.Services → is_called p name d ≡ is_text name (text_in (codes "name") d)
+called_by_name part.Document name d other = refl
+called_by_name part.Options name d other = refl
+called_by_name part.Hosts name d other = refl
+called_by_name part.Services name d other = absurd (other refl)
+called_by_name part.ServiceDependencies name d other = refl
+called_by_name part.HostDependencies name d other = refl
+
+passed_by : (a b : Bool) → b ≡ true → (a || b) ≡ true
+passed_by true b e = refl
+passed_by false b e = e
+
+here : (a b : Bool) → a ≡ true → (a || b) ≡ true
+here true b e = refl
+here false b e = cc
+
+-- an item at which the code is passes, so that one of the tree does
+any_at : (test : Data → Bool) (vs : List Value) (i : ℕ) (v : Value) → slice_get vs i ≡ Some v → test (view v) ≡ true → any_item test (items_view vs) ≡ true
+any_at test [] zero v at e = cc
+any_at test [] (suc i) v at e = cc
+any_at test (w ∷ vs) zero v at e = let same : w ≡ v = cc in here (test (view w)) _ (ap (λ x. test (view x)) same ∙ e)
+any_at test (w ∷ vs) (suc i) v at e = passed_by (test (view w)) _ (any_at test vs i v at e)
+
+-- the item at an index, as it shows in goals
+pub there : (vs : List Value) (i : ℕ) (v : Value) → i < length vs → v ≡ get_or vs i v → slice_get vs i ≡ Some v
+there vs i v within is = slice_get-get_or vs i v within ∙ ap Some (sym is)
+
+-- a parent at which the code is links the host to whom it names
+pub parent_at : (hosts : List Value) (child parent : ℕ) (host v : Value) (vs : List Value) (i : ℕ) → slice_get hosts child ≡ Some host
+    → items_view vs ≡ or_no_items (option_and_then as_array (get (codes "parents") (view host))) → slice_get vs i ≡ Some v
+    → is_named part.Hosts (map view hosts) (as_str (view v)) parent ≡ true → has_parent (map view hosts) child parent ≡ true
+parent_at hosts child parent host v vs i at_child are at named =
+    let test = λ (d : Data). is_named part.Hosts (map view hosts) (as_str d) parent in
+    rw (slice_get-map view hosts child, at_child) (ap (any_item test) (sym are) ∙ any_at test vs i v at named)
+
+-- a dependency at which the code is links its ends
+pub dependency_at : (p : Part) (objects : List Data) (link : ℕ × ℕ) (v : Value) (vs : List Value) (i : ℕ) → slice_get vs i ≡ Some v
+    → is_dependency p objects link.0 link.1 (view v) ≡ true → has_master p objects (items_view vs) link.0 link.1 ≡ true
+dependency_at p objects link v vs i at is = any_at (is_dependency p objects link.0 link.1) vs i v at is
+
+-- ---- cycles
+
+abbrev pub AllLinked : (ℕ → ℕ → Bool) → List (ℕ × ℕ) → Type 0
+AllLinked linked links = All (λ link. linked link.0 link.1 ≡ true) links
+
+link_by : (linked : ℕ → ℕ → Bool) (a b from to : ℕ) (t rest : Bool) → (a == from && b == to) ≡ t → linked a b ≡ true → (rest ≡ true → linked from to ≡ true)
+    → (t || rest) ≡ true → linked from to ≡ true
+link_by linked a b from to true rest is first later e =
+    let both = and_parts (a == from) (b == to) is in
+    let x : a ≡ from = eqb-true a from both.0 in
+    let y : b ≡ to = eqb-true b to both.1 in
+    sym (λ i. linked (x i) (y i)) ∙ first
+link_by linked a b from to false rest is first later e = later e
+
+-- one link more
+pub link_pushed : (linked : ℕ → ℕ → Bool) (old new : List (ℕ × ℕ)) (link : ℕ × ℕ) → new ≡ old ++ link ∷ [] → AllLinked linked old → linked link.0 link.1 ≡ true
+    → AllLinked linked new
+link_pushed linked old new link is all more = rw (is) (All-push (λ l. linked l.0 l.1 ≡ true) old link all more)
+
+linked_by : (linked : ℕ → ℕ → Bool) (links : List (ℕ × ℕ)) → AllLinked linked links → (from to : ℕ) → is_link links from to ≡ true → linked from to ≡ true
+linked_by linked [] all from to e = cc
+linked_by linked (link ∷ links) all from to e =
+    link_by linked link.0 link.1 from to (link.0 == from && link.1 == to) (is_link links from to) refl (All-head (λ l. linked l.0 l.1 ≡ true) link links all)
+    (linked_by linked links (All-tail (λ l. linked l.0 l.1 ≡ true) link links all) from to) e
+
+-- a cycle of the links of the code is one of the document
+pub round_by : (linked : ℕ → ℕ → Bool) (links : List (ℕ × ℕ)) (cycle : List ℕ) → AllLinked linked links → IsRound (is_link links) cycle → IsRound linked cycle
+round_by linked links cycle all r = record { some = r.some; each = λ place h. linked_by linked links all _ _ (r.each place h) }
+
+pub name_flat : (p : Part) → has_feed (part_name p) ≡ false
+name_flat part.Document = refl
+name_flat part.Options = refl
+name_flat part.Hosts = refl
+name_flat part.Services = refl
+name_flat part.ServiceDependencies = refl
+name_flat part.HostDependencies = refl
+
+-- what was appended to no byte tells of a cycle
+pub tells_round : (what : List ℕ) (p : Part) (objects seen : List Data) (linked : ℕ → ℕ → Bool) (cycle old new : List ℕ) → objects ≡ seen → IsRound linked cycle
+    → old ≡ [] → new ≡ old ++ round_text what p objects cycle → TellsRound what p seen linked new
+tells_round what p objects seen linked cycle old new same round none is = record {
+  cycle = cycle;
+  round = round;
+  is = is ∙ (λ i. none i ++ round_text what p (same i) cycle);
+}
+
+-- what is so of a cycle where one was found
+pub found_weaker : {A E : Type 0} (P Q : A → Type 0) (r : Result (Option A) E) → ((a : A) → P a → Q a) → IfOk r (λ found. IfSome found P)
+    → IfOk r (λ found. IfSome found Q)
+found_weaker P Q (Ok None) f h = tt
+found_weaker P Q (Ok (Some a)) f h = f a h
+found_weaker P Q (Err e) f h = tt
+
+-- ---- faults
+
+-- nothing is said here of a fault that has a place
+pub of_place : (tree : Data) (f : Fault) (place : Place) (text : List ℕ) → place_of f ≡ Some place → OfWhole tree f text
+of_place tree fault.too_long place text e = tt
+of_place tree fault.not_json place text e = tt
+of_place tree (fault.shape p w) place text e = tt
+of_place tree (fault.too_many c) place text e = cc
+of_place tree (fault.bad_name p) place text e = tt
+of_place tree (fault.duplicate p) place text e = tt
+of_place tree (fault.unknown_host p) place text e = tt
+of_place tree (fault.unknown_master p) place text e = tt
+of_place tree (fault.range p w) place text e = tt
+of_place tree fault.dependency_cycle place text e = cc
+of_place tree fault.parent_cycle place text e = cc
+of_place tree fault.memory place text e = tt

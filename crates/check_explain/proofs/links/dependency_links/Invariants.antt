@@ -1,0 +1,8 @@
+use Rattle.std.proofs.Common.{map}
+use Rattle.serde_json.specs.View.{items_view, view}
+use Rattle.check_explain.specs.Rounds.{has_master}
+use Rattle.check_explain.proofs.RoundLemmas.{AllLinked}
+use Rattle.check_explain.proofs.links.dependency_links.Given as goal
+
+abbrev pub invariant-loop-dependency : goal.invariant-loop-dependency
+invariant-loop-dependency l = AllLinked (has_master l.part (map view l.objects) (items_view l.dependencies)) l.links.items

@@ -1,0 +1,116 @@
+-- A cycle of a document: hosts or services, each linked to the next one and the last to the first; and how it is said.
+use Rattle.std.specs.Prelude.{◌≡◌, ◌⊎◌, ℕ, ◌+◌, ◌-◌, ◌<◌, ◌==◌, ◌&&◌, Bool, true, false, List, [], ◌∷◌, ◌++◌, Option, Some, None, codes, decimal, get_or, length, nat_lt}
+use Rattle.std.specs.Prelude.{option_and_then, slice_get, take, unwrap_or, if◌then◌else◌}
+use Rattle.std.specs.List.{after_first, before_first, list_any, position_or_len}
+use Rattle.serde_json.specs.Data.{Data, Items}
+use Rattle.serde_json.specs.Find.{as_array, as_str, get}
+use Rattle.check_drafts.specs.declared.place.Part.{Part}
+use Rattle.check_drafts.specs.declared.place.Part.TheVariants as part
+use Rattle.check_drafts.specs.Fault as fault
+use Rattle.check_drafts.specs.Fault.{Fault}
+use Rattle.check_drafts.specs.Members.{part_name}
+use Rattle.check_documents.specs.Places.{items_at, or_no_items}
+use Rattle.check_documents.specs.Tree.{tree_of}
+use Rattle.check_explain.specs.Counts.{count_text}
+use Rattle.check_explain.specs.Explanation.{after_space, any_item, are_texts, is_semicolon, is_text, items_list, name_shown, service_pair, text_in}
+
+-- ---- links
+
+-- whether there is one, and it passes a test
+abbrev pub has : {A : Type 0} → (A → Bool) → Option A → Bool
+has test None = false
+has test (Some x) = test x
+
+-- whether an item has this full name, which in a service's the first semicolon parts
+abbrev pub is_called : Part → List ℕ → Data → Bool
+is_called part.Services name d = if nat_lt (position_or_len is_semicolon name) (length name)
+    then are_texts (before_first is_semicolon name, after_first is_semicolon name) (service_pair d)
+    else false
+is_called p name d = is_text name (text_in (codes "name") d)
+
+-- whether there is a name, and the item at an index has it for its full name
+abbrev pub is_named : Part → List Data → Option (List ℕ) → ℕ → Bool
+is_named p objects name index = has (λ text. has (is_called p text) (slice_get objects index)) name
+
+-- whether the host at the first index has the one at the second for a parent
+abbrev pub has_parent : List Data → ℕ → ℕ → Bool
+has_parent hosts child parent =
+    has (λ host. any_item (λ d. is_named part.Hosts hosts (as_str d) parent) (or_no_items (option_and_then as_array (get (codes "parents") host)))) (slice_get hosts child)
+
+-- whether a dependency is of the object at the first index on the one at the second
+abbrev pub is_dependency : Part → List Data → ℕ → ℕ → Data → Bool
+is_dependency p objects dependent master d =
+    is_named p objects (text_in (codes "dependent") d) dependent && is_named p objects (text_in (codes "master") d) master
+
+-- whether one of these dependencies is
+abbrev pub has_master : Part → List Data → Items → ℕ → ℕ → Bool
+has_master p objects dependencies dependent master = any_item (is_dependency p objects dependent master) dependencies
+
+-- ---- cycles
+
+-- whether this is among the links
+abbrev pub is_link : List (ℕ × ℕ) → ℕ → ℕ → Bool
+is_link links from to = list_any (λ link. link.0 == from && link.1 == to) links
+
+-- the object behind the one at a place of a cycle: the next one, and the first behind the last
+abbrev pub behind : List ℕ → ℕ → ℕ
+behind cycle place = unwrap_or (slice_get cycle (place + 1)) (get_or cycle 0 0)
+
+-- objects each of which is linked to the next one, and the last to the first
+pub record IsRound (linked : ℕ → ℕ → Bool) (cycle : List ℕ) : Type 0 where
+  pub some : 0 < length cycle
+  pub each : (place : ℕ) → place < length cycle → linked (get_or cycle place 0) (behind cycle place) ≡ true
+
+-- ---- how a cycle is said
+
+-- a space and the name of the item at this index
+abbrev pub object_text : Part → List Data → ℕ → List ℕ
+object_text p objects index = after_space (option_and_then (name_shown p) (slice_get objects index))
+
+abbrev pub objects_text : Part → List Data → List ℕ → List ℕ
+objects_text p objects [] = []
+objects_text p objects (index ∷ cycle) = object_text p objects index ++ (codes " ->" ++ objects_text p objects cycle)
+
+abbrev pub left_out_text : ℕ → List ℕ
+left_out_text count = codes " (" ++ (decimal count ++ codes " more) ->")
+
+-- how many are left out behind the first eight
+abbrev pub more_text : ℕ → List ℕ
+more_text count = if nat_lt 8 count then left_out_text (count - 8) else []
+
+-- the first eight, how many more there are, and the first again
+abbrev pub round_text : List ℕ → Part → List Data → List ℕ → List ℕ
+round_text what p objects cycle =
+    what ++ (codes " go round:" ++ (objects_text p objects (take 8 cycle) ++ (more_text (length cycle) ++ object_text p objects (get_or cycle 0 0))))
+
+-- a text that names the objects of a cycle of such links
+pub record TellsRound (what : List ℕ) (p : Part) (objects : List Data) (linked : ℕ → ℕ → Bool) (text : List ℕ) : Type 0 where
+  pub cycle : List ℕ
+  pub round : IsRound linked cycle
+  pub is : text ≡ round_text what p objects cycle
+
+abbrev pub no_fault_text : List ℕ
+no_fault_text = codes "the document has no such fault"
+
+-- a cycle of parents of the document
+abbrev pub TellsParents : Data → List ℕ → Type 0
+TellsParents tree text = TellsRound (codes "parents") part.Hosts (items_list (items_at tree part.Hosts)) (has_parent (items_list (items_at tree part.Hosts))) text
+
+-- a cycle of the dependencies of a list among the items of another
+abbrev pub TellsMasters : Data → Part → Part → List ℕ → Type 0
+TellsMasters tree p dependencies text =
+    TellsRound (part_name dependencies) p (items_list (items_at tree p)) (has_master p (items_list (items_at tree p)) (items_at tree dependencies)) text
+
+-- ---- faults of a whole document
+
+-- what is said of a fault that has no place: a count, or the objects of a cycle where one is found
+abbrev pub OfWhole : Data → Fault → List ℕ → Type 0
+OfWhole tree (fault.too_many c) text = text ≡ count_text tree c
+OfWhole tree fault.parent_cycle text = TellsParents tree text ⊎ (text ≡ no_fault_text)
+OfWhole tree fault.dependency_cycle text =
+    TellsMasters tree part.Services part.ServiceDependencies text ⊎ (TellsMasters tree part.Hosts part.HostDependencies text ⊎ (text ≡ no_fault_text))
+OfWhole tree other text = Unit {0}
+
+-- the explanation of a fault of a document
+abbrev pub IsOfWhole : List ℕ → Fault → List ℕ → Type 0
+IsOfWhole document f text = (tree : Data) → tree_of document ≡ Some tree → OfWhole tree f text
