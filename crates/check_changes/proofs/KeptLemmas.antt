@@ -3,17 +3,16 @@ use Rattle.std.proofs.Common.{◌≡◌, ◌≢◌, ℕ, ◌+◌, ◌<◌, ◌�
 use Rattle.std.proofs.Common.{Option, Some, None, option_map, refl, sym, ap, ◌∙◌, arith}
 use Rattle.std.specs.Prelude.{find, slice_get}
 use Rattle.std.proofs.lemmas.Bool.{eqb-false, eqb-true}
-use Rattle.std.proofs.lemmas.List.{drop_more, get_or-replicate, get_or-set_other, get_or-set_same, get_or_default, length-replicate, length-set, same_lists}
+use Rattle.std.proofs.lemmas.List.{get_or-replicate, get_or-set_other, get_or-set_same, get_or_default, length-replicate, length-set, same_lists}
 use Rattle.std.proofs.lemmas.Option.{slice_get-get_or, slice_get_within}
 use Rattle.check_drafts.specs.declared.object.Object.{Object}
 use Rattle.check_objects.specs.Configuration.{Configuration, IsSetup, Named, name_of, number_of, object_count, objects_of}
-use Rattle.check_numbers.proofs.NameLemmas.{item_at, name_leads_back, names_of_setup}
+use Rattle.check_numbers.proofs.NameLemmas.{item_at}
 use Rattle.check_saved.specs.Saved.{Saved, SavedObject, saved_named}
 use Rattle.check_sched.proofs.EachLaws.{name_is, object_is, slice_each}
-use Rattle.check_sched.proofs.PlacesLaws.{number_names}
+use Rattle.check_sched.proofs.PlacesLaws.{apart, find_first, from_place, number_is, number_names}
 use Rattle.check_sched.proofs.ReportLaws.{check_in_range, object_read_in_range}
 use Rattle.check_sched.proofs.ResumedLaws.{length-made}
-use Rattle.check_sched.proofs.SavedLaws.{text_is}
 use Rattle.check_changes.specs.declared.kept.Kept.{Kept}
 use Rattle.check_changes.specs.Changes.{kept_by, kept_of}
 
@@ -26,35 +25,12 @@ pub record AreFound (setup : Configuration) (some : List SavedObject) (kept : Li
 -- ---- names and numbers
 
 -- an object's full name has its number
-number_is : (c : Configuration) (n : ℕ) (o : Named) (name : List ℕ) → IsSetup c → slice_get (objects_of c) n ≡ Some o → bytes_eq o.name name ≡ true
+named_is : (c : Configuration) (n : ℕ) (o : Named) (name : List ℕ) → IsSetup c → slice_get (objects_of c) n ≡ Some o → bytes_eq o.name name ≡ true
     → number_of c name ≡ Some n
-number_is c n o name valid at e =
-    let l = slice_get_within (objects_of c) n o at in
-    let full : name_of c n ≡ name = name_is c n o at ∙ text_is o.name name e in
-    ap (number_of c) (sym full) ∙ name_leads_back c (names_of_setup c valid) n l
+named_is c n o name valid at e =
+    number_is c n name valid (slice_get_within (objects_of c) n o at) (ap (λ full. bytes_eq full name) (name_is c n o at) ∙ e)
 
 -- ---- one saved object more
-
-false_by : (b : Bool) → (b ≡ true → ⊥) → b ≡ false
-false_by true h = absurd (h refl)
-false_by false h = refl
-
-find_first : (p : SavedObject → Bool) (x : SavedObject) (xs : List SavedObject) → p x ≡ true → find p (x ∷ xs) ≡ Some x
-find_first p x xs e = rw e refl
-
-find_later : (p : SavedObject → Bool) (x : SavedObject) (xs : List SavedObject) → p x ≡ false → find p (x ∷ xs) ≡ find p xs
-find_later p x xs e = rw e refl
-
--- the list from a place on
-from_place : (k : ℕ) (objects : List SavedObject) (x : SavedObject) → k < length objects → x ≡ get_or objects k x → drop k objects ≡ x ∷ drop (k + 1) objects
-from_place k objects x l e = drop_more objects k x l ∙ ap (λ y. y ∷ drop (k + 1) objects) (sym e)
-
--- a saved object of another name changes nothing
-apart : (o : Named) (k : ℕ) (objects : List SavedObject) (x : SavedObject) → k < length objects → x ≡ get_or objects k x → (bytes_eq o.name x.name ≡ true → ⊥)
-    → find (λ y. bytes_eq o.name y.name) (drop (k + 1) objects) ≡ find (λ y. bytes_eq o.name y.name) (drop k objects)
-apart o k objects x l e other =
-    let p : SavedObject → Bool = λ y. bytes_eq o.name y.name in
-    sym (ap (find p) (from_place k objects x l e) ∙ find_later p x (drop (k + 1) objects) (false_by (p x) other))
 
 pub found_none : (c : Configuration) → AreFound c [] (replicate (object_count c) None)
 found_none c = record {
@@ -67,8 +43,8 @@ pub found_past : (c : Configuration) (k : ℕ) (objects : List SavedObject) (x :
     → x ≡ get_or objects k x → number_of c x.name ≡ None → AreFound c (drop (k + 1) objects) kept → AreFound c (drop k objects) kept
 found_past c k objects x kept valid l e none was = record {
   one_each = was.one_each;
-  found = λ n o at. was.found n o at ∙ ap (option_map (kept_by c o.object)) (apart o k objects x l e
-      (λ same. let clash : None ≡ Some n = sym none ∙ number_is c n o x.name valid at same in cc));
+  found = λ n o at. was.found n o at ∙ ap (option_map (kept_by c o.object)) (apart o.name k objects x l e
+      (λ same. let clash : None ≡ Some n = sym none ∙ named_is c n o x.name valid at same in cc));
 }
 
 found_by : (c : Configuration) (k number n : ℕ) (o : Named) (object : Object) (objects : List SavedObject) (x : SavedObject) (kept : List (Option Kept)) (same : Bool)
@@ -91,8 +67,8 @@ found_by c k number n o object objects x kept false s valid l e f read was at =
     let other : number ≢ n = eqb-false number n s in
     get_or-set_other kept number n (Some (kept_by c object x)) None (λ back. other (sym back))
     ∙ was.found n o at
-    ∙ ap (option_map (kept_by c o.object)) (apart o k objects x l e
-    (λ same. let both : Some number ≡ Some n = sym f ∙ number_is c n o x.name valid at same in let clash : number ≡ n = cc in other clash))
+    ∙ ap (option_map (kept_by c o.object)) (apart o.name k objects x l e
+    (λ same. let both : Some number ≡ Some n = sym f ∙ named_is c n o x.name valid at same in let clash : number ≡ n = cc in other clash))
 
 -- one more that the setup has
 pub found_more : (c : Configuration) (k number : ℕ) (object : Object) (objects : List SavedObject) (x : SavedObject) (kept : List (Option Kept)) → IsSetup c

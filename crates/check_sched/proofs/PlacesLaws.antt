@@ -16,7 +16,7 @@ use Rattle.check_sched.proofs.SavedLaws.{text_is}
 -- ---- names and numbers
 
 -- an object's full name has its number
-number_is : (c : Configuration) (n : ℕ) (name : List ℕ) → IsSetup c → n < object_count c → bytes_eq (name_of c n) name ≡ true → number_of c name ≡ Some n
+pub number_is : (c : Configuration) (n : ℕ) (name : List ℕ) → IsSetup c → n < object_count c → bytes_eq (name_of c n) name ≡ true → number_of c name ≡ Some n
 number_is c n name valid l e = ap (number_of c) (sym (text_is (name_of c n) name e)) ∙ name_leads_back c (names_of_setup c valid) n l
 
 named_by : (c : Configuration) (n : ℕ) (name : List ℕ) (some : Bool) → list_any (λ (o : Named). bytes_eq name o.name) (objects_of c) ≡ some → number_of c name ≡ Some n
@@ -40,22 +40,22 @@ false_by : (b : Bool) → (b ≡ true → ⊥) → b ≡ false
 false_by true h = absurd (h refl)
 false_by false h = refl
 
-find_first : (p : SavedObject → Bool) (x : SavedObject) (xs : List SavedObject) → p x ≡ true → find p (x ∷ xs) ≡ Some x
+pub find_first : (p : SavedObject → Bool) (x : SavedObject) (xs : List SavedObject) → p x ≡ true → find p (x ∷ xs) ≡ Some x
 find_first p x xs e = rw e refl
 
 find_later : (p : SavedObject → Bool) (x : SavedObject) (xs : List SavedObject) → p x ≡ false → find p (x ∷ xs) ≡ find p xs
 find_later p x xs e = rw e refl
 
 -- the list from a place on
-from_place : (k : ℕ) (objects : List SavedObject) (x : SavedObject) → k < length objects → x ≡ get_or objects k x → drop k objects ≡ x ∷ drop (k + 1) objects
+pub from_place : (k : ℕ) (objects : List SavedObject) (x : SavedObject) → k < length objects → x ≡ get_or objects k x → drop k objects ≡ x ∷ drop (k + 1) objects
 from_place k objects x l e = drop_more objects k x l ∙ ap (λ y. y ∷ drop (k + 1) objects) (sym e)
 
 -- an object of another name changes nothing
-apart : (c : Configuration) (k n : ℕ) (objects : List SavedObject) (x : SavedObject) → k < length objects → x ≡ get_or objects k x
-    → (bytes_eq (name_of c n) x.name ≡ true → ⊥)
-    → find (λ o. bytes_eq (name_of c n) o.name) (drop (k + 1) objects) ≡ find (λ o. bytes_eq (name_of c n) o.name) (drop k objects)
-apart c k n objects x l e other =
-    let p : SavedObject → Bool = λ o. bytes_eq (name_of c n) o.name in
+pub apart : (name : List ℕ) (k : ℕ) (objects : List SavedObject) (x : SavedObject) → k < length objects → x ≡ get_or objects k x
+    → (bytes_eq name x.name ≡ true → ⊥)
+    → find (λ o. bytes_eq name o.name) (drop (k + 1) objects) ≡ find (λ o. bytes_eq name o.name) (drop k objects)
+apart name k objects x l e other =
+    let p : SavedObject → Bool = λ o. bytes_eq name o.name in
     sym (ap (find p) (from_place k objects x l e) ∙ find_later p x (drop (k + 1) objects) (false_by (p x) other))
 
 pub places_none : (c : Configuration) (objects : List SavedObject) → ArePlaces c objects [] (replicate (object_count c) None)
@@ -77,7 +77,7 @@ pub places_past : (c : Configuration) (k : ℕ) (objects : List SavedObject) (x 
     → x ≡ get_or objects k x → number_of c x.name ≡ None → ArePlaces c objects (drop (k + 1) objects) places → ArePlaces c objects (drop k objects) places
 places_past c k objects x places valid l e none was = record {
   one_each = was.one_each;
-  found = λ n m. was.found n m ∙ apart c k n objects x l e
+  found = λ n m. was.found n m ∙ apart (name_of c n) k objects x l e
       (λ same. let clash : None ≡ Some n = sym none ∙ number_is c n x.name valid m same in cc);
 }
 
@@ -97,7 +97,7 @@ found_by c k number n objects x places true s valid l e f was m =
 found_by c k number n objects x places false s valid l e f was m =
     let other : number ≢ n = eqb-false number n s in
     ap (option_and_then (slice_get objects)) (get_or-set_other places number n (Some k) None (λ back. other (sym back)))
-    ∙ was.found n m ∙ apart c k n objects x l e
+    ∙ was.found n m ∙ apart (name_of c n) k objects x l e
     (λ same. let both : Some number ≡ Some n = sym f ∙ number_is c n x.name valid m same in let clash : number ≡ n = cc in other clash)
 
 -- one more that the setup has
