@@ -1,4 +1,4 @@
--- Passes and callers that have made no call.
+-- Passes that have made no call.
 use Rattle.std.proofs.Common.{◌≡◌, ℕ, ◌+◌, ◌<◌, ◌++◌, List, [], ◌∷◌, length, length-append, set, drop, get_or, refl, ap, ◌∙◌, subst, arith}
 use Rattle.std.specs.List.{All}
 use Rattle.std.proofs.lemmas.List.{get_or_append_left, drop-set}
@@ -14,7 +14,7 @@ use Rattle.check_desk.specs.Passes.{new_pass_with, pass_of}
 use Rattle.check_handles.specs.declared.handle.Handle.{Handle}
 use Rattle.check_handles.specs.declared.shared.Shared.{Shared}
 use Rattle.check_handles.specs.Handles.{contents_of}
-use Rattle.check_handles.specs.Opening.{AreCallersFrom, IsFreshPassOf, IsNewCaller}
+use Rattle.check_handles.specs.Opening.{ArePassesFrom, IsFreshPassOf, IsNewPass}
 
 -- ---- passes put together
 
@@ -65,8 +65,8 @@ fresh_all calls desk n (p ∷ ps) new =
     } in
     All-cons (IsFreshPassOf desk) p ps fresh (fresh_all calls desk (n + 1) ps new.2)
 
--- ---- callers that are seated one after another, from the last on
+-- ---- passes that are handed out one after another, from the last on
 
-pub seated : (calls : ℕ) (desk : Shared) (i : ℕ) (h : Handle) (hs : List Handle) → i < length hs → IsNewCaller calls desk i (contents_of h)
-    → AreCallersFrom calls desk (i + 1) (drop (i + 1) hs) → AreCallersFrom calls desk i (drop i (set hs i h))
+pub seated : (calls : ℕ) (desk : Shared) (i : ℕ) (h : Handle) (hs : List Handle) → i < length hs → IsNewPass calls desk i (contents_of h)
+    → ArePassesFrom calls desk (i + 1) (drop (i + 1) hs) → ArePassesFrom calls desk i (drop i (set hs i h))
 seated calls desk i h hs less new rest = rw (drop-set hs i h less) (new, rest)

@@ -1,4 +1,4 @@
--- What a try of a caller with a pass is.
+-- What a try of a pass at rest is.
 use Rattle.std.proofs.Common.{◌≡◌, subst}
 use mathlib.Core.Logic.{◌≢◌}
 use Rattle.ticket_lock.specs.Callers.{drawn}

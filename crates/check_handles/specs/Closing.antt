@@ -1,53 +1,53 @@
--- What comes of callers that are put together, of a desk that is ended, and of a book that goes on.
+-- What comes of passes that are put together, of a desk that is ended, and of a book that goes on.
 use Rattle.std.specs.Prelude.{◌≡◌, ◌+◌, ◌<◌, ◌≤◌, ⊤, ℕ, Bool, true, false, [], length, Option, Some, None}
 use Rattle.check_desk.specs.declared.desk.Desk.{Desk}
 use Rattle.check_desk.specs.Desks.{opened_with, passes_of}
 use Rattle.check_desk.specs.Passes.{pass_of}
 use Rattle.check_book.specs.BookState.{book_at}
 use Rattle.check_book.specs.Books.{entries_of, opening_of, refused_of, sched_of, state_of}
-use Rattle.check_handles.specs.declared.caller.Caller.{Caller}
+use Rattle.check_handles.specs.declared.desk_pass.DeskPass.{DeskPass}
 use Rattle.check_handles.specs.declared.lodged.Ledger.{Ledger}
 use Rattle.check_handles.specs.declared.lodged.Lodged.{Lodged}
 use Rattle.check_handles.specs.declared.lodged.Lodged.TheVariants as lodged
 use Rattle.check_handles.specs.declared.stage.Stage.{Stage}
 use Rattle.check_handles.specs.declared.stage.Stage.TheVariants as stage
-use Rattle.check_handles.specs.Desks.{AreOneDesk, IsSameCaller, desk_of, mark_of}
+use Rattle.check_handles.specs.Desks.{AreOneDesk, IsSamePass, desk_of, mark_of}
 use Rattle.check_handles.specs.Joining.{HasJoined}
 
--- two callers are of one desk; C has to see to it
+-- two passes are of one desk; C has to see to it
 abbrev pub AreOfOneDesk : Option Lodged → Option Lodged → Type 0
-AreOfOneDesk (Some (lodged.Caller a)) (Some (lodged.Caller b)) = AreOneDesk a b
+AreOfOneDesk (Some (lodged.Pass a)) (Some (lodged.Pass b)) = AreOneDesk a b
 AreOfOneDesk a b = ⊤
 
--- one caller for two: of their desk, with the passes of both
+-- one pass for two: of their desk, with the numbers of both
 abbrev pub IsGathered : Lodged → Lodged → Lodged → Type 0
-IsGathered (lodged.Caller a) (lodged.Caller b) (lodged.Caller both) = AreOneDesk a both × HasJoined a.stage b.stage both.stage
+IsGathered (lodged.Pass a) (lodged.Pass b) (lodged.Pass both) = AreOneDesk a both × HasJoined a.stage b.stage both.stage
 IsGathered a b both = ⊥
 
--- a caller with its pass in hand
+-- a pass at rest
 abbrev pub IsAtRest : Stage → Type 0
 IsAtRest (stage.Resting pass) = ⊤
 IsAtRest other = ⊥
 
--- two callers that can be put together: both rest, and their desks have one mark
-abbrev pub MayJoin : Caller → Caller → Type 0
+-- two passes that can be put together: both rest, and their desks have one mark
+abbrev pub MayJoin : DeskPass → DeskPass → Type 0
 MayJoin a b = IsAtRest a.stage × IsAtRest b.stage × (mark_of a ≡ mark_of b)
 
 abbrev pub MayBeGathered : Option Lodged → Option Lodged → Type 0
-MayBeGathered (Some (lodged.Caller a)) (Some (lodged.Caller b)) = MayJoin a b
+MayBeGathered (Some (lodged.Pass a)) (Some (lodged.Pass b)) = MayJoin a b
 MayBeGathered a b = ⊥
 
--- a caller with its pass in hand, which doesn't answer for all of its desk's passes
+-- a pass at rest which doesn't answer for all of its desk's passes
 abbrev pub IsShortOf : Desk → Stage → Type 0
 IsShortOf desk (stage.Resting pass) = length (pass_of pass).numbers < passes_of desk
 IsShortOf desk other = ⊥
 
-abbrev pub MissesCallers : Option Lodged → Type 0
-MissesCallers (Some (lodged.Caller caller)) = IsShortOf (desk_of caller) caller.stage
-MissesCallers other = ⊥
+abbrev pub MissesPasses : Option Lodged → Type 0
+MissesPasses (Some (lodged.Pass pass)) = IsShortOf (desk_of pass) pass.stage
+MissesPasses other = ⊥
 
 abbrev pub IsResting : Lodged → Type 0
-IsResting (lodged.Caller caller) = IsAtRest caller.stage
+IsResting (lodged.Pass pass) = IsAtRest pass.stage
 IsResting other = ⊥
 
 -- the book of a desk, all of whose passes are gathered in this one: it opened as the desk did, has the history that the pass has
@@ -57,11 +57,13 @@ IsBookAfter desk (stage.Resting pass) ledger = (opening_of ledger.book ≡ opene
     × (entries_of ledger.book ≡ (pass_of pass).seen) × (length (entries_of ledger.book) + refused_of ledger.book ≡ (pass_of pass).calls)
 IsBookAfter desk other ledger = ⊥
 
--- a desk was ended, or its caller is as it was
+-- what became of a pass: the book of its desk, which was ended; or it is as it was
+abbrev pub HasBecome : DeskPass → Bool → Lodged → Type 0
+HasBecome pass true after = (ledger : Ledger) × (after ≡ lodged.Book ledger) × IsBookAfter (desk_of pass) pass.stage ledger
+HasBecome pass false after = (same : DeskPass) × (after ≡ lodged.Pass same) × IsSamePass pass same
+
 abbrev pub HasShut : Lodged → Bool → Lodged → Type 0
-HasShut (lodged.Caller caller) true (lodged.Book ledger) = IsBookAfter (desk_of caller) caller.stage ledger
-HasShut (lodged.Caller caller) false (lodged.Caller same) = IsSameCaller caller same
-HasShut before closed after = ⊥
+HasShut before closed after = (pass : DeskPass) × (before ≡ lodged.Pass pass) × HasBecome pass closed after
 
 -- a book that goes on where one stood, with this room and without entries
 abbrev pub IsNext : ℕ → Ledger → Ledger → Type 0
@@ -81,5 +83,4 @@ IsBook other = ⊥
 
 -- a book has gone on, or is as it was
 abbrev pub HasGoneOn : ℕ → Lodged → Lodged → Option Lodged → Type 0
-HasGoneOn room (lodged.Book before) (lodged.Book after) past = IsRenewed room before after past
-HasGoneOn room before after past = ⊥
+HasGoneOn room before after past = (book : Ledger) × (next : Ledger) × (before ≡ lodged.Book book) × (after ≡ lodged.Book next) × IsRenewed room book next past

@@ -19,7 +19,7 @@ pub record HasGlimpsed (desk : Desk) (object : ℕ) (before after : Pass) (stand
   pub legal : IsHistoryOf desk (pass_of after).seen
   pub standing_is : standing ≡ standing_after desk (pass_of after).seen object
 
--- a caller that rests, and has no standing exactly where there is no such object; one that waits sees nothing
+-- a pass that rests, and has no standing exactly where there is no such object; one that waits sees nothing
 abbrev pub HasLookedAt : Desk → ℕ → Stage → Option Standing → Stage → Type 0
 HasLookedAt desk object (stage.Resting before) (Some standing) (stage.Resting after) = HasGlimpsed desk object before after standing
 HasLookedAt desk object (stage.Resting before) None after = (objects_of desk ≤ object) × (after ≡ stage.Resting before)

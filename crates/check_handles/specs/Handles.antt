@@ -18,10 +18,10 @@ abbrev pub boxed : {Z : Type 0} → Option (Box Lodged Z) → Option Lodged
 boxed (Some taken) = Some taken.value
 boxed None = None
 
--- the objects of a setup, of a caller's desk, or of a book
+-- the objects of a setup, of a pass's desk, or of a book
 abbrev pub named_by : Lodged → Option Configuration
 named_by (lodged.Setup prepared) = Some prepared.setup
-named_by (lodged.Caller caller) = Some (opened_with (desk_of caller)).sched.setup
+named_by (lodged.Pass pass) = Some (opened_with (desk_of pass)).sched.setup
 named_by (lodged.Book ledger) = Some (sched_of ledger.book).setup
 named_by (lodged.History entries) = None
 named_by lodged.Nothing = None

@@ -7,7 +7,7 @@ use Rattle.check_desk.specs.Desks.{opened_with, passes_of, IsPassOf}
 use Rattle.check_desk.specs.Passes.{new_pass_with, pass_of}
 use Rattle.check_book.specs.BookState.{BookState, book_opening}
 use Rattle.check_book.specs.Books.{entries_of, opening_of, refused_of}
-use Rattle.check_handles.specs.declared.caller.Caller.{Caller}
+use Rattle.check_handles.specs.declared.desk_pass.DeskPass.{DeskPass}
 use Rattle.check_handles.specs.declared.handle.Handle.{Handle}
 use Rattle.check_handles.specs.declared.lodged.Ledger.{Ledger}
 use Rattle.check_handles.specs.declared.lodged.Lodged.{Lodged}
@@ -44,44 +44,44 @@ pub record IsFreshPassOf (desk : Desk) (pass : Pass) : Type 0 where
   pub calls : (pass_of pass).calls ≡ 0
   pub seen : (pass_of pass).seen ≡ []
 
--- a caller of this desk with this number, which has so many calls and has made none
-abbrev pub IsNewCaller : ℕ → Shared → ℕ → Option Lodged → Type 0
-IsNewCaller calls desk number (Some (lodged.Caller caller)) = (arc_value caller.shared ≡ desk) × IsNewAtRest calls number caller.stage
-IsNewCaller calls desk number other = ⊥
+-- a pass of this desk with this number, which has so many calls and has made none
+abbrev pub IsNewPass : ℕ → Shared → ℕ → Option Lodged → Type 0
+IsNewPass calls desk number (Some (lodged.Pass pass)) = (arc_value pass.shared ≡ desk) × IsNewAtRest calls number pass.stage
+IsNewPass calls desk number other = ⊥
 
--- new callers of a desk in the order of their numbers, from this one on
-abbrev pub AreCallersFrom : ℕ → Shared → ℕ → List Handle → Type 0
-AreCallersFrom calls desk number [] = ⊤
-AreCallersFrom calls desk number (handle ∷ handles) = IsNewCaller calls desk number (contents_of handle) × AreCallersFrom calls desk (number + 1) handles
+-- new passes of a desk in the order of their numbers, from this one on
+abbrev pub ArePassesFrom : ℕ → Shared → ℕ → List Handle → Type 0
+ArePassesFrom calls desk number [] = ⊤
+ArePassesFrom calls desk number (handle ∷ handles) = IsNewPass calls desk number (contents_of handle) × ArePassesFrom calls desk (number + 1) handles
 
--- the callers of a desk that opened with this state, each with so many calls; the desk has this mark
-pub record IsOpenedWith (mark calls : ℕ) (opening : BookState) (callers : List Handle) : Type 0 where
+-- the passes of a desk that opened with this state, each with so many calls; the desk has this mark
+pub record IsOpenedWith (mark calls : ℕ) (opening : BookState) (handles : List Handle) : Type 0 where
   pub shared : Shared
   pub marked : shared.mark ≡ mark
   pub opened : opened_with shared.desk ≡ opening
-  pub all : passes_of shared.desk ≡ length callers
-  pub new : AreCallersFrom calls shared 0 callers
+  pub all : passes_of shared.desk ≡ length handles
+  pub new : ArePassesFrom calls shared 0 handles
 
 -- a desk was opened on it
-pub record IsOpenedBy (start room mark calls : ℕ) (source : Lodged) (callers : List Handle) : Type 0 where
+pub record IsOpenedBy (start room mark calls : ℕ) (source : Lodged) (handles : List Handle) : Type 0 where
   pub opening : BookState
   pub from : opens_with start room source ≡ Some opening
-  pub opened : IsOpenedWith mark calls opening callers
+  pub opened : IsOpenedWith mark calls opening handles
 
--- a caller that rests, answers for all of its desk's passes, has made no call and seen nothing
+-- a pass that rests, answers for all of its desk's passes, has made no call and seen nothing
 abbrev pub IsWholeAtRest : Desk → Stage → Type 0
 IsWholeAtRest desk (stage.Resting pass) = (length (pass_of pass).numbers ≡ passes_of desk) × ((pass_of pass).calls ≡ 0) × ((pass_of pass).seen ≡ [])
 IsWholeAtRest desk other = ⊥
 
--- the one caller of a desk that opened with this state
-abbrev pub IsOnlyCallerOf : BookState → Caller → Type 0
-IsOnlyCallerOf opening caller = (opened_with (desk_of caller) ≡ opening) × IsWholeAtRest (desk_of caller) caller.stage
+-- the one pass of a desk that opened with this state
+abbrev pub IsOnlyPassOf : BookState → DeskPass → Type 0
+IsOnlyPassOf opening pass = (opened_with (desk_of pass) ≡ opening) × IsWholeAtRest (desk_of pass) pass.stage
 
--- what was handed back of a desk that opened with this state: a book without entries; or else its one caller, which would come only
+-- what was handed back of a desk that opened with this state: a book without entries; or else its one pass, which would come only
 -- where so many already share the desk that no one more can be counted
 abbrev pub IsBackOf : BookState → Lodged → Type 0
 IsBackOf opening (lodged.Book ledger) = (opening_of ledger.book ≡ opening) × (entries_of ledger.book ≡ []) × (refused_of ledger.book ≡ 0)
-IsBackOf opening (lodged.Caller caller) = IsOnlyCallerOf opening caller
+IsBackOf opening (lodged.Pass pass) = IsOnlyPassOf opening pass
 IsBackOf opening other = ⊥
 
 abbrev pub IsBookBack : Ledger → Lodged → Type 0
@@ -89,7 +89,7 @@ IsBookBack ledger back = IsBackOf (opening_of ledger.book) back
 
 abbrev pub IsSetupBack : ℕ → ℕ → Prepared → Lodged → Type 0
 IsSetupBack start room prepared (lodged.Setup back) = back.setup ≡ prepared.setup
-IsSetupBack start room prepared (lodged.Caller caller) = IsOnlyCallerOf (book_opening prepared.setup start room) caller
+IsSetupBack start room prepared (lodged.Pass pass) = IsOnlyPassOf (book_opening prepared.setup start room) pass
 IsSetupBack start room prepared other = ⊥
 
 -- what was handed back of it, where memory was refused

@@ -16,7 +16,7 @@ abbrev pub IsWaiting : Stage → Type 0
 IsWaiting (stage.Waiting turn asked) = ⊤
 IsWaiting other = ⊥
 
--- a caller that waits for its turn
+-- a pass that waits for its turn
 abbrev pub IsTurnWaitingIn : Option Lodged → Type 0
-IsTurnWaitingIn (Some (lodged.Caller caller)) = IsWaiting caller.stage
+IsTurnWaitingIn (Some (lodged.Pass pass)) = IsWaiting pass.stage
 IsTurnWaitingIn contents = ⊥

@@ -1,4 +1,4 @@
--- That what a caller has in hand is of its desk.
+-- That what stands for a pass is of its desk.
 use Rattle.std.specs.Prelude.{⊤}
 use mathlib.Core.Path.{refl}
 use Rattle.core.specs.Mem.{manually_drop_value}

@@ -1,4 +1,4 @@
-//! Callers put together, a desk ended, and its book gone on with.
+//! Passes put together, a desk ended, and its book gone on with.
 
 ghost use Rattle.std.specs.Prelude.{◌≡◌, ◌↔◌, true, false, Some};
 ghost use Rattle.check_handles.specs.Closing.{AreOfOneDesk, HasGoneOn, HasShut, IsBook, IsGathered, IsRenewed, IsResting, MayBeGathered};
@@ -8,8 +8,8 @@ use crate::lodged::{Ledger, Lodged};
 use crate::stage::Stage;
 use std::alloc::Global;
 
-/// Puts the second caller's pass to the first's, exactly where both are callers that rest, and their desks
-/// have one mark.
+/// Puts the second pass to the first, exactly where both are passes at rest, and their desks have one
+/// mark.
 pub fn put_together(first: &mut Lodged, second: &mut Lodged) -> bool
     requires { AreOfOneDesk (Some first.old) (Some second.old) }
     ensures exactly { (result ≡ true) ↔ MayBeGathered (Some first.old) (Some second.old) }
@@ -17,33 +17,33 @@ pub fn put_together(first: &mut Lodged, second: &mut Lodged) -> bool
     ensures same { result ≡ false → (first.new ≡ first.old) × (second.new ≡ second.old) }
 {
     match first {
-        Lodged::Caller(first) => match second {
-            Lodged::Caller(second) => first.join(second),
+        Lodged::Pass(first) => match second {
+            Lodged::Pass(second) => first.join(second),
             _ => false,
         },
         _ => false,
     }
 }
 
-/// Whether it is a caller that has its pass in hand.
+/// Whether it is a pass at rest.
 pub fn rests(lodged: &Lodged) -> bool
     ensures { (result ≡ true) ↔ IsResting lodged.now }
 {
     match lodged {
-        Lodged::Caller(caller) => matches!(caller.stage, Stage::Resting(_)),
+        Lodged::Pass(pass) => matches!(pass.stage, Stage::Resting(_)),
         _ => false,
     }
 }
 
-/// The book of a caller's desk, where all passes were gathered into it. Else the caller.
+/// The book of a pass's desk, where all passes were gathered into it. Else the pass.
 pub fn close(lodged: Lodged) -> (Lodged, bool)
     requires { IsResting lodged }
     ensures { HasShut lodged result.1 result.0 }
 {
     match lodged {
-        Lodged::Caller(caller) => match caller.close() {
+        Lodged::Pass(pass) => match pass.close() {
             Ok(ledger) => (Lodged::Book(ledger), true),
-            Err(caller) => (Lodged::Caller(caller), false),
+            Err(pass) => (Lodged::Pass(pass), false),
         },
         other => (other, false),
     }

@@ -11,7 +11,7 @@ use crate::unboxed::Unboxed;
 use std::alloc::Global;
 use std::mem::replace;
 
-/// A setup, a caller, a book or a history; zeroed it is empty. It may go to another thread.
+/// A setup, a pass, a book or a history; zeroed it is empty. It may go to another thread.
 #[repr(C)]
 #[derive(Drop)]
 pub struct Handle {

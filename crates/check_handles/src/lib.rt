@@ -1,17 +1,17 @@
 #![tactic(auto)]
 //! What C keeps of the library: a [`Handle`], which owns what lies on the heap and leads to it.
 //!
-//! A handle leads to a setup, a caller of a desk, a book or an old history. What is in it is taken out,
+//! A handle leads to a setup, a pass of a desk, a book or an old history. What is in it is taken out,
 //! gone on with, and put back. No status and no struct of C's is here: whoever exports a function says
 //! what C is told.
 //!
 //! The modules: `handle` has the handle, `raw` and `unboxed` the address in it, `lodged` what it leads to,
-//! `shared`, `caller` and `stage` a caller of a desk. `reading` makes a setup, `opening` the callers of a
-//! desk; `closing` puts callers together, ends a desk, and goes on with a book; `resuming` makes the book
+//! `shared`, `desk_pass` and `stage` a pass of a desk. `reading` makes a setup, `opening` the passes of a
+//! desk; `closing` puts passes together, ends a desk, and goes on with a book; `resuming` makes the book
 //! that goes on from a saved state.
 
-mod caller;
 pub mod closing;
+mod desk_pass;
 mod handle;
 mod lodged;
 pub mod opening;
@@ -22,7 +22,7 @@ mod shared;
 mod stage;
 mod unboxed;
 
-pub use caller::Caller;
+pub use desk_pass::DeskPass;
 pub use handle::Handle;
 pub use lodged::{Ledger, Lodged, Prepared};
 pub use stage::Step;

@@ -1,11 +1,11 @@
-//! What a handle leads to: a setup, a caller of a desk, the book of a desk that was closed, or the
+//! What a handle leads to: a setup, a pass of a desk, the book of a desk that was closed, or the
 //! history of a book that goes on without it.
 
 ghost use Rattle.std.specs.Prelude.{◌≡◌, option_map};
 ghost use Rattle.std_alloc.specs.Arc.{arc_value};
 ghost use Rattle.check_book.specs.Books.{sched_of};
 
-use crate::caller::Caller;
+use crate::desk_pass::DeskPass;
 use check_book::Book;
 use check_objects::Setup;
 use check_sched::{Call, Reply};
@@ -13,7 +13,7 @@ use std::alloc::Global;
 use std::sync::Arc;
 use ticket_steps::{Entry, Kept};
 
-/// A setup, ready for a desk: one for its book, and the same once more for the names, which callers
+/// A setup, ready for a desk: one for its book, and the same once more for the names, which passes
 /// ask for while the book is in use.
 #[derive(Drop)]
 pub struct Prepared {
@@ -39,8 +39,8 @@ pub enum Lodged {
     Nothing,
     /// A setup, of which a desk can be opened.
     Setup(Prepared),
-    /// A caller of a desk.
-    Caller(Caller),
+    /// A pass of a desk.
+    Pass(DeskPass),
     /// The book of a desk that was closed.
     Book(Ledger),
     /// The entries that a book had when it was renewed.
@@ -64,7 +64,7 @@ impl Lodged {
     {
         match self {
             Lodged::Setup(prepared) => Some(shared(&prepared.setup)),
-            Lodged::Caller(caller) => Some(shared(&caller.names)),
+            Lodged::Pass(pass) => Some(shared(&pass.names)),
             Lodged::Book(ledger) => Some(shared(&ledger.names)),
             Lodged::History(_) | Lodged::Nothing => None,
         }

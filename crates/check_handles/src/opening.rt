@@ -11,9 +11,9 @@ ghost use Rattle.check_desk.specs.Passes.{pass_of};
 ghost use Rattle.check_book.specs.BookState.{book_opening};
 ghost use Rattle.check_book.specs.Books.{entries_of, opening_of, refused_of};
 ghost use Rattle.check_handles.specs.Seats.{AreSeats};
-ghost use Rattle.check_handles.specs.Opening.{AreCallersFrom, IsAsSetup, IsBack, IsBackOf, IsBookBack, IsEmptyBack, IsFreshPassOf, IsOpenedBy, IsOpenedWith, IsSetupBack, IsSource};
+ghost use Rattle.check_handles.specs.Opening.{ArePassesFrom, IsAsSetup, IsBack, IsBackOf, IsBookBack, IsEmptyBack, IsFreshPassOf, IsOpenedBy, IsOpenedWith, IsSetupBack, IsSource};
 
-use crate::caller::Caller;
+use crate::desk_pass::DeskPass;
 use crate::handle::Handle;
 use crate::lodged::{Ledger, Lodged, Prepared};
 use crate::shared::Shared;
@@ -49,17 +49,17 @@ pub fn open_source(
     room: usize,
     mark: u64,
     calls: u32,
-    callers: &mut [Handle],
+    handles: &mut [Handle],
 ) -> Result<(), Lodged>
     requires source { IsSource start room source }
     requires calls { 0 < calls }
-    requires some { (0 < length callers.old) × (length callers.old ≤ 1024) }
-    ensures ok { OnOk result (IsOpenedBy start room mark calls source callers.new) }
-    ensures err { IfErr result (λ back. IsBack start room source back × (callers.new ≡ callers.old)) }
+    requires some { (0 < length handles.old) × (length handles.old ≤ 1024) }
+    ensures ok { OnOk result (IsOpenedBy start room mark calls source handles.new) }
+    ensures err { IfErr result (λ back. IsBack start room source back × (handles.new ≡ handles.old)) }
 {
     match source {
-        Lodged::Setup(prepared) => open_setup(alloc, prepared, start, room, mark, calls, callers),
-        Lodged::Book(ledger) => open_ledger(alloc, ledger, mark, calls, callers),
+        Lodged::Setup(prepared) => open_setup(alloc, prepared, start, room, mark, calls, handles),
+        Lodged::Book(ledger) => open_ledger(alloc, ledger, mark, calls, handles),
         other => Err(other),
     }
 }
@@ -72,17 +72,17 @@ fn open_setup(
     room: usize,
     mark: u64,
     calls: u32,
-    callers: &mut [Handle],
+    handles: &mut [Handle],
 ) -> Result<(), Lodged>
     requires start { start ≤ LAST_MOMENT }
     requires calls { 0 < calls }
-    requires some { (0 < length callers.old) × (length callers.old ≤ 1024) }
-    ensures ok { OnOk result (IsOpenedWith mark calls (book_opening prepared.setup start room) callers.new) }
-    ensures err { IfErr result (λ back. IsSetupBack start room prepared back × (callers.new ≡ callers.old)) }
+    requires some { (0 < length handles.old) × (length handles.old ≤ 1024) }
+    ensures ok { OnOk result (IsOpenedWith mark calls (book_opening prepared.setup start room) handles.new) }
+    ensures err { IfErr result (λ back. IsSetupBack start room prepared back × (handles.new ≡ handles.old)) }
 {
     let Prepared { setup, names } = prepared;
     match Book::open(alloc, setup, start, room) {
-        Ok(book) => match open_ledger(alloc, Ledger { book, names }, mark, calls, callers) {
+        Ok(book) => match open_ledger(alloc, Ledger { book, names }, mark, calls, handles) {
             Ok(()) => Ok(()),
             Err(back) => Err(as_setup(back)),
         },
@@ -90,7 +90,7 @@ fn open_setup(
     }
 }
 
-/// A book as the setup that it was opened on; a caller stays one.
+/// A book as the setup that it was opened on; a pass stays one.
 fn as_setup(back: Lodged) -> Lodged
     requires { IsEmptyBack back }
     ensures { IsAsSetup back result }
@@ -113,26 +113,26 @@ fn open_ledger(
     ledger: Ledger,
     mark: u64,
     calls: u32,
-    callers: &mut [Handle],
+    handles: &mut [Handle],
 ) -> Result<(), Lodged>
     requires empty { (entries_of ledger.book ≡ []) × (refused_of ledger.book ≡ 0) }
     requires calls { 0 < calls }
-    requires some { (0 < length callers.old) × (length callers.old ≤ 1024) }
-    ensures ok { OnOk result (IsOpenedWith mark calls (opening_of ledger.book) callers.new) }
-    ensures err { IfErr result (λ back. IsBookBack ledger back × (callers.new ≡ callers.old)) }
+    requires some { (0 < length handles.old) × (length handles.old ≤ 1024) }
+    ensures ok { OnOk result (IsOpenedWith mark calls (opening_of ledger.book) handles.new) }
+    ensures err { IfErr result (λ back. IsBookBack ledger back × (handles.new ≡ handles.old)) }
 {
-    let count = callers.len();
+    let count = handles.len();
     let Ledger { book, names } = ledger;
     let Ok(seats) = prepare_seats(alloc, &names, count) else {
         return Err(Lodged::Book(Ledger { book, names }));
     };
     match Desk::open_with(alloc, book, count as u32, calls) {
-        Ok((desk, passes)) => seat_all(alloc, desk, mark, calls, passes, names, seats, callers),
+        Ok((desk, passes)) => seat_all(alloc, desk, mark, calls, passes, names, seats, handles),
         Err(book) => Err(Lodged::Book(Ledger { book, names })),
     }
 }
 
-/// What callers need beside their passes.
+/// What the handles need beside their passes.
 #[derive(Drop)]
 struct Seats {
     /// A place on the heap for each.
@@ -143,7 +143,7 @@ struct Seats {
     desks: Vec<Arc<Shared, Global>>,
 }
 
-/// Asks for the memory that so many callers need.
+/// Asks for the memory that so many passes need.
 fn prepare_seats(
     alloc: Global,
     names: &Arc<Setup, Global>,
@@ -153,7 +153,7 @@ fn prepare_seats(
 {
     let mut places = Vec::with_capacity(alloc, count)?;
     let mut all = Vec::with_capacity(alloc, count)?;
-    for _caller in 0..count {
+    for _pass in 0..count {
         let place = Box::new(alloc, Lodged::Nothing)?;
         places.push_reserved(place);
         all.push_reserved(Arc::try_clone(names)?);
@@ -165,7 +165,7 @@ fn prepare_seats(
     })
 }
 
-/// Seats a caller for each pass at the desk, or hands the book back. Each pass has so many calls.
+/// Gives each handle a pass of the desk, or hands the book back. Each pass has so many calls.
 fn seat_all(
     alloc: Global,
     desk: Desk,
@@ -174,14 +174,14 @@ fn seat_all(
     passes: Vec<Pass>,
     names: Arc<Setup, Global>,
     seats: Seats,
-    callers: &mut [Handle],
+    handles: &mut [Handle],
 ) -> Result<(), Lodged>
     requires names { arc_value names ≡ (opened_with desk).sched.setup }
     requires new { AreNewPassesWith calls desk 0 passes.items }
-    requires count { (length passes.items ≡ passes_of desk) × (length callers.old ≡ passes_of desk) × (0 < passes_of desk) × (length passes.items ≤ 1024) }
+    requires count { (length passes.items ≡ passes_of desk) × (length handles.old ≡ passes_of desk) × (0 < passes_of desk) × (length passes.items ≤ 1024) }
     requires seats { AreSeats (arc_value names) (passes_of desk) seats }
-    ensures ok { OnOk result (IsOpenedWith mark calls (opened_with desk) callers.new) }
-    ensures err { IfErr result (λ back. IsBackOf (opened_with desk) back × (callers.new ≡ callers.old)) }
+    ensures ok { OnOk result (IsOpenedWith mark calls (opened_with desk) handles.new) }
+    ensures err { IfErr result (λ back. IsBackOf (opened_with desk) back × (handles.new ≡ handles.old)) }
 {
     let count = passes.len();
     let Seats {
@@ -193,7 +193,7 @@ fn seat_all(
     match Arc::new(alloc, shared) {
         Ok(shared) => match share(&shared, desks, count) {
             Ok(desks) => {
-                hand_out(&shared, calls, passes, places, all, desks, callers);
+                hand_out(&shared, calls, passes, places, all, desks, handles);
                 Ok(())
             }
             Err(_) => Err(unshared(shared, passes, names)),
@@ -205,7 +205,7 @@ fn seat_all(
     }
 }
 
-/// The desk for so many callers.
+/// The desk for so many passes.
 fn share(
     shared: &Arc<Shared, Global>,
     desks: Vec<Arc<Shared, Global>>,
@@ -216,13 +216,13 @@ fn share(
         × All (λ one. arc_value one ≡ arc_value shared.now) all.items) }
 {
     let mut desks = desks;
-    for _caller in 0..count {
+    for _pass in 0..count {
         desks.push_reserved(Arc::try_clone(shared)?);
     }
     Ok(desks)
 }
 
-/// The book of a desk that nobody shares. A desk that is shared all the same has one caller with all passes:
+/// The book of a desk that nobody shares. A desk that is shared all the same has one pass for all:
 /// that would come only where 2^63 share it already.
 fn unshared(shared: Arc<Shared, Global>, passes: Vec<Pass>, names: Arc<Setup, Global>) -> Lodged
     requires names { arc_value names ≡ (opened_with (arc_value shared).desk).sched.setup }
@@ -235,7 +235,7 @@ fn unshared(shared: Arc<Shared, Global>, passes: Vec<Pass>, names: Arc<Setup, Gl
         Err(shared) => {
             let all = passes.len() as u32;
             let pass = gather_all(&shared.desk, passes);
-            Lodged::Caller(Caller::resting(shared, names, pass, all))
+            Lodged::Pass(DeskPass::resting(shared, names, pass, all))
         }
     }
 }
@@ -274,8 +274,8 @@ fn gather_all(desk: &Desk, passes: Vec<Pass>) -> Pass
     whole
 }
 
-/// Gives each handle a caller: the first that of the first pass. Each has so many calls, which is for
-/// the proof alone.
+/// Gives each handle a pass: the first handle the first pass. Each has so many calls, which is for the
+/// proof alone.
 fn hand_out(
     shared: &Arc<Shared, Global>,
     calls: u32,
@@ -283,19 +283,19 @@ fn hand_out(
     places: Vec<Box<Lodged>>,
     names: Vec<Arc<Setup, Global>>,
     desks: Vec<Arc<Shared, Global>>,
-    callers: &mut [Handle],
+    handles: &mut [Handle],
 )
     requires new { AreNewPassesWith calls (arc_value shared.now).desk 0 passes.items }
-    requires count { (length callers.old ≡ passes_of (arc_value shared.now).desk) × (length passes.items ≡ length callers.old)
-        × (length places.items ≡ length callers.old) × (length callers.old ≤ 1024) }
-    requires names { (length names.items ≡ length callers.old)
+    requires count { (length handles.old ≡ passes_of (arc_value shared.now).desk) × (length passes.items ≡ length handles.old)
+        × (length places.items ≡ length handles.old) × (length handles.old ≤ 1024) }
+    requires names { (length names.items ≡ length handles.old)
         × All (λ one. arc_value one ≡ (opened_with (arc_value shared.now).desk).sched.setup) names.items }
-    requires desks { (length desks.items ≡ length callers.old)
+    requires desks { (length desks.items ≡ length handles.old)
         × All (λ one. arc_value one ≡ arc_value shared.now) desks.items }
-    ensures { (length callers.new ≡ length callers.old)
-        × AreCallersFrom calls (arc_value shared.now) 0 callers.new }
+    ensures { (length handles.new ≡ length handles.old)
+        × ArePassesFrom calls (arc_value shared.now) 0 handles.new }
 {
-    let count = callers.len();
+    let count = handles.len();
     let mut passes = passes;
     let mut places = places;
     let mut names = names;
@@ -313,7 +313,7 @@ fn hand_out(
         let Some(shared) = desks.pop() else {
             unreachable!()
         };
-        *place = Lodged::Caller(Caller::resting(shared, names, pass, count as u32));
-        callers[count - 1 - done] = Handle::of(place);
+        *place = Lodged::Pass(DeskPass::resting(shared, names, pass, count as u32));
+        handles[count - 1 - done] = Handle::of(place);
     }
 }

@@ -22,12 +22,12 @@ pub fn prepare(alloc: Global, document: &[u8]) -> Result<Box<Lodged>, LoadError>
     Ok(Box::new(alloc, Lodged::Setup(Prepared { setup, names }))?)
 }
 
-/// Whether it is a caller that waits for its turn.
+/// Whether it is a pass that waits for its turn.
 pub fn waits(lodged: &Lodged) -> bool
     ensures { (result ≡ true) ↔ IsTurnWaitingIn (Some lodged.now) }
 {
     match lodged {
-        Lodged::Caller(caller) => matches!(caller.stage, Stage::Waiting(_, _)),
+        Lodged::Pass(pass) => matches!(pass.stage, Stage::Waiting(_, _)),
         _ => false,
     }
 }

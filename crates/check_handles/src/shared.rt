@@ -1,10 +1,10 @@
-//! What the callers of a desk share.
+//! What the passes of a desk share.
 
 ghost use Rattle.std.specs.Prelude.{◌≡◌, ◌↔◌, true};
 
 use check_desk::Desk;
 
-/// A desk, and a mark by which two callers are seen to share it.
+/// A desk, and a mark by which two passes are seen to share it.
 #[derive(Drop)]
 pub struct Shared {
     /// The desk.
@@ -14,7 +14,7 @@ pub struct Shared {
 }
 
 impl Shared {
-    /// Whether this and the other have one mark. Addresses can't be compared, so that is how callers of two
+    /// Whether this and the other have one mark. Addresses can't be compared, so that is how passes of two
     /// desks are kept apart.
     pub(crate) fn has_mark_of(&self, other: &Shared) -> bool
         ensures { (result ≡ true) ↔ (self.now.mark ≡ other.now.mark) }

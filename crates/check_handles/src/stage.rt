@@ -1,4 +1,4 @@
-//! What a caller has in hand between two calls of C: its pass, or the turn of a call that waits.
+//! What stands for a pass between two calls of C: the pass at rest, or the turn of a call that waits.
 
 ghost use Rattle.std.specs.Prelude.{◌≡◌, IfSome, None};
 ghost use Rattle.check_desk.specs.Desks.{IsWaitingAt};
@@ -9,12 +9,12 @@ use check_desk::{Answer, Desk, Pass, Poll, Turn};
 use check_sched::{Call, Reply};
 use std::mem::{ManuallyDrop, replace};
 
-/// What a caller has in hand.
+/// What stands for a pass.
 #[derive(Drop)]
 pub enum Stage {
     /// Nothing: only while a call is made.
     Gone,
-    /// Its pass.
+    /// The pass at rest.
     Resting(Pass),
     /// A ticket whose turn hasn't come, and the call for which it was taken. C makes the same call
     /// again until its turn has come: nobody else makes it.
@@ -28,15 +28,15 @@ pub enum Step {
     Replied(Reply),
     /// There was no memory for the entry: the call wasn't made, but it is counted.
     NoMemory,
-    /// The caller has no call left. Nothing was done.
+    /// The pass has no call left. Nothing was done.
     Spent,
     /// The turn hasn't come.
     NotYet,
-    /// The caller waits for the turn of another call. Nothing was done.
+    /// The pass waits for the turn of another call. Nothing was done.
     OtherWaits,
 }
 
-/// Takes a ticket, where the caller has none, looks whether its turn has come, and makes the call
+/// Takes a ticket, where the pass has none, looks whether its turn has come, and makes the call
 /// then. A ticket that was taken for another call is left as it is.
 #[tactic(auto, using(crate::proofs::Steps::advanced))]
 pub(crate) fn advance(desk: &Desk, stage: &mut Stage, call: Call) -> Step
@@ -51,7 +51,7 @@ pub(crate) fn advance(desk: &Desk, stage: &mut Stage, call: Call) -> Step
     look(desk, stage, turn, call)
 }
 
-/// What keeps the caller from going on by the call: it has no call left, or it waits for the turn of
+/// What keeps the pass from going on by the call: it has no call left, or it waits for the turn of
 /// another.
 fn hindrance(stage: &Stage, call: Call) -> Option<Step>
     ensures hindered { IfSome result (λ step.
@@ -65,7 +65,7 @@ fn hindrance(stage: &Stage, call: Call) -> Option<Step>
     }
 }
 
-/// Takes the turn out of the stage by which the caller goes on: the one that waits, or a new one, by
+/// Takes the turn out of the stage by which the pass goes on: the one that waits, or a new one, by
 /// one of the calls of its pass. The call is there for the proof alone: that one may go on by it.
 fn take_turn(desk: &Desk, stage: &mut Stage, call: Call) -> Turn
     requires own { IsStageOf desk.now stage.old }
@@ -83,8 +83,8 @@ fn take_turn(desk: &Desk, stage: &mut Stage, call: Call) -> Turn
     }
 }
 
-/// Looks whether the turn has come, as it always has where the caller answers for all, and makes the
-/// call then. The stage is what the caller has afterwards.
+/// Looks whether the turn has come, as it always has where the pass answers for all, and makes the
+/// call then. The stage is the pass's afterwards.
 fn look(desk: &Desk, stage: &mut Stage, turn: Turn, call: Call) -> Step
     requires { IsWaitingAt desk.now turn }
     ensures own { IsStageOf desk.now stage.new }

@@ -1,29 +1,29 @@
--- What C is told of callers that are put together, of a desk that is ended, and of a book that goes on.
+-- What C is told of passes that are put together, of a desk that is ended, and of a book that goes on.
 use Rattle.std.specs.Prelude.{◌≡◌, ◌⊎◌, ℕ, true, is_some, Option, Some, None}
-use Rattle.check_handles.specs.declared.caller.Caller.{Caller}
+use Rattle.check_handles.specs.declared.desk_pass.DeskPass.{DeskPass}
 use Rattle.check_handles.specs.declared.lodged.Ledger.{Ledger}
 use Rattle.check_handles.specs.declared.lodged.Lodged.{Lodged}
 use Rattle.check_handles.specs.declared.lodged.Lodged.TheVariants as lodged
-use Rattle.check_handles.specs.Desks.{IsSameCaller, desk_of}
+use Rattle.check_handles.specs.Desks.{IsSamePass, desk_of}
 use Rattle.check_handles.specs.Closing.{IsBook, IsBookAfter, IsGathered, IsRenewed, IsResting}
 
--- Two callers became one, and the second handle is empty; or nothing was done.
+-- Two passes became one, and the second handle is empty; or nothing was done.
 abbrev pub HasGathered : Option Lodged → Option Lodged → ℕ → Option Lodged → Option Lodged → Type 0
 HasGathered a b status a' b' =
     ((status ≡ 0) × (b' ≡ None) × ((first : Lodged) × (second : Lodged) × (both : Lodged) × (a ≡ Some first) × (b ≡ Some second) × (a' ≡ Some both) × IsGathered first second both))
     ⊎ ((status ≡ 6) × (a' ≡ a) × (b' ≡ b))
 
--- a caller with its pass in hand, in a handle
+-- a pass at rest, in a handle
 abbrev pub IsRestingIn : Option Lodged → Type 0
 IsRestingIn (Some lodged) = IsResting lodged
 IsRestingIn None = ⊥
 
--- The desk was ended, and the handle has its book; or passes are missing, and the caller is as it was; or the handle has no caller
+-- The desk was ended, and the handle has its book; or passes are missing, and the pass is as it was; or the handle has no pass
 -- that rests, and nothing was done.
 abbrev pub HasClosed : Option Lodged → ℕ → Option Lodged → Type 0
 HasClosed before status after =
-    ((caller : Caller) × (before ≡ Some (lodged.Caller caller)) × (status ≡ 0) × ((ledger : Ledger) × (after ≡ Some (lodged.Book ledger)) × IsBookAfter (desk_of caller) caller.stage ledger))
-    ⊎ (((caller : Caller) × (before ≡ Some (lodged.Caller caller)) × (status ≡ 5) × ((same : Caller) × (after ≡ Some (lodged.Caller same)) × IsSameCaller caller same))
+    ((pass : DeskPass) × (before ≡ Some (lodged.Pass pass)) × (status ≡ 0) × ((ledger : Ledger) × (after ≡ Some (lodged.Book ledger)) × IsBookAfter (desk_of pass) pass.stage ledger))
+    ⊎ (((pass : DeskPass) × (before ≡ Some (lodged.Pass pass)) × (status ≡ 5) × ((same : DeskPass) × (after ≡ Some (lodged.Pass same)) × IsSamePass pass same))
     ⊎ ((status ≡ 6) × (after ≡ before) × (IsRestingIn before → ⊥)))
 
 -- a book, in a handle

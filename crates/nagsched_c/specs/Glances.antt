@@ -13,9 +13,9 @@ abbrev pub IsTold : Option Standing → PlainStanding → ℕ → PlainStanding 
 IsTold (Some standing) before status told = (status ≡ 0) × (told ≡ plain_standing standing)
 IsTold None before status told = (status ≡ 6) × (told ≡ before)
 
--- A glance by a handle: that of a caller shows a standing, or none; with any other nothing is done.
+-- A glance by a handle: that of a pass shows a standing, or none; with any other nothing is done.
 abbrev pub HasGlanced : ℕ → Option Lodged → PlainStanding → ℕ → Option Lodged → PlainStanding → Type 0
-HasGlanced object (Some (lodged.Caller before)) shown status (Some (lodged.Caller after)) told =
+HasGlanced object (Some (lodged.Pass before)) shown status (Some (lodged.Pass after)) told =
     AreOneDesk before after × ((seen : Option Standing) × IsTold seen shown status told × HasLookedAt (desk_of before) object before.stage seen after.stage)
-HasGlanced object (Some (lodged.Caller before)) shown status other told = ⊥
+HasGlanced object (Some (lodged.Pass before)) shown status other told = ⊥
 HasGlanced object before shown status after told = (status ≡ 6) × (after ≡ before) × (told ≡ shown)

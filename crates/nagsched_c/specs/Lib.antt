@@ -5,6 +5,5 @@ pub mod Opening
 pub mod Closing
 pub mod Glances
 pub mod Histories
-pub mod FaultText
 pub mod Texts
 pub mod Saving

@@ -12,7 +12,7 @@ are_empty handles = list_all (λ handle. not (is_some (contents_of handle))) han
 
 -- 1 to 1,024 empty handles
 abbrev pub ArePlaces : List Handle → Type 0
-ArePlaces callers = (0 < length callers) × (length callers ≤ 1024) × (are_empty callers ≡ true)
+ArePlaces passes = (0 < length passes) × (length passes ≤ 1024) × (are_empty passes ≡ true)
 
 -- what a handle leads to can be opened
 abbrev pub IsSourceIn : ℕ → ℕ → Option Lodged → Type 0
@@ -21,13 +21,13 @@ IsSourceIn start room None = ⊥
 
 -- all that opening needs but memory
 abbrev pub MayOpen : ℕ → ℕ → ℕ → Option Lodged → List Handle → Type 0
-MayOpen calls start room before callers = ArePlaces callers × IsSourceIn start room before × (0 < calls) × (calls ≤ 4294967295)
+MayOpen calls start room before passes = ArePlaces passes × IsSourceIn start room before × (0 < calls) × (calls ≤ 4294967295)
 
 -- The three answers: a desk was opened, and the handle that was given is empty; memory was refused, and the source is handed back; or
 -- it can't be opened so, and nothing was done.
 abbrev pub HasOpened : ℕ → ℕ → ℕ → ℕ → Option Lodged → List Handle → ℕ → Option Lodged → List Handle → Type 0
-HasOpened mark calls start room before callers status after opened =
+HasOpened mark calls start room before passes status after opened =
     ((status ≡ 0) × (after ≡ None)
     × ((source : Lodged) × (before ≡ Some source) × IsSource start room source × IsOpenedBy start room mark calls source opened))
-    ⊎ (((status ≡ 3) × (opened ≡ callers) × ((source : Lodged) × (back : Lodged) × (before ≡ Some source) × (after ≡ Some back) × IsBack start room source back))
-    ⊎ ((status ≡ 6) × (after ≡ before) × (opened ≡ callers) × (MayOpen calls start room before callers → ⊥)))
+    ⊎ (((status ≡ 3) × (opened ≡ passes) × ((source : Lodged) × (back : Lodged) × (before ≡ Some source) × (after ≡ Some back) × IsBack start room source back))
+    ⊎ ((status ≡ 6) × (after ≡ before) × (opened ≡ passes) × (MayOpen calls start room before passes → ⊥)))

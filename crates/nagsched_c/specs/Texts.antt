@@ -17,7 +17,6 @@ use Rattle.check_records.specs.declared.plain.PlainReply.{PlainReply}
 use Rattle.nagsched_c.specs.Names.{IsPut}
 use Rattle.check_records.specs.Plain.{plain_call, plain_entry, plain_refusal, plain_reply}
 use Rattle.check_records.specs.SavedFaults.{plain_fault, IsNoFault}
-use Rattle.nagsched_c.specs.FaultText.{saved_refusal_line}
 use Rattle.check_records.specs.Plain.{IsNoCall, IsNoEntry, IsNoRefusal, IsNoReply}
 
 -- nothing was written, and the status tells why
@@ -34,7 +33,7 @@ abbrev pub HasRefusalText : PlainRefusal → List ℕ → ℕ → ℕ → List �
 HasRefusalText told room before status after bytes =
     ((error : LoadError) × (error ≢ load.Memory) × (plain_refusal error ≡ told)
     × IsTold (refusal_line (refusal.Setup error)) room before status after bytes)
-    ⊎ (((why : SavedFault) × (why ≢ fault.Memory) × (plain_fault why ≡ told) × IsTold (saved_refusal_line why) room before status after bytes)
+    ⊎ (((why : SavedFault) × (why ≢ fault.Memory) × (plain_fault why ≡ told) × IsTold (refusal_line (refusal.Saved why)) room before status after bytes)
     ⊎ (IsUntold 6 room before status after bytes × IsNoRefusal told × IsNoFault told))
 
 -- the line of the reply with this struct, to the call with this struct, was told; or no call or no reply has its struct

@@ -1,7 +1,7 @@
 -- What C is told of a try of one of the six calls.
 use Rattle.std.specs.Prelude.{◌≡◌, ℕ, Option, Some, None}
 use Rattle.check_sched.specs.declared.call.Call.{Call}
-use Rattle.check_handles.specs.declared.caller.Caller.{Caller}
+use Rattle.check_handles.specs.declared.desk_pass.DeskPass.{DeskPass}
 use Rattle.check_handles.specs.declared.lodged.Lodged.{Lodged}
 use Rattle.check_handles.specs.declared.lodged.Lodged.TheVariants as lodged
 use Rattle.check_records.specs.declared.plain.PlainReply.{PlainReply}
@@ -24,8 +24,8 @@ abbrev pub reply_after : Step → PlainReply → PlainReply
 reply_after (tried.Replied reply) before = plain_reply reply
 reply_after made before = before
 
--- a caller of the same desk as before has gone on by this call
-abbrev pub HasTriedBy : Call → Caller → PlainReply → ℕ → Caller → PlainReply → Type 0
+-- a pass of the same desk as before has gone on by this call
+abbrev pub HasTriedBy : Call → DeskPass → PlainReply → ℕ → DeskPass → PlainReply → Type 0
 HasTriedBy call before reply status after told =
     AreOneDesk before after × ((made : Step) × (status ≡ status_of made) × (told ≡ reply_after made reply)
     × HasAdvanced (desk_of before) call before.stage made after.stage)
@@ -34,10 +34,10 @@ HasTriedBy call before reply status after told =
 abbrev pub IsWrong : Option Lodged → PlainReply → ℕ → Option Lodged → PlainReply → Type 0
 IsWrong before reply status after told = (status ≡ 6) × (after ≡ before) × (told ≡ reply)
 
--- A try by a handle: that of a caller goes on, and with any other nothing is done.
+-- A try by a handle: that of a pass goes on, and with any other nothing is done.
 abbrev pub HasTried : Call → Option Lodged → PlainReply → ℕ → Option Lodged → PlainReply → Type 0
-HasTried call (Some (lodged.Caller before)) reply status (Some (lodged.Caller after)) told = HasTriedBy call before reply status after told
-HasTried call (Some (lodged.Caller before)) reply status after told = ⊥
+HasTried call (Some (lodged.Pass before)) reply status (Some (lodged.Pass after)) told = HasTriedBy call before reply status after told
+HasTried call (Some (lodged.Pass before)) reply status after told = ⊥
 HasTried call before reply status after told = IsWrong before reply status after told
 
 -- The same by a part of the call that C named by a number; where the number names none nothing is done.

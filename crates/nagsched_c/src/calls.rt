@@ -1,7 +1,7 @@
 //! The six calls, a try each.
 //!
-//! A try looks once whether the caller's turn has come, and makes the call then; C tries again until it
-//! has. So no caller holds the book between two calls of C.
+//! A try looks once whether the pass's turn has come, and makes the call then; C tries again until it
+//! has. So no pass holds the book between two calls of C.
 
 ghost use Rattle.std.specs.Prelude.{◌≡◌, Option, Some, None};
 ghost use Rattle.check_sched.specs.declared.call.Call.TheVariants as call;
@@ -18,21 +18,21 @@ use std::alloc::Global;
 /// Asks which object is to be checked at the moment `now`, and begins its check.
 ///
 /// What a try of any of the six calls does: where the turn has come the call is made and recorded, and
-/// the struct has its reply (`OK`). Where it hasn't the caller waits, and the same call with the same
-/// arguments is to be made again (`WAIT`). `SPENT`: the caller has no call left. `NO_MEMORY`: there was
-/// none for the entry; the call wasn't made, but is counted. `WRONG`, where the handle is no caller's, or
-/// the caller waits for the turn of another call: nothing was done.
+/// the struct has its reply (`OK`). Where it hasn't the pass waits, and the same call with the same
+/// arguments is to be made again (`WAIT`). `SPENT`: the pass has no call left. `NO_MEMORY`: there was
+/// none for the entry; the call wasn't made, but is counted. `WRONG`, where the handle has no pass, or
+/// the pass waits for the turn of another call: nothing was done.
 #[unsafe(no_mangle)]
 pub extern "C" fn nagsched_try_take(
     alloc: Global,
-    caller: &mut Handle,
+    pass: &mut Handle,
     now: u64,
     reply: &mut PlainReply,
 ) -> u32
-    ensures { HasTried (call.Take now) (contents_of caller.old) reply.old result
-        (contents_of caller.new) reply.new }
+    ensures { HasTried (call.Take now) (contents_of pass.old) reply.old result
+        (contents_of pass.new) reply.new }
 {
-    try_call(alloc, caller, Call::Take { now }, reply)
+    try_call(alloc, pass, Call::Take { now }, reply)
 }
 
 /// Tells what the check of an object returned that was handed out under the number `run`, and ends that
@@ -40,17 +40,17 @@ pub extern "C" fn nagsched_try_take(
 #[unsafe(no_mangle)]
 pub extern "C" fn nagsched_try_report(
     alloc: Global,
-    caller: &mut Handle,
+    pass: &mut Handle,
     object: u32,
     run: u64,
     code: u32,
     reply: &mut PlainReply,
 ) -> u32
     ensures { HasTriedIf (code_of code) (λ known. call.Report object run known)
-        (contents_of caller.old) reply.old result (contents_of caller.new) reply.new }
+        (contents_of pass.old) reply.old result (contents_of pass.new) reply.new }
 {
     match code_of(code) {
-        Some(code) => try_call(alloc, caller, Call::Report { object, run, code }, reply),
+        Some(code) => try_call(alloc, pass, Call::Report { object, run, code }, reply),
         None => WRONG,
     }
 }
@@ -60,16 +60,16 @@ pub extern "C" fn nagsched_try_report(
 #[unsafe(no_mangle)]
 pub extern "C" fn nagsched_try_abandon(
     alloc: Global,
-    caller: &mut Handle,
+    pass: &mut Handle,
     object: u32,
     run: u64,
     now: u64,
     reply: &mut PlainReply,
 ) -> u32
-    ensures { HasTried (call.Abandon object run now) (contents_of caller.old) reply.old result
-        (contents_of caller.new) reply.new }
+    ensures { HasTried (call.Abandon object run now) (contents_of pass.old) reply.old result
+        (contents_of pass.new) reply.new }
 {
-    try_call(alloc, caller, Call::Abandon { object, run, now }, reply)
+    try_call(alloc, pass, Call::Abandon { object, run, now }, reply)
 }
 
 /// Sets the next check of an object to the moment `time`, forced where `forced` is 1. Another number than
@@ -77,14 +77,14 @@ pub extern "C" fn nagsched_try_abandon(
 #[unsafe(no_mangle)]
 pub extern "C" fn nagsched_try_reschedule(
     alloc: Global,
-    caller: &mut Handle,
+    pass: &mut Handle,
     object: u32,
     time: u64,
     forced: u32,
     reply: &mut PlainReply,
 ) -> u32
     ensures { HasTriedIf (flag_of forced) (λ known. call.Reschedule object time known)
-        (contents_of caller.old) reply.old result (contents_of caller.new) reply.new }
+        (contents_of pass.old) reply.old result (contents_of pass.new) reply.new }
 {
     match flag_of(forced) {
         Some(forced) => {
@@ -93,7 +93,7 @@ pub extern "C" fn nagsched_try_reschedule(
                 time,
                 forced,
             };
-            try_call(alloc, caller, call, reply)
+            try_call(alloc, pass, call, reply)
         }
         None => WRONG,
     }
@@ -104,16 +104,16 @@ pub extern "C" fn nagsched_try_reschedule(
 #[unsafe(no_mangle)]
 pub extern "C" fn nagsched_try_enable(
     alloc: Global,
-    caller: &mut Handle,
+    pass: &mut Handle,
     object: u32,
     on: u32,
     reply: &mut PlainReply,
 ) -> u32
     ensures { HasTriedIf (flag_of on) (λ known. call.Enable object known)
-        (contents_of caller.old) reply.old result (contents_of caller.new) reply.new }
+        (contents_of pass.old) reply.old result (contents_of pass.new) reply.new }
 {
     match flag_of(on) {
-        Some(on) => try_call(alloc, caller, Call::Enable { object, on }, reply),
+        Some(on) => try_call(alloc, pass, Call::Enable { object, on }, reply),
         None => WRONG,
     }
 }
@@ -123,29 +123,29 @@ pub extern "C" fn nagsched_try_enable(
 #[unsafe(no_mangle)]
 pub extern "C" fn nagsched_try_status(
     alloc: Global,
-    caller: &mut Handle,
+    pass: &mut Handle,
     object: u32,
     reply: &mut PlainReply,
 ) -> u32
-    ensures { HasTried (call.Status object) (contents_of caller.old) reply.old result
-        (contents_of caller.new) reply.new }
+    ensures { HasTried (call.Status object) (contents_of pass.old) reply.old result
+        (contents_of pass.new) reply.new }
 {
-    try_call(alloc, caller, Call::Status { object }, reply)
+    try_call(alloc, pass, Call::Status { object }, reply)
 }
 
 /// A try to make the call.
-fn try_call(alloc: Global, caller: &mut Handle, call: Call, reply: &mut PlainReply) -> u32
-    ensures { HasTried call (contents_of caller.old) reply.old result (contents_of caller.new)
+fn try_call(alloc: Global, pass: &mut Handle, call: Call, reply: &mut PlainReply) -> u32
+    ensures { HasTried call (contents_of pass.old) reply.old result (contents_of pass.new)
         reply.new }
 {
-    let Some(mut lodged) = caller.take(alloc) else {
+    let Some(mut lodged) = pass.take(alloc) else {
         return WRONG;
     };
     let status = match &mut *lodged {
-        Lodged::Caller(caller) => tell(caller.step(call), reply),
+        Lodged::Pass(pass) => tell(pass.step(call), reply),
         _ => WRONG,
     };
-    *caller = Handle::of(lodged);
+    *pass = Handle::of(lodged);
     status
 }
 

@@ -1,7 +1,7 @@
-//! Callers put together, a desk ended, and its book gone on with.
+//! Passes put together, a desk ended, and its book gone on with.
 
 ghost use Rattle.std.specs.Prelude.{◌≡◌, ◌↔◌, is_some, true};
-ghost use Rattle.check_handles.specs.Closing.{AreOfOneDesk, MayBeGathered, MissesCallers};
+ghost use Rattle.check_handles.specs.Closing.{AreOfOneDesk, MayBeGathered, MissesPasses};
 ghost use Rattle.check_handles.specs.Handles.{contents_of};
 ghost use Rattle.nagsched_c.specs.Closing.{HasClosed, HasGathered, HasRenewed, IsBookIn, IsRestingIn};
 
@@ -11,58 +11,58 @@ use check_handles::{Handle, Lodged};
 use std::alloc::Global;
 use std::mem::replace;
 
-/// Puts two callers of one desk together: the first goes on, and answers for the calls of both. The
+/// Puts two passes of one desk together: the first goes on, and answers for the calls of both. The
 /// second handle is empty then.
 ///
-/// Wrong exactly where one of the two is no caller or waits for its turn, or where their desks have two
+/// Wrong exactly where one of the two is no pass or waits for its turn, or where their desks have two
 /// marks: then both are as they were.
 #[unsafe(no_mangle)]
-pub extern "C" fn nagsched_gather(alloc: Global, caller: &mut Handle, other: &mut Handle) -> u32
-    requires one_desk { AreOfOneDesk (contents_of caller.old) (contents_of other.old) }
-    ensures gathered { HasGathered (contents_of caller.old) (contents_of other.old) result
-        (contents_of caller.new) (contents_of other.new) }
-    ensures wrong { (IsRestingIn (contents_of caller.old) × IsRestingIn (contents_of other.old) → ⊥)
+pub extern "C" fn nagsched_gather(alloc: Global, pass: &mut Handle, other: &mut Handle) -> u32
+    requires one_desk { AreOfOneDesk (contents_of pass.old) (contents_of other.old) }
+    ensures gathered { HasGathered (contents_of pass.old) (contents_of other.old) result
+        (contents_of pass.new) (contents_of other.new) }
+    ensures wrong { (IsRestingIn (contents_of pass.old) × IsRestingIn (contents_of other.old) → ⊥)
         → result ≡ 6 }
     ensures exactly { (result ≡ 6)
-        ↔ (MayBeGathered (contents_of caller.old) (contents_of other.old) → ⊥) }
+        ↔ (MayBeGathered (contents_of pass.old) (contents_of other.old) → ⊥) }
 {
-    let Some(mut first) = caller.take(alloc) else {
+    let Some(mut first) = pass.take(alloc) else {
         return WRONG;
     };
     let Some(mut second) = other.take(alloc) else {
-        *caller = Handle::of(first);
+        *pass = Handle::of(first);
         return WRONG;
     };
     if put_together(&mut first, &mut second) {
-        *caller = Handle::of(first);
+        *pass = Handle::of(first);
         OK
     } else {
-        *caller = Handle::of(first);
+        *pass = Handle::of(first);
         *other = Handle::of(second);
         WRONG
     }
 }
 
-/// Ends the desk, where all its passes were gathered into this caller: the handle has the book then.
+/// Ends the desk, where all its passes were gathered into this one: the handle has the book then.
 ///
-/// Missing where they weren't, and wrong exactly where the handle is no caller's or the caller waits for
+/// Missing where they weren't, and wrong exactly where the handle has no pass or the pass waits for
 /// its turn: then it is as it was.
 #[unsafe(no_mangle)]
-pub extern "C" fn nagsched_close(alloc: Global, caller: &mut Handle) -> u32
-    ensures closed { HasClosed (contents_of caller.old) result (contents_of caller.new) }
-    ensures missing { MissesCallers (contents_of caller.old) → result ≡ 5 }
-    ensures wrong { (result ≡ 6) ↔ (IsRestingIn (contents_of caller.old) → ⊥) }
+pub extern "C" fn nagsched_close(alloc: Global, pass: &mut Handle) -> u32
+    ensures closed { HasClosed (contents_of pass.old) result (contents_of pass.new) }
+    ensures missing { MissesPasses (contents_of pass.old) → result ≡ 5 }
+    ensures wrong { (result ≡ 6) ↔ (IsRestingIn (contents_of pass.old) → ⊥) }
 {
-    let Some(mut lodged) = caller.take(alloc) else {
+    let Some(mut lodged) = pass.take(alloc) else {
         return WRONG;
     };
     if !rests(&lodged) {
-        *caller = Handle::of(lodged);
+        *pass = Handle::of(lodged);
         return WRONG;
     }
     let (now, closed) = close(replace(&mut *lodged, Lodged::Nothing));
     *lodged = now;
-    *caller = Handle::of(lodged);
+    *pass = Handle::of(lodged);
     if closed { OK } else { MISSING }
 }
 

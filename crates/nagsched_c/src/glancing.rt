@@ -10,23 +10,23 @@ use std::alloc::Global;
 
 /// Reads what is known of an object, by one load: whoever holds the desk, it doesn't wait.
 ///
-/// Wrong where the handle is no caller's, where the caller waits for its turn, or where there is no
+/// Wrong where the handle has no pass, where the pass waits for its turn, or where there is no
 /// object of this number: nothing was done then.
 #[unsafe(no_mangle)]
 pub extern "C" fn nagsched_glance(
     alloc: Global,
-    caller: &mut Handle,
+    pass: &mut Handle,
     object: u32,
     standing: &mut PlainStanding,
 ) -> u32
-    ensures { HasGlanced object (contents_of caller.old) standing.old result
-        (contents_of caller.new) standing.new }
+    ensures { HasGlanced object (contents_of pass.old) standing.old result
+        (contents_of pass.new) standing.new }
 {
-    let Some(mut lodged) = caller.take(alloc) else {
+    let Some(mut lodged) = pass.take(alloc) else {
         return WRONG;
     };
     let status = match &mut *lodged {
-        Lodged::Caller(caller) => match caller.glance(object) {
+        Lodged::Pass(pass) => match pass.glance(object) {
             Some(known) => {
                 *standing = plain_standing(known);
                 OK
@@ -35,6 +35,6 @@ pub extern "C" fn nagsched_glance(
         },
         _ => WRONG,
     };
-    *caller = Handle::of(lodged);
+    *pass = Handle::of(lodged);
     status
 }

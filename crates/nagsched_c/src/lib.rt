@@ -8,15 +8,14 @@
 //! The handle and what it leads to are check_handles', the structs check_records'.
 //!
 //! The modules: `status` has what each function gives. The functions are in `reading` (a setup, and giving
-//! up), `naming` (objects), `opening` (a desk), `calls` (the six calls), `glancing`, `closing` (callers put
+//! up), `naming` (objects), `opening` (a desk), `calls` (the six calls), `glancing`, `closing` (passes put
 //! together, a desk ended, a book gone on with), `saving` (states saved and gone on from, checks that are
-//! out), `history` and `texts`; `fault_text` has the line of a saved state's refusal.
+//! out), `history` and `texts`.
 
 ghost use Rattle.std.specs.Prelude.{◌≡◌};
 
 mod calls;
 mod closing;
-mod fault_text;
 mod glancing;
 mod history;
 mod naming;

@@ -1,4 +1,4 @@
-//! Objects by number and by name, of a setup, a caller or a book.
+//! Objects by number and by name, of a setup, a pass or a book.
 
 ghost use Rattle.std.specs.Prelude.{◌≡◌, ◌<◌, ◌≤◌, ◌++◌, ℕ, ⊤, length, drop, option_map, Some};
 ghost use Rattle.check_objects.specs.Configuration.{host_count, object_count};
@@ -14,7 +14,7 @@ use std::str::from_utf8;
 /// How many objects there are, 0 to 4,096, and how many of them are hosts: these have the numbers from
 /// 0 on.
 ///
-/// Wrong, exactly where the handle is neither a setup, a caller nor a book: nothing is written then.
+/// Wrong, exactly where the handle is neither a setup, a pass nor a book: nothing is written then.
 #[unsafe(no_mangle)]
 pub extern "C" fn nagsched_count(
     alloc: Global,
@@ -43,7 +43,7 @@ pub extern "C" fn nagsched_count(
 /// The number of the object with this full name.
 ///
 /// Missing, exactly where there is no such object; wrong, exactly where the handle is neither a setup,
-/// a caller nor a book. The number is written only where it was found.
+/// a pass nor a book. The number is written only where it was found.
 #[unsafe(no_mangle)]
 pub extern "C" fn nagsched_number(
     alloc: Global,
@@ -83,7 +83,7 @@ fn find_number(setup: &Setup, name: &[u8], number: &mut u32) -> u32
 
 /// The full name of the object with this number, into the room at `name`; `bytes` is its length.
 ///
-/// Wrong where the handle is neither a setup, a caller nor a book, where it has no such object, or
+/// Wrong where the handle is neither a setup, a pass nor a book, where it has no such object, or
 /// where the name is longer than the room: nothing is written then, but in the last case its length.
 #[unsafe(no_mangle)]
 pub extern "C" fn nagsched_name(
@@ -129,7 +129,7 @@ pub(crate) fn put(text: &[u8], room: &mut [u8], bytes: &mut usize) -> u32
 /// The number of the service's host.
 ///
 /// Missing, exactly where the object is a host; wrong, exactly where the handle is neither a setup, a
-/// caller nor a book, or has no object of this number. The number is written only where there is one.
+/// pass nor a book, or has no object of this number. The number is written only where there is one.
 #[unsafe(no_mangle)]
 pub extern "C" fn nagsched_host_of(
     alloc: Global,

@@ -11,7 +11,7 @@ use std::alloc::Global;
 use std::mem::replace;
 use ticket_steps::DRAWS;
 
-/// Opens a desk, with a caller for each of the handles, 1 to 1,024 empty ones. Each has 2^32 - 1 calls.
+/// Opens a desk, with a pass for each of the handles, 1 to 1,024 empty ones. Each has 2^32 - 1 calls.
 /// The rest is as of [`nagsched_open_with`].
 #[unsafe(no_mangle)]
 pub extern "C" fn nagsched_open(
@@ -20,28 +20,28 @@ pub extern "C" fn nagsched_open(
     start: u64,
     room: usize,
     mark: u64,
-    callers: &mut [Handle],
+    passes: &mut [Handle],
 ) -> u32
-    ensures opened { HasOpened mark 4294967295 start room (contents_of source.old) callers.old result
-        (contents_of source.new) callers.new }
+    ensures opened { HasOpened mark 4294967295 start room (contents_of source.old) passes.old result
+        (contents_of source.new) passes.new }
     ensures wrong { (result ≡ 6)
-        ↔ (MayOpen 4294967295 start room (contents_of source.old) callers.old → ⊥) }
+        ↔ (MayOpen 4294967295 start room (contents_of source.old) passes.old → ⊥) }
 {
-    open_desk(alloc, source, start, room, mark, DRAWS, callers)
+    open_desk(alloc, source, start, room, mark, DRAWS, passes)
 }
 
-/// Opens a desk, with a caller for each of the handles, 1 to 1,024 empty ones. Each has so many calls, 1
+/// Opens a desk, with a pass for each of the handles, 1 to 1,024 empty ones. Each has so many calls, 1
 /// to 2^32 - 1, has made none and seen nothing; the first has the number 0, and so on. The handle that
 /// is given is empty then.
 ///
-/// The mark is one that no other desk has: by it callers of two desks are kept apart. The guard in C gives
+/// The mark is one that no other desk has: by it passes of two desks are kept apart. The guard in C gives
 /// each desk another.
 ///
 /// It is a setup: scheduling starts at the moment `start`, at most 2^60, and the history has memory for
 /// `room` entries at once. Or it is a book without entries and refusals, which goes on with its start
 /// and its room: then both are 0 here. All else is `WRONG`, and nothing else is: nothing was done then.
 /// Where memory is refused (`NO_MEMORY`) all handles are as they were. (No clause excludes that the setup's
-/// is the desk's one caller then: a count of owners would have to be at 2^63.)
+/// is the desk's one pass then: a count of owners would have to be at 2^63.)
 #[unsafe(no_mangle)]
 pub extern "C" fn nagsched_open_with(
     alloc: Global,
@@ -50,20 +50,20 @@ pub extern "C" fn nagsched_open_with(
     room: usize,
     mark: u64,
     calls: u64,
-    callers: &mut [Handle],
+    passes: &mut [Handle],
 ) -> u32
-    ensures opened { HasOpened mark calls start room (contents_of source.old) callers.old result
-        (contents_of source.new) callers.new }
+    ensures opened { HasOpened mark calls start room (contents_of source.old) passes.old result
+        (contents_of source.new) passes.new }
     ensures wrong { (result ≡ 6)
-        ↔ (MayOpen calls start room (contents_of source.old) callers.old → ⊥) }
+        ↔ (MayOpen calls start room (contents_of source.old) passes.old → ⊥) }
 {
     if calls == 0 || (DRAWS as u64) < calls {
         return WRONG;
     }
-    open_desk(alloc, source, start, room, mark, calls as u32, callers)
+    open_desk(alloc, source, start, room, mark, calls as u32, passes)
 }
 
-/// Opens a desk whose callers have so many calls.
+/// Opens a desk whose passes have so many calls.
 fn open_desk(
     alloc: Global,
     source: &mut Handle,
@@ -71,15 +71,15 @@ fn open_desk(
     room: usize,
     mark: u64,
     calls: u32,
-    callers: &mut [Handle],
+    passes: &mut [Handle],
 ) -> u32
     requires { 0 < calls }
-    ensures opened { HasOpened mark calls start room (contents_of source.old) callers.old result
-        (contents_of source.new) callers.new }
+    ensures opened { HasOpened mark calls start room (contents_of source.old) passes.old result
+        (contents_of source.new) passes.new }
     ensures wrong { (result ≡ 6)
-        ↔ (MayOpen calls start room (contents_of source.old) callers.old → ⊥) }
+        ↔ (MayOpen calls start room (contents_of source.old) passes.old → ⊥) }
 {
-    if !are_places(callers) {
+    if !are_places(passes) {
         return WRONG;
     }
     let Some(mut lodged) = source.take(alloc) else {
@@ -96,7 +96,7 @@ fn open_desk(
         room,
         mark,
         calls,
-        callers,
+        passes,
     ) {
         Ok(()) => OK,
         Err(back) => {
@@ -108,11 +108,11 @@ fn open_desk(
 }
 
 /// Whether these are 1 to 1,024 empty handles.
-fn are_places(callers: &[Handle]) -> bool
-    ensures { (result ≡ true) ↔ ArePlaces callers.now }
+fn are_places(passes: &[Handle]) -> bool
+    ensures { (result ≡ true) ↔ ArePlaces passes.now }
 {
-    let count = callers.len();
-    0 < count && count <= 1024 && are_empty(callers)
+    let count = passes.len();
+    0 < count && count <= 1024 && are_empty(passes)
 }
 
 /// Whether all of these handles are empty.

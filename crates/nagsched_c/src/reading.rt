@@ -12,7 +12,7 @@ use check_handles::reading::{prepare, waits};
 use check_records::{PlainRefusal, plain_refusal};
 use std::alloc::Global;
 
-/// Reads a setup of a JSON document into an empty handle. The document is read twice: callers keep the
+/// Reads a setup of a JSON document into an empty handle. The document is read twice: passes keep the
 /// names of the objects beside the desk.
 ///
 /// Refused, where the document is no setup: the struct tells why and where. Wrong, exactly where the
@@ -50,7 +50,7 @@ pub extern "C" fn nagsched_read(
 
 /// Gives up what the handle leads to, and makes it empty; an empty one stays so.
 ///
-/// Wrong, exactly where it is a caller that waits for its turn: then it is as it was, since its ticket
+/// Wrong, exactly where it is a pass that waits for its turn: then it is as it was, since its ticket
 /// would stop all others.
 #[unsafe(no_mangle)]
 pub extern "C" fn nagsched_free(alloc: Global, handle: &mut Handle) -> u32

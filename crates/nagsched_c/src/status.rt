@@ -6,7 +6,7 @@ pub(crate) const OK: u32 = 0;
 /// The turn hasn't come.
 pub(crate) const WAIT: u32 = 1;
 
-/// The caller has no call left.
+/// The pass has no call left.
 pub(crate) const SPENT: u32 = 2;
 
 /// Memory was refused.
@@ -15,7 +15,7 @@ pub(crate) const NO_MEMORY: u32 = 3;
 /// The document is no setup.
 pub(crate) const REFUSED: u32 = 4;
 
-/// Callers that aren't gathered, no object of that name, no host of a host.
+/// Passes that aren't gathered, no object of that name, no host of a host.
 pub(crate) const MISSING: u32 = 5;
 
 /// A mistake of the caller's.

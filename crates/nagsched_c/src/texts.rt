@@ -3,20 +3,16 @@
 ghost use Rattle.check_handles.specs.Handles.{contents_of, named_in, MatchNamed};
 ghost use Rattle.std.specs.Prelude.{◌≡◌};
 ghost use Rattle.check_text.specs.Text.{refusal_line};
-ghost use Rattle.nagsched_c.specs.FaultText.{saved_refusal_line};
 ghost use Rattle.nagsched_c.specs.Texts.{HasEntryText, HasRefusalText, HasReplyText, IsTold};
 
-use crate::fault_text::push_fault;
 use crate::naming::{names_in, put};
 use crate::status::{NO_MEMORY, WRONG};
-use check_drafts::LoadError;
 use check_handles::Handle;
 use check_objects::Setup;
 use check_records::{
     PlainCall, PlainEntry, PlainRefusal, PlainReply, call_of, entry_of, fault_of, refusal_of,
     reply_of,
 };
-use check_saved::SavedFault;
 use check_script::InputRefusal;
 use check_text::{push_entry, push_refusal, push_reply};
 use std::alloc::Global;
@@ -36,38 +32,27 @@ pub extern "C" fn nagsched_refusal_text(
     ensures { HasRefusalText refusal.now text.old bytes.old result text.new bytes.new }
 {
     if let Some(error) = refusal_of(*refusal) {
-        return put_refusal(alloc, error, text, bytes);
+        return put_refusal(alloc, InputRefusal::Setup(error), text, bytes);
     }
     match fault_of(*refusal) {
-        Some(fault) => put_fault(alloc, fault, text, bytes),
+        Some(fault) => put_refusal(alloc, InputRefusal::Saved(fault), text, bytes),
         None => WRONG,
     }
 }
 
-/// Puts the text of a refusal of a document.
-fn put_refusal(alloc: Global, error: LoadError, text: &mut [u8], bytes: &mut usize) -> u32
-    ensures { IsTold (refusal_line (InputRefusal.Setup error)) text.old bytes.old result text.new bytes.new }
+/// Puts the text of a refusal.
+fn put_refusal(alloc: Global, refusal: InputRefusal, text: &mut [u8], bytes: &mut usize) -> u32
+    ensures { IsTold (refusal_line refusal) text.old bytes.old result text.new bytes.new }
 {
     let mut line = String::new(alloc);
-    match push_refusal(&mut line, InputRefusal::Setup(error)) {
-        Ok(()) => put(line.as_bytes(), text, bytes),
-        Err(_) => NO_MEMORY,
-    }
-}
-
-/// Puts the text of a refusal of a saved state.
-fn put_fault(alloc: Global, fault: SavedFault, text: &mut [u8], bytes: &mut usize) -> u32
-    ensures { IsTold (saved_refusal_line fault) text.old bytes.old result text.new bytes.new }
-{
-    let mut line = String::new(alloc);
-    match push_fault(&mut line, fault) {
+    match push_refusal(&mut line, refusal) {
         Ok(()) => put(line.as_bytes(), text, bytes),
         Err(_) => NO_MEMORY,
     }
 }
 
 /// The text of the reply to a call, into the room at `text`; `bytes` is its length. The objects are
-/// those of a setup, a caller or a book; one that it doesn't have has no name in the text.
+/// those of a setup, a pass or a book; one that it doesn't have has no name in the text.
 ///
 /// Wrong, exactly where the handle is none of these, where no call or no reply has such a struct, or where
 /// the text is longer than the room: nothing is written then, but in the last case its length. Where

@@ -4,7 +4,7 @@ use Rattle.check_desk.specs.Desks.{opened_with, passes_of, IsPassOf}
 use Rattle.check_desk.specs.Passes.{new_pass_with, pass_of}
 use Rattle.check_handles.specs.declared.shared.Shared.{Shared}
 use Rattle.check_handles.specs.Handles.{contents_of}
-use Rattle.check_handles.specs.Opening.{AreCallersFrom, IsNewCaller}
+use Rattle.check_handles.specs.Opening.{ArePassesFrom, IsNewPass}
 use Rattle.check_handles.proofs.Fresh.{last_too, left_all, new_popped, seated, shorter}
 use Rattle.check_handles.proofs.opening.hand_out.Goals as goal
 
@@ -35,7 +35,7 @@ pub loop-done-preserved : goal.loop-done-preserved
 loop-done-preserved c =
     let was = c.loop-done.invariant in
     let desk = (arc_value c.args.shared.now).desk in
-    let count = length c.args.callers.now in
+    let count = length c.args.handles.now in
     let done = c.loop-done.done in
     let i = count - 1 - done in
     let less : done < count = c.loop-done-test.true in
@@ -45,12 +45,12 @@ loop-done-preserved c =
     let fewer = shorter c.loop-done.passes.items c.pop.new.self.items c.in-Some.pass c.in-Some.ensures.items in
     let last : length c.pop.new.self.items ≡ i = omega (arith, fewer, was.1, less) in
     let is : pass_of c.in-Some.pass ≡ new_pass_with c.args.calls i = new.2 ∙ ap (new_pass_with c.args.calls) last in
-    let caller : IsNewCaller c.args.calls (arc_value c.args.shared.now) i (contents_of c.of.result) = rw (c.of.ensures, c.resting.ensures.stage)
+    let pass : IsNewPass c.args.calls (arc_value c.args.shared.now) i (contents_of c.of.result) = rw (c.of.ensures, c.resting.ensures.stage)
     (ap arc_value c.resting.ensures.shared.0 ∙ is_desk, is) in
     let up : count - done ≡ i + 1 = omega (arith, less) in
     let down : count - (done + 1) ≡ i = omega arith in
-    let behind : AreCallersFrom c.args.calls (arc_value c.args.shared.now) (i + 1) (drop (i + 1) c.loop-done.callers) = rw (← up) was.8 in (
-      length-set c.loop-done.callers i c.of.result ∙ was.0,
+    let behind : ArePassesFrom c.args.calls (arc_value c.args.shared.now) (i + 1) (drop (i + 1) c.loop-done.handles) = rw (← up) was.8 in (
+      length-set c.loop-done.handles i c.of.result ∙ was.0,
       omega (arith, fewer, was.1),
       omega (arith, shorter c.loop-done.places.items c.pop-in-loop-done.new.self.items c.in-Some-pop.place c.in-Some-pop.ensures.items, was.2),
       omega (arith, shorter c.loop-done.names.items c.pop-in-loop-done-2.new.self.items c.in-Some-pop-2.names c.in-Some-pop-2.ensures.items, was.3),
@@ -60,5 +60,5 @@ loop-done-preserved c =
       left_all (λ one. arc_value one ≡ arc_value c.args.shared.now) c.loop-done.desks.items c.pop-in-loop-done-3.new.self.items c.in-Some-pop-3.shared
           c.in-Some-pop-3.ensures.items was.6,
       new.0,
-      rw down (seated c.args.calls (arc_value c.args.shared.now) i c.of.result c.loop-done.callers (omega (arith, less, was.0)) caller behind),
+      rw down (seated c.args.calls (arc_value c.args.shared.now) i c.of.result c.loop-done.handles (omega (arith, less, was.0)) pass behind),
     )

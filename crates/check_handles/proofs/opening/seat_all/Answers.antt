@@ -1,7 +1,7 @@
 use Rattle.std.proofs.Common.{◌∙◌, refl, sym, subst}
 use Rattle.std.specs.List.{All}
 use Rattle.check_handles.specs.declared.shared.Shared.{Shared}
-use Rattle.check_handles.specs.Opening.{AreCallersFrom, IsFreshPassOf}
+use Rattle.check_handles.specs.Opening.{ArePassesFrom, IsFreshPassOf}
 use Rattle.check_handles.proofs.Fresh.{fresh_all}
 use Rattle.check_handles.proofs.opening.seat_all.Goals as goal
 
@@ -19,5 +19,5 @@ returns-in-Ok-share-clause-ok c = record {
   marked = refl;
   opened = refl;
   all = sym (c.hand_out.ensures.0 ∙ c.requires.count.1);
-  new = subst (λ (s : Shared). AreCallersFrom c.args.calls s 0 c.hand_out.new.callers) c.in-Ok.ensures.ok c.hand_out.ensures.1;
+  new = subst (λ (s : Shared). ArePassesFrom c.args.calls s 0 c.hand_out.new.handles) c.in-Ok.ensures.ok c.hand_out.ensures.1;
 }

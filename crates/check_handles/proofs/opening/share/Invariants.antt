@@ -4,5 +4,5 @@ use Rattle.std.specs.List.{All}
 use Rattle.std_alloc.specs.Arc.{arc_value}
 use Rattle.check_handles.proofs.opening.share.Given as goal
 
-abbrev pub invariant-loop-caller : goal.invariant-loop-caller
-invariant-loop-caller l = (length l.desks.items ≡ l._caller) × (l.count ≤ vec_capacity l.desks) × All (λ one. arc_value one ≡ arc_value l.shared) l.desks.items
+abbrev pub invariant-loop-pass : goal.invariant-loop-pass
+invariant-loop-pass l = (length l.desks.items ≡ l._pass) × (l.count ≤ vec_capacity l.desks) × All (λ one. arc_value one ≡ arc_value l.shared) l.desks.items

@@ -6,7 +6,7 @@ use Rattle.check_desk.specs.Desks.{opened_with, passes_of}
 use Rattle.check_desk.specs.Passes.{pass_of}
 use Rattle.check_handles.specs.declared.shared.Shared.{Shared}
 use Rattle.check_handles.proofs.Books.{book_setup}
-use Rattle.check_handles.proofs.caller.Caller.close.Goals as goal
+use Rattle.check_handles.proofs.desk_pass.DeskPass.close.Goals as goal
 
 pub invariant_of-result : goal.invariant_of-result
 invariant_of-result c =

@@ -1,4 +1,4 @@
-//! A caller of a desk.
+//! A pass of a desk, with the desk.
 
 ghost use Rattle.std.specs.Prelude.{◌≡◌};
 ghost use Rattle.std_alloc.specs.Arc.{arc_value};
@@ -16,14 +16,14 @@ use std::alloc::Global;
 use std::mem::replace;
 use std::sync::Arc;
 
-/// A caller of a desk, which it keeps together with the others.
+/// A pass of a desk, with the desk: all passes of it keep it together.
 #[derive(Drop)]
-pub struct Caller {
+pub struct DeskPass {
     /// The desk.
     pub(crate) shared: Arc<Shared, Global>,
     /// The setup of the desk, for the names of its objects: the desk's own lies behind its lock.
     pub(crate) names: Arc<Setup, Global>,
-    /// Its pass, or the turn of a call that waits.
+    /// The pass at rest, or the turn of a call that waits.
     pub(crate) stage: Stage,
     /// How many passes the desk has.
     pub(crate) all: u32,
@@ -32,16 +32,16 @@ pub struct Caller {
     ghost named: { arc_value names ≡ (opened_with (arc_value shared).desk).sched.setup },
 }
 
-impl Caller {
+impl DeskPass {
     ghost use Rattle.std.specs.Prelude.{◌↔◌, true, false, IfOk, IfErr};
     ghost use Rattle.check_desk.specs.Desks.{IsPassOf};
     ghost use Rattle.check_handles.specs.Closing.{IsAtRest, IsBookAfter, MayJoin};
-    ghost use Rattle.check_handles.specs.Desks.{AreOneDesk, IsSameCaller, desk_of};
+    ghost use Rattle.check_handles.specs.Desks.{AreOneDesk, IsSamePass, desk_of};
     ghost use Rattle.check_handles.specs.Glances.{HasLookedAt};
     ghost use Rattle.check_handles.specs.Joining.{HasJoined};
     ghost use Rattle.check_handles.specs.Tries.{HasAdvanced};
 
-    /// Tries to make the call. A caller that answers for all passes of its desk never has to wait.
+    /// Tries to make the call. A pass that answers for all passes of its desk never has to wait.
     pub fn step(&mut self, call: Call) -> Step
         ensures desk { AreOneDesk self.old self.new }
         ensures advanced { HasAdvanced (desk_of self.old) call self.old.stage result
@@ -50,7 +50,7 @@ impl Caller {
         advance(&self.shared.desk, &mut self.stage, call)
     }
 
-    /// What is known of an object. None where there is no such object, and where the caller waits.
+    /// What is known of an object. None where there is no such object, and where the pass waits.
     pub fn glance(&mut self, object: u32) -> Option<Standing>
         ensures desk { AreOneDesk self.old self.new }
         ensures seen { HasLookedAt (desk_of self.old) object self.old.stage result self.new.stage }
@@ -68,9 +68,9 @@ impl Caller {
         }
     }
 
-    /// Puts the pass of another caller of the same desk to its own. Nothing is done exactly where one of the
-    /// two has no pass in hand, or where their desks have two marks.
-    pub(crate) fn join(&mut self, other: &mut Caller) -> bool
+    /// Puts another pass of the same desk to this one. Nothing is done exactly where one of the two doesn't
+    /// rest, or where their desks have two marks.
+    pub(crate) fn join(&mut self, other: &mut DeskPass) -> bool
         requires { AreOneDesk self.old other.old }
         ensures desk { AreOneDesk self.old self.new }
         ensures exactly { (result ≡ true) ↔ MayJoin self.old other.old }
@@ -90,7 +90,7 @@ impl Caller {
         true
     }
 
-    /// Whether it has its pass in hand.
+    /// Whether it is at rest.
     pub(crate) fn rests(&self) -> bool
         ensures { (result ≡ true) ↔ IsAtRest self.now.stage }
     {
@@ -98,12 +98,12 @@ impl Caller {
     }
 
     /// Ends the desk, where all passes were gathered into this one and nobody else shares the desk.
-    pub(crate) fn close(self) -> Result<Ledger, Caller>
+    pub(crate) fn close(self) -> Result<Ledger, DeskPass>
         requires { IsAtRest self.stage }
         ensures closed { IfOk result (λ ledger. IsBookAfter (desk_of self) self.stage ledger) }
-        ensures same { IfErr result (λ same. IsSameCaller self same) }
+        ensures same { IfErr result (λ same. IsSamePass self same) }
     {
-        let Caller {
+        let DeskPass {
             shared,
             names,
             stage,
@@ -113,31 +113,31 @@ impl Caller {
             unreachable!()
         };
         if pass.gathered() < all {
-            return Err(Caller::resting(shared, names, pass, all));
+            return Err(DeskPass::resting(shared, names, pass, all));
         }
         match Arc::try_unwrap(shared) {
             Ok(Shared { desk, mark: _ }) => match desk.close(pass) {
                 Ok(book) => Ok(Ledger { book, names }),
                 Err(_) => unreachable!(),
             },
-            Err(shared) => Err(Caller::resting(shared, names, pass, all)),
+            Err(shared) => Err(DeskPass::resting(shared, names, pass, all)),
         }
     }
 
-    /// A caller that has its pass in hand.
+    /// A pass at rest.
     pub(crate) fn resting(
         shared: Arc<Shared, Global>,
         names: Arc<Setup, Global>,
         pass: Pass,
         all: u32,
-    ) -> Caller
+    ) -> DeskPass
         requires pass { IsPassOf (arc_value shared).desk pass }
         requires all { passes_of (arc_value shared).desk ≡ all }
         requires names { arc_value names ≡ (opened_with (arc_value shared).desk).sched.setup }
         ensures shared { (result.shared ≡ shared) × (result.names ≡ names) × (result.all ≡ all) }
         ensures stage { result.stage ≡ Stage.Resting pass }
     {
-        Caller {
+        DeskPass {
             shared,
             names,
             stage: Stage::Resting(pass),
