@@ -4,5 +4,6 @@ pub mod NameTextLemmas
 pub mod Utf8Lemmas
 pub mod LiveLemmas
 pub mod LiveLinesLemmas
-pub mod LiveResumedLemmas
+pub mod WentOnLemmas
 pub mod CutLaws
+pub mod WrittenLemmas

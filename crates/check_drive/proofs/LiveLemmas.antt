@@ -1,14 +1,15 @@
 -- A whole conversation, and what its faults leave.
-use Rattle.std.proofs.Common.{◌≡◌, ℕ, suc, ◌+◌, ◌≤◌, ◌==◌, cond, length-append, Bool, true, false, List, [], ◌∷◌, ◌++◌, length, Option, Some, None, Result, Ok, Err, refl, sym, ap, ◌∙◌}
+use Rattle.std.proofs.Common.{◌≡◌, ℕ, suc, ◌+◌, ◌≤◌, ◌==◌, cond, length-append, Bool, true, false, List, [], ◌∷◌, ◌++◌, length, Option, Some, None}
+use Rattle.std.proofs.Common.{Result, Ok, Err, refl, sym, ap, ◌∙◌}
 use Rattle.std.proofs.Common.{arith, inl, inr, ◌⊎◌, append_assoc, append-nil, subst}
 use Rattle.check_saved.specs.Text.{saved_text}
 use Rattle.check_sched.specs.Saved.{saved_of}
-use Rattle.std.specs.Prelude.{codes, IfSome, IfOk, IsOkUnless, OnOk, OnErr, IfErr}
+use Rattle.std.specs.Prelude.{codes, IfSome, IfOk, IsOkUnless, OnOk, IfErr}
 use Rattle.std.specs.Io.KnownBytes.{Appends, Consumes, IsAtEnd, Keeps}
 use Rattle.check_objects.specs.Configuration.{Configuration}
 use Rattle.check_objects.specs.Setup.{setup_of}
 use Rattle.check_drafts.specs.declared.error.LoadError.{LoadError}
-use Rattle.check_sched.specs.State.{State, opening}
+use Rattle.check_sched.specs.State.{State}
 use Rattle.check_script.specs.declared.command.RunCommand.{RunCommand}
 use Rattle.check_script.specs.declared.command.RunCommand.TheVariants as command
 use Rattle.check_script.specs.declared.drive_error.DriveError.{DriveError}
@@ -23,19 +24,19 @@ use Rattle.check_script.specs.declared.live_error.LiveError.{LiveError}
 use Rattle.check_script.specs.declared.live_error.LiveError.TheVariants as live
 use Rattle.check_script.specs.LiveError.{AfterLine, AfterReads, IsWritten, told, told_by}
 use Rattle.check_script.specs.Input.{first_line_of, lines_of, onto_first}
-use Rattle.check_script.specs.LiveInput.{StopsSoon, behind_line, has_feed}
+use Rattle.check_script.specs.LiveInput.{behind_line, has_feed}
 use Rattle.check_script.specs.Script.{in_setup}
 use Rattle.check_script.proofs.LiveInputLemmas.{Consumes-none, Consumes-then, behind_none, behind_stays, feed_split, first_all, first_free, first_stays, lines_apart}
 use Rattle.check_text.proofs.LiveLaws.{line_first, lines_by}
 use Rattle.check_script.proofs.KeptLemmas.{setup_stays, too_long}
-use Rattle.check_text.specs.LiveText.{answer_to, answers_from, live_over, live_text, said, state_after}
-use Rattle.check_text.specs.Text.{answer_line, input_refusal_text, refusal_line, refused_text, saved_line}
+use Rattle.check_text.specs.LiveText.{answer_to, answers_from, said, state_after}
+use Rattle.check_text.specs.Text.{answer_line, input_refusal_text, refused_text, saved_line}
 use Rattle.check_text.specs.Output.{WroteFront}
 use Rattle.check_text.proofs.OutputLemmas.{Appends-Keeps, Appends-none, Appends-trans, front_none}
 use Rattle.check_drive.specs.declared.drive.Outcome.{Outcome}
-use Rattle.check_drive.specs.declared.drive.Outcome.TheVariants as outcome
-use Rattle.check_drive.specs.Drive.{IsInput, outcome_by}
-use Rattle.check_drive.specs.Live.{AfterAll, AfterLines, AnsweredLines, AreWholeLines, HasReadLive, IsLiveOf, IsLiveOnInput, LeavesText, live_outcome}
+use Rattle.check_drive.specs.Drive.{IsInput}
+use Rattle.check_drive.specs.Written.{IsLineWritten}
+use Rattle.check_drive.specs.Live.{AfterAll, AfterLines, AnsweredLines, AreWholeLines, Conversed, IsLiveOf, LeavesText, TalkEnded}
 
 -- ---- what is read
 
@@ -139,16 +140,13 @@ leaves_by errors.Read held holds text f none = f
 leaves_by errors.Write held holds text f none = f
 leaves_by errors.Memory held holds text f none = leaves_kept errors.Memory held holds text (none refl)
 
-pub leaves_if : {T : Type 0} (r : Result T DriveError) (held holds : Option (List ℕ)) (text : List ℕ) → OnErr r (WroteFront held holds text)
-    → IfErr r (λ e. e ≡ errors.Memory → Keeps held holds) → IfErr r (λ e. LeavesText e held holds text)
-leaves_if (Ok x) held holds text f none = tt
-leaves_if (Err e) held holds text f none = leaves_by e held holds text f none
-
--- the same of a text that is told otherwise
-pub leaves_as : {T : Type 0} (r : Result T DriveError) (held holds : Option (List ℕ)) (text other : List ℕ) → text ≡ other
-    → OnErr r (WroteFront held holds text) → IfErr r (λ e. e ≡ errors.Memory → Keeps held holds) → IfErr r (λ e. LeavesText e held holds other)
-leaves_as r held holds text other same f none =
-    subst (λ l. IfErr r (λ e. LeavesText e held holds l)) same (leaves_if r held holds text f none)
+-- of a line that is told otherwise
+pub leaves_line : {T : Type 0} (r : Result T DriveError) (held holds : Option (List ℕ)) (line other : List ℕ) → line ≡ other
+    → IsLineWritten r held holds line → IfErr r (λ e. LeavesText e held holds other)
+leaves_line (Ok x) held holds line other same h = tt
+leaves_line (Err errors.Read) held holds line other same h = absurd h
+leaves_line (Err errors.Write) held holds line other same h = subst (WroteFront held holds) same h
+leaves_line (Err errors.Memory) held holds line other same h = leaves_kept errors.Memory held holds other h
 
 -- all of it, where the flush failed
 pub leaves_all : (held mid holds : Option (List ℕ)) (text : List ℕ) → Appends held mid text → Keeps mid holds → LeavesText errors.Write held holds text
@@ -302,13 +300,6 @@ talk_goes_on begins first s t opened hand rest part had mid left held wrote hold
       state = after ∙ sym more.1 ∙ ap (state_behind first begins) (sym lines);
     }
 
--- what is shown of a conversation that ended
-abbrev pub TalkEnded : {T : Type 0} → ℕ → State → List ℕ → Option (List ℕ) → Option (List ℕ) → Option (List ℕ) → Option (List ℕ) → Result T LiveError → Type 0
-TalkEnded begins first opened had left held holds ended =
-    (coming : List ℕ) × IsInput had coming × OnOk ended (Consumes had left coming)
-    × OnOk ended (Appends held holds (answers_from first begins (lines_of (opened ++ coming))))
-    × IfErr ended (λ e. LeavesText (told e) held holds (answers_from first begins (lines_of (opened ++ coming))))
-
 -- the text to the end, where the last line has no line feed
 ended_text : (begins : ℕ) (first s : State) (opened hand part : List ℕ) (had mid left held wrote : Option (List ℕ)) (number : ℕ)
     → (k : Talked begins first opened had mid held wrote number s hand) → has_feed (hand ++ part) ≡ false
@@ -427,19 +418,6 @@ pub setup_refused : (r : Result Configuration LoadError) (why : InputRefusal) �
 setup_refused (Ok c) why h = cc
 setup_refused (Err e) why h = (e, refl, cc)
 
--- the text behind a setup
-opened_text : (start : ℕ) (c : Configuration) (given coming : List ℕ) → in_setup (setup_of (first_line_of given)) ≡ Ok c → has_feed given ≡ true
-    → live_text start (given ++ coming) ≡ answers_from (opening c start) 2 (lines_of (behind_line given ++ coming))
-unfolding live_text
-opened_text start c given coming s feed =
-    ap (λ l. live_over start (setup_of l) (lines_of (behind_line (given ++ coming)))) (first_stays given coming feed)
-    ∙ ap (λ l. live_over start (setup_of (first_line_of given)) (lines_of l)) (behind_stays given coming feed)
-    ∙ ap (λ r. live_over start r (lines_of (behind_line given ++ coming))) (setup_is (setup_of (first_line_of given)) c s)
-
-opened_setup : (c : Configuration) (given coming : List ℕ) → in_setup (setup_of (first_line_of given)) ≡ Ok c → has_feed given ≡ true
-    → setup_of (first_line_of (given ++ coming)) ≡ Ok c
-opened_setup c given coming s feed = ap setup_of (first_stays given coming feed) ∙ setup_is (setup_of (first_line_of given)) c s
-
 -- an error, whatever came before it
 pub live_failed : (outcomes : List ℕ → Outcome) (says : List ℕ → List ℕ) (reads : Option (List ℕ) → Option (List ℕ) → List ℕ → Type 0) (e : DriveError)
     (had left held holds : Option (List ℕ)) (input : List ℕ) → IsInput had input
@@ -452,28 +430,6 @@ pub live_unwritten : (outcomes : List ℕ → Outcome) (says : List ℕ → List
 live_unwritten outcomes says reads e had left held given read =
     live_failed outcomes says reads e had left held held (given ++ rest_of left) (input_on had left given (rest_of left) read (rest_input left)) (leaves_none e held _)
 
--- the lines were answered to the end
-live_ran : (start : ℕ) (c : Configuration) (given : List ℕ) (had mid left held holds : Option (List ℕ)) (o : Outcome)
-    → in_setup (setup_of (first_line_of given)) ≡ Ok c → has_feed given ≡ true → Consumes had mid given
-    → TalkEnded 2 (opening c start) (behind_line given) mid left held holds (Ok o) → IsLiveOnInput start (Ok outcome.Ran) had left held holds
-live_ran start c given had mid left held holds o s feed read t =
-    let setup = opened_setup c given t.0 s feed in
-    record {
-      input = given ++ t.0;
-      is_input = input_on had mid given t.0 read t.1;
-      outcome_is = sym (ap (λ r. outcome_by (in_setup r)) setup);
-      written = rw (opened_text start c given t.0 s feed) t.3;
-      read = rw setup (Consumes-then had mid left given t.0 read t.2);
-      front = tt;
-    }
-
--- they weren't
-live_cut : (start : ℕ) (c : Configuration) (given : List ℕ) (had mid left held holds : Option (List ℕ)) (e : LiveError)
-    → in_setup (setup_of (first_line_of given)) ≡ Ok c → has_feed given ≡ true → Consumes had mid given
-    → TalkEnded {T = Outcome} 2 (opening c start) (behind_line given) mid left held holds (Err e) → IsLiveOnInput start (Err (told e)) had left held holds
-live_cut start c given had mid left held holds e s feed read t =
-    live_failed live_outcome (live_text start) HasReadLive (told e) had left held holds (given ++ t.0) (input_on had mid given t.0 read t.1) (rw (opened_text start c given t.0 s feed) t.4)
-
 -- there are no lines behind the setup
 pub not_long : (c : Configuration) (given : List ℕ) → in_setup (setup_of (first_line_of given)) ≡ Ok c → has_feed given ≡ false
     → KEPT_SETUP_BYTES ≤ length given → ⊥
@@ -481,42 +437,6 @@ not_long c given s free long =
     let all = ap length (first_all given free) in
     let r = sym (too_long (first_line_of given) (omega (arith, long, all))) ∙ setup_is (setup_of (first_line_of given)) c s in
     cc
-
-short_text : (start : ℕ) (c : Configuration) (given : List ℕ) → in_setup (setup_of (first_line_of given)) ≡ Ok c → has_feed given ≡ false
-    → live_text start given ≡ []
-unfolding live_text
-short_text start c given s free =
-    ap (λ l. live_over start (setup_of (first_line_of given)) (lines_of l)) (behind_none given free)
-    ∙ ap (λ r. live_over start r []) (setup_is (setup_of (first_line_of given)) c s)
-
-short_by : (start : ℕ) (c : Configuration) (given : List ℕ) (had left held : Option (List ℕ)) → in_setup (setup_of (first_line_of given)) ≡ Ok c
-    → has_feed given ≡ false → Consumes had left given → IsAtEnd left ⊎ (KEPT_SETUP_BYTES ≤ length given)
-    → IsLiveOnInput start (Ok outcome.Ran) had left held held
-short_by start c given had left held s free read (inr long) = absurd (not_long c given s free long)
-short_by start c given had left held s free read (inl end) =
-    let setup = setup_is (setup_of (first_line_of given)) c s in
-    record {
-      input = given;
-      is_input = input_all had left given read end;
-      outcome_is = sym (ap (λ r. outcome_by (in_setup r)) setup);
-      written = rw (short_text start c given s free) (Appends-none held);
-      read = rw setup read;
-      front = tt;
-    }
-
--- what is shown of the lines behind a setup is what is shown of the whole
-pub live_answered : (start : ℕ) (c : Configuration) (given : List ℕ) (had mid left held holds : Option (List ℕ)) (whole : Bool)
-    (r : Result Outcome LiveError)
-    → in_setup (setup_of (first_line_of given)) ≡ Ok c → whole ≡ has_feed given → Consumes had mid given
-    → (whole ≡ false → IsAtEnd mid ⊎ (KEPT_SETUP_BYTES ≤ length given)) → IfOk r (λ o. o ≡ outcome.Ran)
-    → (whole ≡ false → (r ≡ Ok outcome.Ran) × (left ≡ mid) × (holds ≡ held))
-    → (whole ≡ true → TalkEnded 2 (opening c start) (behind_line given) mid left held holds r) → IsLiveOnInput start (told_by r) had left held holds
-live_answered start c given had mid left held holds false r s feed read end ran none lines =
-    let n = none refl in rw (n.0, n.1, n.2) (short_by start c given had mid held s (sym feed) read (end refl))
-live_answered start c given had mid left held holds true (Ok o) s feed read end ran none lines =
-    rw ran (live_ran start c given had mid left held holds o s (sym feed) read (lines refl))
-live_answered start c given had mid left held holds true (Err e) s feed read end ran none lines =
-    live_cut start c given had mid left held holds e s (sym feed) read (lines refl)
 
 -- ---- a refused setup
 
@@ -530,47 +450,6 @@ pub refused_stays : (given : List ℕ) (left : Option (List ℕ)) (whole : Bool)
     → setup_of (first_line_of (given ++ rest_of left)) ≡ setup_of (first_line_of given)
 refused_stays given left true feed end = setup_stays given (rest_of left) (inl (sym feed))
 refused_stays given left false feed end = setup_stays given (rest_of left) (inr (sym feed, ended_by left given (end refl)))
-
-refused_is : (start : ℕ) (input : List ℕ) (e : LoadError) → setup_of (first_line_of input) ≡ Err e → live_text start input ≡ refusal_line (refusal.Setup e)
-unfolding live_text
-refused_is start input e s = ap (λ r. live_over start r (lines_of (behind_line input))) s
-
-live_refused : (start : ℕ) (given : List ℕ) (had left held holds : Option (List ℕ)) (why : InputRefusal) (whole : Bool)
-    → in_setup (setup_of (first_line_of given)) ≡ Err why → Consumes had left given → StopsSoon KEPT_SETUP_BYTES given → whole ≡ has_feed given
-    → (whole ≡ false → IsAtEnd left ⊎ (KEPT_SETUP_BYTES ≤ length given)) → Appends held holds (refusal_line why)
-    → IsLiveOnInput start (Ok outcome.Refused) had left held holds
-live_refused start given had left held holds why whole s read soon feed end wrote =
-    let refused = setup_refused (setup_of (first_line_of given)) why s in
-    let setup = refused_stays given left whole feed end ∙ refused.1 in
-    record {
-      input = given ++ rest_of left;
-      is_input = input_on had left given (rest_of left) read (rest_input left);
-      outcome_is = sym (ap (λ r. outcome_by (in_setup r)) setup);
-      written = rw (refused_is start (given ++ rest_of left) refused.0 setup) (rw (refused.2) at wrote);
-      read = rw setup (given, read, soon);
-      front = tt;
-    }
-
--- its line couldn't be written
-live_unrefused : (start : ℕ) (given : List ℕ) (had left held holds : Option (List ℕ)) (why : InputRefusal) (whole : Bool) (e : DriveError)
-    → in_setup (setup_of (first_line_of given)) ≡ Err why → Consumes had left given → whole ≡ has_feed given
-    → (whole ≡ false → IsAtEnd left ⊎ (KEPT_SETUP_BYTES ≤ length given)) → LeavesText e held holds (refusal_line why)
-    → IsLiveOnInput start (Err e) had left held holds
-live_unrefused start given had left held holds why whole e s read feed end f =
-    let refused = setup_refused (setup_of (first_line_of given)) why s in
-    let setup = refused_stays given left whole feed end ∙ refused.1 in
-    live_failed live_outcome (live_text start) HasReadLive e had left held holds (given ++ rest_of left) (input_on had left given (rest_of left) read (rest_input left))
-    (rw (refused_is start (given ++ rest_of left) refused.0 setup) (rw (refused.2) at f))
-
--- what is shown of a refusal's line is what is shown of the whole
-pub live_refusal : (start : ℕ) (given : List ℕ) (had left held holds : Option (List ℕ)) (why : InputRefusal) (whole : Bool) (r : Result Outcome DriveError)
-    → in_setup (setup_of (first_line_of given)) ≡ Err why → Consumes had left given → StopsSoon KEPT_SETUP_BYTES given → whole ≡ has_feed given
-    → (whole ≡ false → IsAtEnd left ⊎ (KEPT_SETUP_BYTES ≤ length given)) → IfOk r (λ o. o ≡ outcome.Refused)
-    → OnOk r (Appends held holds (refusal_line why)) → IfErr r (λ e. LeavesText e held holds (refusal_line why)) → IsLiveOnInput start r had left held holds
-live_refusal start given had left held holds why whole (Ok o) s read soon feed end refused wrote f =
-    rw refused (live_refused start given had left held holds why whole s read soon feed end wrote)
-live_refusal start given had left held holds why whole (Err e) s read soon feed end refused wrote f =
-    live_unrefused start given had left held holds why whole e s read feed end f
 
 -- ---- a loop that is spent
 
@@ -596,9 +475,6 @@ written_spends (Err live.LinesSpent) written had left (e, inl f) = cc
 written_spends (Err live.LinesSpent) written had left (e, inr f) = cc
 written_spends (Err live.ReadsSpent) written had left (e, inl f) = cc
 written_spends (Err live.ReadsSpent) written had left (e, inr f) = cc
-
-pub error_spends : {T : Type 0} (e : LiveError) (written : Result T DriveError) (had left : Option (List ℕ)) → IsWritten (Err e) written → AfterAll had left e
-error_spends e written had left w = written_spends (Err e) written had left w
 
 pub reads_spend : (e : LiveError) (given : List ℕ) (had left : Option (List ℕ)) → Consumes had left given → AfterReads given e → AfterAll had left e
 reads_spend (live.Reader fault) given had left read h = λ s. absurd s
@@ -630,29 +506,6 @@ behind_few (b ∷ bs) =
       | false ↦ omega (arith, again)
     ]
 
--- the loops behind a setup that was given so
-pub lines_spend : (e : LiveError) (first : State) (given : List ℕ) (had mid left held holds : Option (List ℕ)) → Consumes had mid given
-    → AfterLines 2 first (behind_line given) mid left held holds e → AfterAll had left e
-lines_spend (live.Reader fault) first given had mid left held holds read h = λ s. absurd s
-lines_spend live.Writer first given had mid left held holds read h = λ s. absurd s
-lines_spend live.Memory first given had mid left held holds read h = λ s. absurd s
-lines_spend live.LinesSpent first given had mid left held holds read a = λ s.
-    let all = length-append given a.given in
-    let hand = length-append (behind_line given) a.given in
-    let parts = ap length a.parts in
-    let sizes = length-append a.front a.rest in
-    let few = lines_few a.front in
-    let behind = behind_few given in
-    (given ++ a.given, Consumes-then had mid left given a.given read a.consumed, omega (arith, all, hand, parts, sizes, few, behind, a.lines))
-lines_spend live.ReadsSpent first given had mid left held holds read g = λ s.
-    let all = length-append given g.0 in
-    (given ++ g.0, Consumes-then had mid left given g.0 read g.1, omega (arith, all, g.2))
-
-pub if_spend : {T : Type 0} (r : Result T LiveError) (first : State) (given : List ℕ) (had mid left held holds : Option (List ℕ)) (whole : Bool)
-    → Consumes had mid given → IfErr r (AfterLines 2 first (behind_line given) mid left held holds) → IfErr r (AfterAll had left)
-if_spend (Ok x) first given had mid left held holds whole read h = tt
-if_spend (Err e) first given had mid left held holds whole read h = lines_spend e first given had mid left held holds read h
-
 -- ---- errors of what only writes
 
 pub written_told : {T : Type 0} (r : Result T LiveError) (written : Result T DriveError) → IsWritten r written → written ≡ told_by r
@@ -669,6 +522,19 @@ written_ok {P = P} x written w f = subst (λ r. OnOk r P) w f
 pub written_if : {T : Type 0} (x : T) (written : Result T DriveError) (P : T → Type 0) → IsWritten (Ok x) written → IfOk written P → P x
 written_if x written P w f = subst (λ r. IfOk r P) w f
 
+pub written_ifs : {T : Type 0} (r : Result T LiveError) (written : Result T DriveError) (P : T → Type 0) → IsWritten r written → IfOk written P → IfOk r P
+written_ifs (Ok x) written P w f = written_if x written P w f
+written_ifs (Err e) written P w f = tt
+
+pub written_oks : {T : Type 0} (r : Result T LiveError) (written : Result T DriveError) (P : Type 0) → IsWritten r written → OnOk written P → OnOk r P
+written_oks (Ok x) written P w f = written_ok x written w f
+written_oks (Err e) written P w f = tt
+
+pub written_errs : {T : Type 0} (r : Result T LiveError) (written : Result T DriveError) (P : DriveError → Type 0) → IsWritten r written
+    → IfErr written P → IfErr r (λ e. P (told e))
+written_errs (Ok x) written P w f = tt
+written_errs (Err e) written P w f = written_err e written P w f
+
 pub written_line : {T : Type 0} (e : LiveError) (written : Result T DriveError) (given : List ℕ) → IsWritten (Err e) written → AfterLine given e
 written_line (live.Reader fault) written given w = tt
 written_line live.Writer written given w = tt
@@ -680,30 +546,41 @@ written_line live.ReadsSpent written given (e, inr f) = cc
 
 -- ---- where it is known what the reader had
 
-pub known_written : (outcomes : List ℕ → Outcome) (says : List ℕ → List ℕ) (reads : Option (List ℕ) → Option (List ℕ) → List ℕ → Type 0)
+known_written : (outcomes : List ℕ → Outcome) (says : List ℕ → List ℕ) (reads : Option (List ℕ) → Option (List ℕ) → List ℕ → Type 0)
     (ended : Result Outcome DriveError) (had left held holds : Option (List ℕ)) → IsLiveOf outcomes says reads ended had left held holds
     → OnOk ended (IfSome had (λ input. Appends held holds (says input)))
 known_written outcomes says reads (Err e) had left held holds i = tt
 known_written outcomes says reads (Ok o) None left held holds i = tt
 known_written outcomes says reads (Ok o) (Some bytes) left held holds i = subst (λ l. Appends held holds (says l)) i.is_input i.written
 
-pub known_outcome : (outcomes : List ℕ → Outcome) (says : List ℕ → List ℕ) (reads : Option (List ℕ) → Option (List ℕ) → List ℕ → Type 0)
+known_outcome : (outcomes : List ℕ → Outcome) (says : List ℕ → List ℕ) (reads : Option (List ℕ) → Option (List ℕ) → List ℕ → Type 0)
     (ended : Result Outcome DriveError) (had left held holds : Option (List ℕ)) → IsLiveOf outcomes says reads ended had left held holds
     → IfOk ended (λ outcome. IfSome had (λ input. outcome ≡ outcomes input))
 known_outcome outcomes says reads (Err e) had left held holds i = tt
 known_outcome outcomes says reads (Ok o) None left held holds i = tt
 known_outcome outcomes says reads (Ok o) (Some bytes) left held holds i = i.outcome_is ∙ ap outcomes i.is_input
 
-pub known_read : (outcomes : List ℕ → Outcome) (says : List ℕ → List ℕ) (reads : Option (List ℕ) → Option (List ℕ) → List ℕ → Type 0)
+known_read : (outcomes : List ℕ → Outcome) (says : List ℕ → List ℕ) (reads : Option (List ℕ) → Option (List ℕ) → List ℕ → Type 0)
     (ended : Result Outcome DriveError) (had left held holds : Option (List ℕ)) → IsLiveOf outcomes says reads ended had left held holds
     → OnOk ended (IfSome had (reads had left))
 known_read outcomes says reads (Err e) had left held holds i = tt
 known_read outcomes says reads (Ok o) None left held holds i = tt
 known_read outcomes says reads (Ok o) (Some bytes) left held holds i = subst (reads (Some bytes) left) i.is_input i.read
 
-pub known_fault : (outcomes : List ℕ → Outcome) (says : List ℕ → List ℕ) (reads : Option (List ℕ) → Option (List ℕ) → List ℕ → Type 0)
+known_fault : (outcomes : List ℕ → Outcome) (says : List ℕ → List ℕ) (reads : Option (List ℕ) → Option (List ℕ) → List ℕ → Type 0)
     (ended : Result Outcome DriveError) (had left held holds : Option (List ℕ)) → IsLiveOf outcomes says reads ended had left held holds
     → IfErr ended (λ e. IfSome had (λ input. LeavesText e held holds (says input)))
 known_fault outcomes says reads (Ok o) had left held holds i = tt
 known_fault outcomes says reads (Err e) None left held holds i = tt
 known_fault outcomes says reads (Err e) (Some bytes) left held holds i = subst (λ l. LeavesText e held holds (says l)) i.is_input i.front
+
+pub conversed : (outcomes : List ℕ → Outcome) (says : List ℕ → List ℕ) (reads : Option (List ℕ) → Option (List ℕ) → List ℕ → Type 0)
+    (ended : Result Outcome DriveError) (had left held holds : Option (List ℕ)) → IsLiveOf outcomes says reads ended had left held holds
+    → Conversed outcomes says reads ended had left held holds
+conversed outcomes says reads ended had left held holds i = record {
+  written = known_written outcomes says reads ended had left held holds i;
+  outcome_is = known_outcome outcomes says reads ended had left held holds i;
+  read = known_read outcomes says reads ended had left held holds i;
+  fault = known_fault outcomes says reads ended had left held holds i;
+  input = i;
+}

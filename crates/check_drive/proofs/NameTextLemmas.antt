@@ -1,5 +1,6 @@
 -- A setup that was read is one, and its names are UTF-8.
-use Rattle.std.proofs.Common.{◌≡◌, ℕ, zero, suc, ◌+◌, Bool, true, false, cond, List, [], ◌∷◌, ◌++◌, length, map, Option, Some, None, option_and_then, option_map, Result, Ok, Err}
+use Rattle.std.proofs.Common.{◌≡◌, ℕ, zero, suc, ◌+◌, Bool, true, false, cond, List, [], ◌∷◌, ◌++◌, length, map, Option, Some, None, option_and_then}
+use Rattle.std.proofs.Common.{option_map, Result, Ok, Err}
 use Rattle.std.proofs.Common.{IsUtf8, refl, ◌∙◌, subst, arith}
 use Rattle.std.specs.Prelude.{nat_lt, ok_or, slice_get, unwrap_or}
 use Rattle.std.specs.List.{list_all}
@@ -21,7 +22,8 @@ use Rattle.check_drafts.specs.Members as members
 use Rattle.check_drafts.specs.Name.{full_name}
 use Rattle.check_drafts.specs.Place.{host_at, service_at, the_document, the_hosts, the_options, the_services}
 use Rattle.check_documents.specs.Tree.{◌>=>◌, has_only, texts_in, tree_of}
-use Rattle.check_documents.specs.Reading.{check_draft, dependencies_in, document_members, drafts_of, host_draft, host_letters, host_members, items_from, list_of, options_of, service_draft, service_letters, service_members}
+use Rattle.check_documents.specs.Reading.{check_draft, dependencies_in, document_members, drafts_of, host_draft, host_letters, host_members, items_from}
+use Rattle.check_documents.specs.Reading.{list_of, options_of, service_draft, service_letters, service_members}
 use Rattle.check_faults.specs.Verification.{is_faultless}
 use Rattle.check_numbers.specs.Configuration.{Configuration, IsSetup, Named, masters_of, named_host, named_service, objects_of, parents_by_host}
 use Rattle.check_numbers.specs.Numbering.{body_of, configuration, hosts_in_order, names_in_order, numbered_host, numbered_service, object_of, services_in_order}

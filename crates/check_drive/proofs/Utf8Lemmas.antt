@@ -1,5 +1,7 @@
 -- The texts of a tree that is read from UTF-8 are UTF-8.
-use Rattle.std.proofs.Common.{◌≡◌, ℕ, zero, suc, ◌+◌, ◌*◌, ◌<◌, ◌==◌, ◌||◌, ◌&&◌, Bool, true, false, cond, List, [], ◌∷◌, ◌++◌, length, length-append, get_or, take, drop, Option, Some, None, option_and_then, option_map, IsUtf8, refl, sym, ap, ◌∙◌, subst, arith, nat_lt, append_assoc, append-nil, inl, inr, ◌⊎◌}
+use Rattle.std.proofs.Common.{◌≡◌, ℕ, zero, suc, ◌+◌, ◌*◌, ◌<◌, ◌==◌, ◌||◌, ◌&&◌, Bool, true, false, cond, List, [], ◌∷◌, ◌++◌, length, length-append}
+use Rattle.std.proofs.Common.{get_or, take, drop, Option, Some, None, option_and_then, option_map, IsUtf8, refl, sym, ap, ◌∙◌, subst, arith, nat_lt}
+use Rattle.std.proofs.Common.{append_assoc, append-nil, inl, inr, ◌⊎◌}
 use Rattle.std.specs.Prelude.{encode_utf8}
 use Rattle.std.proofs.lemmas.Bool.{and_parts, cases_lt, ltb-true}
 use Rattle.std.proofs.lemmas.Bool.Decides.{nat_tests}
@@ -10,7 +12,8 @@ use Rattle.json.specs.Text.{code_unit, short_escape, is_high_surrogate, is_low_s
 use Rattle.json.specs.Token.{Token, begin_object, end_object, begin_array, end_array, key, string, number, boolean, null, bad}
 use Rattle.json.specs.Word.{after_number, ends_word, head, is_operator, is_space, literal, number_before, word}
 use Rattle.json.specs.Ascii as ascii
-use Rattle.json.specs.Lex.{Class, Lexeme, token, comma, colon, Mode, Place, begins_colon, class, if_allowed, lex, lex_byte, may_begin, may_close, operator_lexeme, place_token, punctuate, string_token, tokens}
+use Rattle.json.specs.Lex.{Class, Lexeme, token, comma, colon, Mode, Place, begins_colon, class, if_allowed, lex, lex_byte, may_begin, may_close}
+use Rattle.json.specs.Lex.{operator_lexeme, place_token, punctuate, string_token, tokens}
 use Rattle.json.specs.Json as json
 use Rattle.std.specs.declared.cmp.Ordering.{Ordering}
 use Rattle.std.specs.declared.cmp.Ordering.TheVariants.{Less, Equal, Greater}
@@ -259,17 +262,16 @@ abbrev GoodLexemes : List Lexeme → Type 0
 GoodLexemes [] = Unit {0}
 GoodLexemes (l ∷ ls) = GoodLexeme l × GoodLexemes ls
 
-good_operator : (a b c d e : Bool)
-    → GoodLexeme (cond a (token begin_object) (cond b (token end_object) (cond c (token begin_array) (cond d (token end_array) (cond e comma colon)))))
-good_operator true b c d e = tt
-good_operator false true c d e = tt
-good_operator false false true d e = tt
-good_operator false false false true e = tt
-good_operator false false false false true = tt
-good_operator false false false false false = tt
+one_good : (v : Bool) (x y : Lexeme) → GoodLexeme x → GoodLexeme y → GoodLexeme (cond v x y)
+one_good true x y g h = g
+one_good false x y g h = h
 
 operator_good : (x : ℕ) → GoodLexeme (operator_lexeme x)
-operator_good x = good_operator (x == ascii.open_brace) (x == ascii.close_brace) (x == ascii.open_bracket) (x == ascii.close_bracket) (x == ascii.comma)
+operator_good x =
+    one_good (x == ascii.open_brace) (token begin_object) _ tt
+    (one_good (x == ascii.close_brace) (token end_object) _ tt
+    (one_good (x == ascii.open_bracket) (token begin_array) _ tt
+    (one_good (x == ascii.close_bracket) (token end_array) _ tt (one_good (x == ascii.comma) comma colon tt tt))))
 
 string_good : (r : Option (List ℕ)) → GoodBehind [] r → GoodToken (string_token r)
 string_good None h = tt
@@ -345,12 +347,16 @@ place_good p (boolean v) b k g h = allowed_good (may_begin p) (boolean v) k Plac
 place_good p null b k g h = allowed_good (may_begin p) null k Place.after_value tt h
 place_good p bad b k g h = (tt, tt)
 
+ended_good_at : (p : Place) → GoodTokens (punctuate p [])
+unfolding punctuate
+ended_good_at Place.fresh = tt
+ended_good_at Place.after_value = tt
+ended_good_at Place.after_comma = (tt, tt)
+ended_good_at Place.after_key = (tt, tt)
+
 punctuated : (p : Place) (ls : List Lexeme) → GoodLexemes ls → GoodTokens (punctuate p ls)
 unfolding punctuate
-punctuated Place.fresh [] h = tt
-punctuated Place.after_value [] h = tt
-punctuated Place.after_comma [] h = (tt, tt)
-punctuated Place.after_key [] h = (tt, tt)
+punctuated p [] h = ended_good_at p
 punctuated p (token t ∷ ls) h = place_good p t (begins_colon ls) (λ next. punctuate next ls) h.0 (λ next. punctuated next ls h.1)
 punctuated Place.fresh (comma ∷ ls) h = (tt, tt)
 punctuated Place.after_value (comma ∷ ls) h = punctuated Place.after_comma ls h.1
@@ -368,12 +374,12 @@ tokens_good xs u = punctuated Place.fresh (lex Mode.between xs) (lex_good Mode.b
 
 abbrev mutual
   GoodJson : json.Json → Type 0
-  GoodJson json.null = Unit {0}
-  GoodJson (json.boolean b) = Unit {0}
-  GoodJson (json.number s) = Unit {0}
   GoodJson (json.string s) = IsUtf8 s
   GoodJson (json.array js) = GoodList js
   GoodJson (json.object ms) = GoodFields ms
+  GoodJson json.null = Unit {0}
+  GoodJson (json.boolean b) = Unit {0}
+  GoodJson (json.number s) = Unit {0}
 
   GoodList : json.Items → Type 0
   GoodList json.no_items = Unit {0}
@@ -590,18 +596,17 @@ get_good k (tree.string s) g = tt
 get_good k (tree.array ds) g = tt
 get_good k (tree.object ms) g = member_good k ms g
 
+-- the text that a tree is, if it is one, and its items
+parts_good : (d : Data) → GoodTree d → GoodIf IsUtf8 (as_str d) × GoodIf GoodItems (as_array d)
+parts_good tree.null g = (tt, tt)
+parts_good (tree.boolean b) g = (tt, tt)
+parts_good (tree.number n) g = (tt, tt)
+parts_good (tree.string s) g = (g, tt)
+parts_good (tree.array ds) g = (tt, g)
+parts_good (tree.object ms) g = (tt, tt)
+
 pub str_good : (d : Data) → GoodTree d → GoodIf IsUtf8 (as_str d)
-str_good tree.null g = tt
-str_good (tree.boolean b) g = tt
-str_good (tree.number n) g = tt
-str_good (tree.string s) g = g
-str_good (tree.array ds) g = tt
-str_good (tree.object ms) g = tt
+str_good d g = (parts_good d g).0
 
 pub array_good : (d : Data) → GoodTree d → GoodIf GoodItems (as_array d)
-array_good tree.null g = tt
-array_good (tree.boolean b) g = tt
-array_good (tree.number n) g = tt
-array_good (tree.string s) g = tt
-array_good (tree.array ds) g = g
-array_good (tree.object ms) g = tt
+array_good d g = (parts_good d g).1

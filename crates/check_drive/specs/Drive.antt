@@ -1,13 +1,15 @@
 -- What a run from a reader to a writer leaves, fault or none.
-use Rattle.std.specs.Prelude.{ℕ, ◌≡◌, ◌⊎◌, List, Option, Some, None, Result, Ok, Err, IfOk, IfSome, OnErr, OnOk, take, ⊤}
+use Rattle.std.specs.Prelude.{ℕ, ◌≡◌, ◌⊎◌, List, Option, Some, None, Result, Ok, Err, IfErr, IfOk, IfSome, OnErr, OnOk, take, ⊤}
 use Rattle.std.specs.Io.KnownBytes.{Appends, Keeps, Consumes}
 use Rattle.check_script.specs.declared.drive_error.DriveError.{DriveError}
 use Rattle.check_script.specs.declared.drive_error.DriveError.TheVariants as errors
+use Rattle.check_drive.specs.declared.beginning.Beginning.{Beginning}
+use Rattle.check_drive.specs.declared.beginning.Beginning.TheVariants as beginning
 use Rattle.check_drive.specs.declared.drive.Outcome.{Outcome}
 use Rattle.check_drive.specs.declared.drive.Outcome.TheVariants as outcome
 use Rattle.check_script.specs.declared.input.TheConstants.{MAX_READ_BYTES}
 use Rattle.check_script.specs.declared.refusal.InputRefusal.{InputRefusal}
-use Rattle.check_text.specs.Output.{WroteFront}
+use Rattle.check_text.specs.Output.{WroteFront, WroteShort}
 use Rattle.check_script.specs.ResumedScript.{resumed_script_of}
 use Rattle.check_script.specs.Script.{script_of}
 use Rattle.check_text.specs.Text.{text, text_resumed}
@@ -65,3 +67,29 @@ IsRunOnInput start ended had held holds = IsRunOf outcome_of (text start) ended 
 -- of one that goes on from what was saved
 abbrev pub IsResumedOnInput : Option ℕ → Result Outcome DriveError → Option (List ℕ) → Option (List ℕ) → Option (List ℕ) → Type 0
 IsResumedOnInput start ended had held holds = IsRunOf resumed_outcome_of (text_resumed start) ended had held holds
+
+-- ---- a whole run
+
+-- What a run leaves that ended so, where it is to have such an outcome and to write such a text on an input, by what the reader had and
+-- has left and what the writer held and holds.
+pub record Drove (outcomes : List ℕ → Outcome) (says : List ℕ → List ℕ) (ended : Result Outcome DriveError)
+    (had left held holds : Option (List ℕ)) : Type 0 where
+  -- without an error its text was written, it ran or refused the input, and the input was read to its end or to the limit
+  pub written : OnOk ended (IfSome had (λ input. Appends held holds (says input)))
+  pub outcome_is : IfOk ended (λ outcome. IfSome had (λ input. outcome ≡ outcomes input))
+  pub read : OnOk ended (IfSome had (HasRead had left))
+  -- what an error leaves
+  pub fault : IfErr ended (λ e. AfterFaultOf says e had left held holds)
+  -- out of memory something of the text is missing
+  pub memory : IfErr ended (λ e. e ≡ errors.Memory → IfSome had (λ input. WroteShort held holds (says input)))
+  -- whatever is known of reader and writer
+  pub input : IsRunOf outcomes says ended had held holds
+
+-- the text on an input of a run with such a beginning, and its outcome
+abbrev pub run_text : Beginning → List ℕ → List ℕ
+run_text (beginning.Opened start) = text start
+run_text (beginning.Saved start) = text_resumed start
+
+abbrev pub run_outcome : Beginning → List ℕ → Outcome
+run_outcome (beginning.Opened start) = outcome_of
+run_outcome (beginning.Saved start) = resumed_outcome_of

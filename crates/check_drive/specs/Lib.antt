@@ -1,3 +1,5 @@
+pub mod Beginning
 pub mod Cut
 pub mod Drive
 pub mod Live
+pub mod Written

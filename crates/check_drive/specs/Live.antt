@@ -1,5 +1,6 @@
 -- What a conversation from a reader to a writer leaves, fault or none.
-use Rattle.std.specs.Prelude.{ℕ, Bool, false, ◌≡◌, ◌+◌, ◌-◌, ◌^◌, ◌≤◌, length, ⊤, ◌⊎◌, List, [], ◌∷◌, ◌++◌, Option, Result, Ok, Err, IfOk, IfErr, OnOk}
+use Rattle.std.specs.Prelude.{ℕ, Bool, false, ◌≡◌, ◌+◌, ◌-◌, ◌^◌, ◌≤◌, length, ⊤, ◌⊎◌, List, [], ◌∷◌, ◌++◌, Option, Result, Ok, Err, IfOk, IfErr}
+use Rattle.std.specs.Prelude.{IfSome, OnOk}
 use Rattle.std.specs.Io.KnownBytes.{Appends, Consumes}
 use Rattle.check_objects.specs.Configuration.{Configuration}
 use Rattle.check_objects.specs.Setup.{setup_of}
@@ -18,10 +19,13 @@ use Rattle.check_script.specs.LiveError.{IsSpent, told}
 use Rattle.check_script.specs.LiveInput.{StopsSoon, behind_line}
 use Rattle.check_script.specs.ResumedScript.{in_saved}
 use Rattle.check_script.specs.Script.{in_setup}
-use Rattle.check_sched.specs.State.{State}
+use Rattle.check_sched.specs.State.{State, opening}
 use Rattle.check_text.specs.LiveText.{answers_from, live_resumed_over, live_text, live_text_resumed}
 use Rattle.check_text.specs.Output.{WroteFront}
+use Rattle.check_drive.specs.declared.beginning.Beginning.{Beginning}
+use Rattle.check_drive.specs.declared.beginning.Beginning.TheVariants as beginning
 use Rattle.check_drive.specs.declared.drive.Outcome.{Outcome}
+use Rattle.check_drive.specs.declared.drive.Outcome.TheVariants as outcome
 use Rattle.check_drive.specs.Drive.{IsInput, outcome_by}
 
 -- these bytes end a line, or there are none
@@ -122,17 +126,66 @@ abbrev pub IsLiveResumedOnInput : Option ℕ → Result Outcome DriveError → O
 IsLiveResumedOnInput start ended had left held holds =
     IsLiveOf live_resumed_outcome (live_text_resumed start) HasReadResumed ended had left held holds
 
+-- ---- a conversation by what it begins with
+
+-- What a conversation leaves that ended so, where it is to have such an outcome, to write such a text on an input and to read so much of
+-- it, by what the reader had and has left and what the writer held and holds.
+pub record Conversed (outcomes : List ℕ → Outcome) (says : List ℕ → List ℕ) (reads : Option (List ℕ) → Option (List ℕ) → List ℕ → Type 0)
+    (ended : Result Outcome DriveError) (had left held holds : Option (List ℕ)) : Type 0 where
+  -- without an error its text was written, it answered the lines or refused the input, and as much was read as it takes
+  pub written : OnOk ended (IfSome had (λ input. Appends held holds (says input)))
+  pub outcome_is : IfOk ended (λ outcome. IfSome had (λ input. outcome ≡ outcomes input))
+  pub read : OnOk ended (IfSome had (reads had left))
+  -- what an error leaves
+  pub fault : IfErr ended (λ e. IfSome had (λ input. LeavesText e held holds (says input)))
+  -- whatever is known of reader and writer
+  pub input : IsLiveOf outcomes says reads ended had left held holds
+
+-- the outcome on an input of a conversation with such a beginning, its text, and what it reads
+abbrev pub talk_outcome : Beginning → List ℕ → Outcome
+talk_outcome (beginning.Opened start) = live_outcome
+talk_outcome (beginning.Saved start) = live_resumed_outcome
+
+abbrev pub talk_text : Beginning → List ℕ → List ℕ
+talk_text (beginning.Opened start) = live_text start
+talk_text (beginning.Saved start) = live_text_resumed start
+
+abbrev pub TalkReads : Beginning → Option (List ℕ) → Option (List ℕ) → List ℕ → Type 0
+TalkReads (beginning.Opened start) = HasReadLive
+TalkReads (beginning.Saved start) = HasReadResumed
+
+-- the same behind a setup, where these bytes stand there
+abbrev pub later_outcome : Beginning → List ℕ → Outcome
+later_outcome (beginning.Opened start) bytes = outcome.Ran
+later_outcome (beginning.Saved start) bytes = outcome_by (saved_in bytes)
+
+abbrev pub later_text : Beginning → Configuration → List ℕ → List ℕ
+later_text (beginning.Opened start) c bytes = answers_from (opening c start) 2 (lines_of bytes)
+later_text (beginning.Saved start) c bytes = live_resumed_over start (Ok c) bytes
+
+abbrev pub LaterReads : Beginning → List ℕ → Option (List ℕ) → Option (List ℕ) → List ℕ → Type 0
+LaterReads (beginning.Opened start) bytes = Consumes
+LaterReads (beginning.Saved start) bytes = ReadBehind (saved_in bytes)
+
 -- How a conversation ended behind a setup, with these bytes at hand: some came, and no more where none may follow; by all of them together it
--- went on from what was saved, or refused that, and wrote its text, or after an error a front of it.
-pub record WentOn (start : Option ℕ) (c : Configuration) (may_follow : Bool) (hand : List ℕ) (ended : Result Outcome LiveError)
+-- answered lines, or refused what was saved, and wrote its text, or after an error a front of it.
+pub record WentOn (begins : Beginning) (c : Configuration) (may_follow : Bool) (hand : List ℕ) (ended : Result Outcome LiveError)
     (had left held holds : Option (List ℕ)) : Type 0 where
   pub coming : List ℕ
   pub is_input : IsInput had coming
   pub short : may_follow ≡ false → coming ≡ []
-  pub outcome_is : IfOk ended (λ outcome. outcome ≡ outcome_by (saved_in (hand ++ coming)))
-  pub written : OnOk ended (Appends held holds (live_resumed_over start (Ok c) (hand ++ coming)))
-  pub read : OnOk ended (ReadBehind (saved_in (hand ++ coming)) had left coming)
-  pub front : IfErr ended (λ e. LeavesText (told e) held holds (live_resumed_over start (Ok c) (hand ++ coming)))
+  pub outcome_is : IfOk ended (λ outcome. outcome ≡ later_outcome begins (hand ++ coming))
+  pub written : OnOk ended (Appends held holds (later_text begins c (hand ++ coming)))
+  pub read : OnOk ended (LaterReads begins (hand ++ coming) had left coming)
+  pub front : IfErr ended (λ e. LeavesText (told e) held holds (later_text begins c (hand ++ coming)))
+
+-- How the answering of lines ended, of which the first has the number `begins`, with these bytes at hand: some came, and as the lines of all of
+-- them together are answered its text was written, or after an error a front of it.
+abbrev pub TalkEnded : {T : Type 0} → ℕ → State → List ℕ → Option (List ℕ) → Option (List ℕ) → Option (List ℕ) → Option (List ℕ) → Result T LiveError → Type 0
+TalkEnded begins first opened had left held holds ended =
+    (coming : List ℕ) × IsInput had coming × OnOk ended (Consumes had left coming)
+    × OnOk ended (Appends held holds (answers_from first begins (lines_of (opened ++ coming))))
+    × IfErr ended (λ e. LeavesText (told e) held holds (answers_from first begins (lines_of (opened ++ coming))))
 
 -- so many bytes were at hand or were given, or more
 abbrev pub HadMany : ℕ → List ℕ → Option (List ℕ) → Option (List ℕ) → Type 0

@@ -1,15 +1,17 @@
 //! A run: reads an input, carries out its commands on one scheduler, and writes the lines of the answers.
-ghost use Rattle.std.specs.Prelude.{◌≡◌, ◌≤◌, IfOk, IfErr, IfSome, IsOkUnless, OnOk, OnErr, ◌≢◌, string_capacity};
+ghost use Rattle.std.specs.Prelude.{◌≡◌, ◌≤◌, IfOk, IfErr, OnOk, OnErr, ◌≢◌, string_capacity};
 ghost use Rattle.std.specs.Io.KnownBytes.{Appends, Keeps};
-ghost use Rattle.check_sched.specs.State.{opening};
 ghost use Rattle.check_sched.specs.Step.{step};
-ghost use Rattle.check_text.specs.Output.{WroteFront, WroteShort};
+ghost use Rattle.check_script.specs.Agreement.{Gives};
+ghost use Rattle.check_text.specs.Output.{WroteFront};
 ghost use Rattle.check_text.specs.Text.{answer_line, line_from, state_by, text, text_from};
-ghost use Rattle.check_drive.specs.Drive.{outcome_of, HasRead, AfterFault, IsRunOnInput};
+ghost use Rattle.check_drive.specs.Beginning.{CanBegin, begun_by, begun_text};
+ghost use Rattle.check_drive.specs.Drive.{Drove, outcome_by, outcome_of, run_outcome, run_text};
+ghost use Rattle.check_drive.specs.Written.{IsLineWritten, IsTextWritten};
 
-use check_objects::Setup;
+use crate::beginning::{Beginning, open, resume};
 use check_sched::{Call, LAST_MOMENT, Sched};
-use check_script::{DriveError, RunCommand, Script, read_input};
+use check_script::{DriveError, ResumedScript, RunCommand, Script, ScriptError, read_input};
 use check_text::{REPLY_BYTES, flush, push_reply, write_refusal, write_saved, write_text};
 use std::alloc::Global;
 use std::io::{Read, Write};
@@ -41,47 +43,45 @@ pub fn drive<R: Read, W: Write>(
     writer: &mut W,
 ) -> Result<Outcome, DriveError>
     requires { start ≤ LAST_MOMENT }
-    ensures written { OnOk result (IfSome (R.remaining reader.old) (λ input.
-        Appends (W.contents writer.old) (W.contents writer.new) (text start input))) }
-    ensures outcome { IfOk result (λ outcome.
-        IfSome (R.remaining reader.old) (λ input. outcome ≡ outcome_of input)) }
-    ensures read { OnOk result (IfSome (R.remaining reader.old)
-        (HasRead (R.remaining reader.old) (R.remaining reader.new))) }
-    ensures fault { IfErr result (λ e.
-        AfterFault e start (R.remaining reader.old) (R.remaining reader.new)
-        (W.contents writer.old) (W.contents writer.new)) }
-    ensures memory { IfErr result (λ e. e ≡ DriveError.Memory
-        → IfSome (R.remaining reader.old) (λ input.
-        WroteShort (W.contents writer.old) (W.contents writer.new) (text start input))) }
-    ensures input { IsRunOnInput start result (R.remaining reader.old)
+    ensures { Drove outcome_of (text start) result (R.remaining reader.old) (R.remaining reader.new)
+        (W.contents writer.old) (W.contents writer.new) }
+{
+    drive_from(alloc, Beginning::Opened(start), reader, writer)
+}
+
+/// A run, whatever its scheduler begins with.
+pub(crate) fn drive_from<R: Read, W: Write>(
+    alloc: Global,
+    beginning: Beginning,
+    reader: &mut R,
+    writer: &mut W,
+) -> Result<Outcome, DriveError>
+    requires { CanBegin beginning }
+    ensures { Drove (run_outcome beginning) (run_text beginning) result
+        (R.remaining reader.old) (R.remaining reader.new)
         (W.contents writer.old) (W.contents writer.new) }
 {
     let input = read_input(alloc, reader)?;
-    let outcome = answer(alloc, start, &input, writer)?;
+    let outcome = answer(alloc, beginning, &input, writer)?;
     flush(writer)?;
     Ok(outcome)
 }
 
 /// Writes the text of an input that was read.
-#[tactic(auto, unfolding(check_text::specs::Text::text, crate::specs::Drive::outcome_of))]
 fn answer<W: Write>(
     alloc: Global,
-    start: u64,
+    beginning: Beginning,
     input: &[u8],
     writer: &mut W,
 ) -> Result<Outcome, DriveError>
-    requires { start ≤ LAST_MOMENT }
-    ensures written { OnOk result
-        (Appends (W.contents writer.old) (W.contents writer.new) (text start input.now)) }
-    ensures outcome { IfOk result (λ outcome. outcome ≡ outcome_of input.now) }
-    ensures fault { OnErr result
-        (WroteFront (W.contents writer.old) (W.contents writer.new) (text start input.now)) }
-    ensures kind { IfErr result (λ e. e ≢ DriveError.Read) }
-    ensures memory { IfErr result (λ e. e ≡ DriveError.Memory
-        → WroteShort (W.contents writer.old) (W.contents writer.new) (text start input.now)) }
+    requires { CanBegin beginning }
+    ensures wrote { IsTextWritten result (W.contents writer.old) (W.contents writer.new)
+        (begun_text (begun_by beginning input.now)) }
+    ensures outcome { IfOk result (λ outcome.
+        outcome ≡ outcome_by (begun_by beginning input.now)) }
 {
-    match Script::read(alloc, input) {
-        Ok(script) => run(alloc, start, script, writer),
+    match begin(alloc, beginning, input) {
+        Ok((sched, commands)) => carry_out(alloc, sched, &commands, writer),
         Err(error) => {
             write_refusal(alloc, error.refusal()?, writer)?;
             Ok(Outcome::Refused)
@@ -89,50 +89,47 @@ fn answer<W: Write>(
     }
 }
 
-/// Carries out each command of a script on one scheduler, and writes the line of its answer.
-fn run<W: Write>(
+/// The scheduler of a run on an input, and the commands of the input, or its first refusal.
+fn begin(
     alloc: Global,
-    start: u64,
-    script: Script<RunCommand>,
-    writer: &mut W,
-) -> Result<Outcome, DriveError>
-    requires { start ≤ LAST_MOMENT }
-    ensures written { OnOk result (Appends (W.contents writer.old) (W.contents writer.new)
-        (text_from (opening script.setup start) script.commands.items)) }
-    ensures outcome { IfOk result (λ outcome. outcome ≡ Outcome.Ran) }
-    ensures fault { OnErr result (WroteFront (W.contents writer.old) (W.contents writer.new)
-        (text_from (opening script.setup start) script.commands.items)) }
-    ensures kind { IfErr result (λ e. e ≢ DriveError.Read) }
-    ensures memory { IfErr result (λ e. e ≡ DriveError.Memory
-        → WroteShort (W.contents writer.old) (W.contents writer.new)
-        (text_from (opening script.setup start) script.commands.items)) }
+    beginning: Beginning,
+    input: &[u8],
+) -> Result<(Sched, Vec<RunCommand>), ScriptError>
+    requires { CanBegin beginning }
+    ensures { Gives (λ begun. (begun.0, begun.1.items)) result (begun_by beginning input.now) }
 {
-    let Script { setup, commands } = script;
-    let mut sched = open(alloc, setup, start)?;
-    carry_out(alloc, &mut sched, &commands, writer)
+    match beginning {
+        Beginning::Opened(start) => {
+            let Script { setup, commands } = Script::read(alloc, input)?;
+            Ok((open(alloc, setup, start)?, commands))
+        }
+        Beginning::Saved(start) => {
+            let ResumedScript {
+                setup,
+                saved,
+                commands,
+            } = ResumedScript::read(alloc, input)?;
+            Ok((resume(alloc, setup, &saved, start)?, commands))
+        }
+    }
 }
 
 /// Carries out these commands, and writes the line of each answer. One buffer serves the lines of all
 /// replies.
-pub(crate) fn carry_out<W: Write>(
+fn carry_out<W: Write>(
     alloc: Global,
-    sched: &mut Sched,
+    sched: Sched,
     commands: &[RunCommand],
     writer: &mut W,
 ) -> Result<Outcome, DriveError>
-    ensures written { OnOk result (Appends (W.contents writer.old) (W.contents writer.new)
-        (text_from sched.old commands.now)) }
+    ensures wrote { IsTextWritten result (W.contents writer.old) (W.contents writer.new)
+        (text_from sched commands.now) }
     ensures outcome { IfOk result (λ outcome. outcome ≡ Outcome.Ran) }
-    ensures fault { OnErr result (WroteFront (W.contents writer.old) (W.contents writer.new)
-        (text_from sched.old commands.now)) }
-    ensures kind { IfErr result (λ e. e ≢ DriveError.Read) }
-    ensures memory { IfErr result (λ e. e ≡ DriveError.Memory
-        → WroteShort (W.contents writer.old) (W.contents writer.new)
-        (text_from sched.old commands.now)) }
 {
+    let mut sched = sched;
     let mut line = String::new(alloc);
     for command in commands {
-        answer_command(alloc, sched, *command, &mut line, writer)?;
+        answer_command(alloc, &mut sched, *command, &mut line, writer)?;
     }
     Ok(Outcome::Ran)
 }
@@ -148,13 +145,8 @@ pub(crate) fn answer_command<W: Write>(
     writer: &mut W,
 ) -> Result<(), DriveError>
     ensures state { sched.new ≡ state_by sched.old command }
-    ensures written { OnOk result
-        (Appends (W.contents writer.old) (W.contents writer.new) (answer_line sched.old command)) }
-    ensures fault { OnErr result
-        (WroteFront (W.contents writer.old) (W.contents writer.new) (answer_line sched.old command)) }
-    ensures kind { IfErr result (λ e. e ≢ DriveError.Read) }
-    ensures memory { IfErr result (λ e. e ≡ DriveError.Memory
-        → Keeps (W.contents writer.old) (W.contents writer.new)) }
+    ensures wrote { IsLineWritten result (W.contents writer.old) (W.contents writer.new)
+        (answer_line sched.old command) }
     ensures room { string_capacity line.old ≤ string_capacity line.new }
     ensures ample { REPLY_BYTES ≤ string_capacity line.old
         → IfErr result (λ e. e ≡ DriveError.Memory → sched.new ≡ sched.old) }
@@ -162,18 +154,6 @@ pub(crate) fn answer_command<W: Write>(
     match command {
         RunCommand::Call(call) => make_call(sched, call, line, writer),
         RunCommand::Save => write_saved(alloc, sched, writer),
-    }
-}
-
-/// A new scheduler that starts at this moment. An Err is `Memory`.
-pub(crate) fn open(alloc: Global, setup: Setup, start: u64) -> Result<Sched, DriveError>
-    requires { start ≤ LAST_MOMENT }
-    ensures new { IfOk result (λ sched. sched ≡ opening setup start) }
-    ensures kind { IsOkUnless result DriveError.Memory }
-{
-    match Sched::new(alloc, setup, start) {
-        Ok(sched) => Ok(sched),
-        Err(_) => Err(DriveError::Memory),
     }
 }
 

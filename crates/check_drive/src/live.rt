@@ -1,5 +1,5 @@
 //! A conversation: reads a setup, and then answers each line when it has come, before it asks for more.
-ghost use Rattle.std.specs.Prelude.{◌≡◌, ◌≢◌, ◌≤◌, ◌++◌, ◌⊎◌, ℕ, List, [], Ok, IfOk, IfErr, IfSome, OnOk, true, false, length, string_capacity};
+ghost use Rattle.std.specs.Prelude.{◌≡◌, ◌≢◌, ◌≤◌, ◌++◌, ◌⊎◌, ℕ, List, [], Ok, IfOk, IfErr, OnOk, true, false, length, string_capacity};
 ghost use Rattle.std.specs.Io.KnownBytes.{Appends, Consumes, IsAtEnd, Keeps};
 ghost use Rattle.check_objects.specs.Setup.{setup_of};
 ghost use Rattle.check_script.specs.Agreement.{Gives};
@@ -7,25 +7,27 @@ ghost use Rattle.check_script.specs.Input.{first_line_of, lines_of};
 ghost use Rattle.check_script.specs.LiveError.{AfterLine, AfterReads, told, told_by};
 ghost use Rattle.check_script.specs.LiveInput.{StopsSoon, behind_line, front_of, has_feed};
 ghost use Rattle.check_script.specs.Script.{in_setup};
-ghost use Rattle.check_sched.specs.State.{opening};
 ghost use Rattle.check_text.specs.LiveText.{answer_to, answers_from, live_text, said, state_after};
-ghost use Rattle.check_text.specs.Text.{refusal_line, resumed_from};
+ghost use Rattle.check_text.specs.Text.{refusal_line};
+ghost use Rattle.check_drive.specs.Beginning.{CanBegin};
 ghost use Rattle.check_drive.specs.Drive.{IsInput};
-ghost use Rattle.check_drive.specs.Live.{AfterAll, AfterLines, HasReadLive, IsLiveOnInput, LeavesText, live_outcome};
+ghost use Rattle.check_drive.specs.Live.{AfterAll, AfterLater, AfterLines, Conversed, HasReadLive, IsLiveOf, LeavesText};
+ghost use Rattle.check_drive.specs.Live.{TalkEnded, TalkReads, WentOn, live_outcome, saved_in, talk_outcome, talk_text};
 
-use crate::drive::{Outcome, answer_command, open};
-use crate::drive_resumed::resume;
+use crate::beginning::{Beginning, open, resume};
+use crate::drive::{Outcome, answer_command};
 use crate::live_faults::{as_told, as_written};
 use crate::live_lines::take_next_line;
 use check_objects::Setup;
 use check_saved::Saved;
 use check_sched::{LAST_MOMENT, Sched};
 use check_script::{
-    DriveError, InputBuffer, InputRefusal, KEPT_LINE_BYTES, KEPT_SETUP_BYTES, KeptLine, LiveError,
-    RunCommand, ScriptError, read_kept, read_setup, take_first_line,
+    DriveError, InputBuffer, InputRefusal, KEPT_LINE_BYTES, KEPT_SAVED_BYTES, KEPT_SETUP_BYTES,
+    KeptLine, LiveError, RunCommand, ScriptError, read_kept, read_saved, read_setup,
+    take_first_line,
 };
 use check_text::{REPLY_BYTES, flush, write_refusal};
-use std::alloc::Global;
+use std::alloc::{AllocError, Global};
 use std::io::{Read, Write};
 
 /// Reads a setup, opens a scheduler at the moment `start`, in milliseconds, and then answers each
@@ -49,47 +51,79 @@ pub fn live<R: Read, W: Write>(
     reader: &mut R,
     writer: &mut W,
 ) -> Result<Outcome, DriveError>
-    requires { start ≤ LAST_MOMENT }
-    ensures written { OnOk result (IfSome (R.remaining reader.old) (λ input.
-        Appends (W.contents writer.old) (W.contents writer.new) (live_text start input))) }
-    ensures outcome { IfOk result (λ outcome.
-        IfSome (R.remaining reader.old) (λ input. outcome ≡ live_outcome input)) }
-    ensures read { OnOk result (IfSome (R.remaining reader.old)
-        (HasReadLive (R.remaining reader.old) (R.remaining reader.new))) }
-    ensures fault { IfErr result (λ e. IfSome (R.remaining reader.old)
-        (λ input. LeavesText e (W.contents writer.old) (W.contents writer.new) (live_text start input))) }
-    ensures input { IsLiveOnInput start result (R.remaining reader.old) (R.remaining reader.new)
+    requires start { start ≤ LAST_MOMENT }
+    ensures { Conversed live_outcome (live_text start) HasReadLive result
+        (R.remaining reader.old) (R.remaining reader.new)
         (W.contents writer.old) (W.contents writer.new) }
 {
-    as_told(converse(alloc, start, reader, writer))
+    as_told(converse(alloc, Beginning::Opened(start), reader, writer))
 }
 
-/// The same, whatever is known of the reader. A loop is spent only where 2^64 - 3 bytes were given.
-fn converse<R: Read, W: Write>(
+/// A conversation, whatever its scheduler begins with. A loop is spent only where 2^64 - 3 bytes were
+/// given.
+pub(crate) fn converse<R: Read, W: Write>(
     alloc: Global,
-    start: u64,
+    beginning: Beginning,
     reader: &mut R,
     writer: &mut W,
 ) -> Result<Outcome, LiveError>
-    requires { start ≤ LAST_MOMENT }
-    ensures input { IsLiveOnInput start (told_by result) (R.remaining reader.old)
-        (R.remaining reader.new) (W.contents writer.old) (W.contents writer.new) }
+    requires { CanBegin beginning }
+    ensures input { IsLiveOf (talk_outcome beginning) (talk_text beginning) (TalkReads beginning)
+        (told_by result) (R.remaining reader.old) (R.remaining reader.new)
+        (W.contents writer.old) (W.contents writer.new) }
     ensures spent { IfErr result (AfterAll (R.remaining reader.old) (R.remaining reader.new)) }
 {
     let mut at_hand = InputBuffer::new(alloc);
     let (setup, whole) = read_first(alloc, &mut at_hand, reader)?;
     match setup {
-        Ok(setup) => {
-            let mut talk = as_written(Talk::new(alloc, setup, start, at_hand))?;
-            talk.answer_all(alloc, 2, whole, reader, writer)
-        }
+        Ok(setup) => go_on(alloc, beginning, setup, whole, at_hand, reader, writer),
         Err(ScriptError::Refused(refusal)) => as_written(refuse(alloc, refusal, writer)),
         Err(ScriptError::Memory) => Err(LiveError::Memory),
     }
 }
 
+/// Goes on behind a setup: answers the lines behind it, or reads what was saved and answers the lines
+/// behind that. Nothing is read where nothing may follow the setup. A loop is spent only where 2^64 - 3
+/// bytes were at hand or were given.
+fn go_on<R: Read, W: Write>(
+    alloc: Global,
+    beginning: Beginning,
+    setup: Setup,
+    may_follow: bool,
+    at_hand: InputBuffer,
+    reader: &mut R,
+    writer: &mut W,
+) -> Result<Outcome, LiveError>
+    requires beginning { CanBegin beginning }
+    requires end { may_follow ≡ false → (at_hand ≡ []) × IsAtEnd (R.remaining reader.old) }
+    ensures went_on { WentOn beginning setup may_follow at_hand result (R.remaining reader.old)
+        (R.remaining reader.new) (W.contents writer.old) (W.contents writer.new) }
+    ensures spent { IfErr result
+        (AfterLater at_hand (R.remaining reader.old) (R.remaining reader.new)) }
+{
+    let mut at_hand = at_hand;
+    match beginning {
+        Beginning::Opened(start) => {
+            let mut talk = Talk::new(alloc, open(alloc, setup, start)?, at_hand)?;
+            talk.answer_all(alloc, 2, may_follow, reader, writer)
+        }
+        Beginning::Saved(start) => {
+            let (saved, follow) = take_saved(alloc, may_follow, &mut at_hand, reader, writer)?;
+            match saved {
+                Ok(saved) => {
+                    let sched = resume(alloc, setup, &saved, start)?;
+                    let mut talk = Talk::new(alloc, sched, at_hand)?;
+                    talk.answer_all(alloc, 3, follow, reader, writer)
+                }
+                Err(ScriptError::Refused(why)) => as_written(refuse(alloc, why, writer)),
+                Err(ScriptError::Memory) => Err(LiveError::Memory),
+            }
+        }
+    }
+}
+
 /// Writes the line of the refusal of a setup, or of what was saved, and flushes the writer.
-pub(crate) fn refuse<W: Write>(
+fn refuse<W: Write>(
     alloc: Global,
     refusal: InputRefusal,
     writer: &mut W,
@@ -107,7 +141,7 @@ pub(crate) fn refuse<W: Write>(
 }
 
 /// The setup of line 1, or its refusal, and whether lines may follow.
-pub(crate) fn read_first<R: Read>(
+fn read_first<R: Read>(
     alloc: Global,
     at_hand: &mut InputBuffer,
     reader: &mut R,
@@ -128,10 +162,40 @@ pub(crate) fn read_first<R: Read>(
     Ok((read_setup(alloc, document.bytes()), whole))
 }
 
+/// What was saved, by line 2, or its refusal, and whether lines may follow. Where nothing may follow the
+/// setup, line 2 has no byte, and nothing is read. Where the whole line is at hand the reader isn't asked.
+fn take_saved<R: Read, W: Write>(
+    alloc: Global,
+    may_follow: bool,
+    at_hand: &mut InputBuffer,
+    reader: &mut R,
+    writer: &mut W,
+) -> Result<(Result<Saved, ScriptError>, bool), LiveError>
+    requires end { may_follow ≡ false → (at_hand.old ≡ []) × IsAtEnd (R.remaining reader.old) }
+    ensures took { (given : List ℕ)
+        × Consumes (R.remaining reader.old) (R.remaining reader.new) given
+        × (may_follow ≡ false → given ≡ [])
+        × IfOk result (λ second.
+        Gives (λ saved. saved) second.0 (saved_in (at_hand.old ++ given))
+        × (second.1 ≡ has_feed (at_hand.old ++ given))
+        × (at_hand.new ≡ behind_line (at_hand.old ++ given))
+        × (second.1 ≡ false → IsAtEnd (R.remaining reader.new)))
+        × IfErr result (AfterLine given) }
+    ensures unasked { has_feed at_hand.old ≡ true → reader.new ≡ reader.old }
+    ensures kept { Keeps (W.contents writer.old) (W.contents writer.new) }
+{
+    if !may_follow {
+        return Ok((read_saved(alloc, &[]), false));
+    }
+    let mut line = KeptLine::new(alloc, KEPT_SAVED_BYTES);
+    let follow = take_next_line(at_hand, &mut line, reader, writer)?;
+    Ok((read_saved(alloc, line.bytes()), follow))
+}
+
 /// A scheduler that is spoken to, what is at hand of the input, and the buffers of a line and of a
 /// reply's.
 #[derive(Drop)]
-pub(crate) struct Talk {
+struct Talk {
     sched: Sched,
     at_hand: InputBuffer,
     line: KeptLine,
@@ -139,47 +203,16 @@ pub(crate) struct Talk {
 }
 
 impl Talk {
-    /// A scheduler that is spoken to from its start on.
-    fn new(
-        alloc: Global,
-        setup: Setup,
-        start: u64,
-        at_hand: InputBuffer,
-    ) -> Result<Talk, DriveError>
-        requires { start ≤ LAST_MOMENT }
-        ensures sched { IfOk result (λ talk. talk.sched ≡ opening setup start) }
+    /// This scheduler, spoken to.
+    fn new(alloc: Global, sched: Sched, at_hand: InputBuffer) -> Result<Talk, AllocError>
+        ensures sched { IfOk result (λ talk. talk.sched ≡ sched) }
         ensures at_hand { IfOk result (λ talk. talk.at_hand ≡ at_hand) }
         ensures line { IfOk result (λ talk. talk.line ≡ front_of KEPT_LINE_BYTES []) }
         ensures room { IfOk result (λ talk. REPLY_BYTES ≤ string_capacity talk.reply) }
-        ensures errors { IfErr result (λ e. e ≡ DriveError.Memory) }
     {
         let reply = String::with_capacity(alloc, REPLY_BYTES)?;
         Ok(Talk {
-            sched: open(alloc, setup, start)?,
-            at_hand,
-            line: KeptLine::new(alloc, KEPT_LINE_BYTES),
-            reply,
-        })
-    }
-
-    /// A scheduler that is spoken to and goes on from what was saved.
-    pub(crate) fn resume(
-        alloc: Global,
-        setup: Setup,
-        saved: &Saved,
-        start: Option<u64>,
-        at_hand: InputBuffer,
-    ) -> Result<Talk, DriveError>
-        requires { IfSome start (λ moment. moment ≤ LAST_MOMENT) }
-        ensures sched { IfOk result (λ talk. talk.sched ≡ resumed_from setup saved.now start) }
-        ensures at_hand { IfOk result (λ talk. talk.at_hand ≡ at_hand) }
-        ensures line { IfOk result (λ talk. talk.line ≡ front_of KEPT_LINE_BYTES []) }
-        ensures room { IfOk result (λ talk. REPLY_BYTES ≤ string_capacity talk.reply) }
-        ensures errors { IfErr result (λ e. e ≡ DriveError.Memory) }
-    {
-        let reply = String::with_capacity(alloc, REPLY_BYTES)?;
-        Ok(Talk {
-            sched: resume(alloc, setup, saved, start)?,
+            sched,
             at_hand,
             line: KeptLine::new(alloc, KEPT_LINE_BYTES),
             reply,
@@ -188,7 +221,7 @@ impl Talk {
 
     /// Answers the lines from the one with the number `begins` on, where any may follow. Else nothing
     /// is read or written.
-    pub(crate) fn answer_all<R: Read, W: Write>(
+    fn answer_all<R: Read, W: Write>(
         &mut self,
         alloc: Global,
         begins: usize,
@@ -203,14 +236,9 @@ impl Talk {
         ensures none { may_follow ≡ false → (result ≡ Ok Outcome.Ran)
             × (R.remaining reader.new ≡ R.remaining reader.old)
             × (W.contents writer.new ≡ W.contents writer.old) }
-        ensures lines { may_follow ≡ true → (coming : List ℕ)
-            × IsInput (R.remaining reader.old) coming
-            × OnOk result (Consumes (R.remaining reader.old) (R.remaining reader.new) coming)
-            × OnOk result (Appends (W.contents writer.old) (W.contents writer.new)
-            (answers_from self.old.sched begins (lines_of (self.old.at_hand ++ coming))))
-            × IfErr result (λ e. LeavesText (told e) (W.contents writer.old)
-            (W.contents writer.new)
-            (answers_from self.old.sched begins (lines_of (self.old.at_hand ++ coming)))) }
+        ensures lines { may_follow ≡ true → TalkEnded begins self.old.sched self.old.at_hand
+            (R.remaining reader.old) (R.remaining reader.new)
+            (W.contents writer.old) (W.contents writer.new) result }
         ensures spent { IfErr result (AfterLines begins self.old.sched self.old.at_hand
             (R.remaining reader.old) (R.remaining reader.new)
             (W.contents writer.old) (W.contents writer.new)) }
@@ -233,13 +261,9 @@ impl Talk {
         requires buffers { (self.old.line.most ≡ KEPT_LINE_BYTES)
             × (REPLY_BYTES ≤ string_capacity self.old.reply) }
         requires begins { begins ≤ 3 }
-        ensures lines { (coming : List ℕ) × IsInput (R.remaining reader.old) coming
-            × OnOk result (Consumes (R.remaining reader.old) (R.remaining reader.new) coming)
-            × OnOk result (Appends (W.contents writer.old) (W.contents writer.new)
-            (answers_from self.old.sched begins (lines_of (self.old.at_hand ++ coming))))
-            × IfErr result (λ e. LeavesText (told e) (W.contents writer.old)
-            (W.contents writer.new)
-            (answers_from self.old.sched begins (lines_of (self.old.at_hand ++ coming)))) }
+        ensures lines { TalkEnded begins self.old.sched self.old.at_hand
+            (R.remaining reader.old) (R.remaining reader.new)
+            (W.contents writer.old) (W.contents writer.new) result }
         ensures spent { IfErr result (AfterLines begins self.old.sched self.old.at_hand
             (R.remaining reader.old) (R.remaining reader.new)
             (W.contents writer.old) (W.contents writer.new)) }

@@ -24,10 +24,11 @@ use Rattle.check_script.specs.Input.{without_last_feed}
 use Rattle.check_text.specs.Output.{WroteFront}
 use Rattle.check_text.proofs.OutputLemmas.{front_all, Appends-Keeps}
 use Rattle.check_drive.specs.declared.drive.Outcome.{Outcome}
-use Rattle.check_session.specs.Check.{HasOnly, IsCheckOnInput, IsLineTold, IsRefusalTold, IsRefusedAs, IsTold}
+use Rattle.check_session.specs.Check.{HasOnly, IsCheckOf, IsLineTold, IsRefusalTold, IsRefusedAs, IsTold}
 use Rattle.check_session.specs.Reading.{read_of}
 use Rattle.check_session.proofs.ReadingLemmas.{cut_length, read_all, read_long}
-use Rattle.check_drive.proofs.DriveLemmas.{input_of, input_of-is, Keeps-same}
+use Rattle.check_drive.proofs.DriveLemmas.{input_of, input_of-is}
+use Rattle.check_drive.proofs.WrittenLemmas.{Keeps-same}
 
 -- ---- an input of which a front was read
 
@@ -69,12 +70,16 @@ told_read : (start : ℕ) (line : Bool) (bytes input text : List ℕ) (told : Ou
 told_read start line bytes input text told all h =
     read_by start line bytes text told (cases_lt 16777217 (length bytes)) (subst (λ read. IsTold start line (without_last_feed read) text told) all h)
 
-told_of : (start : ℕ) (line : Bool) (had : Option (List ℕ)) (read text : List ℕ) (told : Outcome) → IfSome had (λ bytes. read ≡ read_of bytes)
+pub told_of : (start : ℕ) (line : Bool) (had : Option (List ℕ)) (read text : List ℕ) (told : Outcome) → IfSome had (λ bytes. read ≡ read_of bytes)
     → IsTold start line (without_last_feed read) text told → IsTold start line (without_last_feed (input_of had read)) text told
 told_of start line None read text told all h = h
 told_of start line (Some bytes) read text told all h = told_read start line bytes read text told all h
 
--- ---- how a check ends
+-- what is told of an input, of which one line feed at its end is no part of the document
+abbrev pub IsToldOf : ℕ → Bool → List ℕ → List ℕ → Outcome → Type 0
+IsToldOf start line input = IsTold start line (without_last_feed input)
+
+-- ---- how a check ends, where these texts and outcomes can be told of an input
 
 pub memory_is_no_write : (e : DriveError) → e ≡ errors.Memory → e ≢ errors.Write
 memory_is_no_write e memory write = let both : errors.Memory ≡ errors.Write = sym memory ∙ write in cc
@@ -83,35 +88,29 @@ pub write_is_no_memory : {A : Type 0} (e : DriveError) → e ≡ errors.Write �
 write_is_no_memory e write memory = let both : errors.Write ≡ errors.Memory = sym write ∙ memory in cc
 
 -- an error before anything was written
-pub unwritten_check : (start : ℕ) (line : Bool) (e : DriveError) (had held : Option (List ℕ)) → e ≢ errors.Write
-    → IsCheckOnInput start line (Err e) had held held
-unwritten_check start line errors.Read had held n = record { input = input_of had []; is_input = input_of-is had []; told = Keeps-same held }
-unwritten_check start line errors.Write had held n = absurd (n refl)
-unwritten_check start line errors.Memory had held n = record { input = input_of had []; is_input = input_of-is had []; told = Keeps-same held }
+pub unwritten_check : (Can : List ℕ → List ℕ → Outcome → Type 0) (e : DriveError) (had held : Option (List ℕ)) → e ≢ errors.Write
+    → IsCheckOf Can (Err e) had held held
+unwritten_check Can errors.Read had held n = record { input = input_of had []; is_input = input_of-is had []; told = Keeps-same held }
+unwritten_check Can errors.Write had held n = absurd (n refl)
+unwritten_check Can errors.Memory had held n = record { input = input_of had []; is_input = input_of-is had []; told = Keeps-same held }
 
 -- the writer failed
-pub torn_check : (start : ℕ) (line : Bool) (e : DriveError) (had held holds : Option (List ℕ)) (read text : List ℕ) (told : Outcome)
-    → e ≡ errors.Write → IfSome had (λ bytes. read ≡ read_of bytes) → IsTold start line (without_last_feed read) text told
-    → WroteFront held holds text → IsCheckOnInput start line (Err e) had held holds
-torn_check start line e had held holds read text told is_write all is front =
-    rw is_write (record { input = input_of had read; is_input = input_of-is had read; told = (text, told, told_of start line had read text told all is, front) })
+pub torn_check : (Can : List ℕ → List ℕ → Outcome → Type 0) (e : DriveError) (had held holds : Option (List ℕ)) (read text : List ℕ) (told : Outcome)
+    → e ≡ errors.Write → Can (input_of had read) text told → WroteFront held holds text → IsCheckOf Can (Err e) had held holds
+torn_check Can e had held holds read text told is_write can front =
+    rw is_write (record { input = input_of had read; is_input = input_of-is had read; told = (text, told, can, front) })
 
 -- its flush failed
-pub unflushed_check : (start : ℕ) (line : Bool) (e : DriveError) (had held mid holds : Option (List ℕ)) (read text : List ℕ) (told : Outcome)
-    → e ≡ errors.Write → IfSome had (λ bytes. read ≡ read_of bytes) → IsTold start line (without_last_feed read) text told
-    → Appends held mid text → Keeps mid holds → IsCheckOnInput start line (Err e) had held holds
-unflushed_check start line e had held mid holds read text told is_write all is a k =
-    torn_check start line e had held holds read text told is_write all is (front_all held holds text (Appends-Keeps held mid holds text a k))
+pub unflushed_check : (Can : List ℕ → List ℕ → Outcome → Type 0) (e : DriveError) (had held mid holds : Option (List ℕ)) (read text : List ℕ) (told : Outcome)
+    → e ≡ errors.Write → Can (input_of had read) text told → Appends held mid text → Keeps mid holds → IsCheckOf Can (Err e) had held holds
+unflushed_check Can e had held mid holds read text told is_write can a k =
+    torn_check Can e had held holds read text told is_write can (front_all held holds text (Appends-Keeps held mid holds text a k))
 
 -- all was told
-pub flushed_check : (start : ℕ) (line : Bool) (had held mid holds : Option (List ℕ)) (read text : List ℕ) (told : Outcome)
-    → IfSome had (λ bytes. read ≡ read_of bytes) → IsTold start line (without_last_feed read) text told
-    → Appends held mid text → Keeps mid holds → IsCheckOnInput start line (Ok told) had held holds
-flushed_check start line had held mid holds read text told all is a k = record {
-  input = input_of had read;
-  is_input = input_of-is had read;
-  told = (text, told_of start line had read text told all is, Appends-Keeps held mid holds text a k);
-}
+pub flushed_check : (Can : List ℕ → List ℕ → Outcome → Type 0) (had held mid holds : Option (List ℕ)) (read text : List ℕ) (told : Outcome)
+    → Can (input_of had read) text told → Appends held mid text → Keeps mid holds → IsCheckOf Can (Ok told) had held holds
+flushed_check Can had held mid holds read text told can a k =
+    record { input = input_of had read; is_input = input_of-is had read; told = (text, can, Appends-Keeps held mid holds text a k) }
 
 -- ---- a document that was examined
 

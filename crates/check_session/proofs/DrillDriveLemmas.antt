@@ -14,7 +14,8 @@ use Rattle.check_script.specs.DrillScript.{DrillScript, drill_script_of}
 use Rattle.check_drive.specs.Drive.{HasRead, outcome_by}
 use Rattle.check_text.specs.Output.{WroteFront, WroteShort}
 use Rattle.check_text.specs.Text.{drill_text}
-use Rattle.check_drive.proofs.DriveLemmas.{Keeps-same, drill_script_take, has_read, input_of, input_of-is}
+use Rattle.check_drive.proofs.DriveLemmas.{drill_script_take, has_read, input_of, input_of-is}
+use Rattle.check_drive.proofs.WrittenLemmas.{Keeps-same}
 use Rattle.check_text.proofs.OutputLemmas.{Appends-Keeps, front_all}
 
 -- the text of a history of the input's script

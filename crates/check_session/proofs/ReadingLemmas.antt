@@ -1,14 +1,16 @@
 -- What a check reads of its input, and the document in it.
-use Rattle.std.proofs.Common.{◌≡◌, ◌≢◌, ℕ, zero, suc, ◌+◌, ◌<◌, ◌≤◌, ◌==◌, ◌&&◌, Bool, true, false, List, [], ◌∷◌, ◌++◌, length, take, Option, Some, None, refl, sym, ap, subst, ◌∙◌}
-use Rattle.std.proofs.Common.{arith, length-take, length-append, append_assoc}
+use Rattle.std.proofs.Common.{◌≡◌, ◌≢◌, ℕ, zero, suc, ◌+◌, ◌<◌, ◌≤◌, ◌==◌, ◌&&◌, Bool, true, false, List, [], ◌∷◌, ◌++◌, length, take, Option, Some}
+use Rattle.std.proofs.Common.{None, refl, sym, ap, subst, ◌∙◌}
+use Rattle.std.proofs.Common.{arith, length-take, length-append}
 use Rattle.std.specs.Prelude.{IfSome, if◌then◌else◌}
-use Rattle.std.specs.Io.KnownBytes.{Consumes, IsAtEnd}
+use Rattle.std.specs.Io.KnownBytes.{Consumes}
 use borrow.Author.Tests.{ltb-false}
 use Rattle.std.proofs.lemmas.Bool.{eqb-true}
 use Rattle.std.proofs.lemmas.Bool.Decides.{nat_tests}
 use Rattle.std.proofs.lemmas.List.{take_all}
-use Rattle.std.proofs.Math.Seq.{take-append_seam, take-append-add}
+use Rattle.std.proofs.Math.Seq.{take-append-add}
 use Rattle.check_script.specs.Input.{without_last_feed}
+use Rattle.check_script.proofs.LiveInputLemmas.{Consumes-then}
 use Rattle.check_session.specs.Reading.{HasBegun, HasBegunBy, HasReadDocument, is_undecided, read_of}
 use Rattle.check_session.specs.declared.reading.TheConstants.{MAX_CHECKED_BYTES}
 
@@ -42,12 +44,6 @@ cut_length (b ∷ c ∷ bs) = let h = cut_length (c ∷ bs) in omega (arith, h)
 
 -- ---- reads one after another
 
-pub then_read : (had mid left : Option (List ℕ)) (xs ys : List ℕ) → Consumes had mid xs → Consumes mid left ys → Consumes had left (xs ++ ys)
-then_read None mid left xs ys h k = tt
-then_read (Some a) None left xs ys h k = absurd h
-then_read (Some a) (Some b) None xs ys h k = absurd k
-then_read (Some a) (Some b) (Some c) xs ys h k = h ∙ ap (λ l. xs ++ l) k ∙ sym (append_assoc xs ys c)
-
 -- a byte that is there
 pub some_there : {A : Type 0} (xs : List ℕ) → 0 < length xs → xs ≡ [] → A
 some_there [] h e = absurd (omega (arith, h))
@@ -64,37 +60,10 @@ begun_by had mid left input piece n h k few some =
     let more = positive n some in (
       input ++ take n piece,
       (
-        then_read had mid left input (take n piece) h k,
+        Consumes-then had mid left input (take n piece) h k,
         some_there (input ++ take n piece) (omega (arith, length-append input (take n piece), length-take n piece, few, more)),
       ),
     )
-
--- a read to the limit
-pub at_limit : (had left : Option (List ℕ)) (input : List ℕ) (most : ℕ) → Consumes had left input → length input ≡ most
-    → IfSome had (λ bytes. input ≡ take most bytes)
-at_limit None left input most h e = tt
-at_limit (Some xs) None input most h e = absurd h
-at_limit (Some xs) (Some ys) input most h e = rw (h, ← e) (sym (take-append_seam input ys))
-
--- a read of nothing, at the end
-pub nothing_left : (had mid left : Option (List ℕ)) (input piece : List ℕ) (n : ℕ) → Consumes had mid input → Consumes mid left (take n piece)
-    → n ≡ 0 → Consumes had left input
-nothing_left None mid left input piece n h k e = tt
-nothing_left (Some xs) None left input piece n h k e = absurd h
-nothing_left (Some xs) (Some ys) None input piece n h k e = absurd k
-nothing_left (Some xs) (Some ys) (Some zs) input piece n h k e = h ∙ ap (λ l. input ++ l) (k ∙ ap (λ m. take m piece ++ zs) e)
-
-append_none : (xs : List ℕ) → xs ++ [] ≡ xs
-append_none [] = refl
-append_none (x ∷ xs) = ap (λ l. x ∷ l) (append_none xs)
-
-pub at_end : (had left : Option (List ℕ)) (input : List ℕ) (most : ℕ) → Consumes had left input → IsAtEnd left → length input ≤ most
-    → IfSome had (λ bytes. input ≡ take most bytes)
-at_end None left input most h f l = tt
-at_end (Some xs) None input most h f l = absurd h
-at_end (Some xs) (Some ys) input most h f l =
-    let all : xs ≡ input = h ∙ ap (λ l. input ++ l) f ∙ append_none input in
-    rw all (sym (take_all most input l))
 
 -- ---- what is read of an input
 
@@ -125,7 +94,7 @@ pub begun_long : (had mid left : Option (List ℕ)) (input : List ℕ) → HasBe
 begun_long had mid left input h e b =
     let long : length input ≡ 16777217 = is_long input e in (
       input ++ b.0,
-      (then_read had mid left input b.0 h.0 b.1.0, some_there (input ++ b.0) (omega (arith, length-append input b.0, long))),
+      (Consumes-then had mid left input b.0 h.0 b.1.0, some_there (input ++ b.0) (omega (arith, length-append input b.0, long))),
     )
 
 pub undecided : (had mid : Option (List ℕ)) (input behind : List ℕ) → IfSome had (λ bytes. input ≡ take MAX_CHECKED_BYTES bytes)

@@ -1,6 +1,6 @@
 //! A check of a setup and a saved state: reads both, and tells what is in the setup and what becomes of
 //! the saved objects over it, or why one of the two is refused.
-ghost use Rattle.std.specs.Prelude.{◌≡◌, ◌≤◌, ℕ, Option, Ok, Err, IfOk, IfErr, IfSome, OnOk, unwrap_or};
+ghost use Rattle.std.specs.Prelude.{◌≡◌, ◌≤◌, ℕ, Option, Ok, Err, IfOk, IfErr, IfSome, OnOk};
 ghost use Rattle.check_objects.specs.Configuration.{Configuration};
 ghost use Rattle.check_saved.specs.Text.{saved_of_text};
 ghost use Rattle.check_session.specs.CheckResumed.{AreBothTold, IsLengthTold, IsResumedCheckOnInput, IsResumedTold, IsSavedTold};
@@ -8,6 +8,7 @@ ghost use Rattle.check_drive.specs.Drive.{HasRead};
 
 use crate::check::{Told, examine, tell_refusal};
 use check_changes::{push_changes, push_explanation};
+use check_drive::beginning::moment_of;
 use check_drive::drive::Outcome;
 use check_objects::{Fault, Setup};
 use check_saved::{Saved, SavedFault};
@@ -141,20 +142,6 @@ fn tell_changes(
         text: text.into_bytes(),
         outcome: Outcome::Ran,
     })
-}
-
-/// This moment, or the saved start where there is none.
-fn moment_of(start: Option<u64>, saved: &Saved) -> u64
-    requires { IfSome start (λ moment. moment ≤ LAST_MOMENT) }
-    ensures value { result ≡ unwrap_or start saved.now.start }
-    ensures moment { result ≤ LAST_MOMENT }
-{
-    // for the proof: the saved start is a moment
-    saved.is_saved();
-    match start {
-        Some(moment) => moment,
-        None => saved.start(),
-    }
 }
 
 /// The line that refuses a saved state, and the line that explains why.

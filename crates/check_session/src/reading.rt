@@ -1,5 +1,5 @@
 //! What a check reads of its input, and the document in it.
-ghost use Rattle.std.specs.Prelude.{◌≡◌, ◌≢◌, ◌<◌, ◌++◌, IfOk, IfErr, IfSome, IsOkUnless, OnOk, take};
+ghost use Rattle.std.specs.Prelude.{◌≡◌, ◌≢◌, ◌<◌, IfOk, IfErr, IfSome, take};
 ghost use Rattle.check_script.specs.Input.{without_last_feed};
 ghost use Rattle.check_session.specs.Reading.{HasBegun, HasBegunBy, is_undecided, read_of};
 
@@ -32,7 +32,7 @@ pub(crate) fn read_checked<R: Read>(alloc: Global, reader: &mut R) -> Result<Vec
     let mut input = read_front(alloc, reader, MAX_CHECKED_BYTES)?;
     if is_undecided(&input) {
         let behind = read_front(alloc, reader, 1)?;
-        append(&mut input, &behind)?;
+        input.extend_from_slice(&behind)?;
     }
     Ok(input)
 }
@@ -58,18 +58,9 @@ fn read_front<R: Read>(alloc: Global, reader: &mut R, most: usize) -> Result<Vec
         if count == 0 {
             break;
         }
-        append(&mut input, &chunk[..count])?;
+        input.extend_from_slice(&chunk[..count])?;
     }
     Ok(input)
-}
-
-/// Appends bytes that were read. An Err is `Memory`, and never the reader's.
-fn append(input: &mut Vec<u8>, bytes: &[u8]) -> Result<(), DriveError>
-    ensures added { OnOk result (input.new.items ≡ input.old.items ++ bytes.now) }
-    ensures kind { IsOkUnless result DriveError.Memory }
-{
-    input.extend_from_slice(bytes)?;
-    Ok(())
 }
 
 /// Whether these bytes are one more than a document may have and the last is a line feed. Where the

@@ -1,23 +1,18 @@
 use Rattle.std.proofs.lemmas.Result.{err_from_is_err_and}
-use Rattle.std.proofs.lemmas.List.{map-id}
-use Rattle.check_text.specs.Text.{text}
-use Rattle.check_text.proofs.OutputLemmas.{front_none, on_err_any}
-use Rattle.check_drive.proofs.DriveLemmas.{met_refusal}
+use Rattle.check_drive.proofs.DriveLemmas.{met_refusal, no_refusal}
+use Rattle.check_drive.proofs.WrittenLemmas.{left_by, line_none, text_line}
 use Rattle.check_drive.proofs.drive.answer.Goals as goal
 
-pub returns-in-Ok-clause-fault : goal.returns-in-Ok-clause-fault
-unfolding text
-returns-in-Ok-clause-fault g c = rw (c.in-Ok.ensures, map-id c.in-Ok.script.commands.items) c.run.ensures.fault
+pub returns-in-Ok-clause-wrote : goal.returns-in-Ok-clause-wrote
+returns-in-Ok-clause-wrote g c = rw c.in-Ok.ensures (rw c.deref.ensures.value at c.carry_out.ensures.wrote)
 
-pub returns-in-Ok-clause-memory : goal.returns-in-Ok-clause-memory
-unfolding text
-returns-in-Ok-clause-memory g c = rw (c.in-Ok.ensures, map-id c.in-Ok.script.commands.items) c.run.ensures.memory
+pub returns-in_err-refusal-in-Err-clause-wrote : goal.returns-in_err-refusal-in-Err-clause-wrote
+returns-in_err-refusal-in-Err-clause-wrote g c =
+    let p = err_from_is_err_and c.from_residual.result c.from_residual.ensures.1 in
+    rw (p.1, p.2) (text_line _ _ _ _ (line_none _ _ _ (no_refusal _ _ c.in_err-refusal-in-Err.ensures)))
 
-pub returns-in_err-refusal-in-Err-clause-fault : goal.returns-in_err-refusal-in-Err-clause-fault
-returns-in_err-refusal-in-Err-clause-fault g c = on_err_any _ (front_none _ _)
-
-pub returns-in_err-write_refusal-in-Err-clause-fault : goal.returns-in_err-write_refusal-in-Err-clause-fault
-unfolding text
-returns-in_err-write_refusal-in-Err-clause-fault g c =
+pub returns-in_err-write_refusal-in-Err-clause-wrote : goal.returns-in_err-write_refusal-in-Err-clause-wrote
+returns-in_err-write_refusal-in-Err-clause-wrote g c =
     let p = err_from_is_err_and c.from_residual-in_err-write_refusal-in-Err.result c.from_residual-in_err-write_refusal-in-Err.ensures.1 in
-    rw (p.1, met_refusal _ _ _ c.in_ok-refusal-in-Err.ensures c.in-Err.ensures) c.in_err-write_refusal-in-Err.ensures.fault
+    let w = c.in_err-write_refusal-in-Err.ensures in
+    rw (p.1, p.2, met_refusal _ _ _ c.in_ok-refusal-in-Err.ensures c.in-Err.ensures) (text_line _ _ _ _ (left_by _ _ _ _ w.fault w.kind w.memory))

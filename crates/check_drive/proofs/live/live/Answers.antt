@@ -1,16 +1,7 @@
-use Rattle.check_drive.proofs.LiveLemmas.{known_fault, known_outcome, known_read, known_written}
 use Rattle.check_text.specs.LiveText.{live_text}
 use Rattle.check_drive.specs.Live.{HasReadLive, live_outcome}
+use Rattle.check_drive.proofs.LiveLemmas.{conversed}
 use Rattle.check_drive.proofs.live.live.Goals as goal
 
-pub returns-clause-written : goal.returns-clause-written
-returns-clause-written g c = rw (c.as_told.ensures) (known_written live_outcome (live_text c.args.start) HasReadLive _ _ _ _ _ c.converse.ensures.input)
-
-pub returns-clause-outcome : goal.returns-clause-outcome
-returns-clause-outcome g c = rw (c.as_told.ensures) (known_outcome live_outcome (live_text c.args.start) HasReadLive _ _ _ _ _ c.converse.ensures.input)
-
-pub returns-clause-read : goal.returns-clause-read
-returns-clause-read g c = rw (c.as_told.ensures) (known_read live_outcome (live_text c.args.start) HasReadLive _ _ _ _ _ c.converse.ensures.input)
-
-pub returns-clause-fault : goal.returns-clause-fault
-returns-clause-fault g c = rw (c.as_told.ensures) (known_fault live_outcome (live_text c.args.start) HasReadLive _ _ _ _ _ c.converse.ensures.input)
+pub returns : goal.returns
+returns g c = rw (c.as_told.ensures) (conversed live_outcome (live_text c.args.start) HasReadLive _ _ _ _ _ c.converse.ensures.input)

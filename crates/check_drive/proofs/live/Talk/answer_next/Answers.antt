@@ -35,7 +35,8 @@ returns-in_err-as_written-clause-fault g c =
     let line = first_line_of (c.args.self.now.at_hand ++ t.0) in
     let kept = t.2.line_is ∙ ap (λ i. front_of i line) c.requires.0 in
     rw (p.1, p.2)
-    (unanswered c.args.self.now.sched c.args.number c.args.self.now.at_hand t.0 _ _ _ _ _ _ c.in_ok-whole.whole t.1 t.2.whole_is t.2.ended c.in_ok-whole.ensures.kept (written_err _ _ _ c.in_err-as_written.ensures (c.answer.ensures.fault line kept)))
+    (unanswered c.args.self.now.sched c.args.number c.args.self.now.at_hand t.0 _ _ _ _ _ _ c.in_ok-whole.whole t.1 t.2.whole_is t.2.ended
+    c.in_ok-whole.ensures.kept (written_err _ _ _ c.in_err-as_written.ensures (c.answer.ensures.fault line kept)))
 
 pub returns-clause-took : goal.returns-clause-took
 returns-clause-took g c =

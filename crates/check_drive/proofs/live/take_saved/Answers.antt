@@ -6,8 +6,8 @@ use Rattle.check_script.specs.LiveInput.{LineFront, front_of}
 use Rattle.check_script.specs.ResumedScript.{in_saved}
 use Rattle.check_script.specs.declared.live_input.TheConstants.{KEPT_SAVED_BYTES}
 use Rattle.check_script.proofs.LiveInputLemmas.{Consumes-none, if_ok_never}
-use Rattle.check_drive.proofs.LiveResumedLemmas.{kept_saved, unfollowed}
-use Rattle.check_drive.proofs.live_resumed.take_saved.Goals as goal
+use Rattle.check_drive.proofs.WentOnLemmas.{kept_saved, unfollowed}
+use Rattle.check_drive.proofs.live.take_saved.Goals as goal
 
 pub returns-then-not-may_follow-clause-took : goal.returns-then-not-may_follow-clause-took
 returns-then-not-may_follow-clause-took g c =

@@ -1,11 +1,11 @@
--- A whole conversation that goes on from what was saved, and what its faults leave.
-use Rattle.std.proofs.Common.{◌≡◌, ℕ, suc, ◌==◌, ◌<◌, ◌≤◌, Bool, true, false, cond, List, [], ◌∷◌, ◌++◌, length, take, Option, Result, Ok, Err, refl, sym, ap, ◌∙◌}
-use Rattle.std.proofs.Common.{arith, inl, inr, ◌⊎◌, append_assoc, append-nil, length-append, length-take, subst}
+-- What stands behind the setup of a conversation, whatever its scheduler begins with, and the whole of it.
+use Rattle.std.proofs.Common.{◌≡◌, ℕ, suc, ◌-◌, ◌^◌, ◌==◌, ◌<◌, ◌≤◌, Bool, true, false, cond, List, [], ◌∷◌, ◌++◌, length, take, Option, Result, Ok}
+use Rattle.std.proofs.Common.{Err, refl, sym, ap, ◌∙◌}
+use Rattle.std.proofs.Common.{arith, inl, inr, ◌⊎◌, append_assoc, append-nil, length-append, subst}
 use Rattle.std.specs.Prelude.{IfOk, OnOk, IfErr, nat_lt}
 use Rattle.std.specs.Io.KnownBytes.{Appends, Consumes, IsAtEnd, Keeps}
-use Rattle.std.proofs.lemmas.Bool.{cases_lt}
 use Rattle.std.proofs.lemmas.Bool.Decides.{nat_tests}
-use Rattle.std.proofs.lemmas.List.{take_all}
+use Rattle.std.proofs.lemmas.Result.{IfErr-weaker, on_ok_weaker}
 use Rattle.check_objects.specs.Configuration.{Configuration}
 use Rattle.check_objects.specs.Setup.{setup_of}
 use Rattle.check_drafts.specs.Agreement.{◌>>=◌}
@@ -22,41 +22,45 @@ use Rattle.check_script.specs.declared.live_input.TheConstants.{KEPT_SAVED_BYTES
 use Rattle.check_script.specs.declared.refusal.InputRefusal.{InputRefusal}
 use Rattle.check_script.specs.declared.refusal.InputRefusal.TheVariants as refusal
 use Rattle.check_script.specs.declared.refusal.ScriptError.{ScriptError}
-use Rattle.check_script.specs.LiveError.{AfterLine, IsSpent, IsWritten, told, told_by}
+use Rattle.check_script.specs.LiveError.{IsSpent, IsWritten, told, told_by}
 use Rattle.check_script.specs.Input.{first_line_of, lines_of}
 use Rattle.check_script.specs.LiveInput.{StopsSoon, behind_line, has_feed}
 use Rattle.check_script.specs.ResumedScript.{in_saved}
 use Rattle.check_script.specs.Script.{in_setup}
-use Rattle.check_script.proofs.LiveInputLemmas.{Consumes-then, behind_none, behind_stays, first_stays}
-use Rattle.check_text.specs.LiveText.{answers_from, live_from, live_resumed_over, live_text_resumed}
+use Rattle.check_script.proofs.LiveInputLemmas.{Consumes-none, Consumes-then, behind_none, behind_stays, first_stays}
+use Rattle.check_text.proofs.OutputLemmas.{Appends-none}
+use Rattle.check_text.specs.LiveText.{answers_from, live_from, live_over, live_resumed_over, live_text, live_text_resumed}
 use Rattle.check_text.specs.Text.{refusal_line, resumed_from}
+use Rattle.check_drive.specs.declared.beginning.Beginning.{Beginning}
+use Rattle.check_drive.specs.declared.beginning.Beginning.TheVariants as beginning
 use Rattle.check_drive.specs.declared.drive.Outcome.{Outcome}
 use Rattle.check_drive.specs.declared.drive.Outcome.TheVariants as outcome
 use Rattle.check_drive.specs.Drive.{IsInput, outcome_by}
-use Rattle.check_sched.specs.State.{State}
-use Rattle.check_drive.specs.Live.{AfterAll, AfterLater, AfterLines, HasReadResumed, IsLiveResumedOnInput, LeavesText, ReadBehind, ReadResumedBy, WentOn, live_resumed_outcome, saved_in}
-use Rattle.check_drive.proofs.LiveLemmas.{TalkEnded, appended_none, end_input, input_all, input_on, leaves_before, leaves_kept, live_failed}
-use Rattle.check_drive.proofs.LiveLemmas.{behind_few, lines_few, not_long, refused_stays, rest_input, rest_of, setup_is, setup_refused, written_err, written_if, written_ok, wrote_behind}
+use Rattle.check_sched.specs.State.{State, opening}
+use Rattle.check_drive.specs.Live.{AfterAll, AfterLater, AfterLines, HadMany, IsLiveOf, LaterReads, LeavesText, ReadBehind, ReadBy, ReadResumedBy}
+use Rattle.check_drive.specs.Live.{TalkEnded, TalkReads, WentOn, later_outcome, later_text, saved_in, talk_outcome, talk_text}
+use Rattle.check_drive.proofs.DriveLemmas.{front_tells}
+use Rattle.check_drive.proofs.LiveLemmas.{appended_none, end_input, input_all, input_on, leaves_before, leaves_kept, live_failed}
+use Rattle.check_drive.proofs.LiveLemmas.{behind_few, lines_few, not_long, refused_stays, rest_input, rest_of, setup_is, setup_refused, wrote_behind, written_errs, written_ifs, written_oks}
 
 -- ---- what is kept of line 2
 
 saved_too_long : (line : List ℕ) → 16777216 < length line → saved_of_text line ≡ Err faults.TooLong
 saved_too_long line h = let a : nat_lt 16777216 (length line) ≡ true = grind (arith, nat_tests, h) in rw a refl
 
-kept_saved_by : (line : List ℕ) → (16777216 < length line) ⊎ (length line ≤ 16777216) → saved_of_text (take KEPT_SAVED_BYTES line) ≡ saved_of_text line
-kept_saved_by line (inl h) =
-    let l = length-take KEPT_SAVED_BYTES line in
-    saved_too_long (take KEPT_SAVED_BYTES line) (omega (arith, h, l)) ∙ sym (saved_too_long line h)
-kept_saved_by line (inr h) = ap saved_of_text (take_all KEPT_SAVED_BYTES line (omega (arith, h)))
-
 pub kept_saved : (line : List ℕ) → saved_of_text (take KEPT_SAVED_BYTES line) ≡ saved_of_text line
-kept_saved line = kept_saved_by line (cases_lt 16777216 (length line))
+kept_saved line = front_tells saved_of_text 16777216 KEPT_SAVED_BYTES (Err faults.TooLong) (omega arith) saved_too_long line
 
 -- nothing follows the setup: line 2 has no byte
 pub unfollowed : (hand : List ℕ) (r : Result Saved ScriptError) (left : Option (List ℕ)) → hand ≡ [] → IsAtEnd left
     → Gives (λ saved. saved) r (in_saved (saved_of_text []))
     → Gives (λ saved. saved) r (saved_in (hand ++ [])) × (false ≡ has_feed (hand ++ [])) × (hand ≡ behind_line (hand ++ [])) × (false ≡ false → IsAtEnd left)
 unfollowed hand r left e end g = rw e (g, refl, refl, λ f. end)
+
+-- what holds anyway holds of a value
+on_ok_any : {T E P : Type 0} (r : Result T E) → P → OnOk r P
+on_ok_any (Ok x) p = p
+on_ok_any (Err e) p = tt
 
 -- ---- what was saved
 
@@ -101,28 +105,42 @@ never_follows may_follow hand part had none end feed f =
 
 -- ---- behind a setup
 
--- an error before anything was written
-pub gone_unwritten : (start : Option ℕ) (c : Configuration) (may_follow : Bool) (hand part : List ℕ) (e : LiveError) (had left held holds : Option (List ℕ))
+-- an error before anything was written, where these bytes come
+gone_by : (b : Beginning) (c : Configuration) (may_follow : Bool) (hand coming : List ℕ) (e : LiveError) (had left held holds : Option (List ℕ))
+    → IsInput had coming → (may_follow ≡ false → coming ≡ []) → Keeps held holds → WentOn b c may_follow hand (Err e) had left held holds
+gone_by b c may_follow hand coming e had left held holds input none kept =
+    record { coming = coming; is_input = input; short = none; outcome_is = tt; written = tt; read = tt; front = leaves_kept (told e) held holds _ kept }
+
+pub gone_unwritten : (b : Beginning) (c : Configuration) (may_follow : Bool) (hand part : List ℕ) (e : LiveError) (had left held holds : Option (List ℕ))
     → Consumes had left part → (may_follow ≡ false → (hand ≡ []) × IsAtEnd had) → Keeps held holds
-    → WentOn start c may_follow hand (Err e) had left held holds
-gone_unwritten start c true hand part e had left held holds read end kept = record {
-  coming = part ++ rest_of left;
-  is_input = input_on had left part (rest_of left) read (rest_input left);
-  short = λ f. cc;
-  outcome_is = tt;
-  written = tt;
-  read = tt;
-  front = leaves_kept (told e) held holds _ kept;
-}
-gone_unwritten start c false hand part e had left held holds read end kept = record {
-  coming = [];
-  is_input = end_input had (end refl).1;
-  short = λ f. refl;
-  outcome_is = tt;
-  written = tt;
-  read = tt;
-  front = leaves_kept (told e) held holds _ kept;
-}
+    → WentOn b c may_follow hand (Err e) had left held holds
+gone_unwritten b c true hand part e had left held holds read end kept =
+    gone_by b c true hand (part ++ rest_of left) e had left held holds (input_on had left part (rest_of left) read (rest_input left)) (λ f. cc) kept
+gone_unwritten b c false hand part e had left held holds read end kept =
+    gone_by b c false hand [] e had left held holds (end_input had (end refl).1) (λ f. refl) kept
+
+-- what is shown of the lines behind a setup from whose start on a scheduler is spoken to is what is shown of all behind it
+pub gone_opened : (start : ℕ) (c : Configuration) (may_follow : Bool) (hand : List ℕ) (had left held holds : Option (List ℕ)) (r : Result Outcome LiveError)
+    → (may_follow ≡ false → (hand ≡ []) × IsAtEnd had) → IfOk r (λ o. o ≡ outcome.Ran)
+    → (may_follow ≡ false → (r ≡ Ok outcome.Ran) × (left ≡ had) × (holds ≡ held))
+    → (may_follow ≡ true → TalkEnded 2 (opening c start) hand had left held holds r)
+    → WentOn (beginning.Opened start) c may_follow hand r had left held holds
+gone_opened start c false hand had left held holds r end ran unread lines =
+    let n = unread refl in
+    let none = end refl in
+    rw (n.0, n.1, n.2, none.0)
+    (record {
+      coming = [];
+      is_input = end_input had none.1;
+      short = λ f. refl;
+      outcome_is = refl;
+      written = Appends-none held;
+      read = Consumes-none had;
+      front = tt;
+    })
+gone_opened start c true hand had left held holds r end ran unread lines =
+    let t = lines refl in
+    record { coming = t.0; is_input = t.1; short = λ f. cc; outcome_is = ran; written = t.3; read = t.2; front = t.4 }
 
 -- an input by which what was saved is refused
 pub record Refuses (may_follow : Bool) (hand : List ℕ) (had left : Option (List ℕ)) (why : InputRefusal) : Type 0 where
@@ -153,29 +171,20 @@ gone_refused_by : (start : Option ℕ) (c : Configuration) (may_follow : Bool) (
     → Refuses may_follow hand had left why → Consumes had left part → Keeps held mid
     → IfOk wrote (λ o. o ≡ outcome.Refused) → OnOk wrote (Appends mid holds (refusal_line why))
     → IfErr wrote (λ e. LeavesText e mid holds (refusal_line why)) → IsWritten r wrote
-    → WentOn start c may_follow hand r had left held holds
-gone_refused_by start c may_follow hand part had left held mid holds why wrote (Ok o) z read kept refused written fault w =
-    let text = refused_text start c (hand ++ z.coming) why z.refused in
+    → WentOn (beginning.Saved start) c may_follow hand r had left held holds
+gone_refused_by start c may_follow hand part had left held mid holds why wrote r z read kept refused written fault w =
+    let line = refusal_line why in
+    let text = sym (refused_text start c (hand ++ z.coming) why z.refused) in
+    let all = on_ok_weaker wrote (wrote_behind held mid holds line kept) written in
+    let front = IfErr-weaker wrote (λ e. LeavesText e mid holds line) (λ e. LeavesText e held holds line) (λ e f. leaves_before e held mid holds line kept f) fault in
     record {
       coming = z.coming;
       is_input = z.is_input;
       short = z.short;
-      outcome_is = written_if o wrote (λ x. x ≡ outcome.Refused) w refused ∙ sym (ap outcome_by z.refused);
-      written = subst (λ l. Appends held holds l) (sym text) (wrote_behind held mid holds (refusal_line why) kept (written_ok o wrote w written));
-      read = subst (λ q. ReadBehind q had left z.coming) (sym z.refused) (part, read);
-      front = tt;
-    }
-gone_refused_by start c may_follow hand part had left held mid holds why wrote (Err e) z read kept refused written fault w =
-    let text = refused_text start c (hand ++ z.coming) why z.refused in
-    record {
-      coming = z.coming;
-      is_input = z.is_input;
-      short = z.short;
-      outcome_is = tt;
-      written = tt;
-      read = tt;
-      front = subst (λ l. LeavesText (told e) held holds l) (sym text) (leaves_before (told e) held mid holds (refusal_line why) kept
-          (written_err e wrote (λ x. LeavesText x mid holds (refusal_line why)) w fault));
+      outcome_is = subst (λ k. IfOk r (λ o. o ≡ k)) (sym (ap outcome_by z.refused)) (written_ifs r wrote (λ o. o ≡ outcome.Refused) w refused);
+      written = subst (λ l. OnOk r (Appends held holds l)) text (written_oks r wrote (Appends held holds line) w all);
+      read = on_ok_any r (subst (λ q. ReadBehind q had left z.coming) (sym z.refused) (part, read));
+      front = subst (λ l. IfErr r (λ e. LeavesText (told e) held holds l)) text (written_errs r wrote (λ e. LeavesText e held holds line) w front);
     }
 
 -- what is shown of the refusal of what was saved is what is shown of all behind the setup
@@ -185,7 +194,7 @@ pub gone_refused : (start : Option ℕ) (c : Configuration) (may_follow follow :
     → (may_follow ≡ false → (hand ≡ []) × IsAtEnd had) → follow ≡ has_feed (hand ++ part) → (follow ≡ false → IsAtEnd left) → Keeps held mid
     → IfOk wrote (λ o. o ≡ outcome.Refused) → OnOk wrote (Appends mid holds (refusal_line why))
     → IfErr wrote (λ e. LeavesText e mid holds (refusal_line why)) → IsWritten r wrote
-    → WentOn start c may_follow hand r had left held holds
+    → WentOn (beginning.Saved start) c may_follow hand r had left held holds
 gone_refused start c may_follow follow hand part had left held mid holds why wrote r s read none end feed ended kept refused written fault w =
     gone_refused_by start c may_follow hand part had left held mid holds why wrote r
     (refuses may_follow follow hand part had left why s read none end feed ended) read kept refused written fault w
@@ -198,7 +207,7 @@ pub gone_answered : (start : Option ℕ) (c : Configuration) (saved : Saved) (ma
     → IfOk r (λ o. o ≡ outcome.Ran)
     → (follow ≡ false → (r ≡ Ok outcome.Ran) × (left ≡ mid) × (holds ≡ wrote))
     → (follow ≡ true → TalkEnded 3 (resumed_from c saved start) (behind_line (hand ++ part)) mid left wrote holds r)
-    → WentOn start c may_follow hand r had left held holds
+    → WentOn (beginning.Saved start) c may_follow hand r had left held holds
 gone_answered start c saved may_follow false hand part had mid left held wrote holds r s read none end feed ended kept ran unread lines =
     let n = unread refl in
     let text = none_text start c saved (hand ++ part) s (sym feed) in
@@ -265,111 +274,119 @@ read_behind (Ok saved) had mid left given coming read more = Consumes-then had m
 read_behind (Err e) had mid left given coming read more = (given ++ more.0, Consumes-then had mid left given more.0 read more.1)
 
 -- what is said of an input whose setup is this one
-opened_text : (start : Option ℕ) (c : Configuration) (input behind : List ℕ) → setup_of (first_line_of input) ≡ Ok c → behind_line input ≡ behind
-    → live_text_resumed start input ≡ live_resumed_over start (Ok c) behind
-unfolding live_text_resumed
-opened_text start c input behind s b =
-    ap (λ r. live_resumed_over start r (behind_line input)) s ∙ ap (live_resumed_over start (Ok c)) b
+talk_over : (b : Beginning) (c : Configuration) (input behind : List ℕ) → setup_of (first_line_of input) ≡ Ok c → behind_line input ≡ behind
+    → (talk_text b input ≡ later_text b c behind) × (talk_outcome b input ≡ later_outcome b behind)
+unfolding live_text live_text_resumed
+talk_over (beginning.Opened start) c input behind s b = (
+  ap (λ r. live_over start r (lines_of (behind_line input))) s ∙ ap (λ l. answers_from (opening c start) 2 (lines_of l)) b,
+  ap (λ r. outcome_by (in_setup r)) s,
+)
+talk_over (beginning.Saved start) c input behind s b = (
+  ap (λ r. live_resumed_over start r (behind_line input)) s ∙ ap (live_resumed_over start (Ok c)) b,
+  ap (λ r. outcome_by (in_setup r >>= λ d. saved_in (behind_line input))) s ∙ ap (λ l. outcome_by (saved_in l)) b,
+)
 
-opened_outcome : (c : Configuration) (input behind : List ℕ) → setup_of (first_line_of input) ≡ Ok c → behind_line input ≡ behind
-    → live_resumed_outcome input ≡ outcome_by (saved_in behind)
-opened_outcome c input behind s b =
-    ap (λ r. outcome_by (in_setup r >>= λ d. saved_in (behind_line input))) s ∙ ap (λ l. outcome_by (saved_in l)) b
-
-opened_read : (c : Configuration) (input behind : List ℕ) (had left : Option (List ℕ)) → setup_of (first_line_of input) ≡ Ok c → behind_line input ≡ behind
-    → ReadBehind (saved_in behind) had left input → HasReadResumed had left input
-opened_read c input behind had left s b read =
-    subst (λ q. ReadResumedBy q had left input) (sym s) (subst (λ l. ReadBehind (saved_in l) had left input) (sym b) read)
+talk_read : (b : Beginning) (c : Configuration) (given coming behind : List ℕ) (had mid left : Option (List ℕ))
+    → setup_of (first_line_of (given ++ coming)) ≡ Ok c → behind_line (given ++ coming) ≡ behind → Consumes had mid given
+    → LaterReads b behind mid left coming → TalkReads b had left (given ++ coming)
+talk_read (beginning.Opened start) c given coming behind had mid left s b read later =
+    subst (λ q. ReadBy q had left (given ++ coming)) (sym s) (Consumes-then had mid left given coming read later)
+talk_read (beginning.Saved start) c given coming behind had mid left s b read later =
+    subst (λ q. ReadResumedBy q had left (given ++ coming)) (sym s)
+    (subst (λ l. ReadBehind (saved_in l) had left (given ++ coming)) (sym b) (read_behind (saved_in behind) had mid left given coming read later))
 
 -- what is shown of all behind a setup is what is shown of the whole
-pub whole_gone : (start : Option ℕ) (c : Configuration) (given : List ℕ) (had mid left held holds : Option (List ℕ)) (whole : Bool)
+pub whole_gone : (b : Beginning) (c : Configuration) (given : List ℕ) (had mid left held holds : Option (List ℕ)) (whole : Bool)
     (r : Result Outcome LiveError)
     → in_setup (setup_of (first_line_of given)) ≡ Ok c → whole ≡ has_feed given → Consumes had mid given
-    → WentOn start c whole (behind_line given) r mid left held holds → IsLiveResumedOnInput start (told_by r) had left held holds
-whole_gone start c given had mid left held holds whole (Ok o) s feed read w =
+    → WentOn b c whole (behind_line given) r mid left held holds → IsLiveOf (talk_outcome b) (talk_text b) (TalkReads b) (told_by r) had left held holds
+whole_gone b c given had mid left held holds whole (Ok o) s feed read w =
     let input = given ++ w.coming in
-    let behind = behind_line given ++ w.coming in
     let parts = parts_stay given w.coming whole feed w.short in
     let setup = ap setup_of parts.0 ∙ setup_is (setup_of (first_line_of given)) c s in
+    let says = talk_over b c input (behind_line given ++ w.coming) setup parts.1 in
     record {
       input = input;
       is_input = input_on had mid given w.coming read w.is_input;
-      outcome_is = w.outcome_is ∙ sym (opened_outcome c input behind setup parts.1);
-      written = rw (opened_text start c input behind setup parts.1) w.written;
-      read = opened_read c input behind had left setup parts.1 (read_behind (saved_in behind) had mid left given w.coming read w.read);
+      outcome_is = w.outcome_is ∙ sym says.1;
+      written = subst (Appends held holds) (sym says.0) w.written;
+      read = talk_read b c given w.coming (behind_line given ++ w.coming) had mid left setup parts.1 read w.read;
       front = tt;
     }
-whole_gone start c given had mid left held holds whole (Err e) s feed read w =
+whole_gone b c given had mid left held holds whole (Err e) s feed read w =
     let input = given ++ w.coming in
-    let behind = behind_line given ++ w.coming in
     let parts = parts_stay given w.coming whole feed w.short in
     let setup = ap setup_of parts.0 ∙ setup_is (setup_of (first_line_of given)) c s in
-    live_failed live_resumed_outcome (live_text_resumed start) HasReadResumed (told e) had left held holds input
-    (input_on had mid given w.coming read w.is_input)
-    (rw (opened_text start c input behind setup parts.1) w.front)
+    let says = talk_over b c input (behind_line given ++ w.coming) setup parts.1 in
+    live_failed (talk_outcome b) (talk_text b) (TalkReads b) (told e) had left held holds input
+    (input_on had mid given w.coming read w.is_input) (subst (LeavesText (told e) held holds) (sym says.0) w.front)
 
 -- ---- a refused setup
 
-setup_text : (start : Option ℕ) (input : List ℕ) (e : LoadError) → setup_of (first_line_of input) ≡ Err e
-    → live_text_resumed start input ≡ refusal_line (refusal.Setup e)
-unfolding live_text_resumed
-setup_text start input e s = ap (λ r. live_resumed_over start r (behind_line input)) s
+talk_refused : (b : Beginning) (input : List ℕ) (e : LoadError) → setup_of (first_line_of input) ≡ Err e
+    → (talk_text b input ≡ refusal_line (refusal.Setup e)) × (talk_outcome b input ≡ outcome.Refused)
+unfolding live_text live_text_resumed
+talk_refused (beginning.Opened start) input e s =
+    (ap (λ r. live_over start r (lines_of (behind_line input))) s, ap (λ r. outcome_by (in_setup r)) s)
+talk_refused (beginning.Saved start) input e s =
+    (ap (λ r. live_resumed_over start r (behind_line input)) s, ap (λ r. outcome_by (in_setup r >>= λ d. saved_in (behind_line input))) s)
+
+refusal_read : (b : Beginning) (input given : List ℕ) (e : LoadError) (had left : Option (List ℕ)) → setup_of (first_line_of input) ≡ Err e
+    → Consumes had left given → StopsSoon KEPT_SETUP_BYTES given → TalkReads b had left input
+refusal_read (beginning.Opened start) input given e had left s read soon = rw s (given, read, soon)
+refusal_read (beginning.Saved start) input given e had left s read soon = rw s (given, read, soon)
 
 -- what is shown of a setup's refusal is what is shown of the whole
-pub setup_refusal : (start : Option ℕ) (given : List ℕ) (had left held holds : Option (List ℕ)) (why : InputRefusal) (whole : Bool)
+pub setup_refusal : (b : Beginning) (given : List ℕ) (had left held holds : Option (List ℕ)) (why : InputRefusal) (whole : Bool)
     (r : Result Outcome DriveError)
     → in_setup (setup_of (first_line_of given)) ≡ Err why → Consumes had left given → StopsSoon KEPT_SETUP_BYTES given → whole ≡ has_feed given
     → (whole ≡ false → IsAtEnd left ⊎ (KEPT_SETUP_BYTES ≤ length given)) → IfOk r (λ o. o ≡ outcome.Refused)
     → OnOk r (Appends held holds (refusal_line why)) → IfErr r (λ e. LeavesText e held holds (refusal_line why))
-    → IsLiveResumedOnInput start r had left held holds
-setup_refusal start given had left held holds why whole (Ok o) s read soon feed end refused wrote f =
+    → IsLiveOf (talk_outcome b) (talk_text b) (TalkReads b) r had left held holds
+setup_refusal b given had left held holds why whole (Ok o) s read soon feed end refused wrote f =
     let no = setup_refused (setup_of (first_line_of given)) why s in
     let input = given ++ rest_of left in
     let setup = refused_stays given left whole feed end ∙ no.1 in
+    let says = talk_refused b input no.0 setup in
     record {
       input = input;
       is_input = input_on had left given (rest_of left) read (rest_input left);
-      outcome_is = refused ∙ sym (ap (λ r. outcome_by (in_setup r >>= λ d. saved_in (behind_line input))) setup);
-      written = rw (setup_text start input no.0 setup) (rw (no.2) at wrote);
-      read = rw setup (given, read, soon);
+      outcome_is = refused ∙ sym says.1;
+      written = subst (Appends held holds) (ap refusal_line no.2 ∙ sym says.0) wrote;
+      read = refusal_read b input given no.0 had left setup read soon;
       front = tt;
     }
-setup_refusal start given had left held holds why whole (Err e) s read soon feed end refused wrote f =
+setup_refusal b given had left held holds why whole (Err e) s read soon feed end refused wrote f =
     let no = setup_refused (setup_of (first_line_of given)) why s in
     let input = given ++ rest_of left in
-    let setup = refused_stays given left whole feed end ∙ no.1 in
-    live_failed live_resumed_outcome (live_text_resumed start) HasReadResumed e had left held holds input
-    (input_on had left given (rest_of left) read (rest_input left))
-    (rw (setup_text start input no.0 setup) (rw (no.2) at f))
+    let says = talk_refused b input no.0 (refused_stays given left whole feed end ∙ no.1) in
+    live_failed (talk_outcome b) (talk_text b) (TalkReads b) e had left held holds input
+    (input_on had left given (rest_of left) read (rest_input left)) (subst (LeavesText e held holds) (ap refusal_line no.2 ∙ sym says.0) f)
 
 -- ---- a loop that is spent
 
--- what only writes spends none
-never_spent : {T : Type 0} (e : LiveError) (written : Result T DriveError) → IsWritten (Err e) written → IsSpent e → ⊥
-never_spent (live.Reader fault) written w s = s
-never_spent live.Writer written w s = s
-never_spent live.Memory written w s = s
-never_spent live.LinesSpent written (e, inl f) s = cc
-never_spent live.LinesSpent written (e, inr f) s = cc
-never_spent live.ReadsSpent written (e, inl f) s = cc
-never_spent live.ReadsSpent written (e, inr f) s = cc
+pub memory_later : (e : LiveError) (hand : List ℕ) (had left : Option (List ℕ)) → e ≡ live.Memory → AfterLater hand had left e
+memory_later e hand had left is = λ s. absurd (subst IsSpent is s)
 
-pub error_later : {T : Type 0} (e : LiveError) (written : Result T DriveError) (hand : List ℕ) (had left : Option (List ℕ))
-    → IsWritten (Err e) written → AfterLater hand had left e
-error_later e written hand had left w = λ s. absurd (never_spent e written w s)
+-- each line that was answered has a byte at least
+lines_many : (e : LiveError) (begins : ℕ) (first : State) (hand : List ℕ) (had left held holds : Option (List ℕ))
+    → AfterLines begins first hand had left held holds e → IsSpent e → HadMany (2 ^ 64 - 1 - begins) hand had left
+lines_many (live.Reader fault) begins first hand had left held holds a s = absurd s
+lines_many live.Writer begins first hand had left held holds a s = absurd s
+lines_many live.Memory begins first hand had left held holds a s = absurd s
+lines_many live.LinesSpent begins first hand had left held holds a s =
+    let there = length-append hand a.given in
+    let parts = ap length a.parts in
+    let sizes = length-append a.front a.rest in
+    let least = lines_few a.front in
+    (a.given, a.consumed, omega (arith, there, parts, sizes, least, a.lines))
+lines_many live.ReadsSpent begins first hand had left held holds g s = (g.0, g.1, omega (arith, g.2))
 
-pub written_later : {T : Type 0} (r : Result T LiveError) (written : Result T DriveError) (hand : List ℕ) (had left : Option (List ℕ))
-    → IsWritten r written → IfErr r (AfterLater hand had left)
-written_later (Ok x) written hand had left w = tt
-written_later (Err e) written hand had left w = error_later e written hand had left w
-
--- line 2 couldn't be taken
-pub line_later : (e : LiveError) (hand given : List ℕ) (had left : Option (List ℕ)) → Consumes had left given → AfterLine given e → AfterLater hand had left e
-line_later (live.Reader fault) hand given had left read h = λ s. absurd s
-line_later live.Writer hand given had left read h = λ s. absurd s
-line_later live.Memory hand given had left read h = λ s. absurd s
-line_later live.LinesSpent hand given had left read h = λ s. absurd h
-line_later live.ReadsSpent hand given had left read h = λ s. (given, read, omega (arith, h))
+pub opened_later : {T : Type 0} (r : Result T LiveError) (first : State) (hand : List ℕ) (had left held holds : Option (List ℕ))
+    → IfErr r (AfterLines 2 first hand had left held holds) → IfErr r (AfterLater hand had left)
+opened_later (Ok x) first hand had left held holds h = tt
+opened_later (Err e) first hand had left held holds h = λ s.
+    let many = lines_many e 2 first hand had left held holds h s in (many.0, many.1, omega (arith, many.2))
 
 -- a line with its line feed has one byte at least
 behind_less : (bytes : List ℕ) → has_feed bytes ≡ true → length (behind_line bytes) < length bytes
@@ -383,21 +400,12 @@ behind_less (b ∷ bs) feed =
 -- the loops behind a saved state whose line feed was given
 lines_later : (e : LiveError) (first : State) (hand part : List ℕ) (had mid left held holds : Option (List ℕ)) → has_feed (hand ++ part) ≡ true
     → Consumes had mid part → AfterLines 3 first (behind_line (hand ++ part)) mid left held holds e → AfterLater hand had left e
-lines_later (live.Reader fault) first hand part had mid left held holds feed read h = λ s. absurd s
-lines_later live.Writer first hand part had mid left held holds feed read h = λ s. absurd s
-lines_later live.Memory first hand part had mid left held holds feed read h = λ s. absurd s
-lines_later live.LinesSpent first hand part had mid left held holds feed read a = λ s.
-    let all = length-append part a.given in
+lines_later e first hand part had mid left held holds feed read a = λ s.
+    let many = lines_many e 3 first (behind_line (hand ++ part)) mid left held holds a s in
+    let all = length-append part many.0 in
     let both = length-append hand part in
-    let there = length-append (behind_line (hand ++ part)) a.given in
-    let parts = ap length a.parts in
-    let sizes = length-append a.front a.rest in
-    let few = lines_few a.front in
     let less = behind_less (hand ++ part) feed in
-    (part ++ a.given, Consumes-then had mid left part a.given read a.consumed, omega (arith, all, both, there, parts, sizes, few, less, a.lines))
-lines_later live.ReadsSpent first hand part had mid left held holds feed read g = λ s.
-    let all = length-append part g.0 in
-    (part ++ g.0, Consumes-then had mid left part g.0 read g.1, omega (arith, all, g.2))
+    (part ++ many.0, Consumes-then had mid left part many.0 read many.1, omega (arith, all, both, less, many.2))
 
 pub answered_later : {T : Type 0} (r : Result T LiveError) (x : T) (first : State) (hand part : List ℕ) (had mid left held holds : Option (List ℕ)) (follow : Bool)
     → follow ≡ has_feed (hand ++ part) → Consumes had mid part → (follow ≡ false → r ≡ Ok x)
