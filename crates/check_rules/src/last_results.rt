@@ -104,8 +104,19 @@ impl LastResults {
         ensures percent { result ≡ percent_of (kept_after self.old found) }
     {
         if self.are_all(found) {
-            return 0;
+            0
+        } else {
+            self.keep(found)
         }
+    }
+
+    /// Keeps one more result, as [`LastResults::push`] does, whatever the results are. It stands apart, so
+    /// that a result that changes nothing costs no more than the test.
+    #[inline(never)]
+    fn keep(&mut self, found: State) -> u8
+        ensures kept { self.new ≡ kept_after self.old found }
+        ensures percent { result ≡ percent_of (kept_after self.old found) }
+    {
         let changes = self.changes_with(found);
         self.digits = self.digits % OLDEST_DIGIT * BASE + u64::from(found.number());
         self.changes = changes;

@@ -5,7 +5,7 @@ use Rattle.check_rules.specs.Flapping.{kept_after, percent_of}
 use Rattle.check_rules.specs.LastResults.{IsPacked, changes_in, count_after, results_of, unpacked, weight_to}
 use Rattle.check_rules.specs.Numbers.{state_number}
 use Rattle.check_rules.proofs.DigitLemmas.{counts, numbers_after, oldest_digit, one_pushed}
-use Rattle.check_rules.proofs.last_results.LastResults.push.Goals as goal
+use Rattle.check_rules.proofs.last_results.LastResults.keep.Goals as goal
 
 -- the digits with one more are the results that are kept
 kept_by : (r : Inside) (results : List State) (found : State) (count number : ℕ) → IsPacked r → results_of r ≡ results → count ≡ count_after r.count
