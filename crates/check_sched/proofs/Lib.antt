@@ -4,6 +4,7 @@ pub mod CandidateLaws
 pub mod EligibleLaws
 pub mod FlappingLaws
 pub mod FromStateLaws
+pub mod IntervalLaws
 pub mod KeepingLaws
 pub mod KeptLaws
 pub mod LimitLaws

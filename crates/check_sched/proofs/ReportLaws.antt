@@ -109,6 +109,9 @@ verdict_by_host before found max one other flapping same = ap (λ up. verdict_on
 pub check_in_range : (o : Object) → is_object_in_range o ≡ true → o.check_interval ≤ 525600
 check_in_range o e = grind (arith, nat_tests, e)
 
+pub retry_in_range : (o : Object) → is_object_in_range o ≡ true → o.retry_interval ≤ 525600
+retry_in_range o e = grind (arith, nat_tests, e)
+
 interval_by : (o : Object) (soft : Bool) → is_object_in_range o ≡ true → cond soft o.retry_interval o.check_interval ≤ 525600
 interval_by o true e = grind (arith, nat_tests, e)
 interval_by o false e = grind (arith, nat_tests, e)

@@ -7,6 +7,7 @@ pub mod Change
 pub mod Reply
 pub mod Report
 pub mod Step
+pub mod Intervals
 pub mod Steady
 pub mod Sched
 pub mod Runs

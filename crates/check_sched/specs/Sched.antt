@@ -2,6 +2,7 @@
 use Rattle.std.specs.Prelude.{ℕ, ◌≡◌, length, true, Some, slice_get}
 use Rattle.check_objects.specs.Configuration.{host_count, object_count}
 use Rattle.check_sched.specs.State.{State, IsState}
+use Rattle.check_sched.specs.Intervals.{intervals_of}
 use Rattle.check_sched.specs.Steady.{IsSteadyIn}
 use Rattle.check_sched.specs.declared.sched.Sched.TheInside.{Inside}
 
@@ -23,6 +24,8 @@ pub record IsKept (s : Inside) : Type 0 where
   pub marks : length s.marks.items ≡ object_count s.setup
   -- the first objects are the hosts
   pub hosts : s.roster.hosts ≡ host_count s.setup
+  -- the intervals in milliseconds are those of the setup
+  pub intervals : s.intervals.items ≡ intervals_of s.setup
   -- what is marked as steady is so
   pub steady_each : length s.steady.items ≡ object_count s.setup
   pub steady : (number : ℕ) → slice_get s.steady.items number ≡ Some true → IsSteadyIn (state_of s) number

@@ -11,7 +11,7 @@
 //! The modules, from what a caller says to how it is answered: `call` has the calls and their
 //! replies, `object_state` what is kept of one object, `candidate` an object that waits for its
 //! check, `roster` the objects with the queues of those that wait, `results` the last results of
-//! each object, `report` what the result of a check makes of an object, `places` where in what was saved
+//! each object, `intervals` their intervals in milliseconds, `report` what the result of a check makes of an object, `places` where in what was saved
 //! each object is, `resumed` what becomes of an object that is kept, `sched` the scheduler (in it
 //! `checks` has what workers call, `operators` what operators call, `saving` what is saved of it and
 //! `resuming` how another goes on from that), `laws` what follows for all calls that are made one after
@@ -19,6 +19,7 @@
 
 mod call;
 mod candidate;
+mod intervals;
 pub mod laws;
 mod object_state;
 mod places;

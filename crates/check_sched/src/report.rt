@@ -1,14 +1,13 @@
-//! What the result of a check makes of an object, its standing and its next time, and to when an
-//! object is put off.
+//! What the result of a check makes of an object's standing, and to when an object is put off.
 
 ghost use Rattle.std.specs.Prelude.{◌≡◌, ◌<◌, ◌≤◌, ◌*◌, IfSome, length, Some, true};
 ghost use Rattle.check_objects.specs.Configuration.{IsSetup, host_of, object_count};
 ghost use Rattle.check_rules.specs.State.{is_another_state, is_host_state, is_problem};
 ghost use Rattle.check_sched.specs.State.{IsStandingOf, flap_thresholds_of, is_host, max_attempts_of, standing_at};
-ghost use Rattle.check_sched.specs.Report.{interval_after, is_host_up, judged, next_after};
+ghost use Rattle.check_sched.specs.Report.{is_host_up, judged};
 ghost use Rattle.check_sched.specs.Report.{milliseconds, put_off_until, state_found, time_after};
 
-use check_objects::{MAX_INTERVAL, MAX_INTERVAL_LENGTH, Object, Setup};
+use check_objects::{MAX_INTERVAL, MAX_INTERVAL_LENGTH, Setup};
 use check_rules::{Code, Standing, State, host_state, service_state, verdict};
 use check_spread::{LAST_MOMENT, LAST_TIME};
 
@@ -112,28 +111,6 @@ pub(crate) fn is_changed(before: Standing, after: Standing) -> bool
     after.state != before.state
 }
 
-/// The time of the check that follows one that began at `start`: `already`, where a time was set
-/// while it ran, else the interval after the start; None where the interval is 0.
-pub(crate) fn next_after(
-    setup: &Setup,
-    number: u32,
-    standing: Standing,
-    start: u64,
-    already: Option<u64>,
-) -> Option<u64>
-    requires there { number < object_count setup.now }
-    requires valid_setup { IsSetup setup.now }
-    requires moment { start ≤ LAST_MOMENT }
-    requires in_time { IfSome already (λ time. time ≤ LAST_TIME) }
-    ensures value { result ≡ next_after setup.now number standing start already }
-    ensures within { IfSome result (λ time. time ≤ LAST_TIME) }
-{
-    if already.is_some() {
-        return already;
-    }
-    time_after(setup, start, interval_after(setup.object(number), standing))
-}
-
 /// The time to which an object is put off at the moment `now`: its check interval later; None where
 /// that is 0.
 pub(crate) fn put_off_until(setup: &Setup, number: u32, now: u64) -> Option<u64>
@@ -159,18 +136,6 @@ fn time_after(setup: &Setup, start: u64, interval: u64) -> Option<u64>
         return None;
     }
     Some(start + milliseconds(setup, interval))
-}
-
-/// The interval to the next check, in units of `interval_length`: the retry interval while the
-/// object is a soft problem, else the check interval.
-fn interval_after(object: &Object, standing: Standing) -> u64
-    ensures { result ≡ interval_after object.now standing }
-{
-    if standing.is_soft_problem() {
-        object.retry_interval
-    } else {
-        object.check_interval
-    }
 }
 
 /// An interval of units of `interval_length`, in milliseconds.

@@ -112,6 +112,7 @@ impl Roster {
 
     /// The object whose check comes first: the one with the least time, and of those with equal
     /// times the one with the least number. None where no object waits for a check.
+    #[inline(always)]
     pub(crate) fn first(&self) -> Option<Candidate>
         ensures { result ≡ least (candidates_among self.now.objects) }
     {

@@ -12,6 +12,7 @@ ghost use Rattle.check_sched.specs.Board.{board_of, place_of};
 ghost use Rattle.check_sched.specs.Reply.{OnRefused, NamesObjectOf, TellsTimesUpTo, reply_of};
 
 use crate::call::{Call, Refusal, Reply};
+use crate::intervals::{Intervals, intervals_by_number};
 use crate::object_state::{Change, ObjectState};
 use crate::results::Results;
 use crate::roster::Roster;
@@ -43,6 +44,8 @@ pub struct Sched {
     standings: Vec<Standing>,
     /// Which objects an OK leaves as they stand, as far as reports found it.
     steady: Vec<bool>,
+    /// The intervals of each object.
+    intervals: Vec<Intervals>,
     setup: Setup,
     roster: Roster,
     runs: u64,
@@ -88,6 +91,9 @@ impl Sched {
         let Ok(marks) = vec![in alloc; false; setup.len()] else {
             return Err(setup);
         };
+        let Ok(intervals) = intervals_by_number(alloc, &setup) else {
+            return Err(setup);
+        };
         let Ok(steady) = vec![in alloc; false; setup.len()] else {
             return Err(setup);
         };
@@ -98,6 +104,7 @@ impl Sched {
             standings,
             results,
             steady,
+            intervals,
             runs: 0,
             marks,
         })
@@ -136,6 +143,8 @@ impl Sched {
     }
 
     /// Does this to the scheduling of an object; all else stays as it was.
+    // In each caller the compiler knows what is done, and keeps that part alone.
+    #[inline(always)]
     fn change(&mut self, object: u32, change: Change)
         requires there { object < object_count self.old.setup }
         requires quiet { IsTrue (is_quiet change) }

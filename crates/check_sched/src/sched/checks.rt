@@ -13,8 +13,9 @@ ghost use Rattle.check_sched.specs.Reply.{NamesObjectOf, TellsTimesUpTo, reply_o
 use super::{MAX_RUNS, Sched};
 use crate::call::{Call, Refusal, Reply};
 use crate::candidate::{Candidate, if_due};
+use crate::intervals::next_by;
 use crate::object_state::{Change, Run};
-use crate::report::{flap_thresholds, is_changed, judged, next_after, put_off_until, state_found};
+use crate::report::{flap_thresholds, is_changed, judged, put_off_until, state_found};
 use crate::results::Results;
 use check_rules::{Code, Standing, State, blocked};
 use check_spread::{LAST_MOMENT, LAST_TIME};
@@ -83,6 +84,7 @@ impl Sched {
     }
 
     /// Puts an object off by its check interval.
+    #[inline(never)]
     fn put_off(&mut self, object: u32, now: u64) -> Reply
         requires there { object < object_count self.old.setup }
         requires moment { now ≤ LAST_MOMENT }
@@ -118,6 +120,7 @@ impl Sched {
     }
 
     /// The reply where no check may begin: what is due then is a service, and the limit is reached.
+    #[inline(never)]
     fn waiting(&self, now: u64) -> Reply
         requires { least (eligible now self.now) ≡ None }
         ensures reply { result ≡ waiting_reply now self.now }
@@ -168,7 +171,8 @@ impl Sched {
         ensures times { TellsTimesUpTo LAST_TIME result }
     {
         let standing = self.standing(object);
-        let next = next_after(&self.setup, object, standing, start, already);
+        let intervals = self.intervals[object as usize];
+        let next = next_by(intervals, standing, start, already);
         self.change(object, Change::End(next));
         Reply::Standing {
             standing,
@@ -196,7 +200,8 @@ impl Sched {
         let flapping = self.results.add(object, found, before.flapping, thresholds);
         let standing = judged(&self.setup, &self.standings, object, found, flapping);
         let changed = is_changed(before, standing);
-        let next = next_after(&self.setup, object, standing, start, already);
+        let intervals = self.intervals[object as usize];
+        let next = next_by(intervals, standing, start, already);
         self.roster.change(object, Change::End(next));
         self.steady[object as usize] = is_steady_after(
             &self.results,
@@ -215,6 +220,7 @@ impl Sched {
     }
 
     /// Ends a run without a result.
+    #[inline(never)]
     pub(super) fn abandon(&mut self, object: u32, run: u64, now: u64) -> Result<Reply, Refusal>
         ensures state { self.new ≡ (step self.old (Call.Abandon object run now)).0 }
         ensures reply { reply_of result ≡ (step self.old (Call.Abandon object run now)).1 }

@@ -11,8 +11,11 @@ use crate::object_state::Change;
 use check_rules::Standing;
 use check_spread::LAST_TIME;
 
+// Each is a call of its own in `Sched::apply`, so that takes and reports, which are most calls, don't pay
+// for what these keep.
 impl Sched {
     /// Sets the next check of an object.
+    #[inline(never)]
     pub(super) fn reschedule(
         &mut self,
         object: u32,
@@ -29,6 +32,7 @@ impl Sched {
     }
 
     /// Turns the active checks of an object on or off.
+    #[inline(never)]
     pub(super) fn enable(&mut self, object: u32, on: bool) -> Result<Reply, Refusal>
         ensures state { self.new ≡ (step self.old (Call.Enable object on)).0 }
         ensures reply { reply_of result ≡ (step self.old (Call.Enable object on)).1 }
@@ -39,6 +43,7 @@ impl Sched {
     }
 
     /// Tells what is known of an object.
+    #[inline(never)]
     pub(super) fn status(&self, object: u32) -> Result<Reply, Refusal>
         ensures state { self.now ≡ (step self.now (Call.Status object)).0 }
         ensures reply { reply_of result ≡ (step self.now (Call.Status object)).1 }

@@ -4,10 +4,12 @@ ghost use Rattle.std.specs.Prelude.{◌≡◌, ◌≤◌, ◌++◌, IfErr, IfOk,
 ghost use Rattle.check_objects.specs.Configuration.{IsSetup, host_count, object_count};
 ghost use Rattle.check_saved.specs.Saved.{IsSaved};
 ghost use Rattle.check_spread.specs.Spread.{initial_times};
+ghost use Rattle.check_sched.specs.Intervals.{intervals_of};
 ghost use Rattle.check_sched.specs.Places.{ArePlaces};
 ghost use Rattle.check_sched.specs.Saved.{given_up, objects_kept, objects_resumed, results_of, results_resumed, resumed, standings_resumed, within_limit};
 
 use super::Sched;
+use crate::intervals::{Intervals, intervals_by_number};
 use crate::object_state::ObjectState;
 use crate::places::{kept, places};
 use crate::results::{Results, Ring};
@@ -24,6 +26,7 @@ use std::alloc::{AllocError, Global};
 struct Parts {
     marks: Vec<bool>,
     steady: Vec<bool>,
+    intervals: Vec<Intervals>,
     results: Results,
     standings: Vec<Standing>,
     roster: Roster,
@@ -62,6 +65,7 @@ impl Sched {
         let Parts {
             marks,
             steady,
+            intervals,
             results,
             standings,
             roster,
@@ -73,6 +77,7 @@ impl Sched {
             standings,
             results,
             steady,
+            intervals,
             runs: saved.runs(),
             marks,
         })
@@ -96,6 +101,7 @@ fn resumed_parts(
     ensures standings { IfOk result (λ parts. parts.standings.items ≡ standings_resumed setup.now saved.now) }
     ensures results { IfOk result (λ parts. parts.results ≡ results_resumed setup.now saved.now) }
     ensures marks { IfOk result (λ parts. length parts.marks.items ≡ object_count setup.now) }
+    ensures intervals { IfOk result (λ parts. parts.intervals.items ≡ intervals_of setup.now) }
     ensures steady { IfOk result (λ parts. parts.steady.items ≡ replicate (object_count setup.now) false) }
 {
     // for the proof: what is true of everything that is saved
@@ -105,6 +111,7 @@ fn resumed_parts(
     Ok(Parts {
         marks: vec![in alloc; false; setup.len()]?,
         steady: vec![in alloc; false; setup.len()]?,
+        intervals: intervals_by_number(alloc, setup)?,
         results: resumed_results(alloc, setup, saved, &places)?,
         standings: resumed_standings(alloc, setup, saved, &places)?,
         roster: Roster::new(alloc, setup.hosts(), objects)?,

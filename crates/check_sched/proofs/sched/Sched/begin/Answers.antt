@@ -17,6 +17,7 @@ invariant_of-self c =
           (taken_is_state c.args.now c.args.object s c.self.invariant.state c.requires.moment spare may);
       marks = c.self.invariant.marks;
       hosts = rw c.change.ensures c.self.invariant.hosts;
+      intervals = c.self.invariant.intervals;
       steady_each = c.self.invariant.steady_each;
       steady = c.self.invariant.steady;
     }

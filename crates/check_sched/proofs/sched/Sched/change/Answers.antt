@@ -20,6 +20,7 @@ invariant_of-self c =
           ∙ ap (λ (t : State). keeps_timed c.args.change (is_forced t c.args.object)) c.self.view_is ∙ c.requires.timed)));
       marks = c.self.invariant.marks;
       hosts = rw c.change.ensures c.self.invariant.hosts;
+      intervals = c.self.invariant.intervals;
       steady_each = c.self.invariant.steady_each;
       steady = c.self.invariant.steady;
     }

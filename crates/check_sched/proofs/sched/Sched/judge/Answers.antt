@@ -16,6 +16,7 @@ use Rattle.check_sched.specs.Steady.{IsSteady}
 use Rattle.check_sched.specs.Report.{flaps_with, judged, next_after, state_found}
 use Rattle.check_sched.specs.Step.{found_in, judged_in, report_told, reported, standing_reply, update_at}
 use Rattle.check_sched.proofs.FlappingLaws.{results_here}
+use Rattle.check_sched.proofs.IntervalLaws.{intervals_each, intervals_read}
 use Rattle.check_sched.proofs.ReportLaws.{is_time_holds, judged_is_standing, next_already, reported_is_state, standing_of_state, standing_read, told_answers}
 use Rattle.check_sched.proofs.SteadyLaws.{marks_after, steady_after}
 use Rattle.check_sched.proofs.UpdateLaws.{length-update_at, set_is_update}
@@ -35,6 +36,17 @@ pub judged-standing-requires-clause-before : goal.judged-standing-requires-claus
 judged-standing-requires-clause-before c =
     rw c.deref-2.ensures.value (standing_of_state (state_of c.self.inside) c.args.object c.self.invariant.state
     (count_there c.self.inside c.args.object _ c.self.view_is c.requires.there))
+
+pub index-intervals-requires : goal.index-intervals-requires
+index-intervals-requires c =
+    let known = count_there c.self.inside c.args.object _ c.self.view_is c.requires.there in
+    let each = intervals_each c.self.inside.setup c.self.inside.intervals.items c.self.invariant.intervals in
+    omega (arith, known, each)
+
+pub next_by-next-requires-clause-few : goal.next_by-next-requires-clause-few
+next_by-next-requires-clause-few c =
+    (intervals_read c.self.inside.setup c.args.object c.self.inside.intervals.items c.index-intervals.result.now c.self.invariant.state.valid_setup
+    c.self.invariant.intervals (count_there c.self.inside c.args.object _ c.self.view_is c.requires.there) c.index-intervals.ensures).few
 
 -- the object, its standing, its results and its mark
 there : (c : goal.After-put_standing) → c.args.object < object_count c.self.inside.setup
@@ -70,16 +82,24 @@ made c =
     c.judged-standing.ensures
     ∙ (λ i. judged c.self.inside.setup (c.deref-2.ensures.value i) c.args.object c.state_found-found.result (flapping c i))
 
+-- the next time is the one that the setup gives
+next_given : (c : goal.After-put_standing)
+    → c.next_by-next.result ≡ next_after c.self.inside.setup c.args.object c.judged-standing.result c.args.start c.args.already
+next_given c =
+    let read = intervals_read c.self.inside.setup c.args.object c.self.inside.intervals.items c.index-intervals.result.now c.self.invariant.state.valid_setup
+    c.self.invariant.intervals (there c) c.index-intervals.ensures in
+    c.next_by-next.ensures.value ∙ read.next c.judged-standing.result c.args.start c.args.already
+
 -- what is answered, by what the code makes
 answer : (c : goal.After-put_standing) → report_told c.args.object c.args.start c.args.code c.args.already (state_of c.self.inside)
     ≡ (
-      reported c.args.object c.state_found-found.result c.judged-standing.result c.next_after-next.result
+      reported c.args.object c.state_found-found.result c.judged-standing.result c.next_by-next.result
           (state_of c.self.inside),
-      standing_reply c.args.object c.judged-standing.result c.next_after-next.result (state_of c.self.inside),
+      standing_reply c.args.object c.judged-standing.result c.next_by-next.result (state_of c.self.inside),
     )
 answer c =
     told_answers c.args.object c.args.start c.args.code c.args.already (state_of c.self.inside)
-    c.state_found-found.result c.judged-standing.result c.next_after-next.result (meant c) (made c) c.next_after-next.ensures.value
+    c.state_found-found.result c.judged-standing.result c.next_by-next.result (meant c) (made c) (next_given c)
 
 -- the standings that the write leaves
 standings_left : (c : goal.After-put_standing)
@@ -90,7 +110,7 @@ standings_left c =
     ∙ set_is_update _ (λ (before : Standing). c.judged-standing.result) _ c.judged-standing.result _ (standing_there c) refl
 
 state_left : (c : goal.After-put_standing) (objects : List Scheduling) (standings : List Standing) (results : List (List rules.State))
-    → objects ≡ update_at c.args.object (ended c.next_after-next.result) c.self.inside.roster.objects
+    → objects ≡ update_at c.args.object (ended c.next_by-next.result) c.self.inside.roster.objects
     → standings ≡ update_at c.args.object (λ (before : Standing). c.judged-standing.result) c.self.inside.standings.items
     → results ≡ update_at c.args.object (λ kept. kept_after kept c.state_found-found.result) c.self.inside.results
     → let s : State =
@@ -102,7 +122,7 @@ state_left : (c : goal.After-put_standing) (objects : List Scheduling) (standing
       results = results;
       runs = c.self.inside.runs;
     } in s
-    ≡ reported c.args.object c.state_found-found.result c.judged-standing.result c.next_after-next.result (state_of c.self.inside)
+    ≡ reported c.args.object c.state_found-found.result c.judged-standing.result c.next_by-next.result (state_of c.self.inside)
 state_left c objects standings results e f g i = record {
   setup = c.self.inside.setup;
   start = c.self.inside.start;
@@ -114,11 +134,11 @@ state_left c objects standings results e f g i = record {
 
 -- a next time that was set while the check ran stays
 already_set : (c : goal.After-put_standing) (o : Scheduling) → slice_get c.self.inside.roster.objects c.args.object ≡ Some o → is_some o.next ≡ true
-    → is_some c.next_after-next.result ≡ true
+    → is_some c.next_by-next.result ≡ true
 already_set c o e f =
     let next = ap (λ (s : State). next_of c.args.object s) c.self.view_is ∙ c.requires.already in
     let here : o.next ≡ c.args.already = ap (option_and_then (λ (x : Scheduling). x.next)) (sym e) ∙ next in
-    rw c.next_after-next.ensures.value (next_already c.self.inside.setup c.args.object c.judged-standing.result c.args.start c.args.already
+    rw (next_given c) (next_already c.self.inside.setup c.args.object c.judged-standing.result c.args.start c.args.already
     (ap is_some (sym here) ∙ f))
 
 -- the mark that the object gets
@@ -145,10 +165,11 @@ invariant_of-self c =
     record {
       state =
           rw (c.change.ensures, c.add-flapping.ensures.kept, state_left c _ _ _ refl (standings_left c) refl)
-          (reported_is_state c.args.object c.state_found-found.result c.judged-standing.result c.next_after-next.result s c.self.invariant.state
-          (is_time_holds c.next_after-next.result c.next_after-next.ensures.within) (already_set c) c.state_found-found.ensures.sort within);
+          (reported_is_state c.args.object c.state_found-found.result c.judged-standing.result c.next_by-next.result s c.self.invariant.state
+          (is_time_holds c.next_by-next.result c.next_by-next.ensures.within) (already_set c) c.state_found-found.ensures.sort within);
       marks = c.self.invariant.marks;
       hosts = rw c.change.ensures c.self.invariant.hosts;
+      intervals = c.self.invariant.intervals;
       steady_each = rw (marks_left c) (length-update_at c.args.object _ c.self.inside.steady.items ∙ c.self.invariant.steady_each);
       steady =
           rw (c.add-flapping.ensures.kept, standings_left c, marks_left c)
@@ -175,4 +196,4 @@ returns-clause-reply c =
     let standing = c.judged-standing.result in
     let changed = c.is_changed-changed.ensures ∙ ap (λ (t : Standing). is_another_state standing.state t.state) (sym before) in
     rw (← c.self.view_is)
-    (ap (λ changed. reply.Standing standing changed c.next_after-next.result) changed ∙ ap (λ (a : State × Reply). a.1) (sym (answer c)))
+    (ap (λ changed. reply.Standing standing changed c.next_by-next.result) changed ∙ ap (λ (a : State × Reply). a.1) (sym (answer c)))

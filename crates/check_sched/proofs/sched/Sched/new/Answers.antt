@@ -29,6 +29,7 @@ invariant_of-result c =
           (c.in-Ok-none.ensures ∙ ap (λ count. replicate count []) c.len.ensures.count));
       marks = let l = c.in-Ok-vec.ensures.len in let m = c.len-2.ensures.count in omega (arith, l, m);
       hosts = ap (λ (r : RosterState). r.hosts) c.in-Ok-new.ensures ∙ c.hosts.ensures.count;
+      intervals = c.in-Ok-intervals_by_number.ensures;
       steady_each = let l = c.in-Ok-vec-2.ensures.len in let m = c.len-3.ensures.count in omega (arith, l, m);
       steady = λ number set. absurd (none_marked c.len-3.result number
           (sym (ap (λ marks. slice_get marks number) (c.in-Ok-vec-2.ensures.items_if_clones_equal (λ y e. e))) ∙ set));

@@ -38,6 +38,7 @@ invariant_of-result c =
           (resumed_is_state setup saved c.args.start made.valid_setup made.saved c.requires (first_times_below setup c.args.start made.valid_setup c.requires));
       marks = made.marks;
       hosts = ap (λ (r : RosterState). r.hosts) made.roster;
+      intervals = made.intervals;
       steady_each = ap length made.steady ∙ length-replicate (object_count setup) false;
       steady = λ number set. absurd (none_marked (object_count setup) number (sym (ap (λ marks. slice_get marks number) made.steady) ∙ set));
     }
