@@ -4,6 +4,7 @@ pub mod HeadLemmas
 pub mod NameLemmas
 pub mod CountLemmas
 pub mod WordLemmas
+pub mod PieceLemmas
 pub mod RoundLemmas
 pub mod KeyLemmas
 pub mod LineLemmas

@@ -5,8 +5,8 @@ ghost use Rattle.clap.specs.declared.builder.command.Command.TheViews.{out-Comma
 ghost use Rattle.clap.specs.Words.{app_of, fault_of, kind_of, rows_of, rule_of, found_of, subcommand_rows_of};
 ghost use Rattle.clap.specs.Walk.{texts};
 ghost use Rattle.check_words.specs.Words.{program, run_subcommand, live_subcommand, check_subcommand, drill_subcommand, schema_subcommand};
-ghost use Rattle.check_words.specs.Words.{number_option, start_option, open_start_option, workers_option, room_option};
-ghost use Rattle.check_words.specs.Words.{flag, flag_of, line_flag, line_of, resume_flag, resume_of};
+ghost use Rattle.check_words.specs.Words.{number_option, open_start_option};
+ghost use Rattle.check_words.specs.Words.{flag, flag_of, resume_of};
 ghost use Rattle.check_words.specs.Words.{check_from, live_from, open_start_of, run_from, start_by};
 ghost use Rattle.check_words.specs.Words.{job_asked, job_of, run_of, live_of, check_of, drill_of, start_of, workers_of, room_of};
 ghost use Rattle.check_words.specs.Words.{number_of, number_between, Explains, IsWithinLimits, Reads, Tells, version_line};
@@ -74,7 +74,7 @@ fn build_run<'a>(alloc: Global) -> Result<Command<'a>, AllocError>
         .about(ABOUT_RUN)
         .after_help(RUN_NOTES)
         .arg(open_start_option(alloc))?
-        .arg(resume_flag(alloc, ABOUT_RESUME))
+        .arg(flag(alloc, "resume", ABOUT_RESUME))
 }
 
 /// The subcommand `live`.
@@ -86,7 +86,7 @@ fn build_live<'a>(alloc: Global) -> Result<Command<'a>, AllocError>
         .about(ABOUT_LIVE)
         .after_help(LIVE_NOTES)
         .arg(open_start_option(alloc))?
-        .arg(resume_flag(alloc, ABOUT_RESUME))
+        .arg(flag(alloc, "resume", ABOUT_RESUME))
 }
 
 /// The subcommand `check`.
@@ -98,8 +98,8 @@ fn build_check<'a>(alloc: Global) -> Result<Command<'a>, AllocError>
         .about(ABOUT_CHECK)
         .after_help(CHECK_NOTES)
         .arg(open_start_option(alloc))?
-        .arg(resume_flag(alloc, ABOUT_CHECK_RESUME))?
-        .arg(line_flag(alloc))
+        .arg(flag(alloc, "resume", ABOUT_CHECK_RESUME))?
+        .arg(flag(alloc, "line", ABOUT_LINE))
 }
 
 /// The subcommand `drill`.
@@ -110,9 +110,9 @@ fn build_drill<'a>(alloc: Global) -> Result<Command<'a>, AllocError>
     Command::new(alloc, "drill")
         .about(ABOUT_DRILL)
         .after_help(DRILL_NOTES)
-        .arg(start_option(alloc))?
-        .arg(workers_option(alloc))?
-        .arg(room_option(alloc))
+        .arg(number_option(alloc, "start", "0", ABOUT_START))?
+        .arg(number_option(alloc, "workers", "2", ABOUT_WORKERS))?
+        .arg(number_option(alloc, "room", "1000", ABOUT_ROOM))
 }
 
 /// The subcommand `schema`, which has no option.
@@ -123,14 +123,6 @@ fn build_schema<'a>(alloc: Global) -> Command<'a>
     Command::new(alloc, "schema")
         .about(ABOUT_SCHEMA)
         .after_help(SCHEMA_NOTES)
-}
-
-/// The option `--start N` of `drill`.
-fn start_option<'a>(alloc: Global) -> Arg<'a>
-    ensures rule { rule_of result ≡ start_option }
-    ensures local { result.global ≡ false }
-{
-    number_option(alloc, "start", "0").help(ABOUT_START)
 }
 
 /// The option `--start N` of `run`, `live` and `check`.
@@ -144,48 +136,20 @@ fn open_start_option<'a>(alloc: Global) -> Arg<'a>
         .help(ABOUT_OPEN_START)
 }
 
-/// The option `--workers N`.
-fn workers_option<'a>(alloc: Global) -> Arg<'a>
-    ensures rule { rule_of result ≡ workers_option }
-    ensures local { result.global ≡ false }
-{
-    number_option(alloc, "workers", "2").help(ABOUT_WORKERS)
-}
-
-/// The option `--room N`.
-fn room_option<'a>(alloc: Global) -> Arg<'a>
-    ensures rule { rule_of result ≡ room_option }
-    ensures local { result.global ≡ false }
-{
-    number_option(alloc, "room", "1000").help(ABOUT_ROOM)
-}
-
-/// The flag `--line`.
-fn line_flag<'a>(alloc: Global) -> Arg<'a>
-    ensures rule { rule_of result ≡ line_flag }
-    ensures local { result.global ≡ false }
-{
-    flag(alloc, "line").help(ABOUT_LINE)
-}
-
-/// The flag `--resume`, of which the help says this.
-fn resume_flag<'a>(alloc: Global, about: &'a str) -> Arg<'a>
-    ensures rule { rule_of result ≡ resume_flag }
-    ensures local { result.global ≡ false }
-{
-    flag(alloc, "resume").help(about)
-}
-
-/// The flag `--name`.
-fn flag<'a>(alloc: Global, name: &'a str) -> Arg<'a>
+/// The flag `--name`, of which the help says this.
+fn flag<'a>(alloc: Global, name: &'a str, about: &'a str) -> Arg<'a>
     ensures rule { rule_of result ≡ flag name.now }
     ensures local { result.global ≡ false }
 {
-    Arg::new(alloc, name).long(name).action(ArgAction::SetTrue)
+    Arg::new(alloc, name)
+        .long(name)
+        .action(ArgAction::SetTrue)
+        .help(about)
 }
 
-/// The option `--name N`, a number, which is `otherwise` where it isn't given.
-fn number_option<'a>(alloc: Global, name: &'a str, otherwise: &'a str) -> Arg<'a>
+/// The option `--name N`, a number, which is `otherwise` where it isn't given, and of which the help says
+/// this.
+fn number_option<'a>(alloc: Global, name: &'a str, otherwise: &'a str, about: &'a str) -> Arg<'a>
     ensures rule { rule_of result ≡ number_option name.now otherwise.now }
     ensures local { result.global ≡ false }
 {
@@ -193,6 +157,7 @@ fn number_option<'a>(alloc: Global, name: &'a str, otherwise: &'a str) -> Arg<'a
         .long(name)
         .value_name("N")
         .default_value(otherwise)
+        .help(about)
 }
 
 /// The job that was read.
@@ -261,7 +226,7 @@ fn read_check(options: &ArgMatches<'_>) -> Option<Job>
     ensures limits { IfSome result IsWithinLimits }
 {
     let start = read_open_start(options)?;
-    check_from(is_resumed(options), read_line(options), start)
+    check_from(is_resumed(options), read_flag(options, "line"), start)
 }
 
 /// The job of `check` with these flags and this start, if they go together.
@@ -316,13 +281,6 @@ fn start_by(text: Option<&str>) -> Option<Option<u64>>
         Some(text) => Some(Some(parse_number(text, 0, LAST_MOMENT)?)),
         None => Some(None),
     }
-}
-
-/// Whether the flag `--line` was given.
-fn read_line(options: &ArgMatches<'_>) -> bool
-    ensures { result ≡ line_of (rows_of (found_of options.now)) }
-{
-    read_flag(options, "line")
 }
 
 /// Whether the flag `--resume` was given.

@@ -10,11 +10,11 @@ returns c =
     let top : app_of c.after_help.result ≡ new_app (codes "drill") =
     ap app_of_fields c.after_help.ensures ∙ ap app_of_fields c.about.ensures ∙ c.new.ensures.app in
     let local = ap (λ k. k.has_globals) c.after_help.ensures ∙ ap (λ k. k.has_globals) c.about.ensures ∙ c.new.ensures.local in
-    let with_start = c.in_ok-arg.ensures.shape c.start_option.ensures.local ∙ ap₂ with_rule top c.start_option.ensures.rule in
-    let start_local = c.in_ok-arg.ensures.globals ∙ ap₂ (◌||◌) local c.start_option.ensures.local in
-    let with_workers = c.in_ok-arg-2.ensures.shape c.workers_option.ensures.local ∙ ap₂ with_rule with_start c.workers_option.ensures.rule in
-    let workers_local = c.in_ok-arg-2.ensures.globals ∙ ap₂ (◌||◌) start_local c.workers_option.ensures.local in
+    let with_start = c.in_ok-arg.ensures.shape c.number_option.ensures.local ∙ ap₂ with_rule top c.number_option.ensures.rule in
+    let start_local = c.in_ok-arg.ensures.globals ∙ ap₂ (◌||◌) local c.number_option.ensures.local in
+    let with_workers = c.in_ok-arg-2.ensures.shape c.number_option-2.ensures.local ∙ ap₂ with_rule with_start c.number_option-2.ensures.rule in
+    let workers_local = c.in_ok-arg-2.ensures.globals ∙ ap₂ (◌||◌) start_local c.number_option-2.ensures.local in
     IfOk-weaker c.arg-3.result _ _ (λ r h. (
-      h.shape c.room_option.ensures.local ∙ ap₂ with_rule with_workers c.room_option.ensures.rule,
-      h.globals ∙ ap₂ (◌||◌) workers_local c.room_option.ensures.local,
+      h.shape c.number_option-3.ensures.local ∙ ap₂ with_rule with_workers c.number_option-3.ensures.rule,
+      h.globals ∙ ap₂ (◌||◌) workers_local c.number_option-3.ensures.local,
     )) c.arg-3.ensures
