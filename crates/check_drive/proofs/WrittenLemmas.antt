@@ -1,6 +1,6 @@
 -- How the writing of a line or of a text ended.
 use Rattle.std.proofs.Common.{◌≡◌, ◌≢◌, ℕ, List, [], ◌++◌, Option, Some, None, Result, Ok, Err, refl, inl, inr}
-use Rattle.std.specs.Prelude.{IfErr, IsOkUnless, OnErr, OnOk}
+use Rattle.std.specs.Prelude.{IfErr, OnErr, OnOk}
 use Rattle.std.specs.Io.KnownBytes.{Appends, Keeps}
 use Rattle.check_script.specs.declared.drive_error.DriveError.{DriveError}
 use Rattle.check_script.specs.declared.drive_error.DriveError.TheVariants as errors
@@ -41,14 +41,6 @@ pub line_clauses : {T : Type 0} (r : Result T DriveError) (old new : Option (Lis
     → OnOk r (Appends old new line) × OnErr r (WroteFront old new line) × IfErr r (λ e. e ≢ errors.Read) × IfErr r (λ e. e ≡ errors.Memory → Keeps old new)
 line_clauses (Ok x) old new line h = (h, tt, tt, tt)
 line_clauses (Err e) old new line h = let w = left_clauses e old new line h in (tt, w.0, w.1, w.2)
-
--- of a function that needs no memory
-pub line_only : {T : Type 0} (r : Result T DriveError) (old new : Option (List ℕ)) (line : List ℕ) → OnOk r (Appends old new line)
-    → OnErr r (WroteFront old new line) → IsOkUnless r errors.Write → IsLineWritten r old new line
-line_only (Ok x) old new line wrote front only = wrote
-line_only (Err errors.Read) old new line wrote front only = cc
-line_only (Err errors.Write) old new line wrote front only = front
-line_only (Err errors.Memory) old new line wrote front only = cc
 
 -- out of memory before anything was written
 pub line_none : (e : DriveError) (held : Option (List ℕ)) (line : List ℕ) → e ≡ errors.Memory → LeftOfLine e held held line
