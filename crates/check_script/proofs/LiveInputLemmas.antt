@@ -244,6 +244,13 @@ soon_yet most given free few =
     let first = ap length (first_all given free) in
     record { at_the_bound = omega (arith, few); at_the_feed = omega (arith, first) }
 
+-- what is so of what was given and of what one more read gave, behind what had no line feed
+pub given_more : (had mid left : Option (List ℕ)) (most : ℕ) (given part : List ℕ) (took after : List ℕ → Type 0) → Consumes had mid given → Consumes mid left part
+    → has_feed given ≡ false → length given < most → length part ≤ ASKED_BYTES → took (given ++ part) → after (given ++ part)
+    → (all : List ℕ) × Consumes had left all × took all × StopsSoon most all × after all
+given_more had mid left most given part took after before now free few size t a =
+    (given ++ part, Consumes-then had mid left given part before now, t, stops_soon most given part free few size, a)
+
 -- as many bytes are kept as may be exactly where as many have come
 pub full_is : (most : ℕ) (bytes : List ℕ) (line : LineFront) → line ≡ front_of most bytes → (length line.bytes == line.most) ≡ true → most ≤ length bytes
 full_is most bytes line k e =

@@ -2,7 +2,7 @@ use Rattle.std.proofs.Common.{arith, ◌∙◌, sym, inl, inr, ◌++◌, refl, [
 use Rattle.std.specs.Prelude.{IfErr}
 use Rattle.std.proofs.lemmas.Result.{err_from_is_err_and}
 use Rattle.check_script.specs.LiveError.{AfterReads}
-use Rattle.check_script.proofs.LiveInputLemmas.{after_input, more_reads, Consumes-none, Consumes-then, full_is, if_ok_never, soon_yet, not_full, not_yet, stops_soon, took_all, took_on}
+use Rattle.check_script.proofs.LiveInputLemmas.{after_input, more_reads, Consumes-none, Consumes-then, full_is, given_more, if_ok_never, soon_yet, not_full, not_yet, took_all, took_on}
 use Rattle.check_script.proofs.live_input.take_first_line.Goals as goal
 
 pub loop-reads-init : goal.loop-reads-init
@@ -25,13 +25,8 @@ returns-in_err-read_more g c =
     let after : IfErr c.from_residual.result (AfterReads (s.given ++ r.0)) =
     rw (p.1, p.2) (after_input (s.given ++ r.0) _ c.in_err-read_more.ensures.errors) in
     record {
-      took = (
-        s.given ++ r.0,
-        Consumes-then _ _ _ s.given r.0 s.consumed r.1,
-        if_ok_never _ _ c.from_residual.ensures.0,
-        stops_soon _ s.given r.0 s.begun.feedless s.few r.3,
-        after,
-      );
+      took = given_more _ _ _ _ s.given r.0 _ _ s.consumed r.1 s.begun.feedless s.few r.3
+          (if_ok_never _ _ c.from_residual.ensures.0) after;
     }
 
 pub returns-then-not-branch : goal.returns-then-not-branch
@@ -40,13 +35,8 @@ returns-then-not-branch g c =
     let r = c.in_ok-read_more.ensures.given in
     let end = c.in_ok-read_more.ensures.end c.if-not-branch.true in
     record {
-      took = (
-        s.given ++ r.0,
-        Consumes-then _ _ _ s.given r.0 s.consumed r.1,
-        took_all _ s.given r.0 _ _ _ s.begun.feedless s.begun.kept r.2 end.0 (inl end.1),
-        stops_soon _ s.given r.0 s.begun.feedless s.few r.3,
-        tt,
-      );
+      took = given_more _ _ _ _ s.given r.0 _ _ s.consumed r.1 s.begun.feedless s.few r.3
+          (took_all _ s.given r.0 _ _ _ s.begun.feedless s.begun.kept r.2 end.0 (inl end.1)) tt;
     }
 
 pub returns-in_err-take_line : goal.returns-in_err-take_line
@@ -56,13 +46,8 @@ returns-in_err-take_line g c =
     let p = err_from_is_err_and c.from_residual-in_err-take_line.result c.from_residual-in_err-take_line.ensures.1 in
     let after : IfErr c.from_residual-in_err-take_line.result (AfterReads (s.given ++ r.0)) = rw (p.1, p.2) tt in
     record {
-      took = (
-        s.given ++ r.0,
-        Consumes-then _ _ _ s.given r.0 s.consumed r.1,
-        if_ok_never _ _ c.from_residual-in_err-take_line.ensures.0,
-        stops_soon _ s.given r.0 s.begun.feedless s.few r.3,
-        after,
-      );
+      took = given_more _ _ _ _ s.given r.0 _ _ s.consumed r.1 s.begun.feedless s.few r.3
+          (if_ok_never _ _ c.from_residual-in_err-take_line.ensures.0) after;
     }
 
 pub returns-then-branch : goal.returns-then-branch
@@ -71,13 +56,8 @@ returns-then-branch g c =
     let r = c.in_ok-read_more.ensures.given in
     let t = c.in_ok-take_line.ensures in
     record {
-      took = (
-        s.given ++ r.0,
-        Consumes-then _ _ _ s.given r.0 s.consumed r.1,
-        took_on _ s.given r.0 _ _ _ _ _ _ s.begun.feedless s.begun.kept r.2 (sym c.if-branch.true ∙ t.whole) t.rest t.line (λ e. cc),
-        stops_soon _ s.given r.0 s.begun.feedless s.few r.3,
-        tt,
-      );
+      took = given_more _ _ _ _ s.given r.0 _ _ s.consumed r.1 s.begun.feedless s.few r.3
+          (took_on _ s.given r.0 _ _ _ _ _ _ s.begun.feedless s.begun.kept r.2 (sym c.if-branch.true ∙ t.whole) t.rest t.line (λ e. cc)) tt;
     }
 
 pub returns-then-is_full : goal.returns-then-is_full
@@ -88,14 +68,9 @@ returns-then-is_full g c =
     let took = took_on _ s.given r.0 _ _ _ _ _ (Unit {0}) s.begun.feedless s.begun.kept r.2 t.whole t.rest t.line (λ e. tt) in
     let begun = not_yet _ _ _ _ _ _ took c.if-branch.false in
     record {
-      took = (
-        s.given ++ r.0,
-        Consumes-then _ _ _ s.given r.0 s.consumed r.1,
-        took_on _ s.given r.0 _ _ _ _ _ _ s.begun.feedless s.begun.kept r.2 (sym c.if-branch.false ∙ t.whole) t.rest t.line
-            (λ e. inr (full_is _ _ _ begun.kept (sym c.is_full.ensures ∙ c.if-is_full.true))),
-        stops_soon _ s.given r.0 s.begun.feedless s.few r.3,
-        tt,
-      );
+      took = given_more _ _ _ _ s.given r.0 _ _ s.consumed r.1 s.begun.feedless s.few r.3
+          (took_on _ s.given r.0 _ _ _ _ _ _ s.begun.feedless s.begun.kept r.2 (sym c.if-branch.false ∙ t.whole) t.rest t.line
+          (λ e. inr (full_is _ _ _ begun.kept (sym c.is_full.ensures ∙ c.if-is_full.true)))) tt;
     }
 
 pub loop-reads-preserved : goal.loop-reads-preserved
