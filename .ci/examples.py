@@ -4,8 +4,7 @@
     .ci/examples.py [PROGRAM]     crates/nagsched/out/nagsched where no program is named
 
 What office.out, sequence.out and drill.out say was worked out by hand from the rules. The whole program that the page on embedding shows is a
-test of desk_tests, byte for byte, and the code of its section on months stands in the sources of machine_room. `loop.rt` is a
-file of machine_room, byte for byte, which the gate proves and runs.
+test of desk_tests, byte for byte, and the code of its section on months stands in the sources of machine_room.
 """
 import re
 
@@ -15,7 +14,6 @@ EMBEDDING = TOP / "docs" / "EMBEDDING_RATTLE.md"
 EMBEDDED = TOP / "crates" / "desk_tests" / "src" / "workers" / "own_threads.rt"
 MONTHS = "## For months"
 MACHINE_ROOM = TOP / "crates" / "machine_room" / "src"
-LOOP = EXAMPLES / "loop.rt"
 RUNS = {"office": ["run"], "sequence": ["run"], "drill": ["drill", "--workers", "1"]}
 
 
@@ -36,5 +34,4 @@ blocks = re.findall(r"```rust\n(.*?)```", section(page, MONTHS), re.DOTALL)
 held.compare(f"{EMBEDDING.name}, {MONTHS}: code blocks", 4, len(blocks))
 for block in blocks:
     held.compare(f"{EMBEDDING.name}, {MONTHS}: {block.splitlines()[0]}", True, block in sources)
-held.compare("loop.rt is restart.rt of machine_room", (MACHINE_ROOM / "restart.rt").read_text(encoding="utf-8"), LOOP.read_text(encoding="utf-8"))
 held.end()

@@ -59,9 +59,10 @@ done
 for page in EMBEDDING EMBEDDING_C EMBEDDING_PYTHON EXPLANATIONS FORMATS GLOSSARY MONITOR NAGIOS OPERATING SCHEDULING; do
     place 644 "$top/docs/$page.md" "share/doc/nagsched/$page.md"
 done
-for example in embed.c embed.py loop.c loop.py loop.rt monitor.py mail_change.py alert_change.py; do
+for example in embed.c embed.py loop.c loop.py monitor.py mail_change.py alert_change.py; do
     place 644 "$top/examples/$example" "share/doc/nagsched/examples/$example"
 done
+place 644 "$top/crates/machine_room/src/restart.rt" share/doc/nagsched/examples/loop.rt
 [ -n "$library" ] || exit 0
 place 644 "$built/include/nagsched.h" include/nagsched.h
 place 644 "$built/lib/libnagsched.a" lib/libnagsched.a
