@@ -6,6 +6,7 @@
 # setup cancels. Instructions are steady on any machine, as times aren't. The rows:
 #   queue    the first of n entries is taken out and put back 5 minutes later
 #   calls    a check of one of n objects is taken and reported, by the scheduler alone
+#   vary     the same, where each report has a random code
 #   run      the same by the whole program: two lines read, two written
 #   ask      each of these two calls, by the only pass of a desk: what the lock, the turn and the history add to `calls`
 #   caller   each of them, by a caller of the C library: what the handle, the guard and C's own loop add to `ask`
@@ -88,8 +89,11 @@ printf '%8s %8s %14s\n' '' numbers instructions
 for numbers in 64 1000 4096; do
     printf '%8s %8d %14d\n' queue "$numbers" "$(by_workload steady "$numbers")"
 done
-for numbers in 64 512 4096; do
+for numbers in 64 512 1000 4096; do
     printf '%8s %8d %14d\n' calls "$numbers" "$(by_workload cycle "$numbers")"
+done
+for numbers in 64 1000 4096; do
+    printf '%8s %8d %14d\n' vary "$numbers" "$(by_workload vary "$numbers")"
 done
 for numbers in 64 512 4096; do
     printf '%8s %8d %14d\n' run "$numbers" "$(by_run "$numbers")"

@@ -16,6 +16,7 @@
 //! | `cycle` | takes a check of one of n objects, and reports that it is OK |
 //! | `depend` | as `cycle`, where every service but the first depends on the first |
 //! | `inherit` | as `depend`, where these dependencies inherit, and the first service depends on the second |
+//! | `vary` | takes the check that is due first at its moment, and reports a random code |
 //! | `lines` | as `cycle`, and the replies are written as lines of text |
 //! | `ask` | as `cycle`, by the only pass of a desk |
 //!
@@ -31,7 +32,7 @@ mod sched_work;
 
 use made::{Made, nanos_since};
 use queue_work::{QueueWork, QueueWorkload};
-use sched_work::{Masters, cycle, lines, scheduler};
+use sched_work::{Masters, cycle, lines, scheduler, vary};
 use std::alloc::Global;
 use std::env;
 use std::process::ExitCode;
@@ -46,6 +47,8 @@ const MAX_NUMBERS: u32 = 1_000_000;
 enum Workload {
     Queue(QueueWorkload),
     Scheduler(Masters),
+    /// The scheduler's, with random codes.
+    Vary,
     /// The scheduler's, with the lines of its replies.
     Lines,
     /// The scheduler's, by a pass of a desk.
@@ -83,7 +86,7 @@ fn work_on(rt: &(impl Clock + Wait), alloc: Global, job: &Job) -> Option<(Made, 
     match job.workload {
         Workload::Queue(workload) => queue_cycles(rt, alloc, workload, job),
         Workload::Scheduler(masters) => scheduler_cycles(rt, alloc, masters, job),
-        Workload::Lines => scheduler_cycles(rt, alloc, Masters::None, job),
+        Workload::Vary | Workload::Lines => scheduler_cycles(rt, alloc, Masters::None, job),
         Workload::Ask => ask_cycles(rt, alloc, job),
     }
 }
@@ -131,6 +134,7 @@ fn workload_of(word: &str) -> Option<Workload> {
         "cycle" => Some(Workload::Scheduler(Masters::None)),
         "depend" => Some(Workload::Scheduler(Masters::First)),
         "inherit" => Some(Workload::Scheduler(Masters::FirstAndItsMasters)),
+        "vary" => Some(Workload::Vary),
         "lines" => Some(Workload::Lines),
         "ask" => Some(Workload::Ask),
         _ => None,
@@ -164,6 +168,7 @@ fn scheduler_cycles(
     let start = Instant::now(rt);
     let sum = match job.workload {
         Workload::Lines => lines(alloc, &mut scheduler, job.numbers, job.cycles).ok(),
+        Workload::Vary => Some(vary(&mut scheduler, job.cycles)),
         _ => Some(cycle(&mut scheduler, job.numbers, job.cycles)),
     };
     let nanos = nanos_since(rt, start);

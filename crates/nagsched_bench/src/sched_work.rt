@@ -2,9 +2,9 @@
 
 ghost use Rattle.std.specs.Prelude.{◌≤◌};
 
-use crate::random::mixed;
+use crate::random::{Random, mixed};
 use check_objects::Setup;
-use check_rules::Code;
+use check_rules::{Code, encode};
 use check_sched::{Call, Reply, Sched};
 use check_text::push_reply;
 use std::alloc::{AllocError, Global};
@@ -143,7 +143,48 @@ pub(crate) fn cycle(scheduler: &mut Sched, objects: u32, cycles: u64) -> u64 {
     sum
 }
 
-/// The same, and writes the lines of both replies into a text, each in place of the one before.
+/// Takes the check that is due first, at its moment, and reports a random code, so many times; returns a sum
+/// of what was taken and of the standings and times that the reports answered.
+pub(crate) fn vary(scheduler: &mut Sched, cycles: u64) -> u64 {
+    let mut random = Random::new();
+    let mut now = 0;
+    let mut sum = 1;
+    for _cycle in 0..cycles {
+        let mut taken = scheduler.apply(Call::Take { now });
+        if let Reply::Idle { next: Some(next) } = taken {
+            now = next;
+            taken = scheduler.apply(Call::Take { now });
+        }
+        if let Reply::Taken { object, run } = taken {
+            let code = code_of(random.draw());
+            let reported = scheduler.apply(Call::Report { object, run, code });
+            sum = mixed_reply(sum, object, reported);
+        }
+    }
+    sum
+}
+
+/// The code that a random number stands for: each of the four is as frequent.
+fn code_of(drawn: u64) -> Code {
+    match drawn % 4 {
+        0 => Code::Ok,
+        1 => Code::Warning,
+        2 => Code::Critical,
+        _ => Code::Unknown,
+    }
+}
+
+/// Adds what a report of this object answered to a sum.
+fn mixed_reply(sum: u64, object: u32, reported: Reply) -> u64 {
+    let Reply::Standing { standing, next, .. } = reported else {
+        return sum;
+    };
+    let word = encode(standing).wrapping_mul(4096);
+    let sum = mixed(sum, word.wrapping_add(u64::from(object)));
+    mixed(sum, next.unwrap_or(0))
+}
+
+/// As [`cycle`], and writes the lines of both replies into a text, each in place of the one before.
 pub(crate) fn lines(
     alloc: Global,
     scheduler: &mut Sched,

@@ -1,0 +1,280 @@
+/* A scheduler written by hand in C, for bench/anchor.sh to compare nagsched's with: the takes and reports that the
+ * workloads `cycle` and `vary` of nagsched_bench make, over one host that is never due and services that are checked
+ * every 5 minutes. Its queue is a binary heap of times and numbers, with each number's place in it.
+ *   anchor WORKLOAD N CYCLES [untimed]
+ * It has no dependencies, no limit, no calls of operators, and hosts only as what a service stands on. */
+#define _POSIX_C_SOURCE 199309L
+#include <inttypes.h>
+#include <stdbool.h>
+#include <stdio.h>
+#include <stdlib.h>
+#include <string.h>
+#include <time.h>
+
+enum state { OK, WARNING, CRITICAL, UNKNOWN, UP, DOWN, UNREACHABLE };
+enum kind { SOFT, HARD };
+enum { CHECK_INTERVAL = 300000, RETRY_INTERVAL = 60000, MAX_ATTEMPTS = 3, LOW_THRESHOLD = 20, HIGH_THRESHOLD = 30 };
+enum { RESULTS = 21, CHANGES = RESULTS - 1, OLDEST_WEIGHT = 57, NEWEST_WEIGHT = 95, WEIGHT_OF_ALL = 1520 };
+#define NEVER UINT64_MAX
+
+struct standing {
+    bool checked, flapping;
+    uint8_t state, kind, attempt, last_hard;
+};
+
+struct object {
+    uint64_t next; /* when it is due; NEVER while it runs */
+    uint64_t run;  /* the number of its run, 0 where it doesn't run */
+    uint64_t started;
+    uint32_t changes; /* a bit for each of the last 20 changes, the newest the lowest */
+    uint16_t weight;  /* what these weigh together */
+    uint8_t changed;  /* how many they are */
+    uint8_t results;  /* how many results there were, at most 21 */
+    struct standing standing;
+};
+
+struct entry {
+    uint64_t time;
+    uint32_t number;
+};
+
+struct scheduler {
+    struct object *objects;
+    struct entry *heap;
+    uint32_t *places; /* where each number stands in the heap */
+    uint32_t waiting;
+    uint32_t count;
+    uint64_t runs;
+};
+
+enum answer { TAKEN, IDLE, STANDING, REFUSED };
+
+struct reply {
+    enum answer answer;
+    uint32_t object;
+    uint64_t run;
+    uint64_t next;
+    struct standing standing;
+};
+
+/* ---- the queue */
+
+static inline bool is_before(struct entry a, struct entry b) {
+    return a.time < b.time || (a.time == b.time && a.number < b.number);
+}
+
+static inline void set_place(struct scheduler *s, uint32_t place, struct entry entry) {
+    s->heap[place] = entry;
+    s->places[entry.number] = place;
+}
+
+static void sift_up(struct scheduler *s, uint32_t place, struct entry entry) {
+    while (place > 0) {
+        uint32_t parent = (place - 1) / 2;
+        if (!is_before(entry, s->heap[parent]))
+            break;
+        set_place(s, place, s->heap[parent]);
+        place = parent;
+    }
+    set_place(s, place, entry);
+}
+
+/* The last entry goes where the first was: the hole sinks to a leaf, and the entry rises from there. */
+static void remove_first(struct scheduler *s) {
+    struct entry last = s->heap[--s->waiting];
+    uint32_t place = 0, child = 1;
+    if (s->waiting == 0)
+        return;
+    while (child + 1 < s->waiting) {
+        child += is_before(s->heap[child + 1], s->heap[child]);
+        set_place(s, place, s->heap[child]);
+        place = child;
+        child = 2 * place + 1;
+    }
+    if (child < s->waiting) {
+        set_place(s, place, s->heap[child]);
+        place = child;
+    }
+    sift_up(s, place, last);
+}
+
+static void put(struct scheduler *s, uint32_t number, uint64_t time) {
+    sift_up(s, s->waiting++, (struct entry){ time, number });
+}
+
+/* ---- the rules */
+
+static inline bool is_problem(uint8_t state) {
+    return state != OK && state != UP;
+}
+
+/* Keeps one more result: the oldest change goes, each other one weighs 2 less, and the new one weighs 95. */
+static void keep_result(struct object *o, uint8_t found) {
+    uint32_t is_new = o->results > 0 && found != o->standing.state;
+    uint32_t oldest = o->changes >> (CHANGES - 1);
+    uint32_t others = o->changed - oldest;
+    o->weight = (uint16_t)(o->weight - oldest * OLDEST_WEIGHT - 2 * others + is_new * NEWEST_WEIGHT);
+    o->changes = (o->changes << 1 | is_new) & ((1u << CHANGES) - 1);
+    o->changed = (uint8_t)(others + is_new);
+    o->results += o->results < RESULTS;
+}
+
+static bool flaps(const struct object *o) {
+    uint32_t percent = o->results == RESULTS ? 100u * o->weight / WEIGHT_OF_ALL : 0;
+    return percent >= (o->standing.flapping ? LOW_THRESHOLD : HIGH_THRESHOLD);
+}
+
+static struct standing verdict(struct standing before, uint8_t found, bool host_up, bool flapping) {
+    struct standing after = { .checked = true, .flapping = flapping, .state = found, .last_hard = before.last_hard };
+    bool was_soft_problem = is_problem(before.state) && before.kind == SOFT;
+    after.attempt = was_soft_problem ? before.attempt + 1 : 1;
+    if (!is_problem(found)) {
+        after.kind = was_soft_problem ? SOFT : HARD;
+    } else {
+        if (!host_up || (is_problem(before.state) && before.kind == HARD))
+            after.attempt = MAX_ATTEMPTS;
+        after.kind = after.attempt == MAX_ATTEMPTS ? HARD : SOFT;
+    }
+    if (after.kind == HARD)
+        after.last_hard = found;
+    return after;
+}
+
+/* ---- the calls */
+
+__attribute__((noinline)) static void take(struct scheduler *s, uint64_t now, struct reply *reply) {
+    uint64_t first = s->waiting ? s->heap[0].time : NEVER;
+    if (first > now) {
+        reply->answer = IDLE;
+        reply->next = first;
+        return;
+    }
+    uint32_t number = s->heap[0].number;
+    struct object *o = &s->objects[number];
+    remove_first(s);
+    o->next = NEVER;
+    o->run = ++s->runs;
+    o->started = now;
+    reply->answer = TAKEN;
+    reply->object = number;
+    reply->run = o->run;
+}
+
+__attribute__((noinline)) static void report(struct scheduler *s, uint32_t number, uint64_t run, uint32_t code, struct reply *reply) {
+    struct object *o = &s->objects[number];
+    if (number >= s->count || run == 0 || o->run != run) {
+        reply->answer = REFUSED;
+        return;
+    }
+    uint8_t found = (uint8_t)code;
+    const struct standing *host = &s->objects[0].standing;
+    bool host_up = !host->checked || host->state == UP;
+    keep_result(o, found);
+    o->standing = verdict(o->standing, found, host_up, flaps(o));
+    bool retries = is_problem(found) && o->standing.kind == SOFT;
+    o->run = 0;
+    o->next = o->started + (retries ? RETRY_INTERVAL : CHECK_INTERVAL);
+    put(s, number, o->next);
+    reply->answer = STANDING;
+    reply->standing = o->standing;
+    reply->next = o->next;
+}
+
+/* ---- the workloads */
+
+static uint64_t random_state = 42;
+
+static uint64_t draw(void) {
+    uint64_t drawn = random_state += UINT64_C(0x9E3779B97F4A7C15);
+    drawn = (drawn ^ drawn >> 30) * UINT64_C(0xBF58476D1CE4E5B9);
+    drawn = (drawn ^ drawn >> 27) * UINT64_C(0x94D049BB133111EB);
+    return drawn ^ drawn >> 31;
+}
+
+static uint64_t mixed(uint64_t sum, uint64_t value) {
+    return (sum ^ value) * UINT64_C(0x100000001B3);
+}
+
+static uint64_t word_of(struct standing s) {
+    return s.checked + 2u * s.state + 16u * s.kind + 32u * s.attempt + 8192u * s.last_hard + 65536u * s.flapping;
+}
+
+static uint64_t cycle(struct scheduler *s, uint64_t cycles) {
+    uint64_t services = s->count > 2 ? s->count - 1 : 1, left = services, now = 0, sum = 1;
+    struct reply reply;
+    while (cycles-- > 0) {
+        if (left == 0) {
+            now += CHECK_INTERVAL;
+            left = services;
+        }
+        left--;
+        take(s, now, &reply);
+        if (reply.answer == TAKEN) {
+            uint32_t object = reply.object;
+            report(s, object, reply.run, OK, &reply);
+            sum = mixed(sum, object);
+        }
+    }
+    return sum;
+}
+
+static uint64_t vary(struct scheduler *s, uint64_t cycles) {
+    uint64_t now = 0, sum = 1;
+    struct reply reply;
+    while (cycles-- > 0) {
+        take(s, now, &reply);
+        if (reply.answer == IDLE && reply.next != NEVER) {
+            now = reply.next;
+            take(s, now, &reply);
+        }
+        if (reply.answer == TAKEN) {
+            uint32_t object = reply.object;
+            report(s, object, reply.run, (uint32_t)(draw() % 4), &reply);
+            sum = mixed(sum, word_of(reply.standing) * 4096 + object);
+            sum = mixed(sum, reply.next);
+        }
+    }
+    return sum;
+}
+
+static bool make(struct scheduler *s, uint32_t count) {
+    *s = (struct scheduler){ .count = count };
+    s->objects = calloc(count, sizeof *s->objects);
+    s->heap = calloc(count, sizeof *s->heap);
+    s->places = calloc(count, sizeof *s->places);
+    if (!s->objects || !s->heap || !s->places)
+        return false;
+    for (uint32_t number = 0; number < count; number++) {
+        uint8_t fine = number == 0 ? UP : OK;
+        s->objects[number].next = number == 0 ? NEVER : 0;
+        s->objects[number].standing = (struct standing){ .state = fine, .kind = HARD, .attempt = 1, .last_hard = fine };
+        if (number > 0)
+            put(s, number, 0);
+    }
+    return true;
+}
+
+static uint64_t nanoseconds(void) {
+    struct timespec at;
+    clock_gettime(CLOCK_MONOTONIC, &at);
+    return (uint64_t)at.tv_sec * 1000000000u + (uint64_t)at.tv_nsec;
+}
+
+int main(int argc, char **argv) {
+    if (argc < 4)
+        return 2;
+    bool varies = strcmp(argv[1], "vary") == 0;
+    uint32_t count = (uint32_t)strtoul(argv[2], NULL, 10);
+    uint64_t cycles = strtoull(argv[3], NULL, 10);
+    struct scheduler s;
+    if (count == 0 || (!varies && strcmp(argv[1], "cycle") != 0) || !make(&s, count))
+        return 2;
+    uint64_t begun = nanoseconds();
+    uint64_t sum = varies ? vary(&s, cycles) : cycle(&s, cycles);
+    uint64_t taken = nanoseconds() - begun;
+    if (argc > 4)
+        printf("ops=%" PRIu64 " sum=%016" PRIx64 "\n", cycles, sum);
+    else
+        printf("ns=%" PRIu64 " ops=%" PRIu64 " sum=%016" PRIx64 "\n", taken, cycles, sum);
+    return 0;
+}

@@ -1,0 +1,60 @@
+#!/usr/bin/env bash
+# Compares the scheduler with two that are written by hand in C, and prints one table. Run by hand; no part of the gate.
+#   bench/anchor.sh [REPEATS]     the best time of so many runs is printed, 5 where no number is given
+# The rows are workloads of nagsched_bench at n objects: `cycle`, a check is taken and reported OK, and `vary`, each report
+# has a random code. `C` is bench/anchor.c, built here: a heap with places, the same rules, and no calls but these two. That
+# both programs saw the same is held by their sums. `limit` is another scheduler written by hand in C, with all six calls, the
+# fastest that was found: a tournament without branches, and a byte of each object that says which code would change nothing.
+# Its figures are written in: instructions count the same on every machine, and its times, of another machine, are left out.
+set -eu
+repeats=${1:-5}
+# Valgrind counts a string store byte by byte; the C library is told to store by words.
+export GLIBC_TUNABLES=glibc.cpu.x86_rep_stosb_threshold=100000000:glibc.cpu.x86_rep_movsb_threshold=100000000
+top=$(cd "$(dirname "$0")/.." && pwd)
+crate=$top/crates/nagsched_bench
+work=$(mktemp -d)
+trap 'rm -rf "$work"' EXIT
+. "$top/bench/best.sh"
+
+# Proves and builds the program where it isn't yet.
+mapfile -t words < "$crate/args"
+(cd "$crate" && rt run -- "${words[@]}" > "$work/build.log" 2>&1) || { cat "$work/build.log"; exit 1; }
+cc -std=c11 -O2 -Wall -Wextra "$top/bench/anchor.c" -o "$work/anchor"
+
+# A cycle's instructions of a program's workload, once 21 results of each object are kept.
+by_cycles() {
+    echo $((($(instructions "$@" 140000 untimed) - $(instructions "$@" 100000 untimed)) / 40000))
+}
+
+# The least nanoseconds of a cycle, ours and C's, run after run.
+least_times() {
+    local ours=999999 c=999999 took
+    for _ in $(seq "$repeats"); do
+        took=$("$crate/out/nagsched_bench" "$1" "$2" 1000000 | sed 's/^ns=\([0-9]*\) .*/\1/')
+        ((took / 100000 < ours)) && ours=$((took / 100000))
+        took=$("$work/anchor" "$1" "$2" 1000000 | sed 's/^ns=\([0-9]*\) .*/\1/')
+        ((took / 100000 < c)) && c=$((took / 100000))
+    done
+    echo "$ours $c"
+}
+
+# The instructions of `limit`.
+limit_of() {
+    case $1-$2 in
+        cycle-64) echo 176 ;; cycle-1000) echo 204 ;; cycle-4096) echo 218 ;;
+        vary-64) echo 354 ;; vary-1000) echo 376 ;; vary-4096) echo 390 ;;
+    esac
+}
+
+printf '%8s %8s %12s %6s %6s %6s %6s %8s %8s %6s\n' '' objects instructions C ratio limit ratio ns 'ns of C' ratio
+for workload in cycle vary; do
+    for objects in 64 1000 4096; do
+        ours=$("$crate/out/nagsched_bench" "$workload" "$objects" 100000 untimed)
+        theirs=$("$work/anchor" "$workload" "$objects" 100000 untimed)
+        [[ $ours == "$theirs" ]] || { echo "$workload $objects: $ours, and C $theirs"; exit 1; }
+        printf '%s %s %s %s %s %s\n' "$workload" "$objects" "$(by_cycles "$crate/out/nagsched_bench" "$workload" "$objects")" \
+            "$(by_cycles "$work/anchor" "$workload" "$objects")" "$(limit_of "$workload" "$objects")" "$(least_times "$workload" "$objects")"
+    done
+done | awk '{
+    printf "%8s %8d %12d %6d %6.2f %6d %6.2f %8.1f %8.1f %6.2f\n", $1, $2, $3, $4, $3 / $4, $5, $3 / $5, $6 / 10, $7 / 10, $6 / $7
+}'
