@@ -5,7 +5,7 @@ its mirrors are calls of one turn, which are kept together.
 """
 from typing import AbstractSet, Any, Callable, Dict, List, Mapping, Optional, Sequence, Set, Tuple
 
-from .calls import Answer, Call, PutOff, Report, Reschedule, Standing, Take, Taken
+from .calls import Answer, Call, PutOff, Report, Reschedule, Take, Taken
 
 # A mirror that is to be taken stands before all that is checked.
 MIRROR_FIRST = 0

@@ -49,7 +49,9 @@ def saved(members: List[Member], runs: int, start: int) -> bytes:
 
 
 def carried(program: str, site: Site, part: int, state: bytes) -> List[str]:
-    """What the setup of a part changes of the saved objects that it keeps, a line each. Where one of the two is refused it is a fault, and nothing has changed."""
+    """What the setup of a part changes of the saved objects that it keeps, a line each; mirrors change as their originals do.
+
+    Where one of the two is refused it is a fault, and nothing has changed."""
     ran = subprocess.run([program, "check", "--resume"], input=site.setups[part] + b"\n" + state + b"\n", stdout=subprocess.PIPE, check=False)
     lines = ran.stdout.decode(errors="replace").splitlines()
     if ran.returncode:

@@ -18,6 +18,8 @@ TABLES: Dict[str, str] = {
     "standings": "name TEXT UNIQUE, state TEXT, kind TEXT, attempt INTEGER, flapping INTEGER, since REAL, hard_since REAL, last_check REAL, "
     "next_check REAL, is_on INTEGER, out_since REAL, took REAL, late REAL, words TEXT",
 }
+# The last generation of each part is the last of these.
+GENERATIONS = "SELECT part, setup, start, saved, last_call, names FROM generations LEFT JOIN mirrors USING (part) ORDER BY generations.id"
 
 
 @dataclass(frozen=True)

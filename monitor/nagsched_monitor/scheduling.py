@@ -133,7 +133,9 @@ class Scheduling:
         return opened is not None and opened.setup == setup and opened.mirrors == site.mirrors.get(part, frozenset())
 
     def _begin(self, site: Site, others: AbstractSet[int]) -> List[str]:
-        """Begins these parts of a site anew. The states of all parts are kept together, and the calls before are let go; where that can't be nothing has changed."""
+        """Begins these parts of a site anew; where that can't be nothing has changed.
+
+        The states of all parts are kept together, and all calls before are let go, so that none is missing between two."""
         states, moment, last_call = self._states(), self._clock.moment(), self._store.last_call
         if states is None:
             raise MonitorFault("another setup is taken over from a saved state, and this nagsched saves none: stop, and move monitor.db away to begin anew")

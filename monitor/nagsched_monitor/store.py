@@ -21,7 +21,7 @@ from typing import Dict, Iterator, List, Optional, Sequence, Tuple
 
 from .calls import Abandon, Take, read_call
 from .faults import DamagedRow, MonitorFault, NotStored
-from .rows import TABLES, Cell, Generation, KeptCall, KeptChange, KeptResult, KeptStanding, LastChanges, checksum_of, names_of, text_of
+from .rows import GENERATIONS, TABLES, Cell, Generation, KeptCall, KeptChange, KeptResult, KeptStanding, LastChanges, checksum_of, names_of, text_of
 
 class Store:
     """The database of one monitor. A second one of the same site is refused."""
@@ -80,8 +80,7 @@ class Store:
 
     def generations(self) -> Dict[int, Generation]:
         """The last generation of each part."""
-        rows = self._database.execute("SELECT part, setup, start, saved, last_call, names FROM generations LEFT JOIN mirrors USING (part) ORDER BY generations.id")
-        return {row[0]: Generation(*(*row[:-1], names_of(row[-1]))) for row in rows}
+        return {row[0]: Generation(*(*row[:-1], names_of(row[-1]))) for row in self._database.execute(GENERATIONS)}
 
     def calls_since(self, part: int, number: int) -> Iterator[KeptCall]:
         """The calls of a part behind the call with this number."""

@@ -86,7 +86,7 @@ class OneScheduler:
 
 
 def is_change(before: Optional[Told], now: Told) -> bool:
-    """Whether there is something to tell: another state, a problem that became hard, flapping that begins or ends."""
+    """Whether a result is reported as a change: another state, a problem that became hard, flapping that begins or ends."""
     state, kind, _, flapping = now
     if before is None:
         return state not in WELL or flapping

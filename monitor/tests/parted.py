@@ -1,12 +1,11 @@
 """A site in parts with mirrors, simulated: each result is held to what one scheduler makes of it, and each mirror to its original."""
 import importlib
-import json
 import pathlib
 import sys
 from typing import Any, Dict, Iterable, List, Optional, Sequence, Tuple
 from unittest import mock
 
-from nagsched_monitor.calls import Answer, Call, Report, Standing
+from nagsched_monitor.calls import Answer, Call, Report, Standing, Status
 from nagsched_monitor.mirroring import AskedOf, Mirrors
 from nagsched_monitor.rows import KeptChange
 from nagsched_monitor.site import read_site
@@ -52,11 +51,11 @@ class Parted(SiteTest):
     def setUp(self) -> None:
         super().setUp()
         self.one = OneScheduler()
-        # What was told of each original and of each mirror, in its order, since the parts are as they are.
+        # What was answered to the results of each original and of each mirror, in their order, since the parts are as they are.
         self.originals: Dict[str, List[Standing]] = {}
         self.mirrors: Dict[Tuple[int, str], List[Standing]] = {}
         self.results = 0
-        # What one scheduler makes of each object last, and the changes that are to be told of it.
+        # How each object stands with one scheduler, and its changes there.
         self.stands: Dict[str, Told] = {}
         self.wanted: Dict[str, List[Told]] = {}
         owns = Mirrors.owns
@@ -119,7 +118,7 @@ class Parted(SiteTest):
         self.originals.setdefault(call.name, []).append(answer)
 
     def assert_told(self, changes: Iterable[KeptChange]) -> None:
-        """The changes that were told of each object are those that one scheduler tells, in their order."""
+        """The changes of each object are those that it has with one scheduler, in their order."""
         told: Dict[str, List[Told]] = {}
         for change in changes:
             told.setdefault(change.name, []).append((change.state, change.kind, change.attempt, change.flapping))
@@ -127,7 +126,7 @@ class Parted(SiteTest):
             self.assertEqual(told.get(name), self.wanted.get(name), name)
 
     def assert_alike(self) -> int:
-        """Each mirror was told the same as its original, each time; returns how many results of mirrors that were. Then the lists begin anew."""
+        """Each result of a mirror was answered as that of its original; returns how many those were. Then the lists begin anew."""
         for (part, name), standings in self.mirrors.items():
             of_original = [told_of(standing) + (standing.changed,) for standing in self.originals[name]]
             self.assertEqual([told_of(standing) + (standing.changed,) for standing in standings], of_original, (part, name))
@@ -135,10 +134,18 @@ class Parted(SiteTest):
         self.originals, self.mirrors = {}, {}
         return count
 
-    def reload(self, monitor: SimulatedMonitor) -> List[str]:
-        site = read_site(self.folder, PROGRAM)
-        monitor.site = site
-        return monitor.engine.reload(site)
+    def assert_mirrors_stand(self, monitor: SimulatedMonitor) -> None:
+        """Each mirror stands as its original does, as the schedulers have them."""
+        scheduling = monitor.scheduling
+        for part, names in monitor.site.mirrors.items():
+            for name, answer in zip(sorted(names), scheduling._conversations[part].ask([Status(name) for name in sorted(names)])):
+                (original,) = scheduling._conversations[monitor.site.objects[name].part].ask([Status(name)])
+                assert isinstance(answer, Standing) and isinstance(original, Standing)
+                self.assertEqual((told_of(answer), answer.next), (told_of(original), None), (part, name))
 
-    def setup_of(self, name: str) -> Any:
-        return json.loads((self.folder / name).read_text())
+    def reload(self, monitor: SimulatedMonitor) -> List[str]:
+        """Goes on with the site as its files are now."""
+        monitor.site = read_site(self.folder, PROGRAM)
+        changed = monitor.engine.reload(monitor.site)
+        self.assert_mirrors_stand(monitor)
+        return changed

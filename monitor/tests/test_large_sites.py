@@ -19,7 +19,8 @@ class LargeSites(Parted):
     def take_over(self, children: int) -> List[str]:
         """The folder of the site, made by tools/from_nagios.py; what it takes is within its limits."""
         names = write_network(self.folder, HOSTS, SERVICES, children)
-        words = [sys.executable, str(TOOLS / "from_nagios.py"), "--site", *map(str, (self.folder, self.folder / "nagios.cfg", self.folder / "objects.precache"))]
+        files = (self.folder, self.folder / "nagios.cfg", self.folder / "objects.precache")
+        words = [sys.executable, str(TOOLS / "from_nagios.py"), "--site", *map(str, files)]
         before = resource.getrusage(resource.RUSAGE_CHILDREN)
         subprocess.run(words, stderr=subprocess.DEVNULL, check=True)
         after = resource.getrusage(resource.RUSAGE_CHILDREN)
@@ -28,7 +29,7 @@ class LargeSites(Parted):
         return names
 
     def outage(self, children: int) -> None:
-        """An outage of the gateway: what is told is what one scheduler tells."""
+        """An outage of the gateway: each result and each change is that of one scheduler."""
         names = self.take_over(children)
         mirrors = json.loads((self.folder / "mirrors.json").read_text())
         for path in self.folder.glob("part-*.json"):

@@ -1,4 +1,4 @@
-"""Parts with mirrors: what is told of a site is what one scheduler tells, over outages, restarts and other cuts."""
+"""Parts with mirrors: each result is judged as by one scheduler, over outages, restarts and other cuts."""
 import bisect
 import random
 from typing import Any, Dict, List, Tuple
@@ -12,7 +12,7 @@ from .parted import Parted, depends, host, mirror, service, setup
 from .simulated import BEGIN, Plugin, SimulatedMonitor, fine
 
 DAY = 86_400
-INTERVAL, RETRY = 2_400, 600
+INTERVAL, RETRY = 3_600, 900
 
 
 def random_network(chance: random.Random, count: int) -> Dict[str, Any]:
@@ -67,7 +67,7 @@ class Outages:
 
 
 class AsOneScheduler(Parted):
-    @mock.patch("nagsched_monitor.engine.LONGEST_WAIT", 9_000)
+    @mock.patch.multiple("nagsched_monitor.engine", LONGEST_WAIT=60_000, PAUSE=61_000)
     def test_a_week_of_random_outages(self) -> None:
         """Each result is judged as by one scheduler, and each mirror as its original; passive results, restarts and other cuts come between."""
         chance = random.Random(11)

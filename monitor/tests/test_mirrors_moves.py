@@ -13,9 +13,8 @@ class Reloads(Parted):
     def write_two(self, first: List[str], second: List[str], extra: List[str]) -> None:
         """Hosts behind the gateway in two parts, the gateway in the first; `extra` are new ones in the second."""
         gateway = host("gateway")
-        self.write_parts(
-            [setup([gateway, *(host(name, "gateway") for name in first)], []), setup([mirror(gateway), *(host(name, "gateway") for name in second + extra)], [])],
-            {"part-2": {"gateway": "part-1"}})
+        parts = [[gateway, *(host(name, "gateway") for name in first)], [mirror(gateway), *(host(name, "gateway") for name in second + extra)]]
+        self.write_parts([setup(hosts, []) for hosts in parts], {"part-2": {"gateway": "part-1"}})
 
     def states(self, monitor: SimulatedMonitor) -> Dict[str, Tuple[str, str, int]]:
         standings = {name: known.standing for name, known in monitor.scheduling.known.objects.items()}
