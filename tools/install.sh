@@ -36,7 +36,7 @@ else
     echo "install: the runner in C isn't built, and the monitor uses the one in Python: monitor/build_runner.sh" >&2
 fi
 ln -sf ../lib/nagsched/nagsched-monitor "$root/bin/nagsched-monitor"
-for script in from_nagios nagios_commands nagios_periods nagios_site; do
+for script in from_nagios nagios_commands nagios_parts nagios_periods nagios_site; do
     place 644 "$top/tools/$script.py" "lib/nagsched/$script.py"
 done
 chmod 755 "$root/lib/nagsched/from_nagios.py"

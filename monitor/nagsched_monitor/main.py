@@ -168,7 +168,7 @@ class Monitor:
     def _reload_by_signal(self) -> None:
         try:
             self.reload()
-        except MonitorFault as fault:
+        except (MonitorFault, NotStored) as fault:
             self.log(f"the site isn't taken over: {fault}")
 
     def close(self) -> None:

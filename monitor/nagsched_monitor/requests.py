@@ -16,6 +16,7 @@ from .clock import Clock
 from .engine import Engine
 from .faults import MonitorFault, NotStored, RequestFault
 from .known import Known
+from .standings import FIRST_TIME
 from .store import KeepResult, SetSwitch
 
 LAST_MOMENT = 2**60
@@ -113,7 +114,7 @@ class Requests:
         if isinstance(at, bool) or not isinstance(at, (int, float)) or not isinstance(forced, bool):
             raise RequestFault("at is a number of seconds since 1970, and force is true or false")
         time = now + round((at - wall) * 1000) if abs(at) < LAST_MOMENT / 1000 else -1
-        if not 0 <= time <= LAST_MOMENT:
+        if not FIRST_TIME <= time <= LAST_MOMENT:
             raise RequestFault(f"no time at which a check can be: {at!r}")
         self.engine.reschedule(known.name, time, forced)
         return {"done": "reschedule", "name": known.name, "at": wall + (time - now) / 1000, "on": known.on or forced}

@@ -1,6 +1,7 @@
 """A site: the folder that says what is monitored and how. It is read and tested whole before anything runs.
 
     setup.json        the setup of the scheduler, or several: part-1.json, part-2.json and on
+    mirrors.json      which objects of a part are mirrors of those of another (may be left out)
     commands.json     the command of each object by its full name
     periods.json      time periods, and which objects go by which (may be left out)
     passive.json      which objects are passive, and how fresh their results have to be (may be left out)
@@ -16,10 +17,11 @@ import shutil
 import subprocess
 import zoneinfo
 from dataclasses import dataclass, replace
-from typing import Any, Dict, List, Mapping, Optional, Sequence, Tuple
+from typing import AbstractSet, Any, Dict, List, Mapping, Optional, Sequence, Tuple
 
 from .documents import MOST_SECONDS, only_known, only_object, read_object, seconds
 from .faults import SiteFault
+from .mirrors import read_mirrors
 from .periods import Periods, read_periods
 
 # A line that no quote, no escape and no sign of a shell is in.
@@ -83,17 +85,17 @@ class Site:
     zone: Optional[datetime.tzinfo]
     # The objects whose results have to be fresh.
     with_freshness: Sequence[str]
+    # The names of the mirrors of each part that has some.
+    mirrors: Mapping[int, AbstractSet[str]]
 
 
 def read_site(folder: pathlib.Path, program: str) -> Site:
     """The site of a folder, or a `SiteFault` that names the file and what is wrong there."""
-    setups, objects = [], {}
-    for part, path in enumerate(setup_files(folder)):
-        setups.append(setup_line(path, program))
-        for watched in objects_of(json.loads(setups[part]), part):
-            if watched.name in objects:
-                raise SiteFault(f"{path.name}: {watched.name} is in another part already")
-            objects[watched.name] = watched
+    paths = setup_files(folder)
+    setups = [setup_line(path, program) for path in paths]
+    documents = {path.stem: json.loads(setup) for path, setup in zip(paths, setups)}
+    mirrors = read_mirrors(folder, documents)
+    objects = originals_of(documents, mirrors)
     options, zone = read_options(folder)
     commands = read_commands(folder, objects)
     periods, period_of = read_period_file(folder, objects, zone)
@@ -103,7 +105,7 @@ def read_site(folder: pathlib.Path, program: str) -> Site:
         objects[name] = replace(watched, command=commands.get(name), period=period_of.get(name), passive_only=only, freshness=freshness)
         test_command(objects[name])
     with_freshness = [name for name, watched in objects.items() if watched.freshness is not None]
-    return Site(folder, setups, objects, periods, options, children_of(objects), zone, with_freshness)
+    return Site(folder, setups, objects, periods, options, children_of(objects), zone, with_freshness, mirrors)
 
 
 # ---- setups
@@ -128,6 +130,19 @@ def setup_line(path: pathlib.Path, program: str) -> bytes:
     if checked.returncode != 0:
         raise SiteFault(f"{path.name}: {'; '.join(checked.stdout.decode(errors='replace').splitlines()) or 'the scheduler gives no answer'}")
     return subprocess.run([program, "check", "--line"], input=path.read_bytes(), stdout=subprocess.PIPE, check=True).stdout.rstrip(b"\n")
+
+
+def originals_of(documents: Mapping[str, Mapping[str, Any]], mirrors: Mapping[int, AbstractSet[str]]) -> Dict[str, Watched]:
+    """The objects of all parts, each once: mirrors aren't among them."""
+    objects: Dict[str, Watched] = {}
+    for part, (stem, setup) in enumerate(documents.items()):
+        for watched in objects_of(setup, part):
+            if watched.name in mirrors.get(part, ()):
+                continue
+            if watched.name in objects:
+                raise SiteFault(f"{stem}.json: {watched.name} is in another part already, and mirrors.json doesn't name it")
+            objects[watched.name] = watched
+    return objects
 
 
 def objects_of(setup: Mapping[str, Any], part: int) -> List[Watched]:

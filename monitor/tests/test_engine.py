@@ -251,6 +251,18 @@ class Faults(SiteTest):
         after.run(60)
         self.assertEqual({change.state for _, change in after.changes}, {"UP", "OK"})
 
+    def test_a_restart_tells_no_problem_again(self) -> None:
+        """A result behind the saved state that is as the one before it is no change."""
+        self.write_site([host("web", max_check_attempts=1)], [])
+        monitor = self.monitor(lambda name, moment: (10, 2, "bad"))
+        monitor.run(70)
+        monitor.engine.save()
+        monitor.run(120)
+        monitor.close()
+        after = self.monitor(lambda name, moment: (10, 2, "bad"), monitor.clock)
+        after.run(1)
+        self.assertEqual(after.changes, [])
+
     def test_another_setup_is_taken_over_or_refused_by_name(self) -> None:
         self.write_site([host("web", max_check_attempts=5)], [])
         monitor = self.monitor(lambda name, moment: (10, 2, "bad"))
