@@ -28,14 +28,16 @@ place 755 "$program" bin/nagsched
 for module in "$top"/monitor/nagsched_monitor/*.py; do
     place 644 "$module" "lib/nagsched/nagsched_monitor/$(basename "$module")"
 done
-place 755 "$top/monitor/nagsched-monitor" lib/nagsched/nagsched-monitor
+for script in nagsched-monitor nagsched-gearman-worker; do
+    place 755 "$top/monitor/$script" "lib/nagsched/$script"
+    ln -sf "../lib/nagsched/$script" "$root/bin/$script"
+done
 runner=$top/monitor/out/nagsched-runner
 if [ -x "$runner" ]; then
     place 755 "$runner" lib/nagsched/nagsched-runner
 else
     echo "install: the runner in C isn't built, and the monitor uses the one in Python: monitor/build_runner.sh" >&2
 fi
-ln -sf ../lib/nagsched/nagsched-monitor "$root/bin/nagsched-monitor"
 for script in from_nagios nagios_commands nagios_parts nagios_periods nagios_site; do
     place 644 "$top/tools/$script.py" "lib/nagsched/$script.py"
 done

@@ -47,6 +47,7 @@ class Monitor:
         self._notifier = Notifier(words.on_change, self.store, self.log)
         self.scheduling = self._opened(self.site)
         self.runners = RunnerProcesses(os.cpu_count() or 1, self.log, self._watch, self._unwatch)
+        self.runners.serve(self.site.queues)
         self.engine = Engine(self.site, self.scheduling, self.runners, self.store, self.clock, self.log)
         self.requests = Requests(self.engine, self.clock, self.reload, self.stop)
         self.control = control.Control(folder, self.requests.answer, self._watch, self._unwatch)
@@ -157,6 +158,7 @@ class Monitor:
         before = self.scheduling.known.objects
         changed = self.engine.reload(site)
         self.site = site
+        self.runners.serve(self.site.queues)
         new, dropped = sorted(set(site.objects) - set(before)), sorted(set(before) - set(site.objects))
         for word, names in (("new", new), ("dropped", dropped)):
             for name in names:

@@ -5,6 +5,7 @@
     commands.json     the command of each object by its full name
     periods.json      time periods, and which objects go by which (may be left out)
     passive.json      which objects are passive, and how fresh their results have to be (may be left out)
+    queues.json       which checks are made by workers on other machines (may be left out)
     monitor.json      options of the monitor (may be left out)
 """
 import datetime
@@ -23,6 +24,7 @@ from .documents import MOST_SECONDS, only_known, only_object, read_object, secon
 from .faults import SiteFault
 from .mirrors import read_mirrors
 from .periods import Periods, read_periods
+from .queues import Queues, queue_of_each, read_queues
 
 # A line that no quote, no escape and no sign of a shell is in.
 PLAIN = re.compile(r"[\w ./:,=%@+!#*?$~^{}\[\]-]*", re.ASCII)
@@ -55,6 +57,8 @@ class Watched:
     passive_only: bool = False
     # Milliseconds within which a result has to come; None where it may take its time.
     freshness: Optional[int] = None
+    # The queue of the worker that makes its checks; None where they are made here.
+    queue: Optional[str] = None
 
     def is_host(self) -> bool:
         return self.host is None
@@ -87,6 +91,7 @@ class Site:
     with_freshness: Sequence[str]
     # The names of the mirrors of each part that has some.
     mirrors: Mapping[int, AbstractSet[str]]
+    queues: Optional[Queues] = None
 
 
 def read_site(folder: pathlib.Path, program: str) -> Site:
@@ -97,15 +102,18 @@ def read_site(folder: pathlib.Path, program: str) -> Site:
     mirrors = read_mirrors(folder, documents)
     objects = originals_of(documents, mirrors)
     options, zone = read_options(folder)
-    commands = read_commands(folder, objects)
+    queues = read_queues(folder, objects)
+    queue_of = queue_of_each(queues, objects)
+    commands = read_commands(folder, objects, queue_of)
     periods, period_of = read_period_file(folder, objects, zone)
     passive = read_passive(folder, objects)
     for name, watched in objects.items():
         only, freshness = passive.get(name, (False, None))
-        objects[name] = replace(watched, command=commands.get(name), period=period_of.get(name), passive_only=only, freshness=freshness)
+        command, period, queue = commands.get(name), period_of.get(name), queue_of.get(name)
+        objects[name] = replace(watched, command=command, period=period, queue=queue, passive_only=only, freshness=freshness)
         test_command(objects[name])
     with_freshness = [name for name, watched in objects.items() if watched.freshness is not None]
-    return Site(folder, setups, objects, periods, options, children_of(objects), zone, with_freshness, mirrors)
+    return Site(folder, setups, objects, periods, options, children_of(objects), zone, with_freshness, mirrors, queues)
 
 
 # ---- setups
@@ -170,8 +178,8 @@ def children_of(objects: Mapping[str, Watched]) -> Dict[str, List[str]]:
 # ---- the other files
 
 
-def read_commands(folder: pathlib.Path, objects: Mapping[str, Watched]) -> Dict[str, Command]:
-    """The command of each object. Each line can be split, and has a program that is there."""
+def read_commands(folder: pathlib.Path, objects: Mapping[str, Watched], queue_of: Mapping[str, str]) -> Dict[str, Command]:
+    """The command of each object. Each line can be split, and has a program that is there, unless a worker elsewhere runs it."""
     commands = {}
     is_program.cache_clear()
     for name, members in read_object(folder, "commands.json", required=True).items():
@@ -185,18 +193,18 @@ def read_commands(folder: pathlib.Path, objects: Mapping[str, Watched]) -> Dict[
         if "\0" in line:
             raise SiteFault(f"{place}: its line has a zero byte")
         limit = seconds(members.get("limit", 60), f"{place}: limit")
-        commands[name] = Command(shell_words(line, place) if shell else plain_words(line, place), limit)
+        commands[name] = Command(shell_words(line, place) if shell else plain_words(line, place, name not in queue_of), limit)
     return commands
 
 
-def plain_words(line: str, place: str) -> List[str]:
-    """The words of a line that no shell runs; the first is a program that is there."""
+def plain_words(line: str, place: str, is_here: bool) -> List[str]:
+    """The words of a line that no shell runs; the first is a program that is there, where it is run here."""
     words, signs = (line.split(), []) if PLAIN.fullmatch(line) else split_words(line, place)
     if not words:
         raise SiteFault(f"{place}: its line is empty")
     if signs:
         raise SiteFault(f'{place}: only a shell gives {signs[0]} a meaning: add "shell": true, or put it in quotes')
-    if not is_program(words[0]):
+    if is_here and not is_program(words[0]):
         raise SiteFault(f"{place}: there is no program {words[0]}")
     return words
 

@@ -3,7 +3,9 @@ import collections
 import os
 import signal
 from typing import Any, Dict, List, Set, Tuple
+from unittest import mock
 
+from nagsched_monitor import gearman
 from nagsched_monitor.faults import NotStored
 from nagsched_monitor.runners import Lost
 from nagsched_monitor.store import KeepResult
@@ -238,6 +240,16 @@ class Faults(SiteTest):
         monitor.run(5)
         self.assertEqual(len(monitor.starts()["web;http"]), 3)
         self.assertEqual([(change.state, change.words) for _, change in monitor.changes], [("UNKNOWN", "its runner ended 3 times")])
+
+    def test_a_queue_that_nobody_serves(self) -> None:
+        """What became of its jobs is said, and each has its queue."""
+        self.write_site([host("web")], [], queues={"server": "10.0.0.1:4730", "queues": {"dmz": ["web"]}})
+        with mock.patch.object(gearman, "Library"):
+            monitor = self.monitor(fine)
+        events = monitor.runners.events
+        setattr(monitor.runners, "events", lambda: [Lost(event.job, f"no worker took it from the queue {event.job.queue}") for event in events()])
+        monitor.run(5)
+        self.assertEqual([change.words for _, change in monitor.changes], ["no worker took it from the queue dmz 3 times"])
 
     def test_a_restart_makes_the_calls_again(self) -> None:
         self.write_site([host("web", max_check_attempts=5)], [service("web", "http")])
