@@ -24,6 +24,7 @@ from .runners import RunnerProcesses
 from .scheduling import Scheduling
 from .site import Site, read_site
 from .store import DropChangesBefore, Store
+from .typed import code_of, time_of
 
 DAY = 86_400
 BUSY_WAIT = 100
@@ -218,7 +219,7 @@ def words_of(given: Optional[List[str]]) -> argparse.Namespace:
         words.add_parser(word, help=f"switches an object's checks {what}").add_argument("name")
     result = words.add_parser("result", help="gives a passive result")
     result.add_argument("name")
-    result.add_argument("code", type=code_of, help="0 to 3, or OK, WARNING, CRITICAL or UNKNOWN")
+    result.add_argument("code", type=code_of, help="0 to 3, or OK, WARNING, CRITICAL or UNKNOWN; UP or DOWN of a host")
     result.add_argument("output", nargs="?", default="")
     for word, what in (("test", "reads the site and tests it"), ("reload", "reads the site anew"), ("save", "saves the state"), ("stop", "ends the monitor")):
         words.add_parser(word, help=what)
@@ -233,23 +234,9 @@ def request_of(words: argparse.Namespace) -> Dict[str, Any]:
     return {"do": words.word, **{member: value for member, value in asked.items() if value is not None}}
 
 
-def time_of(text: str) -> float:
-    """A time as it is typed: seconds since 1970, or a date and time by this machine's zone, such as 2026-11-27T18:00."""
-    try:
-        return float(text)
-    except ValueError:
-        return datetime.datetime.fromisoformat(text).timestamp()
-
-
-def code_of(text: str) -> int:
-    """A plugin's code as it is typed: 0 to 3, or the word of a state."""
-    words = ("OK", "WARNING", "CRITICAL", "UNKNOWN")
-    return words.index(text.upper()) if text.upper() in words else int(text)
-
-
 def clock_time(seconds: float) -> str:
     """A time by this machine's zone."""
-    return datetime.datetime.fromtimestamp(seconds).astimezone().isoformat(sep=" ", timespec="seconds")
+    return datetime.datetime.fromtimestamp(round(seconds)).astimezone().isoformat(sep=" ", timespec="seconds")
 
 
 def printed(answer: Dict[str, Any], is_long: bool = False) -> str:

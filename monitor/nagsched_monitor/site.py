@@ -20,7 +20,7 @@ import zoneinfo
 from dataclasses import dataclass, replace
 from typing import AbstractSet, Any, Dict, List, Mapping, Optional, Sequence, Tuple
 
-from .documents import MOST_SECONDS, only_known, only_object, read_object, seconds
+from .documents import MOST_FRESH, MOST_SECONDS, only_known, only_object, read_object, seconds
 from .faults import SiteFault
 from .mirrors import read_mirrors
 from .periods import Periods, read_periods
@@ -271,7 +271,7 @@ def read_passive(folder: pathlib.Path, objects: Mapping[str, Watched]) -> Dict[s
         only, freshness = members.get("only", False), members.get("freshness")
         if not isinstance(only, bool):
             raise SiteFault(f"{place}: only is true or false")
-        passive[name] = only, None if freshness is None else round(seconds(freshness, f"{place}: freshness") * 1000)
+        passive[name] = only, None if freshness is None else round(seconds(freshness, f"{place}: freshness", MOST_FRESH) * 1000)
     return passive
 
 
