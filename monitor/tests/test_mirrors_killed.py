@@ -55,4 +55,4 @@ class Killed(ProcessTest):
             self.assertEqual(told_of(first), told_of(second), name)
             told.append(first.state)
         self.assertNotEqual(set(told), {"PENDING"})
-        self.assertGreater(store.last_call, 100)
+        self.assertGreater(store.last_call, 50)
