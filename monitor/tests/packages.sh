@@ -2,10 +2,11 @@
 # The monitor beside Debian's packages: Nagios's pages and NSCA over its files (tests/packages.py), and gearmand with workers, NRPE and SSH
 # (tests/packages_gearman.py). What isn't installed is fetched and unpacked into a temporary folder. Nothing is installed; a library that isn't there is named.
 #
-#     monitor/tests/packages.sh PROGRAM [pages|gearman]       PROGRAM is nagsched; both without a second word
+#     monitor/tests/packages.sh PROGRAM [pages|gearman [WHAT..]]       PROGRAM is nagsched; both without a second word; WHAT as packages_gearman.py has it
 set -eu
 program=$(realpath "$1")
 part=${2:-both}
+what=("${@:3}")
 here=$(cd "$(dirname "$0")" && pwd)
 work=$(mktemp -d)
 trap 'rm -rf "$work"' EXIT
@@ -51,7 +52,7 @@ gearman() {
         export LD_LIBRARY_PATH="${LD_LIBRARY_PATH:+$LD_LIBRARY_PATH:}$libraries" PLUGINS="$work/unpacked/usr/lib/nagios/plugins"
         export PATH="$PATH:$work/unpacked/usr/sbin:$work/unpacked/usr/bin"
     fi
-    python3 "$here/packages_gearman.py" "$program"
+    python3 "$here/packages_gearman.py" "$program" ${what[@]+"${what[@]}"}
 }
 
 status=0
