@@ -12,7 +12,7 @@ from nagsched_monitor.gearman_worker import Worker
 
 
 class StandInConnection:
-    """A connection to no server: it has the jobs made that are handed to it, and is lost where it is told so."""
+    """A connection to no server: it has the jobs made that are handed to it, and is lost when a test says so."""
 
     def __init__(self, make: Callable[[bytes], bytes], jobs: List[bytes], answers: List[bytes], lost: threading.Event) -> None:
         self._make, self._jobs, self._answers, self._lost = make, jobs, answers, lost
