@@ -44,7 +44,7 @@ class Out:
 
 
 class Queue:
-    """One queue, over a connection of its own. `mark` tells its jobs from those of every other runner."""
+    """One queue, over a connection of its own. By `mark` its jobs differ from those of every other runner."""
 
     def __init__(self, name: str, mark: str, wait: float, connect: Callable[[], Client], answer: Answer, log: Callable[[str], None]) -> None:
         self.name, self._mark, self._wait = name, mark, wait
@@ -90,8 +90,7 @@ class Queue:
             return
         if self._client is None:
             self._client = self._connect()
-        most = MOST_WAITING if self._closed is None else 1
-        room = most - sum(out.taken is None for out in self._out.values())
+        room = MOST_WAITING - sum(out.taken is None for out in self._out.values())
         batch = {self._last + 1 + place: self._waiting.popleft() for place in range(min(room, len(self._waiting)))}
         self._out.update({number: Out(job, now) for number, job in batch.items()})
         self._last += len(batch)

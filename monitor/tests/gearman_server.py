@@ -1,4 +1,4 @@
-"""A stand-in for libgearman: a server of one queue, its clients, and workers that do as they are told. No process, no socket, no time of its own."""
+"""A stand-in for libgearman: a server of one queue, its clients, and workers that do what a test says. No process, no socket, no time of its own."""
 import json
 from dataclasses import dataclass, field
 from typing import Any, Dict, List, Optional

@@ -30,7 +30,7 @@ def free_port() -> int:
         return int(free.getsockname()[1])
 
 
-def states_of(folder: pathlib.Path, program: str, count: int, seconds: float = 40) -> Dict[str, List[str]]:
+def states_of(folder: pathlib.Path, program: str, count: int, seconds: float = 120) -> Dict[str, List[str]]:
     """Runs a site until that many objects have been checked: the state and the words of each."""
     running = subprocess.Popen([sys.executable, str(MONITOR), "--program", program, str(folder)], stdout=subprocess.DEVNULL)
     found: Dict[str, List[str]] = {}
@@ -164,7 +164,7 @@ def begin_nrpe(folder: pathlib.Path, daemons: List["subprocess.Popen[bytes]"]) -
     )
     daemons.append(subprocess.Popen([str(found_program("nrpe")), "-c", str(folder / "nrpe.cfg"), "-f"], stdout=subprocess.DEVNULL, stderr=subprocess.DEVNULL))
     is_listening(port)
-    return f"{found_program('check_nrpe')} -H 127.0.0.1 -p {port} -c warns"
+    return f"{found_program('check_nrpe')} -t 50 -H 127.0.0.1 -p {port} -c warns"
 
 
 def begin_sshd(folder: pathlib.Path, daemons: List["subprocess.Popen[bytes]"]) -> str:
@@ -182,5 +182,5 @@ def begin_sshd(folder: pathlib.Path, daemons: List["subprocess.Popen[bytes]"]) -
         pathlib.Path("/run/sshd").mkdir(exist_ok=True)
     daemons.append(subprocess.Popen([str(found_program("sshd")), "-D", "-f", str(folder / "sshd.cfg")], stdout=subprocess.DEVNULL, stderr=subprocess.DEVNULL))
     is_listening(port)
-    return (f"{found_program('check_by_ssh')} -H 127.0.0.1 -p {port} -l {user} -i {folder}/user_key -o UserKnownHostsFile={folder}/known "
+    return (f"{found_program('check_by_ssh')} -t 50 -H 127.0.0.1 -p {port} -l {user} -i {folder}/user_key -o UserKnownHostsFile={folder}/known "
             f"-C '{warning_plugin(folder)} SSH'")

@@ -4,11 +4,17 @@
 # folder; chromium-headless-shell and prometheus are installed where PICTURES is named, they aren't there and root runs this. What can't be had is passed over,
 # and named.
 #
-#     monitor/tests/packages.sh PROGRAM [pages|gearman|both [PICTURES]]       PROGRAM is nagsched, PICTURES a folder for pictures of the pages
+#     monitor/tests/packages.sh PROGRAM [pages [PICTURES] | gearman [WHAT..]]       PROGRAM is nagsched, PICTURES a folder for pictures of the pages, WHAT as
+#                                                                                  packages_gearman.py has it; both parts without a second word
 set -eu
 program=$(realpath "$1")
 part=${2:-both}
-pictures=${3:+$(realpath -m "$3")}
+pictures=
+what=()
+case $part in
+    pages) pictures=${3:+$(realpath -m "$3")} ;;
+    gearman) what=("${@:3}") ;;
+esac
 here=$(cd "$(dirname "$0")" && pwd)
 work=$(mktemp -d)
 trap 'rm -rf "$work"' EXIT
@@ -66,7 +72,7 @@ gearman() {
         export LD_LIBRARY_PATH="${LD_LIBRARY_PATH:+$LD_LIBRARY_PATH:}$libraries" PLUGINS="$work/unpacked/usr/lib/nagios/plugins"
         export PATH="$PATH:$work/unpacked/usr/sbin:$work/unpacked/usr/bin"
     fi
-    python3 "$here/packages_gearman.py" "$program"
+    python3 "$here/packages_gearman.py" "$program" ${what[@]+"${what[@]}"}
 }
 
 status=0

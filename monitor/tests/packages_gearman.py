@@ -194,7 +194,12 @@ def kills_of_a_site(program: str) -> List[str]:
 
 def main(program: str, *wanted: str) -> int:
     lacking = missing()
-    parts: Dict[str, Callable[[], List[str]]] = {"rate": lambda: rate(program), "kills": lambda: kills_of_jobs() + kills_of_a_site(program), "wall": lambda: wall(program), "remote": lambda: remote(program)}
+    parts: Dict[str, Callable[[], List[str]]] = {
+        "rate": lambda: rate(program),
+        "kills": lambda: kills_of_jobs() + kills_of_a_site(program),
+        "wall": lambda: wall(program),
+        "remote": lambda: remote(program),
+    }
     wrong: List[str] = []
     for name, part in parts.items():
         if wanted and name not in wanted:

@@ -125,6 +125,18 @@ class OneQueue(unittest.TestCase):
         self.pass_by()
         self.assertEqual(len(self.answers), 1)
 
+    def test_a_worker_that_dies_late(self) -> None:
+        """The limit is one of the job, whatever number of workers have it one after another."""
+        self.add()
+        self.pass_by()
+        job = self.take()
+        self.pass_by()
+        self.pass_by(LIMIT)
+        self.server.lose_worker(job)
+        self.take()
+        self.pass_by(GRACE)
+        self.assertEqual(self.ends(), [(1, "lost", "its worker gave no result")])
+
     def test_nobody_takes_anything(self) -> None:
         """What waits is given up; one job goes on trying, and others are answered at once, until a worker takes it."""
         self.add(3)

@@ -42,7 +42,7 @@ class OverAServer(unittest.TestCase):
     def test_a_queue_without_a_worker(self) -> None:
         """It holds up no other, is given up, and goes on when a worker comes."""
         self.trial.begin_worker("checks")
-        jobs = self.jobs(8)
+        jobs = self.jobs(10)
         self.assertTrue(jobs.wait_until_one_is_made("checks", LONG))
         before = jobs.sent
         jobs.hand(20, "nobody", ["true"])
@@ -51,7 +51,9 @@ class OverAServer(unittest.TestCase):
         self.assertEqual([answers[0]["end"] for number, answers in sorted(jobs.answers.items()) if number > before], ["lost"] * 20 + ["exited"] * 20)
         before = jobs.sent
         jobs.hand(3, "nobody", ["true"])
-        time.sleep(1)
+        end = time.monotonic() + LONG
+        while len(jobs.answers) < before + 2 and time.monotonic() < end:
+            time.sleep(0.05)
         self.assertEqual([answers[0]["code"] for number, answers in sorted(jobs.answers.items()) if number > before], [3, 3])
         self.trial.begin_worker("nobody")
         self.assertTrue(jobs.wait_until_one_is_made("nobody", LONG))
@@ -63,7 +65,7 @@ class OverAServer(unittest.TestCase):
     def test_a_server_that_stands_still(self) -> None:
         """What waits is given up within its limit, and all goes on when the server does."""
         self.trial.begin_worker("dmz")
-        jobs = self.jobs(8)
+        jobs = self.jobs(10)
         self.assertTrue(jobs.wait_until_one_is_made("dmz", LONG))
         before = jobs.sent
         self.trial.stop_server()

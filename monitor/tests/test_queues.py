@@ -89,7 +89,7 @@ class Handing(unittest.TestCase):
 
     def wait(self, count: int) -> Dict[str, Any]:
         events: List[Any] = []
-        for _ in range(100):
+        for _ in range(900):
             self.runners.flush()
             for file in select.select(self.files, [], [], 0.1)[0]:
                 if file in self.files:
