@@ -10,7 +10,7 @@ import subprocess
 import tempfile
 
 TOP = pathlib.Path(__file__).resolve().parent.parent
-SCRIPT = r"(?:(?:tools|bench|tests|\.ci|examples)/\w+\.(?:py|sh)|conformance/check|\.ci/run|monitor/nagsched-monitor|monitor/build_runner\.sh)"
+SCRIPT = r"(?:(?:tools|bench|tests|\.ci|examples)/\w+\.(?:py|sh)|conformance/check|\.ci/run|monitor/nagsched-(?:monitor|gearman-worker)|monitor/build_runner\.sh)"
 BEGINS = rf"(?:nagsched|crates/nagsched/out/nagsched|nagios4|bash|cc|\(cd|{SCRIPT})"
 LINE = re.compile(rf"^(?: {{4}}|\$ )?({BEGINS}(?: .*)?)$", re.M)
 SPAN = re.compile(rf"`({BEGINS} [^`\n]*|{SCRIPT})`")
@@ -72,6 +72,7 @@ IN_THE_GATE = {
     "monitor/nagsched-monitor --nagios-files /var/lib/nagsched/office/nagios office": ".ci/monitor.py",
     'monitor/nagsched-monitor --on-change "examples/mail_change.py monitor@example.org oncall@example.org" office': ".ci/monitor.py",
     'monitor/nagsched-monitor --on-change "examples/alert_change.py http://localhost:9093" office': ".ci/monitor.py",
+    "monitor/nagsched-gearman-worker --slots 32 --only /usr/lib/nagios/plugins 10.0.0.1:4730 dmz": ".ci/monitor.py",
     "tools/from_nagios.py --site office /etc/nagios4/nagios.cfg /var/lib/nagios4/objects.precache": ".ci/monitor.py",
     ".ci/map.py": ".ci/pages.py",
     ".ci/commands.py": ".ci/pages.py",

@@ -45,6 +45,7 @@ def installed(program, prefix, work):
     (work / "site/commands.json").write_text(json.dumps({"gateway": {"line": "true"}}))
     tested = output(prefix / "bin/nagsched-monitor", "--program", prefix / "bin/nagsched", work / "site", "test")
     yield "the monitor", tested, ("1 objects, 1 parts\n", 0)
+    yield "the worker", output(prefix / "bin/nagsched-gearman-worker", "--help")[1], 0
     yield "from Nagios", output(prefix / "bin/nagsched-from-nagios", "--help")[1], 0
     yield "the manual pages", sorted(manual), ["nagsched-from-nagios.1", "nagsched-monitor.1", "nagsched.1", "nagsched.5"]
     for name, page in sorted(manual.items()):

@@ -68,11 +68,15 @@ def complaints():
 
 
 def tests_of(module):
-    """How many tests of a module passed, and how many didn't; what these print."""
-    ran = subprocess.run([sys.executable, "-m", "unittest", f"tests.{module}"], cwd=TOP / "monitor", stdout=subprocess.PIPE, stderr=subprocess.STDOUT, text=True)
+    """How many tests of a module passed, and how many didn't; what these print. Those that were passed over are named, and are neither."""
+    ran = subprocess.run([sys.executable, "-m", "unittest", "-v", f"tests.{module}"], cwd=TOP / "monitor", stdout=subprocess.PIPE, stderr=subprocess.STDOUT, text=True)
     count = int((re.search(r"^Ran (\d+) tests?", ran.stdout, re.MULTILINE) or [0, "0"])[1])
     if ran.returncode == 0 and count > 0:
-        return count, 0
+        skipped = int((re.search(r"skipped=(\d+)", ran.stdout) or [0, "0"])[1])
+        if skipped:
+            why = "".join(sorted({f": {reason}" for reason in re.findall(r"skipped ['\"](.*)['\"]$", ran.stdout, re.MULTILINE)}))
+            print(f"monitor: passed over {skipped} tests of {module}{why}")
+        return count - skipped, 0
     print(ran.stdout)
     wrong = sum(int(number) for number in re.findall(r"(?:failures|errors)=(\d+)", ran.stdout)) or 1
     return max(count - wrong, 0), wrong

@@ -4,12 +4,13 @@
     .ci/tools.py PROGRAM
 
 The small network of conformance/nagios, as Nagios 4.4.6 wrote it out, becomes a setup whose counts, intervals and first checks are
-those that Nagios tells of its schedule (schedule.txt); a made network of 10,000 services goes into parts that the program accepts;
-a template is refused with its place; the command line of each object is written out, with its macros; and the picture of README is drawn
-again.
+those that Nagios tells of its schedule (schedule.txt); a made network of 10,000 services goes into parts that the program accepts, and one
+behind a gateway into parts with mirrors; a template is refused with its place; the command line of each object is written out, with its
+macros; and the picture of README is drawn again.
 """
 import json
 import pathlib
+import random
 import re
 import shlex
 import subprocess
@@ -18,6 +19,8 @@ import tempfile
 import xml.dom.minidom
 
 TOP = pathlib.Path(__file__).resolve().parent.parent
+sys.path.insert(0, str(TOP / "tools"))
+import nagios_parts
 OFFICE = TOP / "conformance/nagios"
 HOST = """define host {{
 \thost_name\t{name}
@@ -195,6 +198,73 @@ def large(program, work):
     yield "that one setup is refused", from_nagios(OFFICE / "nagios.cfg", objects)[0] == 1
 
 
+def needs_of(part, mirrors):
+    """The objects that stand in a part, those that its own objects need there, and whose dependencies count."""
+    hosts, services = names_of(part)
+    parents = {host["name"]: host.get("parents", []) for host in part["hosts"]}
+    dependencies = part["service_dependencies"] + part["host_dependencies"]
+    needed, depending = {*hosts, *services} - mirrors.keys(), {*hosts, *services} - mirrors.keys()
+    while True:
+        masters = {it["master"] for it in dependencies if it["dependent"] in depending}
+        above = {parent for name in needed for parent in parents.get(name, ())} | {name.partition(";")[0] for name in needed}
+        if masters <= depending and masters | above <= needed:
+            return {*hosts, *services}, needed, depending
+        needed, depending = needed | masters | above, depending | masters
+
+
+def networks(count):
+    """Random networks with parents, and dependencies of later objects on earlier ones."""
+    chance = random.Random(5)
+    for _ in range(count):
+        hosts = [f"h{number:02}" for number in range(chance.randint(5, 30))]
+        setup = {"options": {}, "hosts": [], "services": [], "service_dependencies": [], "host_dependencies": []}
+        for number, name in enumerate(hosts):
+            setup["hosts"].append({"name": name, "max_check_attempts": 3, "parents": chance.sample(hosts[:number], min(number, chance.choice((0, 1, 1, 2))))})
+            setup["services"] += [{"host": name, "description": f"s{each}", "max_check_attempts": 3} for each in range(chance.randint(0, 3))]
+        names = names_of(setup)[1]
+        for _ in range(len(hosts) if len(names) > 1 else 0):
+            first, last = sorted(chance.sample(range(len(names)), 2))
+            setup["service_dependencies"].append({"dependent": names[last], "master": names[first], "criteria": "c"})
+        yield setup
+
+
+def mirrored(program, work):
+    """Pieces that are too large are cut: each object is checked in one part, and each part has what its objects need, and no more."""
+    wrong, cuts = [], 0
+    for setup in networks(200):
+        for most in (12, 20, 31):
+            try:
+                parts, mirrors = nagios_parts.parts_of(setup, nagios_parts.Limits(objects=most))
+            except nagios_parts.CannotBeParted as error:
+                wrong += [] if "the piece with host h" in str(error) else [str(error)]
+                continue
+            checked, cuts = [], cuts + bool(mirrors)
+            for number, part in enumerate(parts, 1):
+                of_part = mirrors.get(f"part-{number}", {})
+                there, needed, depending = needs_of(part, of_part)
+                checked += there - of_part.keys()
+                counted = [it for kind in ("service_dependencies", "host_dependencies") for it in setup[kind] if it["dependent"] in depending]
+                kept = part["service_dependencies"] + part["host_dependencies"]
+                never = [name for name in of_part for it in part["hosts"] + part["services"] if nagios_parts.NEVER.items() <= it.items()
+                         and name in (it.get("name"), f"{it.get('host')};{it.get('description')}")]
+                wrong += [] if there == needed and kept == counted and never == list(of_part) and len(there) <= most else [(setup, most, number)]
+            wrong += [] if sorted(checked) == sorted(sum(names_of(setup), [])) else [(setup, most)]
+    yield "parts with mirrors", not wrong and cuts > 100
+    objects = work / "wide.precache"
+    objects.write_text(HOST.format(name="wide", parents="") + "".join(SERVICE.format(host="wide", number=number) for number in range(4_096)))
+    status, _, told = from_nagios("--site", work / "wide", OFFICE / "nagios.cfg", objects)
+    yield "a host with too many services", status == 1 and "the piece with host wide is too large for one setup: 4097 objects" in told
+    objects = work / "flat.precache"
+    hosts = [HOST.format(name="gateway", parents="")] + [HOST.format(name=f"host-{number:03}", parents="gateway") for number in range(250)]
+    objects.write_text("".join(hosts) + "".join(SERVICE.format(host=f"host-{number % 250:03}", number=number // 250) for number in range(5_000)))
+    status, _, told = from_nagios("--site", work / "flat", OFFICE / "nagios.cfg", objects)
+    files = {path.stem: json.loads(path.read_text()) for path in (work / "flat").iterdir()} if status == 0 else {}
+    yield "a site behind one gateway", files.get("mirrors") == {"part-2": {"gateway": "part-1"}} and "2 parts with 1 mirrors" in told
+    yield "that its parts are setups", all(figures(program, files[name])["hosts"] == count for name, count in (("part-1", "196"), ("part-2", "56")))
+    status, _, told = from_nagios("--site", work / "flat", OFFICE / "nagios.cfg", OFFICE / "objects.precache")
+    yield "that a smaller site has no mirrors", status == 0 and not (work / "flat/mirrors.json").exists() and (work / "flat/setup.json").exists()
+
+
 def template(work):
     (work / "template.cfg").write_text("define host {\n\tname\tmachine\n\tregister\t0\n\tmax_check_attempts\t3\n\t}\n")
     status, told, why = from_nagios(OFFICE / "nagios.cfg", work / "template.cfg")
@@ -269,7 +339,7 @@ def main():
     program = str(pathlib.Path(sys.argv[1]).resolve())
     with tempfile.TemporaryDirectory() as folder:
         work = pathlib.Path(folder)
-        told = [*office(program), *large(program, work), *template(work), *command_lines(work), *site(work), *pictures()]
+        told = [*office(program), *large(program, work), *mirrored(program, work), *template(work), *command_lines(work), *site(work), *pictures()]
     wrong = [what for what, is_so in told if not is_so]
     for what in wrong:
         print(f"tools: {what}: otherwise than wanted")

@@ -18,12 +18,14 @@ passwords. An object that has no such line is named on standard error; it is dis
 as checked that isn't.
 
 With --site DIRECTORY gets the files of a site, as nagsched-monitor reads them: the setup, or few of them, the command lines, time
-periods, passive objects and the monitor's options. The limit of concurrent checks is the monitor's then, over all parts. What is left
-out is named with the objects that it matters to: a few of them, or with --all each.
+periods, passive objects and the monitor's options. The limit of concurrent checks is the monitor's then, over all parts. Parts have
+mirrors: a host, a parent or a master that stands in another part stands there too, never checked, and the monitor hands it the results
+of its original. What is left out is named with the objects that it matters to: a few of them, or with --all each.
 """
 import argparse
 import collections
 import fractions
+import functools
 import json
 import math
 import os
@@ -31,12 +33,12 @@ import pathlib
 import sys
 
 import nagios_commands
+import nagios_parts
 import nagios_periods
 import nagios_site
 
-MOST_OBJECTS, MOST_LINKS, MOST_UNITS = 4_096, 16_384, 525_600
+MOST_UNITS = 525_600
 MINUTES, MILLISECONDS = 525_600, 86_400_000
-EMPTY = {"hosts": [], "services": [], "service_dependencies": [], "host_dependencies": []}
 # How many objects are named of each kind that is left out.
 FEW = 5
 
@@ -143,10 +145,13 @@ def required(members, name, place):
     return members[name]
 
 
+exactly = functools.lru_cache(maxsize=1_024)(fractions.Fraction)
+
+
 def number(value):
-    """A number that is written with or without a point, exactly."""
+    """A number that is written with or without a point, exactly. Few are different among those of many objects."""
     try:
-        return fractions.Fraction(value)
+        return exactly(str(value))
     except (ValueError, ZeroDivisionError):
         value.refuse(f"no number: {value}")
 
@@ -173,7 +178,7 @@ def delay(value):
 
 
 def factor(value):
-    return "s" if value == "s" else whole(value, number(value), 1, MOST_OBJECTS)
+    return "s" if value == "s" else whole(value, number(value), 1, nagios_parts.MOST_OBJECTS)
 
 
 def percent(value):
@@ -387,70 +392,18 @@ def in_whole_units(setup):
 
 # ---- parts
 
-DEPENDENCIES = ("service_dependencies", "host_dependencies")
+
+def is_one(setup):
+    """Whether one setup can have all of it."""
+    return nagios_parts.Limits().hold(nagios_parts.sizes_of(setup))
 
 
-def pieces_of(setup):
-    """The pieces that hang together by parents, dependencies and hosts of services, the largest first."""
-    above = {host["name"]: host["name"] for host in setup["hosts"]}
-
-    def top(name):
-        while above[name] != name:
-            above[name] = above[above[name]]
-            name = above[name]
-        return name
-
-    def join(one, other):
-        for name in (one, other):
-            if name not in above:
-                raise CannotTakeOver(f"no host {name}")
-        above[top(one)] = top(other)
-
-    for host in setup["hosts"]:
-        for parent in host.get("parents", ()):
-            join(host["name"], parent)
-    for kind in DEPENDENCIES:
-        for dependency in setup[kind]:
-            join(dependency["dependent"].partition(";")[0], dependency["master"].partition(";")[0])
-    pieces = collections.defaultdict(lambda: {"hosts": [], "services": [], "service_dependencies": [], "host_dependencies": []})
-    for host in setup["hosts"]:
-        pieces[top(host["name"])]["hosts"].append(host)
-    for service in setup["services"]:
-        join(service["host"], service["host"])
-        pieces[top(service["host"])]["services"].append(service)
-    for kind in DEPENDENCIES:
-        for dependency in setup[kind]:
-            pieces[top(dependency["dependent"].partition(";")[0])][kind].append(dependency)
-    return sorted(pieces.values(), key=sizes, reverse=True)
-
-
-def sizes(part):
-    """How many objects, dependencies and parents there are."""
-    objects = len(part["hosts"]) + len(part["services"])
-    parents = sum(len(host.get("parents", ())) for host in part["hosts"])
-    return objects, sum(len(part[kind]) for kind in DEPENDENCIES), parents
-
-
-def has_room(part, piece):
-    return all(a + b <= most for a, b, most in zip(sizes(part), sizes(piece), (MOST_OBJECTS, MOST_LINKS, MOST_LINKS)))
-
-
-def parts_of(setup):
-    """Few setups: each piece, the largest first, into the first with room."""
-    parts = []
-    for piece in pieces_of(setup):
-        if not has_room(EMPTY, piece):
-            objects, dependencies, parents = sizes(piece)
-            raise CannotTakeOver(
-                f"the piece with host {piece['hosts'][0]['name']} is too large for one setup: {objects} objects, "
-                f"{dependencies} dependencies, {parents} parents (at most {MOST_OBJECTS}, {MOST_LINKS}, {MOST_LINKS})")
-        part = next((part for part in parts if has_room(part, piece)), None)
-        if part is None:
-            part = {kind: [] for kind in EMPTY}
-            parts.append(part)
-        for kind in EMPTY:
-            part[kind].extend(piece[kind])
-    return [{"options": setup["options"]} | part for part in parts]
+def parts_of(setup, with_mirrors):
+    """Few setups, and their mirrors where they may have some."""
+    try:
+        return nagios_parts.parts_of(setup, with_mirrors=with_mirrors)
+    except nagios_parts.CannotBeParted as error:
+        raise CannotTakeOver(str(error)) from None
 
 
 # ---- command lines
@@ -504,13 +457,16 @@ def take_site(words, options, objects, setup, left_out):
         passive.get(name, {}).pop("freshness", None)
     periods, unsaid = nagios_site.periods_of(objects)
     setup["options"]["max_concurrent_checks"] = 0
-    setups = [setup] if has_room(EMPTY, setup) else parts_of(setup)
+    setups, mirrors = ([setup], {}) if is_one(setup) else parts_of(setup, True)
     files = {"commands": commands, "periods": periods, "passive": passive, "monitor": nagios_site.monitor_of(options)}
-    nagios_site.write_site(words.site, setups, files)
+    nagios_site.write_site(words.site, setups, mirrors, files)
     for dates, names in sorted(unsaid.items()):
         for name in names:
             left_out.add(f"dates of the period {dates}", "a site's periods can't say them", name)
     left_out.tell(nagios_site.DONE, len(setup["hosts"]) + len(setup["services"]) if words.all else FEW)
+    if len(setups) > 1:
+        count = sum(map(len, mirrors.values()))
+        print(f"{len(setups)} parts with {count} mirrors: the spread of first checks holds for each apart, and the limit for all", file=sys.stderr)
     print(f"{len(interval_of)} objects, {len(commands)} commands, {len(setups)} parts", file=sys.stderr)
 
 
@@ -537,9 +493,10 @@ def main():
             return 0
         if words.commands is not None:
             take_commands(words, options, objects, setup)
-        if words.parts is None and not has_room(EMPTY, setup):
-            raise CannotTakeOver("more than one setup can have ({} objects, {} dependencies, {} parents): --parts makes several".format(*sizes(setup)))
-        parts = [] if words.parts is None else parts_of(setup)
+        if words.parts is None and not is_one(setup):
+            sizes = nagios_parts.sizes_of(setup)
+            raise CannotTakeOver("more than one setup can have ({} objects, {} dependencies, {} parents): --parts makes several".format(*sizes))
+        parts = [] if words.parts is None else parts_of(setup, False)[0]
     except CannotTakeOver as error:
         print(f"from_nagios: {error}", file=sys.stderr)
         return 1

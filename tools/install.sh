@@ -28,22 +28,25 @@ place 755 "$program" bin/nagsched
 for module in "$top"/monitor/nagsched_monitor/*.py; do
     place 644 "$module" "lib/nagsched/nagsched_monitor/$(basename "$module")"
 done
-place 755 "$top/monitor/nagsched-monitor" lib/nagsched/nagsched-monitor
+for script in nagsched-monitor nagsched-gearman-worker; do
+    place 755 "$top/monitor/$script" "lib/nagsched/$script"
+    ln -sf "../lib/nagsched/$script" "$root/bin/$script"
+done
 runner=$top/monitor/out/nagsched-runner
 if [ -x "$runner" ]; then
     place 755 "$runner" lib/nagsched/nagsched-runner
 else
     echo "install: the runner in C isn't built, and the monitor uses the one in Python: monitor/build_runner.sh" >&2
 fi
-ln -sf ../lib/nagsched/nagsched-monitor "$root/bin/nagsched-monitor"
-for script in from_nagios nagios_commands nagios_periods nagios_site; do
+for script in from_nagios nagios_commands nagios_parts nagios_periods nagios_site; do
     place 644 "$top/tools/$script.py" "lib/nagsched/$script.py"
 done
 chmod 755 "$root/lib/nagsched/from_nagios.py"
 ln -sf ../lib/nagsched/from_nagios.py "$root/bin/nagsched-from-nagios"
 unit=$(mktemp)
 manual=$(mktemp -d)
-trap 'rm -rf "$unit" "$manual"' EXIT
+pages=$(mktemp -d)
+trap 'rm -rf "$unit" "$manual" "$pages"' EXIT
 sed "s#/usr/local/bin#$prefix/bin#g" "$top/monitor/nagsched-monitor@.service" > "$unit"
 place 644 "$unit" lib/systemd/system/nagsched-monitor@.service
 python3 "$top/tools/manual.py" "$manual"
@@ -53,14 +56,15 @@ done
 place 644 "$top/tools/completion/nagsched.bash" share/bash-completion/completions/nagsched
 ln -sf nagsched "$root/share/bash-completion/completions/nagsched-monitor"
 place 644 "$top/tools/completion/_nagsched" share/zsh/site-functions/_nagsched
-for page in README.md CHANGELOG.md docs/setup.schema.json; do
-    place 644 "$top/$page" "share/doc/nagsched/$(basename "$page")"
+python3 "$top/tools/pages.py" "$pages"
+for page in "$pages"/*; do
+    place 644 "$page" "share/doc/nagsched/$(basename "$page")"
 done
-for page in EMBEDDING EMBEDDING_C EMBEDDING_PYTHON EXPLANATIONS FORMATS GLOSSARY MONITOR NAGIOS OPERATING SCHEDULING; do
-    place 644 "$top/docs/$page.md" "share/doc/nagsched/$page.md"
-done
-for example in embed.c embed.py loop.c loop.py monitor.py mail_change.py alert_change.py; do
+for example in office.txt office.out sequence.txt sequence.out drill.txt drill.out embed.c loop.c; do
     place 644 "$top/examples/$example" "share/doc/nagsched/examples/$example"
+done
+for example in embed.py loop.py monitor.py mail_change.py alert_change.py; do
+    place 755 "$top/examples/$example" "share/doc/nagsched/examples/$example"
 done
 place 644 "$top/crates/machine_room/src/restart.rt" share/doc/nagsched/examples/loop.rt
 [ -n "$library" ] || exit 0

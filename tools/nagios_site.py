@@ -110,12 +110,15 @@ def write(path, document, mode=0o644):
     os.replace(new, path)
 
 
-def write_site(folder, setups, files):
-    """Writes the files of a site. Command lines may hold passwords: their file is for its owner only."""
+def write_site(folder, setups, mirrors, files):
+    """Writes the files of a site; those of a site that was there before and has no counterpart now are gone.
+
+    Command lines may hold passwords: their file is for its owner only."""
     folder.mkdir(parents=True, exist_ok=True)
     names = ["setup.json"] if len(setups) == 1 else [f"part-{number}.json" for number in range(1, len(setups) + 1)]
-    for path in [*folder.glob("part-*.json"), folder / "setup.json"]:
-        if path.name not in names:
+    files = files | ({"mirrors": mirrors} if mirrors else {})
+    for path in [*folder.glob("part-*.json"), folder / "setup.json", folder / "mirrors.json"]:
+        if path.name not in names and path.stem not in files:
             path.unlink(missing_ok=True)
     for name, setup in zip(names, setups):
         write(folder / name, setup)

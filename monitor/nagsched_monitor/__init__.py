@@ -5,12 +5,15 @@ Modules, lowest first:
     faults       why the monitor can't begin, or refuses a request
     clock        moments that no clock that is set can stop or hurry
     periods      the times of the week at which an object is checked
+    mirrors      objects of one part that stand in another part too
     site         the files of a site, read and tested
     calls        the calls of the scheduler, and its answers
     conversation one `nagsched live`, asked by a pipe
     rows         the tables of the database, and what a row says
     store        the database: calls, states, changes, switches, results that wait
     known        what the answers say of each object
+    mirroring    results that are reported to mirrors
+    moving       the states of all schedulers put together, for another site
     plugins      one runner process: it runs the jobs that it reads
     runners      the runner processes of a monitor
     standings    the table of how each object stands

@@ -75,6 +75,8 @@ class Notifier:
         self._running: Optional[Try] = None
         self._failed = 0
         self._not_before = 0.0
+        # The document that was taken or given up, where that couldn't be stored yet: the command isn't run for it again.
+        self._ended: Optional[int] = None
 
     def is_wanted(self) -> bool:
         return self._command is not None
@@ -90,6 +92,9 @@ class Notifier:
         if self._running is not None:
             self._see_to(self._running)
         if self._running is None and self._clock() >= self._not_before:
+            if self._ended is not None:
+                self._drop(self._ended)
+                return
             waiting = self._store.outbox()
             if waiting:
                 self._begin(*waiting[0])
@@ -121,12 +126,15 @@ class Notifier:
             self._drop(running.document)
 
     def _drop(self, number: int) -> None:
+        """Lets go of a document; where that can't be stored it is tried again later."""
+        is_first_try, self._ended = self._ended is None, number
         try:
             self._store.write(DropDocument(number))
-            self._failed = 0
+            self._failed, self._ended = 0, None
         except NotStored as error:
             self._not_before = self._clock() + PAUSE
-            self._log(str(error))
+            if is_first_try:
+                self._log(str(error))
 
     def close(self) -> None:
         """Waits for the command that runs; its document is kept where it fails."""

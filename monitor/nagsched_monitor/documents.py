@@ -6,6 +6,8 @@ from typing import Any, Dict, Sequence
 from .faults import SiteFault
 
 MOST_SECONDS = 86_400
+# A result may be fresh for a year.
+MOST_FRESH = 31_536_000
 
 
 def read_object(folder: pathlib.Path, name: str, required: bool) -> Dict[str, Any]:
@@ -34,9 +36,9 @@ def only_known(members: object, known: Sequence[str], place: str) -> Dict[str, A
     return members
 
 
-def seconds(value: object, place: str) -> float:
-    if isinstance(value, bool) or not isinstance(value, (int, float)) or not 0 < value <= MOST_SECONDS:
-        raise SiteFault(f"{place}: no number of seconds up to {MOST_SECONDS}: {value!r}")
+def seconds(value: object, place: str, most: int = MOST_SECONDS) -> float:
+    if isinstance(value, bool) or not isinstance(value, (int, float)) or not 0 < value <= most:
+        raise SiteFault(f"{place}: no number of seconds up to {most}: {value!r}")
     return value
 
 

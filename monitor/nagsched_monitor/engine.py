@@ -186,7 +186,7 @@ class Engine:
         if time is not None:
             self.counters.started(late)
         words, limit = ((), 0.0) if watched.command is None else (watched.command.words, watched.command.limit)
-        job = Job(taken.name, taken.run, words, limit)
+        job = Job(taken.name, taken.run, words, limit, watched.queue)
         self._jobs[taken.name, taken.run] = job
         if watched.command is None:
             self._results.append(Finished(job, "exited", UNKNOWN, "it has no command"))
@@ -204,7 +204,7 @@ class Engine:
             code, words = verdict(event, self.site.objects[job.name].is_host(), self.site.options.timeout_code)
             return Report(job.name, job.run, code), words
         if self._lost[job.name] == MOST_LOST:
-            return Report(job.name, job.run, UNKNOWN), f"its runner ended {MOST_LOST + 1} times"
+            return Report(job.name, job.run, UNKNOWN), f"{event.why} {MOST_LOST + 1} times"
         return Abandon(job.name, job.run, self._clock.moment()), None
 
     def _count_lost(self, events: Sequence[Event]) -> None:

@@ -1,8 +1,7 @@
 """What the answers of the scheduler say of each object, and which are due."""
 import heapq
-import json
 from dataclasses import dataclass, field, replace
-from typing import Dict, List, Mapping, Optional, Set, Tuple
+from typing import Any, Dict, Iterable, List, Mapping, Optional, Set, Tuple
 
 from .calls import Abandon, Answer, Call, Done, Enable, Freed, PutOff, Refused, Report, Reschedule, Standing, Taken
 from .site import Watched
@@ -108,9 +107,9 @@ class AllKnown:
                 self.objects[watched.name] = replace(kept, watched=watched, on=on)
             self._set_due(self.objects[watched.name])
 
-    def read_saved(self, state: bytes) -> None:
-        """Takes in the state of a scheduler, as it was saved."""
-        for it in json.loads(state)["objects"]:
+    def read_saved(self, members: Iterable[Mapping[str, Any]]) -> None:
+        """Takes in objects as their scheduler was saved."""
+        for it in members:
             known = self.objects.get(it["name"])
             if known is not None:
                 known.on, known.forced, known.next = it["enabled"], it["forced"], it.get("next_check")

@@ -24,6 +24,7 @@ from .runners import RunnerProcesses
 from .scheduling import Scheduling
 from .site import Site, read_site
 from .store import DropChangesBefore, Store
+from .typed import code_of, time_of
 
 DAY = 86_400
 BUSY_WAIT = 100
@@ -47,6 +48,7 @@ class Monitor:
         self._notifier = Notifier(words.on_change, self.store, self.log)
         self.scheduling = self._opened(self.site)
         self.runners = RunnerProcesses(os.cpu_count() or 1, self.log, self._watch, self._unwatch)
+        self.runners.serve(self.site.queues)
         self.engine = Engine(self.site, self.scheduling, self.runners, self.store, self.clock, self.log)
         self.requests = Requests(self.engine, self.clock, self.reload, self.stop)
         self.control = control.Control(folder, self.requests.answer, self._watch, self._unwatch)
@@ -157,6 +159,7 @@ class Monitor:
         before = self.scheduling.known.objects
         changed = self.engine.reload(site)
         self.site = site
+        self.runners.serve(self.site.queues)
         new, dropped = sorted(set(site.objects) - set(before)), sorted(set(before) - set(site.objects))
         for word, names in (("new", new), ("dropped", dropped)):
             for name in names:
@@ -168,7 +171,7 @@ class Monitor:
     def _reload_by_signal(self) -> None:
         try:
             self.reload()
-        except MonitorFault as fault:
+        except (MonitorFault, NotStored) as fault:
             self.log(f"the site isn't taken over: {fault}")
 
     def close(self) -> None:
@@ -216,7 +219,7 @@ def words_of(given: Optional[List[str]]) -> argparse.Namespace:
         words.add_parser(word, help=f"switches an object's checks {what}").add_argument("name")
     result = words.add_parser("result", help="gives a passive result")
     result.add_argument("name")
-    result.add_argument("code", type=code_of, help="0 to 3, or OK, WARNING, CRITICAL or UNKNOWN")
+    result.add_argument("code", type=code_of, help="0 to 3, or OK, WARNING, CRITICAL or UNKNOWN; UP or DOWN of a host")
     result.add_argument("output", nargs="?", default="")
     for word, what in (("test", "reads the site and tests it"), ("reload", "reads the site anew"), ("save", "saves the state"), ("stop", "ends the monitor")):
         words.add_parser(word, help=what)
@@ -231,23 +234,9 @@ def request_of(words: argparse.Namespace) -> Dict[str, Any]:
     return {"do": words.word, **{member: value for member, value in asked.items() if value is not None}}
 
 
-def time_of(text: str) -> float:
-    """A time as it is typed: seconds since 1970, or a date and time by this machine's zone, such as 2026-11-27T18:00."""
-    try:
-        return float(text)
-    except ValueError:
-        return datetime.datetime.fromisoformat(text).timestamp()
-
-
-def code_of(text: str) -> int:
-    """A plugin's code as it is typed: 0 to 3, or the word of a state."""
-    words = ("OK", "WARNING", "CRITICAL", "UNKNOWN")
-    return words.index(text.upper()) if text.upper() in words else int(text)
-
-
 def clock_time(seconds: float) -> str:
     """A time by this machine's zone."""
-    return datetime.datetime.fromtimestamp(seconds).astimezone().isoformat(sep=" ", timespec="seconds")
+    return datetime.datetime.fromtimestamp(round(seconds)).astimezone().isoformat(sep=" ", timespec="seconds")
 
 
 def printed(answer: Dict[str, Any], is_long: bool = False) -> str:

@@ -16,6 +16,7 @@ from .clock import Clock
 from .engine import Engine
 from .faults import MonitorFault, NotStored, RequestFault
 from .known import Known
+from .standings import FIRST_TIME
 from .store import KeepResult, SetSwitch
 
 LAST_MOMENT = 2**60
@@ -99,7 +100,7 @@ class Requests:
             "kind": None if standing is None else standing.kind,
             "attempt": None if standing is None else standing.attempt,
             "flapping": standing is not None and standing.flapping,
-            "next": None if known.next is None else (known.next - late) / 1000,
+            "next": None if known.next is None else round((known.next - late) / 1000, 3),
             "out": known.run is not None,
             "on": known.on,
             "output": known.words,
@@ -113,10 +114,12 @@ class Requests:
         if isinstance(at, bool) or not isinstance(at, (int, float)) or not isinstance(forced, bool):
             raise RequestFault("at is a number of seconds since 1970, and force is true or false")
         time = now + round((at - wall) * 1000) if abs(at) < LAST_MOMENT / 1000 else -1
-        if not 0 <= time <= LAST_MOMENT:
+        if not FIRST_TIME <= time <= LAST_MOMENT:
             raise RequestFault(f"no time at which a check can be: {at!r}")
+        # A time that is past means now.
+        time = max(time, now)
         self.engine.reschedule(known.name, time, forced)
-        return {"done": "reschedule", "name": known.name, "at": wall + (time - now) / 1000, "on": known.on or forced}
+        return {"done": "reschedule", "name": known.name, "at": round(wall + (time - now) / 1000, 3), "on": known.on or forced}
 
     def _switch(self, members: Members, on: bool) -> Dict[str, Any]:
         self._only(members, "name")

@@ -1,12 +1,14 @@
 """The rows of a site's database: its tables, what a row says, and the checksum of one."""
 import hashlib
+import json
 from dataclasses import dataclass
-from typing import Dict, NamedTuple, Optional, Sequence, Union
+from typing import AbstractSet, Dict, NamedTuple, Optional, Sequence, Union
 
 Cell = Union[int, float, str, bytes, None]
 
 TABLES: Dict[str, str] = {
     "generations": "part INTEGER, setup BLOB, start INTEGER, saved BLOB, last_call INTEGER",
+    "mirrors": "part INTEGER UNIQUE, names TEXT",
     "calls": "part INTEGER, line TEXT, words TEXT",
     "switches": "name TEXT UNIQUE, is_on INTEGER",
     "passive": "name TEXT, code INTEGER, words TEXT",
@@ -16,6 +18,8 @@ TABLES: Dict[str, str] = {
     "standings": "name TEXT UNIQUE, state TEXT, kind TEXT, attempt INTEGER, flapping INTEGER, since REAL, hard_since REAL, last_check REAL, "
     "next_check REAL, is_on INTEGER, out_since REAL, took REAL, late REAL, words TEXT",
 }
+# The last generation of each part is the last of these.
+GENERATIONS = "SELECT part, setup, start, saved, last_call, names FROM generations LEFT JOIN mirrors USING (part) ORDER BY generations.id"
 
 
 @dataclass(frozen=True)
@@ -28,6 +32,8 @@ class Generation:
     saved: Optional[bytes]
     # The number of the last call that the saved state has in it.
     last_call: int
+    # The objects of the setup that are mirrors.
+    mirrors: AbstractSet[str] = frozenset()
 
 
 @dataclass(frozen=True)
@@ -99,3 +105,13 @@ class LastChanges:
 
 def checksum_of(table: str, number: int, cells: Sequence[Cell]) -> str:
     return hashlib.blake2b(ascii((table, number, *cells)).encode(), digest_size=8).hexdigest()
+
+
+def text_of(names: AbstractSet[str]) -> str:
+    """Names as one cell."""
+    return json.dumps(sorted(names), ensure_ascii=False)
+
+
+def names_of(text: Optional[str]) -> AbstractSet[str]:
+    """The names of a cell; none where there is none."""
+    return frozenset() if text is None else frozenset(json.loads(text))

@@ -6,10 +6,12 @@ import pathlib
 import subprocess
 import sys
 from dataclasses import dataclass, field
-from typing import Any, Callable, Dict, List, Protocol, Sequence, Tuple, Union
+from typing import Any, Callable, Dict, List, Optional, Protocol, Sequence, Tuple, Union
+
+from .queues import Queues
 
 READ_BYTES = 65_536
-MODULE = "nagsched_monitor.plugins"
+MODULE, QUEUE_MODULE = "nagsched_monitor.plugins", "nagsched_monitor.gearman_runner"
 # The folder of the package, and where the runner in C may lie: installed, or built in the tree.
 FOLDER = pathlib.Path(__file__).resolve().parent.parent
 COMPILED = (FOLDER / "nagsched-runner", FOLDER / "out/nagsched-runner")
@@ -23,6 +25,8 @@ class Job:
     run: int
     words: Sequence[str]
     limit: float
+    # The queue of a server whose workers make it; None where a runner of this machine does.
+    queue: Optional[str] = None
 
 
 @dataclass(frozen=True)
@@ -37,9 +41,10 @@ class Finished:
 
 @dataclass(frozen=True)
 class Lost:
-    """A job whose runner ended before it."""
+    """A job whose runner ended before it, or that no worker of its queue took or answered."""
 
     job: Job
+    why: str = "its runner ended"
 
 
 Event = Union[Finished, Lost]
@@ -63,6 +68,7 @@ class Process:
     """One runner process, and what it runs."""
 
     process: "subprocess.Popen[bytes]"
+    words: Sequence[str]
     jobs: Dict[int, Job] = field(default_factory=dict)
     unread: bytes = b""
     unsent: bytes = b""
@@ -86,9 +92,10 @@ def runner_words() -> List[str]:
 
 
 @functools.lru_cache(maxsize=None)
-def command_line(words: Tuple[str, ...], limit: float) -> bytes:
+def command_line(words: Tuple[str, ...], limit: float, queue: Optional[str]) -> bytes:
     """The members of a job behind its number."""
-    return json.dumps({"words": words, "limit": limit})[1:].encode()
+    members = {"words": words, "limit": limit}
+    return json.dumps(members if queue is None else {**members, "queue": queue})[1:].encode()
 
 
 class RunnerProcesses:
@@ -96,26 +103,40 @@ class RunnerProcesses:
 
     def __init__(self, count: int, log: Callable[[str], None], watch: Callable[[int], None], unwatch: Callable[[int], None]) -> None:
         self._log, self._watch, self._unwatch = log, watch, unwatch
-        self._words = runner_words()
+        # The runner of the jobs that have a queue, where the site has some.
+        self._queued: Optional[Process] = None
         self._events: List[Event] = []
         self._number = 0
         self._processes: Dict[int, Process] = {}
         for _ in range(count):
-            self._begin()
+            self._begin(runner_words())
 
-    def _begin(self) -> Process:
+    def _begin(self, words: Sequence[str]) -> Process:
         environment = {**os.environ, "PYTHONPATH": str(FOLDER)}
-        process = Process(subprocess.Popen(self._words, stdin=subprocess.PIPE, stdout=subprocess.PIPE, env=environment, bufsize=0))
+        process = Process(subprocess.Popen(words, stdin=subprocess.PIPE, stdout=subprocess.PIPE, env=environment, bufsize=0), words)
         os.set_blocking(process.writes_to(), False)
         self._processes[process.writes_to()] = process
         self._watch(process.writes_to())
         return process
 
+    def serve(self, queues: Optional[Queues]) -> None:
+        """Has the jobs of queues handed to their server from now on; what is out at another one is lost."""
+        words = [] if queues is None else [sys.executable, "-m", QUEUE_MODULE, queues.server, str(queues.wait)]
+        if self._queued is not None and self._queued.words != words:
+            self._end(self._queued)
+        if words and self._queued is None:
+            self._begin_queued(words)
+
+    def _begin_queued(self, words: Sequence[str]) -> None:
+        self._queued = self._begin(words)
+        os.set_blocking(self._queued.reads_from(), False)  # what it doesn't read at once doesn't hold up the monitor
+
     def start(self, job: Job) -> None:
         self._number += 1
-        process = min(self._processes.values(), key=lambda process: len(process.jobs))
+        queued = self._queued if job.queue is not None else None
+        process = queued or min((each for each in self._processes.values() if each is not self._queued), key=lambda process: len(process.jobs))
         process.jobs[self._number] = job
-        process.unsent += b'{"job":%d,%s\n' % (self._number, command_line(tuple(job.words), job.limit))
+        process.unsent += b'{"job":%d,%s\n' % (self._number, command_line(tuple(job.words), job.limit, job.queue))
 
     def flush(self) -> None:
         """Hands on the jobs that were started, with one write for each runner."""
@@ -123,6 +144,8 @@ class RunnerProcesses:
             try:
                 while process.unsent:
                     process.unsent = process.unsent[os.write(process.reads_from(), process.unsent) :]
+            except BlockingIOError:
+                pass  # the rest goes at the next time
             except BrokenPipeError:
                 self._restart(process)
 
@@ -142,13 +165,30 @@ class RunnerProcesses:
 
     def _hear(self, process: Process, result: Dict[str, Any]) -> None:
         job = process.jobs.pop(result["job"], None)
-        if job is not None:
+        if job is None:
+            return
+        if result["end"] == "lost":
+            self._log(f"{job.name}: run {job.run} is given up: {result['output']}")
+            self._events.append(Lost(job, result["output"]))
+        else:
             self._events.append(Finished(job, result["end"], result["code"], result["output"]))
 
     def _restart(self, process: Process) -> None:
         """Another runner in place of one that has ended."""
-        if self._processes.pop(process.writes_to(), None) is None:
+        if process.writes_to() not in self._processes:
             return  # it was seen before
+        is_queued = process is self._queued
+        status = self._end(process)
+        self._log(f"a runner ended with status {status}, and {len(process.jobs)} checks with it; another is started")
+        if is_queued:
+            self._begin_queued(process.words)
+        else:
+            self._begin(process.words)
+
+    def _end(self, process: Process) -> int:
+        """Ends a runner, and returns its status; what it ran is lost."""
+        del self._processes[process.writes_to()]
+        self._queued = None if process is self._queued else self._queued
         self._unwatch(process.writes_to())
         self._events.extend(Lost(job) for job in process.jobs.values())
         process.process.kill()
@@ -156,8 +196,7 @@ class RunnerProcesses:
         for pipe in (process.process.stdin, process.process.stdout):
             if pipe is not None:
                 pipe.close()
-        self._log(f"a runner ended with status {status}, and {len(process.jobs)} checks with it; another is started")
-        self._begin()
+        return status
 
     def events(self) -> List[Event]:
         events, self._events = self._events, []

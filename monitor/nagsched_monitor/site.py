@@ -1,9 +1,11 @@
 """A site: the folder that says what is monitored and how. It is read and tested whole before anything runs.
 
     setup.json        the setup of the scheduler, or several: part-1.json, part-2.json and on
+    mirrors.json      which objects of a part are mirrors of those of another (may be left out)
     commands.json     the command of each object by its full name
     periods.json      time periods, and which objects go by which (may be left out)
     passive.json      which objects are passive, and how fresh their results have to be (may be left out)
+    queues.json       which checks are made by workers on other machines (may be left out)
     monitor.json      options of the monitor (may be left out)
 """
 import datetime
@@ -16,11 +18,13 @@ import shutil
 import subprocess
 import zoneinfo
 from dataclasses import dataclass, replace
-from typing import Any, Dict, List, Mapping, Optional, Sequence, Tuple
+from typing import AbstractSet, Any, Dict, List, Mapping, Optional, Sequence, Tuple
 
-from .documents import MOST_SECONDS, only_known, only_object, read_object, seconds
+from .documents import MOST_FRESH, MOST_SECONDS, only_known, only_object, read_object, seconds
 from .faults import SiteFault
+from .mirrors import read_mirrors
 from .periods import Periods, read_periods
+from .queues import Queues, queue_of_each, read_queues
 
 # A line that no quote, no escape and no sign of a shell is in.
 PLAIN = re.compile(r"[\w ./:,=%@+!#*?$~^{}\[\]-]*", re.ASCII)
@@ -53,6 +57,8 @@ class Watched:
     passive_only: bool = False
     # Milliseconds within which a result has to come; None where it may take its time.
     freshness: Optional[int] = None
+    # The queue of the worker that makes its checks; None where they are made here.
+    queue: Optional[str] = None
 
     def is_host(self) -> bool:
         return self.host is None
@@ -83,27 +89,31 @@ class Site:
     zone: Optional[datetime.tzinfo]
     # The objects whose results have to be fresh.
     with_freshness: Sequence[str]
+    # The names of the mirrors of each part that has some.
+    mirrors: Mapping[int, AbstractSet[str]]
+    queues: Optional[Queues] = None
 
 
 def read_site(folder: pathlib.Path, program: str) -> Site:
     """The site of a folder, or a `SiteFault` that names the file and what is wrong there."""
-    setups, objects = [], {}
-    for part, path in enumerate(setup_files(folder)):
-        setups.append(setup_line(path, program))
-        for watched in objects_of(json.loads(setups[part]), part):
-            if watched.name in objects:
-                raise SiteFault(f"{path.name}: {watched.name} is in another part already")
-            objects[watched.name] = watched
+    paths = setup_files(folder)
+    setups = [setup_line(path, program) for path in paths]
+    documents = {path.stem: json.loads(setup) for path, setup in zip(paths, setups)}
+    mirrors = read_mirrors(folder, documents)
+    objects = originals_of(documents, mirrors)
     options, zone = read_options(folder)
-    commands = read_commands(folder, objects)
+    queues = read_queues(folder, objects)
+    queue_of = queue_of_each(queues, objects)
+    commands = read_commands(folder, objects, queue_of)
     periods, period_of = read_period_file(folder, objects, zone)
     passive = read_passive(folder, objects)
     for name, watched in objects.items():
         only, freshness = passive.get(name, (False, None))
-        objects[name] = replace(watched, command=commands.get(name), period=period_of.get(name), passive_only=only, freshness=freshness)
+        command, period, queue = commands.get(name), period_of.get(name), queue_of.get(name)
+        objects[name] = replace(watched, command=command, period=period, queue=queue, passive_only=only, freshness=freshness)
         test_command(objects[name])
     with_freshness = [name for name, watched in objects.items() if watched.freshness is not None]
-    return Site(folder, setups, objects, periods, options, children_of(objects), zone, with_freshness)
+    return Site(folder, setups, objects, periods, options, children_of(objects), zone, with_freshness, mirrors, queues)
 
 
 # ---- setups
@@ -128,6 +138,19 @@ def setup_line(path: pathlib.Path, program: str) -> bytes:
     if checked.returncode != 0:
         raise SiteFault(f"{path.name}: {'; '.join(checked.stdout.decode(errors='replace').splitlines()) or 'the scheduler gives no answer'}")
     return subprocess.run([program, "check", "--line"], input=path.read_bytes(), stdout=subprocess.PIPE, check=True).stdout.rstrip(b"\n")
+
+
+def originals_of(documents: Mapping[str, Mapping[str, Any]], mirrors: Mapping[int, AbstractSet[str]]) -> Dict[str, Watched]:
+    """The objects of all parts, each once: mirrors aren't among them."""
+    objects: Dict[str, Watched] = {}
+    for part, (stem, setup) in enumerate(documents.items()):
+        for watched in objects_of(setup, part):
+            if watched.name in mirrors.get(part, ()):
+                continue
+            if watched.name in objects:
+                raise SiteFault(f"{stem}.json: {watched.name} is in another part already, and mirrors.json doesn't name it")
+            objects[watched.name] = watched
+    return objects
 
 
 def objects_of(setup: Mapping[str, Any], part: int) -> List[Watched]:
@@ -155,8 +178,8 @@ def children_of(objects: Mapping[str, Watched]) -> Dict[str, List[str]]:
 # ---- the other files
 
 
-def read_commands(folder: pathlib.Path, objects: Mapping[str, Watched]) -> Dict[str, Command]:
-    """The command of each object. Each line can be split, and has a program that is there."""
+def read_commands(folder: pathlib.Path, objects: Mapping[str, Watched], queue_of: Mapping[str, str]) -> Dict[str, Command]:
+    """The command of each object. Each line can be split, and has a program that is there, unless a worker elsewhere runs it."""
     commands = {}
     is_program.cache_clear()
     for name, members in read_object(folder, "commands.json", required=True).items():
@@ -170,18 +193,18 @@ def read_commands(folder: pathlib.Path, objects: Mapping[str, Watched]) -> Dict[
         if "\0" in line:
             raise SiteFault(f"{place}: its line has a zero byte")
         limit = seconds(members.get("limit", 60), f"{place}: limit")
-        commands[name] = Command(shell_words(line, place) if shell else plain_words(line, place), limit)
+        commands[name] = Command(shell_words(line, place) if shell else plain_words(line, place, name not in queue_of), limit)
     return commands
 
 
-def plain_words(line: str, place: str) -> List[str]:
-    """The words of a line that no shell runs; the first is a program that is there."""
+def plain_words(line: str, place: str, is_here: bool) -> List[str]:
+    """The words of a line that no shell runs; the first is a program that is there, where it is run here."""
     words, signs = (line.split(), []) if PLAIN.fullmatch(line) else split_words(line, place)
     if not words:
         raise SiteFault(f"{place}: its line is empty")
     if signs:
         raise SiteFault(f'{place}: only a shell gives {signs[0]} a meaning: add "shell": true, or put it in quotes')
-    if not is_program(words[0]):
+    if is_here and not is_program(words[0]):
         raise SiteFault(f"{place}: there is no program {words[0]}")
     return words
 
@@ -248,7 +271,7 @@ def read_passive(folder: pathlib.Path, objects: Mapping[str, Watched]) -> Dict[s
         only, freshness = members.get("only", False), members.get("freshness")
         if not isinstance(only, bool):
             raise SiteFault(f"{place}: only is true or false")
-        passive[name] = only, None if freshness is None else round(seconds(freshness, f"{place}: freshness") * 1000)
+        passive[name] = only, None if freshness is None else round(seconds(freshness, f"{place}: freshness", MOST_FRESH) * 1000)
     return passive
 
 

@@ -9,9 +9,9 @@ from .known import Known
 from .scheduling import Scheduling
 from .site import Site
 
-# A host whose check is asked for now stands before what is overdue; a passive result's object stands before that.
-HOST_FIRST = 1
-RESULT_FIRST = 0
+# A host whose check is asked for now stands before what is overdue, a passive result's object before that, and a mirror, at 0, before all.
+HOST_FIRST = 2
+RESULT_FIRST = 1
 
 
 @dataclass(frozen=True)

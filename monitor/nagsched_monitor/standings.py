@@ -15,7 +15,7 @@ from .store import DropStandings, KeepStandings, Store, Write
 TOGETHER = 500
 LONGEST = 1_000
 # A next check before this moment was asked for at once.
-FIRST_TIME = 2
+FIRST_TIME = 3
 
 
 class Standings:

@@ -1,6 +1,7 @@
 """The database of a site: one SQLite file, which is all that the monitor keeps.
 
     generations   of each part the setup that its scheduler was opened over, the start, and the state from which it went on, if it was saved
+    mirrors       of each part that has mirrors their names, as JSON
     calls         the calls that were made since, with the words of the plugin where one reported; each is kept before it is made
     switches      whether an operator has an object's checks on
     passive       results that came through the socket and weren't reported yet
@@ -20,7 +21,7 @@ from typing import Dict, Iterator, List, Optional, Sequence, Tuple
 
 from .calls import Abandon, Take, read_call
 from .faults import DamagedRow, MonitorFault, NotStored
-from .rows import TABLES, Cell, Generation, KeptCall, KeptChange, KeptResult, KeptStanding, LastChanges, checksum_of
+from .rows import GENERATIONS, TABLES, Cell, Generation, KeptCall, KeptChange, KeptResult, KeptStanding, LastChanges, checksum_of, names_of, text_of
 
 class Store:
     """The database of one monitor. A second one of the same site is refused."""
@@ -79,8 +80,7 @@ class Store:
 
     def generations(self) -> Dict[int, Generation]:
         """The last generation of each part."""
-        rows = self._database.execute("SELECT part, setup, start, saved, last_call FROM generations ORDER BY id")
-        return {row[0]: Generation(*row) for row in rows}
+        return {row[0]: Generation(*(*row[:-1], names_of(row[-1]))) for row in self._database.execute(GENERATIONS)}
 
     def calls_since(self, part: int, number: int) -> Iterator[KeptCall]:
         """The calls of a part behind the call with this number."""
@@ -206,6 +206,9 @@ class BeginGeneration(Write):
         store.delete("generations", "part = ?", made.part)
         store.delete("calls", "part = ? AND id <= ?", made.part, made.last_call)
         store.insert("generations", None, (made.part, made.setup, made.start, made.saved, made.last_call))
+        store.delete("mirrors", "part = ?", made.part)
+        if made.mirrors:
+            store.insert("mirrors", None, (made.part, text_of(made.mirrors)))
 
 
 @dataclass(frozen=True)

@@ -1,37 +1,81 @@
 #!/bin/bash
-# The monitor beside what Debian has for it: Nagios's pages (nagios4-cgi), NSCA (nsca, nsca-client), a browser (chromium-headless-shell) and
-# promtool (prometheus). The first two are fetched and unpacked into a temporary folder; the other two are installed where PICTURES is named, they
-# aren't there and root runs this. What can't be had is passed over, and named.
+# The monitor beside what Debian has for it: Nagios's pages (nagios4-cgi) and NSCA over its files (tests/packages.py), a browser and promtool
+# (tests/page_pictures.py), and gearmand with workers, NRPE and SSH (tests/packages_gearman.py). What isn't installed is fetched and unpacked into a temporary
+# folder; chromium-headless-shell and prometheus are installed where PICTURES is named, they aren't there and root runs this. What can't be had is passed over,
+# and named.
 #
-#     monitor/tests/packages.sh PROGRAM [PICTURES]       PROGRAM is nagsched, PICTURES a folder for pictures of the pages
+#     monitor/tests/packages.sh PROGRAM [pages [PICTURES] | gearman [WHAT..]]       PROGRAM is nagsched, PICTURES a folder for pictures of the pages, WHAT as
+#                                                                                  packages_gearman.py has it; both parts without a second word
 set -eu
 program=$(realpath "$1")
-pictures=${2:+$(realpath -m "$2")}
+part=${2:-both}
+pictures=
+what=()
+case $part in
+    pages) pictures=${3:+$(realpath -m "$3")} ;;
+    gearman) what=("${@:3}") ;;
+esac
 here=$(cd "$(dirname "$0")" && pwd)
 work=$(mktemp -d)
 trap 'rm -rf "$work"' EXIT
-if [ -n "$pictures" ]; then
+cd "$work"
+
+# Pictures of the monitor's page, and what promtool says of its figures.
+pictures() {
     mkdir -p "$pictures"
     for needed in chromium-headless-shell:chromium-headless-shell promtool:prometheus; do
         command -v "${needed%%:*}" > /dev/null || [ "$(id -u)" -ne 0 ] ||
-            apt-get install -y --no-install-recommends "${needed##*:}" > "$work/apt.out" 2>&1 || tail -n 2 "$work/apt.out"
+            apt-get install -y --no-install-recommends "${needed##*:}" > apt.out 2>&1 || tail -n 2 apt.out
     done
     (cd "$here/.." && python3 -m tests.page_pictures "$pictures")
-fi
-cd "$work"
-apt-get download nagios4-cgi >apt.out 2>&1 || { cat apt.out; echo "packages: nagios4-cgi can't be fetched" >&2; exit 1; }
-apt-get download nsca nsca-client libmcrypt4 >apt.out 2>&1 || echo "packages: passed over NSCA, which can't be fetched"
-for package in *.deb; do
-    dpkg -x "$package" unpacked
-done
-libraries=$(find unpacked -name 'libmcrypt.so.4' -printf '%h\n' | head -1)
-[ -z "$libraries" ] || export LD_LIBRARY_PATH="$work/$libraries"
-cgis=$work/$(dirname "$(find unpacked -name status.cgi)")
-tools=()
-[ ! -x unpacked/usr/sbin/nsca ] || [ ! -x unpacked/usr/sbin/send_nsca ] || tools=("$work/unpacked/usr/sbin/nsca" "$work/unpacked/usr/sbin/send_nsca")
-for file in "$cgis/status.cgi" ${tools[@]+"${tools[@]}"}; do
-    missing=$(ldd "$file" | awk '/not found/ {print $1}')
-    [ -z "$missing" ] || { echo "packages: $(basename "$file") wants $missing" >&2; exit 1; }
-done
-cd "$here/.."
-python3 -m tests.packages "$program" "$work/unpacked" "$cgis" "$pictures" ${tools[@]+"${tools[@]}"}
+}
+
+pages() {
+    [ -z "$pictures" ] || pictures
+    apt-get download nagios4-cgi >apt.out 2>&1 || { cat apt.out; echo "packages: nagios4-cgi can't be fetched" >&2; return 1; }
+    apt-get download nagios4-common >apt.out 2>&1 || echo "packages: passed over Nagios's styles, which can't be fetched"
+    apt-get download nsca nsca-client libmcrypt4 >apt.out 2>&1 || echo "packages: passed over NSCA, which can't be fetched"
+    for package in *.deb; do
+        dpkg -x "$package" unpacked
+    done
+    libraries=$(find unpacked -name 'libmcrypt.so.4' -printf '%h\n' | head -1)
+    [ -z "$libraries" ] || export LD_LIBRARY_PATH="$work/$libraries"
+    cgis=$work/$(dirname "$(find unpacked -name status.cgi)")
+    tools=()
+    [ ! -x unpacked/usr/sbin/nsca ] || [ ! -x unpacked/usr/sbin/send_nsca ] || tools=("$work/unpacked/usr/sbin/nsca" "$work/unpacked/usr/sbin/send_nsca")
+    for file in "$cgis/status.cgi" ${tools[@]+"${tools[@]}"}; do
+        missing=$(ldd "$file" | awk '/not found/ {print $1}')
+        [ -z "$missing" ] || { echo "packages: $(basename "$file") wants $missing" >&2; return 1; }
+    done
+    (cd "$here/.." && python3 -m tests.packages "$program" "$work/unpacked" "$cgis" "$pictures" ${tools[@]+"${tools[@]}"})
+}
+
+# A package with all that it needs and that isn't installed, unpacked where the tries look for it.
+fetch() {
+    mkdir -p archives/partial
+    if apt-get -y --no-install-recommends --download-only --reinstall -o Dir::Cache::archives="$work/archives" install "$@" >apt.out 2>&1; then
+        for package in archives/*.deb; do
+            dpkg -x "$package" unpacked
+        done
+    else
+        echo "packages: $* can't be fetched"
+    fi
+}
+
+gearman() {
+    export PATH="$PATH:/usr/sbin:/sbin"
+    command -v gearmand >/dev/null && ldconfig -p | grep -q 'libgearman.so.8' || fetch gearman-job-server libgearman8
+    command -v nrpe >/dev/null && [ -x /usr/lib/nagios/plugins/check_nrpe ] || fetch nagios-nrpe-server nagios-nrpe-plugin
+    command -v sshd >/dev/null && [ -x /usr/lib/nagios/plugins/check_by_ssh ] || fetch openssh-server monitoring-plugins-basic
+    if [ -d unpacked ]; then
+        libraries=$(find unpacked -name '*.so.*' -printf "$work/%h\n" | sort -u | paste -sd:)
+        export LD_LIBRARY_PATH="${LD_LIBRARY_PATH:+$LD_LIBRARY_PATH:}$libraries" PLUGINS="$work/unpacked/usr/lib/nagios/plugins"
+        export PATH="$PATH:$work/unpacked/usr/sbin:$work/unpacked/usr/bin"
+    fi
+    python3 "$here/packages_gearman.py" "$program" ${what[@]+"${what[@]}"}
+}
+
+status=0
+[ "$part" = gearman ] || (pages) || status=1
+[ "$part" = pages ] || (gearman) || status=1
+exit $status

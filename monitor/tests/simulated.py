@@ -72,6 +72,8 @@ class SimulatedMonitor:
         self.store = Store(folder)
         self.store._database.execute("PRAGMA synchronous=OFF")
         self.clock = clock or SimulatedClock()
+        # From one turn to the next at least, in milliseconds.
+        self.between = 1
         self.lines: List[str] = []
         self.changes: List[Tuple[int, KeptChange]] = []
         self.scheduling = Scheduling(PROGRAM, self.site, self.store, self.clock, self.lines.append, True)
@@ -87,7 +89,7 @@ class SimulatedMonitor:
             self.changes += [(self.clock.now, change) for change in self.scheduling.changed()]
             ends = self.runners.first()
             wanted = wanted if ends is None else min(wanted, ends)
-            self.clock.now = min(end, max(wanted, self.clock.now + 1))
+            self.clock.now = min(end, max(wanted, self.clock.now + self.between))
 
     def pause(self, seconds: float) -> None:
         """Nothing runs for so long, as where a machine sleeps."""

@@ -3,9 +3,11 @@ import datetime
 import json
 import time
 from typing import List, Optional
+from unittest import mock
 
 from nagsched_monitor.calls import Standing
 from nagsched_monitor.changes import TRIES, Notifier, document_of, is_change, is_important, line_of
+from nagsched_monitor.faults import NotStored
 from nagsched_monitor.rows import KeptChange
 from nagsched_monitor.store import KeepChange, Store
 
@@ -81,6 +83,22 @@ class Command(SiteTest):
         self.assertEqual(len(self.lines), TRIES)
         self.assertIn("h1", self.lines[-1])
         self.assertEqual(self.store.outbox(), [])
+
+    def test_one_that_was_taken_while_nothing_can_be_stored(self) -> None:
+        """The command isn't run again for it, and one line says why it waits."""
+        self.keep(1)
+        notifier = Notifier(f"cat >> {self.folder}/taken", self.store, self.lines.append, lambda: time.monotonic() + self.passed)
+        with mock.patch.object(self.store, "write", side_effect=NotStored("the disk is full")):
+            for _ in range(200):
+                notifier.work()
+                self.passed += 0 if notifier.is_busy() else 10
+                time.sleep(0.005)
+        self.assertEqual(len((self.folder / "taken").read_text().splitlines()), 1)
+        self.assertEqual((self.lines, len(self.store.outbox())), (["the disk is full"], 1))
+        self.passed += 10
+        notifier.work()
+        notifier.close()
+        self.assertEqual((len((self.folder / "taken").read_text().splitlines()), self.store.outbox()), (1, []))
 
     def test_no_command(self) -> None:
         self.keep(1)

@@ -3,7 +3,9 @@ import collections
 import os
 import signal
 from typing import Any, Dict, List, Set, Tuple
+from unittest import mock
 
+from nagsched_monitor import gearman
 from nagsched_monitor.faults import NotStored
 from nagsched_monitor.runners import Lost
 from nagsched_monitor.store import KeepResult
@@ -239,6 +241,16 @@ class Faults(SiteTest):
         self.assertEqual(len(monitor.starts()["web;http"]), 3)
         self.assertEqual([(change.state, change.words) for _, change in monitor.changes], [("UNKNOWN", "its runner ended 3 times")])
 
+    def test_a_queue_that_nobody_serves(self) -> None:
+        """What became of its jobs is said, and each has its queue."""
+        self.write_site([host("web")], [], queues={"server": "10.0.0.1:4730", "queues": {"dmz": ["web"]}})
+        with mock.patch.object(gearman, "Library"):
+            monitor = self.monitor(fine)
+        events = monitor.runners.events
+        setattr(monitor.runners, "events", lambda: [Lost(event.job, f"no worker took it from the queue {event.job.queue}") for event in events()])
+        monitor.run(5)
+        self.assertEqual([change.words for _, change in monitor.changes], ["no worker took it from the queue dmz 3 times"])
+
     def test_a_restart_makes_the_calls_again(self) -> None:
         self.write_site([host("web", max_check_attempts=5)], [service("web", "http")])
         monitor = self.monitor(lambda name, moment: (10, 2, "bad"))
@@ -250,6 +262,18 @@ class Faults(SiteTest):
         self.assertEqual(after.changes, [])
         after.run(60)
         self.assertEqual({change.state for _, change in after.changes}, {"UP", "OK"})
+
+    def test_a_restart_tells_no_problem_again(self) -> None:
+        """A result behind the saved state that is as the one before it is no change."""
+        self.write_site([host("web", max_check_attempts=1)], [])
+        monitor = self.monitor(lambda name, moment: (10, 2, "bad"))
+        monitor.run(70)
+        monitor.engine.save()
+        monitor.run(120)
+        monitor.close()
+        after = self.monitor(lambda name, moment: (10, 2, "bad"), monitor.clock)
+        after.run(1)
+        self.assertEqual(after.changes, [])
 
     def test_another_setup_is_taken_over_or_refused_by_name(self) -> None:
         self.write_site([host("web", max_check_attempts=5)], [])

@@ -132,7 +132,7 @@ class Running(ProcessTest):
         self.write("commands.json", {name: {"line": f"echo {name}; exit 2", "shell": True} for name in ("h00", "h01", "gone")})
         running = self.begin()
         time.sleep(3.5)
-        self.assertIn("DOWN HARD 2 h00: h00", self.ask("status").stdout)
+        self.assertIn("DOWN HARD 2 h00: h00", self.ask("status").stdout.replace(" out", ""))
         hosts = [{**self.objects(1)[0], "check_interval": 100, "retry_interval": 100, "max_check_attempts": 4}, self.objects(2)[1]]
         self.write_site([*hosts, {"name": "new", "check_interval": 100, "max_check_attempts": 1}], [])
         self.write("commands.json", {name: {"line": f"echo {name}; exit 2", "shell": True} for name in ("h00", "h01", "new")})

@@ -18,7 +18,7 @@ class Database(SiteTest):
         store = Store(self.folder)
         self.addCleanup(store.close)
         store.write(
-            BeginGeneration(Generation(0, b"{}", 7, b'{"format":1}', 0)),
+            BeginGeneration(Generation(0, b"{}", 7, b'{"format":1}', 0, frozenset({"gateway"}))),
             KeepCalls([(0, '["take",8]', None), (0, '["report","web",1,2]', "no answer")]),
             SetSwitch("web", False),
             KeepResult("web", 1, "slow"),
@@ -35,6 +35,7 @@ class Database(SiteTest):
         self.assertEqual([call.line for call in store.calls_since(0, 0)], ['["take",8]', '["report","web",1,2]'])
         self.assertEqual((store.switches(), [result.words for result in store.waiting()]), ({"web": False}, ["slow"]))
         self.assertEqual((store.generations()[0].saved, store.last_call, store.last_change, store.last_moment()), (b'{"format":1}', 2, 2, 8))
+        self.assertEqual(store.generations()[0].mirrors, {"gateway"})
         self.assertEqual((store.outbox(), store.figures()), ([(1, '{"name":"web"}')], {"saves": 3.0}))
         self.assertEqual(store.standings(), [(1, STANDING)])
         store.write(DropStandings(["web"]))

@@ -1,0 +1,79 @@
+#!/usr/bin/env python3
+"""Sites of 1,000 hosts and 20,000 services in parts with mirrors: what taking them over costs, and running them.
+
+    bench/parts.py PROGRAM [SECONDS]      by hand
+
+Two networks of Nagios's own files, one behind a single gateway and one in a tree of ten children each, every object checked every five minutes. For each:
+parts and mirrors; seconds, processor seconds and megabytes of `tools/from_nagios.py --site`; then the monitor runs it for SECONDS (300) with plugins that end
+at once: checks a second over the second half, how late they start at the median and at the 95th percent in milliseconds, processor milliseconds a check,
+resident megabytes of all processes but plugins; seconds of a restart until it answers, and of a reload.
+"""
+import json
+import os
+import pathlib
+import signal
+import sqlite3
+import subprocess
+import sys
+import tempfile
+import time
+
+import monitor
+
+TOP = pathlib.Path(__file__).resolve().parent.parent
+sys.path.insert(0, str(TOP / "monitor"))
+from tests.networks import write_network
+
+HOSTS, SERVICES = 1_000, 20
+NETWORKS = {"one gateway": 0, "a tree": 10}
+
+
+def taken_over(folder, children):
+    """Makes the folder of a site: parts, mirrors, seconds, processor seconds, megabytes."""
+    write_network(folder, HOSTS, SERVICES, children)
+    begin = time.monotonic()
+    made = subprocess.Popen([sys.executable, TOP / "tools/from_nagios.py", "--site", folder / "site", folder / "nagios.cfg", folder / "objects.precache"],
+                            stderr=subprocess.DEVNULL)
+    _, status, used = os.wait4(made.pid, 0)
+    seconds = time.monotonic() - begin
+    assert status == 0
+    mirrors = json.loads((folder / "site/mirrors.json").read_text())
+    parts = len(list((folder / "site").glob("part-*.json")))
+    return parts, sum(map(len, mirrors.values())), seconds, used.ru_utime + used.ru_stime, used.ru_maxrss / 1000
+
+
+def checks_of(folder):
+    """How many results the monitor has counted, and when it wrote that."""
+    with sqlite3.connect(folder / "monitor.db") as database:
+        figures = dict(database.execute("SELECT name, value FROM figures"))
+    return sum(value for name, value in figures.items() if name.startswith("checks.")), figures.get("written_at", 0)
+
+
+def run(folder, program, seconds):
+    """Runs the site: checks a second, lateness, processor time and memory."""
+    running = subprocess.Popen([sys.executable, monitor.MONITOR, "--program", program, folder], stdout=subprocess.DEVNULL, stderr=subprocess.DEVNULL)
+    time.sleep(seconds / 2)
+    before, (made, begin) = monitor.usage(running.pid), checks_of(folder)
+    time.sleep(seconds / 2)
+    after, (all_made, end) = monitor.usage(running.pid), checks_of(folder)
+    running.send_signal(signal.SIGTERM)
+    running.wait(timeout=60)
+    checks = all_made - made
+    return checks / max(end - begin, 1), monitor.percentiles(monitor.late_of(folder)), (after[0] - before[0]) * 1000 / max(checks, 1), after[1]
+
+
+def main(program, seconds="300"):
+    print(f"{'':12} {'parts':>5} {'mirrors':>7} {'take-over s':>11} {'CPU s':>6} {'MB':>5} "
+          f"{'checks a second':>16} {'median ms':>10} {'95th ms':>8} {'CPU ms a check':>15} {'MB':>6} {'restart s':>9} {'reload s':>8}")
+    for name, children in NETWORKS.items():
+        with tempfile.TemporaryDirectory() as holder:
+            folder = pathlib.Path(holder)
+            parts, mirrors, took, processor, megabytes = taken_over(folder, children)
+            print(f"{name:12} {parts:>5} {mirrors:>7} {took:>11.1f} {processor:>6.1f} {megabytes:>5.0f}", end=" ", flush=True)
+            a_second, (median, late), cost, resident = run(folder / "site", program, float(seconds))
+            rest = monitor.restarted(folder / "site", program)
+            print(f"{a_second:>16.1f} {median:>10.1f} {late:>8.1f} {cost:>15.2f} {resident:>6.0f} {rest}", flush=True)
+
+
+if __name__ == "__main__":
+    main(str(pathlib.Path(sys.argv[1]).resolve()), *sys.argv[2:])

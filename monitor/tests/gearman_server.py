@@ -1,0 +1,85 @@
+"""A stand-in for libgearman: a server of one queue, its clients, and workers that do what a test says. No process, no socket, no time of its own."""
+import json
+from dataclasses import dataclass, field
+from typing import Any, Dict, List, Optional
+
+from nagsched_monitor.gearman import Happening, Kind, ServerFault
+
+
+@dataclass
+class ServedJob:
+    """A job at the server, for the client that handed it in."""
+
+    client: "StandInClient"
+    number: int
+    workload: Dict[str, Any]
+
+
+@dataclass
+class StandInServer:
+    """A server: it hands jobs to workers in the order of their coming, and forgets those that wait when their client goes, as gearmand does."""
+
+    waiting: List[ServedJob] = field(default_factory=list)
+    clients: List["StandInClient"] = field(default_factory=list)
+    is_there: bool = True
+    # It takes what is sent, and answers nothing.
+    is_silent: bool = False
+
+    def connect(self) -> "StandInClient":
+        client = StandInClient(self)
+        self.clients.append(client)
+        return client
+
+    def take(self) -> Optional[ServedJob]:
+        """A worker takes a job, and says so."""
+        if not self.waiting or self.is_silent:
+            return None
+        job = self.waiting.pop(0)
+        job.client.come.append(Happening(Kind.TAKEN, job.number))
+        return job
+
+    def answer(self, job: ServedJob, /, **members: Any) -> None:
+        """A worker answers a job."""
+        result = {"job": job.workload["job"], "code": 0, "end": "exited", "output": "fine", **members}
+        job.client.come.append(Happening(Kind.COMPLETE, job.number, json.dumps(result).encode()))
+
+    def lose_worker(self, job: ServedJob) -> None:
+        """A worker ends with a job: it waits again, in front."""
+        if not job.client.is_closed:
+            self.waiting.insert(0, job)
+
+    def restart(self) -> None:
+        """Another server in its place, which knows of nothing."""
+        self.waiting.clear()
+        for client in self.clients:
+            client.is_lost = True
+        self.clients.clear()
+
+
+@dataclass
+class StandInClient:
+    server: StandInServer
+    come: List[Happening] = field(default_factory=list)
+    sent: List[ServedJob] = field(default_factory=list)
+    is_closed: bool = False
+    is_lost: bool = False
+
+    def submit(self, number: int, queue: str, workload: bytes) -> None:
+        self.sent.append(ServedJob(self, number, json.loads(workload)))
+
+    def work(self) -> List[Happening]:
+        if self.is_lost or not self.server.is_there:
+            raise ServerFault("lost connection")
+        if self.server.is_silent:
+            return []
+        # The library sends the job first that it was handed last.
+        for job in reversed(self.sent):
+            self.server.waiting.append(job)
+            self.come.append(Happening(Kind.KNOWN, job.number))
+        self.sent.clear()
+        came, self.come = self.come, []
+        return came
+
+    def close(self) -> None:
+        self.is_closed = True
+        self.server.waiting = [job for job in self.server.waiting if job.client is not self]

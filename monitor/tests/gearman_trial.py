@@ -1,0 +1,178 @@
+"""A Gearman server and workers that run as processes, for trials with Debian's packages."""
+import ctypes
+import json
+import os
+import pathlib
+import shutil
+import signal
+import socket
+import subprocess
+import sys
+import threading
+import time
+from typing import Dict, List, Optional, Sequence
+
+from nagsched_monitor.gearman import LIBRARY
+
+HERE = pathlib.Path(__file__).resolve().parent.parent
+WORKER = HERE / "nagsched-gearman-worker"
+
+
+def missing() -> Optional[str]:
+    """What isn't here of that which a trial wants; None where all is."""
+    if shutil.which("gearmand", path=search_path()) is None:
+        return "gearmand"
+    try:
+        ctypes.CDLL(LIBRARY)
+    except OSError:
+        return LIBRARY
+    return None
+
+
+def search_path() -> str:
+    """Where programs are looked for: those of servers are in /usr/sbin."""
+    return os.environ.get("PATH", "") + ":/usr/sbin:/sbin"
+
+
+def is_open(address: str, port: int) -> bool:
+    with socket.socket() as tried:
+        tried.settimeout(1)
+        return tried.connect_ex((address, port)) == 0
+
+
+class GearmanTrial:
+    """A server on a free port of an address, and its workers. All of them end with it."""
+
+    def __init__(self, address: str = "127.0.0.1") -> None:
+        with socket.socket() as free:
+            free.bind((address, 0))
+            self.address, self.port = address, int(free.getsockname()[1])
+        self._server: Optional["subprocess.Popen[bytes]"] = None
+        self.workers: List["subprocess.Popen[bytes]"] = []
+
+    def place(self) -> str:
+        return f"{self.address}:{self.port}"
+
+    def begin_server(self) -> None:
+        program = shutil.which("gearmand", path=search_path())
+        assert program is not None
+        words = [program, "--listen", self.address, "--port", str(self.port), "--log-file", "none", "--pid-file", f"/tmp/gearmand.{self.port}"]
+        self._server = subprocess.Popen([*words, "--job-retries", "3", "--keepalive"], stdout=subprocess.DEVNULL, stderr=subprocess.DEVNULL)
+        for _ in range(200):
+            if is_open(self.address, self.port):
+                return
+            time.sleep(0.05)
+        raise RuntimeError(f"gearmand doesn't listen on {self.place()}")
+
+    def server_id(self) -> int:
+        assert self._server is not None
+        return self._server.pid
+
+    def stop_server(self) -> None:
+        """Has the server stand still; `continue_server` ends it."""
+        os.kill(self.server_id(), signal.SIGSTOP)
+        while pathlib.Path(f"/proc/{self.server_id()}/stat").read_text().rpartition(")")[2].split()[0] != "T":
+            time.sleep(0.01)
+
+    def continue_server(self) -> None:
+        os.kill(self.server_id(), signal.SIGCONT)
+
+    def kill_server(self) -> None:
+        if self._server is not None:
+            self._server.kill()
+            self._server.wait()
+        self._server = None
+
+    def begin_worker(self, *queues: str, slots: int = 16, before: Sequence[str] = (), options: Sequence[str] = ()) -> "subprocess.Popen[bytes]":
+        words = [*before, sys.executable, str(WORKER), "--slots", str(slots), *options, self.place(), *queues]
+        worker = subprocess.Popen(words, stdout=subprocess.DEVNULL, start_new_session=True)
+        self.workers.append(worker)
+        return worker
+
+    def kill_worker(self, number: int) -> None:
+        """Kills a worker; what it ran, and its runners, end too or go on by themselves."""
+        worker = self.workers.pop(number)
+        worker.kill()
+        worker.wait()
+
+    def close(self) -> None:
+        for worker in self.workers:
+            worker.send_signal(signal.SIGTERM)
+        for worker in self.workers:
+            try:
+                worker.wait(timeout=15)
+            except subprocess.TimeoutExpired:
+                worker.kill()
+                worker.wait()
+        self.workers.clear()
+        self.kill_server()
+        pathlib.Path(f"/tmp/gearmand.{self.port}").unlink(missing_ok=True)
+
+
+class HandedJobs:
+    """A runner for queues, that is handed jobs; each answer is kept by the number of its job."""
+
+    def __init__(self, place: str, wait: float) -> None:
+        words = [sys.executable, "-m", "nagsched_monitor.gearman_runner", place, str(wait)]
+        self.runner = subprocess.Popen(words, cwd=HERE, stdin=subprocess.PIPE, stdout=subprocess.PIPE, stderr=subprocess.DEVNULL, bufsize=0)
+        self.answers: Dict[int, List[Dict[str, object]]] = {}
+        self.sent = 0
+        self._reader = threading.Thread(target=self._read, daemon=True)
+        self._reader.start()
+
+    def _read(self) -> None:
+        assert self.runner.stdout is not None
+        for line in self.runner.stdout:
+            answer = json.loads(line)
+            self.answers.setdefault(answer["job"], []).append(answer)
+
+    def hand(self, count: int, queue: str, words: Sequence[str], limit: float = 10) -> None:
+        assert self.runner.stdin is not None
+        lines = b""
+        for _ in range(count):
+            self.sent += 1
+            lines += json.dumps({"job": self.sent, "words": list(words), "limit": limit, "queue": queue}).encode() + b"\n"
+        while lines:
+            lines = lines[self.runner.stdin.write(lines) or 0 :]
+
+    def hand_steadily(self, rate: float, seconds: float, queue: str, words: Sequence[str]) -> None:
+        """Hands on so many jobs a second, in batches as a monitor does."""
+        begin, before = time.monotonic(), self.sent
+        while time.monotonic() - begin < seconds:
+            self.hand(int((time.monotonic() - begin) * rate) - (self.sent - before), queue, words)
+            time.sleep(0.05)
+
+    def wait(self, seconds: float) -> bool:
+        """Waits until each job is answered; whether it is."""
+        end = time.monotonic() + seconds
+        while len(self.answers) < self.sent and time.monotonic() < end:
+            time.sleep(0.05)
+        return len(self.answers) == self.sent
+
+    def wait_until_one_is_made(self, queue: str, seconds: float) -> bool:
+        """Hands in one job after another until a plugin's result comes."""
+        end = time.monotonic() + seconds
+        while time.monotonic() < end:
+            self.hand(1, queue, ["true"])
+            self.wait(seconds)
+            (answer, *_) = self.answers.get(self.sent, [{}])
+            if (answer.get("end"), answer.get("code")) == ("exited", 0):
+                return True
+            time.sleep(0.5)
+        return False
+
+    def ends(self) -> Dict[str, int]:
+        """How many jobs ended in each way; `twice` are those with more than one answer."""
+        found: Dict[str, int] = {}
+        for answers in list(self.answers.values()):
+            end = str(answers[0]["end"]) if len(answers) == 1 else "twice"
+            found[end] = found.get(end, 0) + 1
+        return found
+
+    def close(self) -> None:
+        assert self.runner.stdin is not None
+        self.runner.stdin.close()
+        self.runner.wait(timeout=30)
+        self._reader.join(timeout=10)
+        if self.runner.stdout is not None:
+            self.runner.stdout.close()

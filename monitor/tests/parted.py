@@ -1,0 +1,151 @@
+"""A site in parts with mirrors, simulated: each result is held to what one scheduler makes of it, and each mirror to its original."""
+import importlib
+import pathlib
+import sys
+from typing import Any, Dict, Iterable, List, Optional, Sequence, Tuple
+from unittest import mock
+
+from nagsched_monitor.calls import Answer, Call, Report, Standing, Status
+from nagsched_monitor.mirroring import AskedOf, Mirrors
+from nagsched_monitor.rows import KeptChange
+from nagsched_monitor.site import read_site
+
+from .one_scheduler import OneScheduler, Told, is_change, told_of
+from .simulated import PROGRAM, Plugin, SimulatedClock, SimulatedMonitor, SiteTest
+
+TOOLS = pathlib.Path(__file__).resolve().parent.parent.parent / "tools"
+OPTIONS = {"interval_length": 1, "host_inter_check_delay_method": "s", "service_inter_check_delay_method": "s"}
+
+
+def tool(name: str) -> Any:
+    """A module of tools/."""
+    if str(TOOLS) not in sys.path:
+        sys.path.insert(0, str(TOOLS))
+    return importlib.import_module(name)
+
+
+def host(name: str, *parents: str, **members: Any) -> Dict[str, Any]:
+    return {"name": name, "check_interval": 60, "retry_interval": 10, "max_check_attempts": 3, "parents": list(parents), **members}
+
+
+def service(on: str, description: str, **members: Any) -> Dict[str, Any]:
+    return {"host": on, "description": description, "check_interval": 60, "retry_interval": 10, "max_check_attempts": 3, **members}
+
+
+def depends(dependent: str, master: str, **members: Any) -> Dict[str, Any]:
+    return {"dependent": dependent, "master": master, "criteria": "c,u" if ";" in master else "d,u", **members}
+
+
+def mirror(of: Dict[str, Any]) -> Dict[str, Any]:
+    return {**of, "enabled": False, "check_interval": 0, "retry_interval": 0}
+
+
+def setup(hosts: List[Dict[str, Any]], services: List[Dict[str, Any]], *dependencies: Dict[str, Any], **options: Any) -> Dict[str, Any]:
+    """A setup; its dependencies are those of services."""
+    return {"options": {**OPTIONS, **options}, "hosts": hosts, "services": services, "service_dependencies": list(dependencies), "host_dependencies": []}
+
+
+class Parted(SiteTest):
+    """A test of parts with mirrors."""
+
+    def setUp(self) -> None:
+        super().setUp()
+        self.one = OneScheduler()
+        # What was answered to the results of each original and of each mirror, in their order, since the parts are as they are.
+        self.originals: Dict[str, List[Standing]] = {}
+        self.mirrors: Dict[Tuple[int, str], List[Standing]] = {}
+        self.results = 0
+        # How each object stands with one scheduler, and its changes there.
+        self.stands: Dict[str, Told] = {}
+        self.wanted: Dict[str, List[Told]] = {}
+        owns = Mirrors.owns
+
+        def listening(mirrors: Mirrors, part: int, call: Call, answer: Answer) -> bool:
+            is_owned = owns(mirrors, part, call, answer)
+            if isinstance(call, Report) and isinstance(answer, Standing) and is_owned:
+                self.mirrors.setdefault((part, call.name), []).append(answer)
+            return is_owned
+
+        patched = mock.patch.object(Mirrors, "owns", listening)
+        patched.start()
+        self.addCleanup(patched.stop)
+
+    def write_parts(self, setups: Sequence[Dict[str, Any]], mirrors: Dict[str, Dict[str, str]]) -> None:
+        """The files of a site in these parts, whose commands are `true`."""
+        for path in self.folder.glob("part-*.json"):
+            path.unlink()
+        names = set()
+        for number, setup in enumerate(setups, 1):
+            self.write(f"part-{number}.json", setup)
+            names |= {host["name"] for host in setup["hosts"]} | {f"{it['host']};{it['description']}" for it in setup["services"]}
+        self.write("mirrors.json", mirrors)
+        self.write("commands.json", {name: {"line": "true"} for name in sorted(names)})
+
+    def write_cut(self, setup: Dict[str, Any], objects: int) -> int:
+        """The files of a site that is cut into parts of so many objects at most; returns how many parts there are."""
+        parts = tool("nagios_parts")
+        setups, mirrors = parts.parts_of(setup, parts.Limits(objects=objects))
+        self.write_parts(setups, mirrors)
+        return len(setups)
+
+    def begun(self, plugin: Plugin, clock: Optional[SimulatedClock] = None) -> SimulatedMonitor:
+        """A monitor of the site, each of whose results is held to what one scheduler makes of it."""
+        monitor = self.monitor(plugin, clock)
+        make = monitor.scheduling._make
+
+        def judged(asked: Sequence[AskedOf], *rest: Any, **named: Any) -> List[Tuple[Call, Answer]]:
+            made = make(asked, *rest, **named)
+            answers = {call.name: answer for call, answer in made if isinstance(call, Report)}
+            for _, call, _ in asked:
+                answer = answers.get(call.name) if isinstance(call, Report) else None
+                if isinstance(call, Report) and isinstance(answer, Standing):
+                    self.results += 1
+                    self.judge(call, answer)
+            return made
+
+        setattr(monitor.scheduling, "_make", judged)
+        self.originals, self.mirrors = {}, {}
+        return monitor
+
+    def judge(self, call: Report, answer: Standing) -> None:
+        """Holds the answer to a result to what one scheduler makes of it."""
+        wanted = self.one.report(call.name, call.code)
+        if told_of(answer) != wanted:
+            self.fail(f"result {self.results}: {call} gave {answer}, and one scheduler gives {wanted}")
+        if is_change(self.stands.get(call.name), wanted):
+            self.wanted.setdefault(call.name, []).append(wanted)
+        self.stands[call.name] = wanted
+        self.originals.setdefault(call.name, []).append(answer)
+
+    def assert_told(self, changes: Iterable[KeptChange]) -> None:
+        """The changes of each object are those that it has with one scheduler, in their order."""
+        told: Dict[str, List[Told]] = {}
+        for change in changes:
+            told.setdefault(change.name, []).append((change.state, change.kind, change.attempt, change.flapping))
+        for name in sorted({*told, *self.wanted}):
+            self.assertEqual(told.get(name), self.wanted.get(name), name)
+
+    def assert_alike(self) -> int:
+        """Each result of a mirror was answered as that of its original; returns how many those were. Then the lists begin anew."""
+        for (part, name), standings in self.mirrors.items():
+            of_original = [told_of(standing) + (standing.changed,) for standing in self.originals[name]]
+            self.assertEqual([told_of(standing) + (standing.changed,) for standing in standings], of_original, (part, name))
+        count = sum(map(len, self.mirrors.values()))
+        self.originals, self.mirrors = {}, {}
+        return count
+
+    def assert_mirrors_stand(self, monitor: SimulatedMonitor) -> None:
+        """Each mirror stands as its original does, as the schedulers have them."""
+        scheduling = monitor.scheduling
+        for part, names in monitor.site.mirrors.items():
+            for name, answer in zip(sorted(names), scheduling._conversations[part].ask([Status(name) for name in sorted(names)])):
+                (original,) = scheduling._conversations[monitor.site.objects[name].part].ask([Status(name)])
+                assert isinstance(answer, Standing) and isinstance(original, Standing)
+                self.assertEqual((told_of(answer), answer.next), (told_of(original), None), (part, name))
+
+    def reload(self, monitor: SimulatedMonitor) -> List[str]:
+        """Goes on with the site as its files are now."""
+        monitor.site = read_site(self.folder, PROGRAM)
+        changed = monitor.engine.reload(monitor.site)
+        self.assert_mirrors_stand(monitor)
+        return changed

@@ -1,0 +1,249 @@
+"""A queue of a Gearman server: each job is answered once, or given up within its limit, whatever server and workers do."""
+import random
+import unittest
+from typing import Any, Dict, List
+
+from nagsched_monitor.gearman import Happening, Kind
+from nagsched_monitor.gearman_queue import GRACE, MOST_WAITING, RETRY, SILENCE, Queue
+
+from .gearman_server import ServedJob, StandInServer
+
+WAIT, LIMIT = 30.0, 60.0
+
+
+class OneQueue(unittest.TestCase):
+    def setUp(self) -> None:
+        self.server = StandInServer()
+        self.answers: List[Dict[str, Any]] = []
+        self.lines: List[str] = []
+        self.now = 1000.0
+        self.last = 0
+        self.queue = Queue("dmz", "mark", WAIT, self.server.connect, self.answers.append, self.lines.append)
+
+    def add(self, count: int = 1) -> None:
+        for _ in range(count):
+            self.last += 1
+            self.queue.add(self.last, ["plugin", str(self.last)], LIMIT, self.now)
+
+    def pass_by(self, seconds: float = 0) -> None:
+        """So many seconds pass, and the queue works."""
+        self.now += seconds
+        for _ in range(2):
+            self.queue.work(self.now)
+
+    def take(self) -> ServedJob:
+        job = self.server.take()
+        assert job is not None
+        return job
+
+    def ends(self) -> List[Any]:
+        return [(it["job"], it["end"], it["output"]) for it in self.answers]
+
+    def test_jobs_in_their_order(self) -> None:
+        self.add(5)
+        self.pass_by()
+        for number in range(1, 6):
+            job = self.take()
+            self.assertEqual((job.workload["words"], job.workload["limit"]), (["plugin", str(number)], LIMIT))
+            self.server.answer(job, output=str(number))
+        self.pass_by()
+        self.assertEqual(self.ends(), [(number, "exited", str(number)) for number in range(1, 6)])
+        self.assertFalse(self.queue.is_busy())
+
+    def test_an_answer_that_comes_twice(self) -> None:
+        self.add()
+        self.pass_by()
+        job = self.take()
+        self.server.answer(job)
+        self.server.answer(job, code=2)
+        self.pass_by()
+        self.server.answer(job, code=2)
+        self.pass_by()
+        self.assertEqual([(it["job"], it["code"]) for it in self.answers], [(1, 0)])
+
+    def test_a_server_that_is_restarted(self) -> None:
+        """What was out is handed in anew, and what the old server's worker finds isn't taken for it."""
+        self.add(2)
+        self.pass_by()
+        old = self.take()
+        self.server.restart()
+        self.pass_by()
+        self.server.answer(old, output="old")
+        self.pass_by(RETRY)
+        for _ in range(2):
+            self.server.answer(self.take(), output="new")
+        self.pass_by()
+        self.assertEqual(self.ends(), [(1, "exited", "new"), (2, "exited", "new")])
+        self.assertEqual(self.lines, ["queue dmz: the server isn't reached: lost connection", "queue dmz: the server is reached again"])
+
+    def test_a_server_that_isn_t_there(self) -> None:
+        self.server.is_there = False
+        self.add(2)
+        for _ in range(int(WAIT) + 2):
+            self.pass_by(1)
+        self.assertEqual({end for _, end, _ in self.ends()}, {"lost"})
+        self.assertIn("the server of the queue dmz wasn't reached", self.answers[0]["output"])
+        self.add(2)
+        self.assertEqual(self.ends()[2:], [(4, "exited", "the server of the queue dmz isn't reached")])
+        self.server.is_there = True
+        self.pass_by(RETRY)
+        self.server.answer(self.take())
+        self.pass_by()
+        self.assertEqual(self.ends()[3:], [(3, "exited", "fine")])
+
+    def test_a_server_that_gives_no_answer(self) -> None:
+        """Another connection is tried; what the first one had isn't answered twice."""
+        self.server.is_silent = True
+        self.add()
+        self.pass_by()
+        self.pass_by(SILENCE)
+        self.server.is_silent = False
+        self.pass_by(RETRY)
+        self.assertEqual(len(self.server.clients), 2)
+        self.server.answer(self.take())
+        self.pass_by()
+        self.assertEqual(self.ends(), [(1, "exited", "fine")])
+
+    def test_a_worker_that_dies(self) -> None:
+        self.add()
+        self.pass_by()
+        self.server.lose_worker(self.take())
+        self.pass_by(5)
+        self.server.answer(self.take())
+        self.pass_by()
+        self.assertEqual(self.ends(), [(1, "exited", "fine")])
+
+    def test_a_result_after_its_limit(self) -> None:
+        """The job is given up by name; what comes later is dropped."""
+        self.add()
+        self.pass_by()
+        job = self.take()
+        self.pass_by(1)
+        self.pass_by(LIMIT + GRACE)
+        self.assertEqual(self.ends(), [(1, "lost", "its worker gave no result")])
+        self.server.answer(job)
+        self.pass_by()
+        self.assertEqual(len(self.answers), 1)
+
+    def test_a_worker_that_dies_late(self) -> None:
+        """The limit is one of the job, whatever number of workers have it one after another."""
+        self.add()
+        self.pass_by()
+        job = self.take()
+        self.pass_by()
+        self.pass_by(LIMIT)
+        self.server.lose_worker(job)
+        self.take()
+        self.pass_by(GRACE)
+        self.assertEqual(self.ends(), [(1, "lost", "its worker gave no result")])
+
+    def test_nobody_takes_anything(self) -> None:
+        """What waits is given up; one job goes on trying, and others are answered at once, until a worker takes it."""
+        self.add(3)
+        self.pass_by()
+        self.pass_by(WAIT)
+        self.assertEqual(self.ends(), [(number, "lost", "no worker took it from the queue dmz") for number in (1, 2, 3)])
+        self.assertEqual(self.server.waiting, [])
+        self.add(3)
+        self.pass_by()
+        self.assertEqual([(it["job"], it["end"], it["code"]) for it in self.answers[3:]], [(5, "exited", 3), (6, "exited", 3)])
+        self.assertEqual([job.workload["words"][1] for job in self.server.waiting], ["4"])
+        self.server.answer(self.take())
+        self.pass_by()
+        self.add(2)
+        self.pass_by()
+        self.assertEqual(len(self.server.waiting), 2)
+        self.assertIn("a worker takes jobs again", self.lines[-1])
+
+    def test_workers_that_have_too_much_to_do(self) -> None:
+        """While a worker works, a job that waits too long is given up by itself."""
+        self.add(2)
+        self.pass_by()
+        self.take()
+        self.pass_by(1)
+        self.pass_by(WAIT)
+        self.add()
+        self.pass_by()
+        self.assertEqual(self.ends(), [(2, "lost", "no worker took it from the queue dmz")])
+        self.assertEqual([job.workload["words"][1] for job in self.server.waiting], ["2", "3"])
+
+    def test_the_server_has_so_many_at_most(self) -> None:
+        self.add(MOST_WAITING + 50)
+        self.pass_by()
+        self.assertEqual(len(self.server.waiting), MOST_WAITING)
+        for _ in range(20):
+            self.take()
+        self.pass_by()
+        self.assertEqual(len(self.server.waiting), MOST_WAITING)
+
+    def test_an_answer_that_is_no_result(self) -> None:
+        several: List[Dict[str, Any]] = [{"job": "another"}, {"code": "0"}, {"code": True}, {"code": 256}, {"end": "fine"}, {"output": None}]
+        for wrong in several:
+            self.add()
+            self.pass_by()
+            self.server.answer(self.take(), **wrong)
+            self.pass_by()
+        job_data = (b"", b"[]", b"fine", b"\xff")
+        for data in job_data:
+            self.add()
+            self.pass_by()
+            job = self.take()
+            job.client.come.append(Happening(Kind.COMPLETE, job.number, data))
+            self.pass_by()
+        self.assertEqual({(end, output) for _, end, output in self.ends()}, {("lost", "its worker's answer was no result")})
+        self.assertEqual(len(self.answers), 6 + len(job_data))
+
+    def test_a_job_that_the_server_gives_up(self) -> None:
+        self.add()
+        self.pass_by()
+        job = self.take()
+        job.client.come.append(Happening(Kind.FAILED, job.number))
+        self.pass_by()
+        self.assertEqual(self.ends(), [(1, "lost", "its worker failed")])
+
+    def test_random_mishaps(self) -> None:
+        """Servers and workers that end at any time: each job has one answer, within its limit and that of waiting."""
+        chance = random.Random(11)
+        begun: Dict[int, float] = {}
+        ended: Dict[int, List[float]] = {}
+        running: List[ServedJob] = []
+        for _ in range(20_000):
+            before = len(self.answers)
+            for _ in range(chance.choice((0, 0, 1, 2))):
+                self.add()
+                begun[self.last] = self.now
+            what = chance.random()
+            if what < 0.003:
+                self.server.restart()
+            elif what < 0.005:
+                self.server.is_there = False
+            elif what < 0.006:
+                self.server.is_silent = True
+            elif what > 0.95:
+                self.server.is_there, self.server.is_silent = True, False
+            while running and chance.random() < 0.6:
+                job = running.pop(chance.randrange(len(running)))
+                if chance.random() < 0.2:
+                    self.server.lose_worker(job)
+                elif chance.random() < 0.95:
+                    self.server.answer(job)
+                    if chance.random() < 0.1:
+                        self.server.answer(job)
+            while len(running) < 10 and chance.random() < 0.7:
+                taken = self.server.take()
+                if taken is None:
+                    break
+                running.append(taken)
+            self.pass_by(chance.choice((0.01, 0.1, 1.0)))
+            for answer in self.answers[before:]:
+                ended.setdefault(answer["job"], []).append(self.now)
+        self.server.is_there = False
+        for _ in range(200):
+            before = len(self.answers)
+            self.pass_by(1)
+            for answer in self.answers[before:]:
+                ended.setdefault(answer["job"], []).append(self.now)
+        self.assertGreater(len(begun), 10_000)
+        self.assertEqual({number: len(times) for number, times in ended.items()}, {number: 1 for number in begun})
+        self.assertLessEqual(max(ended[number][0] - begun[number] for number in begun), WAIT + LIMIT + GRACE + 2)
+        self.assertGreater(sum(answer["end"] == "exited" and answer["code"] == 0 for answer in self.answers), 1000)

@@ -1,0 +1,129 @@
+"""Queues over a real server: gearmand and libgearman, where they are here."""
+import os
+import sys
+import time
+import unittest
+
+from .gearman_trial import GearmanTrial, HandedJobs, missing
+from .running import ProcessTest
+
+# How long something may take at most on a machine with much else to do, in seconds.
+LONG = 90.0
+
+
+@unittest.skipIf(missing() is not None, f"{missing()} isn't here")
+class OverAServer(unittest.TestCase):
+    def setUp(self) -> None:
+        self.trial = GearmanTrial()
+        self.addCleanup(self.trial.close)
+        self.trial.begin_server()
+
+    def jobs(self, wait: float) -> HandedJobs:
+        jobs = HandedJobs(self.trial.place(), wait)
+        self.addCleanup(jobs.close)
+        return jobs
+
+    def test_servers_and_workers_that_are_killed(self) -> None:
+        """Each of the jobs has one answer, the plugin's."""
+        for _ in range(2):
+            self.trial.begin_worker("dmz", slots=8)
+        jobs = self.jobs(60)
+        for kill in range(4):
+            jobs.hand_steadily(100, 1, "dmz", ["sleep", "0.05"])
+            if kill == 1:
+                self.trial.kill_server()
+                self.trial.begin_server()
+            else:
+                self.trial.kill_worker(0)
+                self.trial.begin_worker("dmz", slots=8)
+        self.assertTrue(jobs.wait(LONG), (jobs.sent, jobs.ends()))
+        self.assertEqual(jobs.ends(), {"exited": jobs.sent})
+
+    def test_a_queue_without_a_worker(self) -> None:
+        """It holds up no other, is given up, and goes on when a worker comes."""
+        self.trial.begin_worker("checks")
+        jobs = self.jobs(10)
+        self.assertTrue(jobs.wait_until_one_is_made("checks", LONG))
+        before = jobs.sent
+        jobs.hand(20, "nobody", ["true"])
+        jobs.hand(20, "checks", ["true"])
+        self.assertTrue(jobs.wait(LONG), jobs.ends())
+        self.assertEqual([answers[0]["end"] for number, answers in sorted(jobs.answers.items()) if number > before], ["lost"] * 20 + ["exited"] * 20)
+        before = jobs.sent
+        jobs.hand(3, "nobody", ["true"])
+        end = time.monotonic() + LONG
+        while len(jobs.answers) < before + 2 and time.monotonic() < end:
+            time.sleep(0.05)
+        self.assertEqual([answers[0]["code"] for number, answers in sorted(jobs.answers.items()) if number > before], [3, 3])
+        self.trial.begin_worker("nobody")
+        self.assertTrue(jobs.wait_until_one_is_made("nobody", LONG))
+        before = jobs.sent
+        jobs.hand(5, "nobody", ["true"])
+        self.assertTrue(jobs.wait(LONG), jobs.ends())
+        self.assertEqual([answers[0]["code"] for number, answers in sorted(jobs.answers.items()) if number > before], [0] * 5)
+
+    def test_a_server_that_stands_still(self) -> None:
+        """What waits is given up within its limit, and all goes on when the server does."""
+        self.trial.begin_worker("dmz")
+        jobs = self.jobs(10)
+        self.assertTrue(jobs.wait_until_one_is_made("dmz", LONG))
+        before = jobs.sent
+        self.trial.stop_server()
+        jobs.hand(10, "dmz", ["true"])
+        is_answered = jobs.wait(LONG)
+        self.trial.continue_server()
+        self.assertTrue(is_answered, jobs.ends())
+        self.assertEqual({answers[0]["end"] for number, answers in jobs.answers.items() if number > before}, {"lost"})
+        self.assertTrue(jobs.wait_until_one_is_made("dmz", LONG))
+
+    def test_a_result_of_another_program(self) -> None:
+        """What isn't a worker of ours answers what is no result: the job is given up."""
+        jobs = self.jobs(60)
+        worker = self.trial.begin_worker("other")
+        jobs.hand(1, "other", [])
+        self.assertTrue(jobs.wait(LONG))
+        self.assertEqual(jobs.ends(), {"failed": 1})
+        self.assertIsNone(worker.poll())
+
+
+@unittest.skipIf(missing() is not None, f"{missing()} isn't here")
+class ASite(ProcessTest):
+    """A monitor, one of whose objects is checked by a worker."""
+
+    def setUp(self) -> None:
+        super().setUp()
+        self.trial = GearmanTrial()
+        self.addCleanup(self.trial.close)
+        self.trial.begin_server()
+
+    def words_of(self, name: str) -> str:
+        """The state and the last words of an object."""
+        state, _, rest = self.ask("status", name).stdout.strip().partition(" ")
+        return f"{state} {rest.partition(': ')[2]}"
+
+    def await_words(self, name: str, wanted: str, seconds: float = LONG) -> None:
+        end = time.monotonic() + seconds
+        while self.words_of(name) != wanted and time.monotonic() < end:
+            time.sleep(0.2)
+        self.assertEqual(self.words_of(name), wanted)
+
+    def test_a_worker_that_comes_and_goes(self) -> None:
+        """What it checks is UNKNOWN without it, by words that name the queue; the other object is checked all the time."""
+        self.write_site(self.objects(1), [{"host": "h00", "description": "far", "check_interval": 1, "max_check_attempts": 1}])
+        line = f"{sys.executable} -c \"import os; print('queue' if os.getppid() != {os.getpid()} else 'none')\""
+        self.write("commands.json", {"h00": {"line": "echo here"}, "h00;far": {"line": line}})
+        self.write("queues.json", {"server": self.trial.place(), "wait": 2, "queues": {"far": ["h00;far"]}})
+        running = self.begin()
+        self.await_words("h00;far", "UNKNOWN no worker took it from the queue far 3 times")
+        self.assertEqual(self.words_of("h00"), "UP here")
+        self.trial.begin_worker("far", slots=2)
+        self.await_words("h00;far", "OK queue")
+        self.trial.kill_worker(0)
+        self.await_words("h00;far", "UNKNOWN no worker took it from the queue far 3 times")
+        self.write("commands.json", {"h00": {"line": "echo here"}, "h00;far": {"line": "echo here too"}})
+        (self.folder / "queues.json").unlink()
+        self.ask("reload")
+        self.await_words("h00;far", "OK here too")
+        log = self.end(running)
+        self.assertIn("h00;far: run ", log)
+        self.assertIn(" is given up: no worker took it from the queue far", log)

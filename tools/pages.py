@@ -1,0 +1,47 @@
+#!/usr/bin/env python3
+"""Writes the pages as they are installed: under the names that the programs have there, with links only to pages that are installed too.
+
+    tools/pages.py DIRECTORY
+"""
+import pathlib
+import re
+import sys
+
+TOP = pathlib.Path(__file__).resolve().parent.parent
+PAGES = ("EMBEDDING", "EMBEDDING_C", "EMBEDDING_PYTHON", "EXPLANATIONS", "FORMATS", "GLOSSARY", "MONITOR", "NAGIOS", "OPERATING", "SCHEDULING")
+FILES = ("README.md", "CHANGELOG.md", *(f"docs/{page}.md" for page in PAGES))
+PICTURES = ("docs/office.svg", "docs/sequence.svg", "docs/setup.schema.json")
+NAMES = (
+    (r"crates/nagsched/out/nagsched\b", "nagsched"),
+    (r"(?<![\w/])monitor/nagsched-(monitor|gearman-worker)\b(?!@)", r"nagsched-\1"),
+    (r"(?<![\w/])tools/from_nagios\.py", "nagsched-from-nagios"),
+    (r"\]\(docs/", "]("),
+)
+NOTE = """> These pages are installed with the programs `nagsched`, `nagsched-monitor` and `nagsched-from-nagios`; the folder `examples` is beside them. Files under
+> `crates/`, `tools/`, `monitor/`, `bench/` and `.ci/`, and pages without a link, are in the repository.
+
+"""
+LINK = re.compile(r"\[([^\]\[]*)\]\(([\w./-]+)(#[\w-]*)?\)")
+
+
+def installed(text: str) -> str:
+    """A page under the names of an installation."""
+    for old, new in NAMES:
+        text = re.sub(old, new, text)
+    there = {pathlib.PurePath(file).name for file in (*FILES, *PICTURES)}
+    text = LINK.sub(lambda link: link.group(0) if link.group(2) in there or link.group(2).startswith("examples/") else link.group(1), text)
+    head, _, rest = text.partition("\n\n")
+    return f"{head}\n\n{NOTE}{rest}"
+
+
+def main(directory: pathlib.Path) -> None:
+    directory.mkdir(parents=True, exist_ok=True)
+    for file in FILES:
+        text = (TOP / file).read_text(encoding="utf-8")
+        (directory / pathlib.PurePath(file).name).write_text(installed(text), encoding="utf-8")
+    for file in PICTURES:
+        (directory / pathlib.PurePath(file).name).write_bytes((TOP / file).read_bytes())
+
+
+if __name__ == "__main__":
+    main(pathlib.Path(sys.argv[1]))
