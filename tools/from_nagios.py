@@ -62,8 +62,12 @@ class Value(str):
 class LeftOut:
     """What has no counterpart here, by kind: how often it was met, what that means, and for which objects."""
 
-    # The kinds that change which checks are made and what counts as a problem, the worst first.
-    WORST = ("parents of services", "is_volatile", "flap thresholds of an object", "initial_state", "event_handler", "dependency_period")
+    # The kinds by harm: what changes which checks are made and what counts as a problem, then who hears of it, then the rest by name.
+    WORST = (
+        "parents of services", "is_volatile", "passive results of hosts", "dependency_period", "flap thresholds of an object", "flap_detection_enabled 0",
+        "flap_detection_options", "initial_state", "event_handler", "dependencies of notifications", "hostescalation definitions",
+        "serviceescalation definitions", "contact definitions", "contactgroup definitions",
+    )
 
     def __init__(self):
         self.kinds = collections.Counter()
@@ -82,7 +86,8 @@ class LeftOut:
         """Names each kind that isn't one of these, the worst first, with so many of its objects."""
         for kind in sorted(self.kinds, key=lambda kind: (self.WORST.index(kind) if kind in self.WORST else len(self.WORST), kind)):
             if kind not in without:
-                print(f"left out: {kind} ({self.kinds[kind]}): {self.meanings[kind]}{self.some(kind, named)}", file=sys.stderr)
+                count = len(set(self.names[kind])) or self.kinds[kind]
+                print(f"left out: {kind} ({count}): {self.meanings[kind]}{self.some(kind, named)}", file=sys.stderr)
 
     def some(self, kind, named):
         names = list(dict.fromkeys(self.names[kind]))
@@ -225,7 +230,7 @@ def options_of(read, left_out):
         if name in TELLING and value != TELLING[name][0]:
             left_out.add(f"{name}={value}", TELLING[name][1])
         elif name not in OPTIONS and name not in TELLING:
-            left_out.add("other options of nagios.cfg", "files, logs, commands and other parts of Nagios")
+            left_out.add("other options of nagios.cfg", "files, logs, commands and other parts of Nagios", name)
     return {name: how(read.get(name, Value(default, f"the default of {name}"))) for name, (how, default) in OPTIONS.items()}
 
 
@@ -261,7 +266,7 @@ def tell_members(members, left_out, of):
             if value not in neutral and not (name == "check_period" and value in left_out.always):
                 left_out.add(kind, meaning, of)
         elif name not in TAKEN:
-            left_out.add(*OTHER)
+            left_out.add(*OTHER, name)
 
 
 def name_of(value):
@@ -318,7 +323,7 @@ def dependency_of(members, place, service, left_out):
     if "dependency_period" in members and members["dependency_period"] not in left_out.always:
         left_out.add("dependency_period", "a dependency holds at any time", end_of(members, place, "dependent_", service))
     if any(name.startswith("notification_failure") for name in members):
-        left_out.add("dependencies of notifications", "no notifications are sent")
+        left_out.add("dependencies of notifications", "no notifications are sent", end_of(members, place, "dependent_", service))
     if criteria is None:
         return None
     named = [letter.strip() for letter in criteria.split(",")]
@@ -365,7 +370,8 @@ def documents_of(options, objects, left_out):
             if dependency is not None:
                 setup["service_dependencies" if service else "host_dependencies"].append(dependency)
         elif kind in NOTHING_HERE:
-            left_out.add(f"{kind} definitions", NOTHING_HERE[kind])
+            of = ";".join(members[name] for name in ("host_name", "service_description") if name in members)
+            left_out.add(f"{kind} definitions", NOTHING_HERE[kind], of or None)
         else:
             raise CannotTakeOver(f"{place}: a definition of a kind that isn't known: {kind}")
     in_whole_units(setup)
@@ -463,6 +469,10 @@ def take_site(words, options, objects, setup, left_out):
     for dates, names in sorted(unsaid.items()):
         for name in names:
             left_out.add(f"dates of the period {dates}", "a site's periods can't say them", name)
+    if options.get("passive_host_checks_are_soft", "0") == "0":
+        for host in setup["hosts"]:
+            if passive.get(host["name"], {}).get("only") and host["max_check_attempts"] > 1:
+                left_out.add("passive results of hosts", "a problem is soft until its last attempt, where Nagios makes it hard at once", host["name"])
     left_out.tell(nagios_site.DONE, len(setup["hosts"]) + len(setup["services"]) if words.all else FEW)
     if len(setups) > 1:
         count = sum(map(len, mirrors.values()))
