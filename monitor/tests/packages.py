@@ -235,9 +235,9 @@ def draw(cgis: pathlib.Path, unpacked: pathlib.Path, site: Site, pictures: pathl
         print("passed over: a browser isn't here")
         return
     for name, query in (("hosts", "hostgroup=all&style=hostdetail&limit=0"), ("services", "host=all&limit=0")):
-        text = page(cgis, site, "status.cgi", query).split("\n\n", 1)[-1]
-        text = text.replace("/nagios4/stylesheets/", f"{(unpacked / 'etc/nagios4/stylesheets').as_uri()}/")
-        text = text.replace("/nagios4/", f"{(unpacked / 'usr/share/nagios4/htdocs').as_uri()}/")
+        text = re.split(r"\r?\n\r?\n", page(cgis, site, "status.cgi", query), maxsplit=1)[-1]
+        text = re.sub("(?<=['\"])/nagios4/(?=stylesheets/)", f"{(unpacked / 'etc/nagios4').as_uri()}/", text)
+        text = re.sub("(?<=['\"])/nagios4/", f"{(unpacked / 'usr/share/nagios4/htdocs').as_uri()}/", text)
         file = site.folder / f"{name}.html"
         file.write_text(text)
         drawn(browser, file.as_uri(), 1280, pictures / f"status-cgi-{name}.png")

@@ -33,7 +33,6 @@ pictures() {
 pages() {
     [ -z "$pictures" ] || pictures
     apt-get download nagios4-cgi >apt.out 2>&1 || { cat apt.out; echo "packages: nagios4-cgi can't be fetched" >&2; return 1; }
-    apt-get download nagios4-common >apt.out 2>&1 || echo "packages: passed over Nagios's styles, which can't be fetched"
     apt-get download nsca nsca-client libmcrypt4 >apt.out 2>&1 || echo "packages: passed over NSCA, which can't be fetched"
     for package in *.deb; do
         dpkg -x "$package" unpacked
