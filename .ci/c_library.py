@@ -126,7 +126,7 @@ def names(words, kind):
 
 
 def surface(held, library):
-    """Both libraries show the names of the header and no other, and need the C library alone; the header is C++ too."""
+    """Both libraries show the names of the header and no other, and need only the C library; the header is C++ too."""
     wanted = sorted(re.findall(r"^uint32_t (nagsched_\w+)\(", HEADER.read_text(encoding="utf-8"), re.M))
     held.compare("the names of the archive", wanted, names(["--extern-only", library.archive], "T"))
     held.compare("the names of the shared library", wanted, names(["--dynamic", library.shared], "T"))
@@ -173,7 +173,7 @@ def of_operator(answers, minutes):
 
 
 def told_by(held, what, text, minutes, code):
-    """Holds a history, as an example told it, to what its threads have to do, and to the program."""
+    """Holds a history, as an example printed it, to what its threads have to do, and to the program."""
     setup, *history = text.decode().splitlines()
     entries = list(split(history))
     script = "".join(f"{line}\n" for line in [setup, *(entry.call for entry in entries)]).encode()
@@ -217,7 +217,7 @@ def examples(held, library):
 
 
 def counting(held, what, made):
-    """A program that counts: it ends well, and its last line tells no failure."""
+    """A program that counts: it ends well, and its last line counts no failure."""
     *told, last = made.stdout.decode().splitlines() or [""]
     held.compare(what, (0, True, b""), (made.returncode, bool(re.search(r": [1-9]\d* passed, 0 failed$", last)), made.stderr))
     print(*told, sep="\n", end="\n" if told else "")

@@ -124,7 +124,7 @@ def prepare(folder, program):
 
 
 def check(program, pages, compare):
-    """Runs each command that is run here, and tells each that isn't in a table, and each in a table that no page names."""
+    """Runs each command that is run here, and names each that isn't in a table, and each in a table that no page names."""
     everywhere = {command: page.name for page in pages for command in named(page)}
     for command, page in everywhere.items():
         compare(f"{page}: `{command}`: where it is run", True, command in RUN or is_in_the_gate(command) or is_by_hand(command))

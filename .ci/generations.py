@@ -5,7 +5,7 @@
 
 Ten days with four workers and an operator in threads: `nagsched run` answers the commands of all days, one after another, as they
 were answered when they were made; the calls of each day are its entries and its refusals; no object is taken while its check is out,
-over a day's end neither; run numbers go on; and the board shows in the evening what a question for the status tells, and the same in
+over a day's end neither; run numbers go on; and the board shows in the evening what a question for the status is answered, and the same in
 the morning. With one worker the first day is compared with what was worked out by hand from the rules.
 """
 import pathlib
@@ -86,7 +86,7 @@ def days_of(text):
 
 
 def shown(status):
-    """What a board shows of the standing that a question for the status tells: all but the next time."""
+    """What a board shows of the standing that a question for the status is answered: all but the next time."""
     return re.sub(r" \S+( \S+)$", r" none\1", status)
 
 

@@ -109,7 +109,7 @@ def too_many(held):
 
 
 def explained_at_limits(held):
-    """Lists at their limits aren't told as too many beside one that is past its own, and a count is told before any other fault."""
+    """Lists at their limits aren't reported as too many beside one that is past its own, and a count is reported before any other fault."""
     full = {"hosts": [host(f"h{n}", parents=["h0"] * 4) for n in range(4_096)]}
     at_limits = [f"{word} {count}" for word, count in {
         "hosts": 4_096, "services": 0, "dependencies": PARENTS, "parents": PARENTS - 4, "dependency_chain": 1, "parent_chain": 1, "scheduled": 4_096,
@@ -166,7 +166,7 @@ def long_cycles(held):
 
 
 def last_of_many(held):
-    """A fault in the last of 4,000 services is told with its index, of each test of services."""
+    """A fault in the last of 4,000 services is reported with its index, of each test of services."""
     for what, line, last in [
         ("an unknown member", "L2 Shape", {"check_period": 1}),
         ("a member of the wrong kind", "L2 Shape", {"enabled": 1}),
@@ -193,7 +193,7 @@ def places(held):
 
 
 def run_file(held, front, byte, size, words=()):
-    """Runs, by these words, on a file of a front and copies of a byte, and tells too how many bytes of it the program has read."""
+    """Runs, by these words, on a file of a prefix and copies of a byte, and also returns how many bytes of it the program has read."""
     with tempfile.TemporaryFile() as file:
         file.write(front)
         for left in range(size - len(front), 0, -(1 << 20)):

@@ -1,5 +1,5 @@
 #!/usr/bin/env python3
-"""Looks up each name that the pages put between backticks, so that none is told that isn't there.
+"""Looks up each name that the pages put between backticks, so that none is named that isn't there.
 
     .ci/names.py
 

@@ -3,8 +3,8 @@
 
     .ci/pages.py [PROGRAM]     crates/nagsched/out/nagsched where no program is named
 
-A part of the gate. It tells each that comes out otherwise, and ends in status 1 then. A command of a page that isn't run here has
-to be told in .ci/commands.py, with the part of the gate that makes it, or why none does.
+A part of the gate. It names each that comes out otherwise, and ends in status 1 then. A command of a page that isn't run here has
+to be listed in .ci/commands.py, with the part of the gate that makes it, or why none does.
 """
 import pathlib
 import re

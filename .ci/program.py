@@ -37,7 +37,7 @@ class Held:
         return ran.stdout, ran.returncode
 
     def compare(self, what, wanted, came):
-        """Counts one thing that was wanted, and tells it where it came out otherwise."""
+        """Counts one thing that was wanted, and prints it where it came out otherwise."""
         if came == wanted:
             self.passed += 1
         else:

@@ -5,7 +5,7 @@
 
 A run is made with its first request refused, then with its second and so on, until one asks for less. Each has to end in the answer
 of ample memory, in status 4 with a front of that answer, or, for a drill, in a total that counts the refusal. The lines of several
-workers come in any order: there the total alone is compared.
+workers come in any order: there only the total is compared.
 """
 import json
 import os
@@ -113,7 +113,7 @@ def kind_of(written, status, ample):
 
 
 def sweep(held, refuser, several, name, words, given, ample):
-    """Sweeps one run, and tells how often it ended in which way."""
+    """Sweeps one run, and returns how often it ended in which way."""
     written, status, requests = refuser.run(words, given, 0)
     held.compare(f"{name}: with ample memory", "ample", kind_of(written, status, ample))
     held.compare(f"{name}: some requests", True, requests > 50)

@@ -144,7 +144,7 @@ def faults_of_conversations(held):
 
 
 def long_documents(held):
-    """A check reads no more of a document than tells that it is too long: one byte past its limit, and behind a line feed one more."""
+    """A check reads no more of a document than shows that it is too long: one byte past its limit, and behind a line feed one more."""
     whole = b"{}" + b" " * (DOCUMENT - 2)
     held.compare("the longest document and its line feed", (b"{}\n", 0, DOCUMENT + 1), of_file(held, ["check", "--line"], whole + b"\n"))
     for what, given, read in [

@@ -4,7 +4,7 @@
     .ci/tools.py PROGRAM
 
 The small network of conformance/nagios, as Nagios 4.4.6 wrote it out, becomes a setup whose counts, intervals and first checks are
-those that Nagios tells of its schedule (schedule.txt); a made network of 10,000 services goes into parts that the program accepts, and one
+those that Nagios reports of its schedule (schedule.txt); a made network of 10,000 services goes into parts that the program accepts, and one
 behind a gateway into parts with mirrors; a template is refused with its place; the command line of each object is written out, with its
 macros; and the picture of README is drawn again.
 """
@@ -142,14 +142,14 @@ def first_checks(program, setup, names):
 
 
 def figures(program, setup, *words):
-    """The figures that a check tells of a setup, by word."""
+    """The figures that a check prints of a setup, by word."""
     ran = subprocess.run([program, "check", *words], input=json.dumps(setup, indent=1), capture_output=True, text=True)
     first, *lines = ran.stdout.splitlines()
     return dict(line.split(" ") for line in lines) if (first, ran.returncode) == ("setup ok", 0) else {}
 
 
 def scheduled_by_nagios():
-    """What Nagios tells of its schedule: by word of a check, the figures that both tell."""
+    """What Nagios reports of its schedule: by word of a check, the figures that both report."""
     told = re.findall(r"^([A-Z][\w -]+):\s+(.*)$", (OFFICE / "schedule.txt").read_text(), re.M)
     first_of = {}
     for word, value in told:
@@ -291,6 +291,12 @@ def command_lines(work):
     yield "which services have none", off == without and all(f": h;{name}: " in told for name in without)
     status, made, told = from_nagios("--commands", file, "--resource", work / "missing.cfg", OFFICE / "nagios.cfg", work / "site.precache")
     yield "a resource file that isn't there", (status, made) == (1, "") and "missing.cfg" in told
+    (work / "copied.cfg").write_text((OFFICE / "nagios.cfg").read_text() + "resource_file=/nowhere/resource.cfg\n")
+    status, _, told = from_nagios("--commands", file, work / "copied.cfg", work / "site.precache")
+    yield "the resource file of a copied configuration", (status, json.loads(file.read_text()) == lines) == (0, True) and "/nowhere/resource.cfg isn't here: " in told
+    (work / "resource.cfg").unlink()
+    status, made, told = from_nagios("--commands", file, work / "copied.cfg", work / "site.precache")
+    yield "a configuration that was copied without it", (status, made) == (1, "") and "/nowhere/resource.cfg" in told
 
 
 def site(work):

@@ -1,10 +1,10 @@
 #!/usr/bin/env bash
 # Times calls at one desk by threads that wait for each other, and prints one table. Run by hand; no part of the gate.
-#   bench/asks.sh [REPEATS]     the middle one of so many runs is told, 5 where no number is given
-#   PREFIX=FOLDER               where tools/build_c.sh has laid the C library down; out/c where none is named
-#   BEFORE=FOLDER               where another build of it lies: a row more, by turns with ours
+#   bench/asks.sh [REPEATS]     the middle one of so many runs is printed, 5 where no number is given
+#   PREFIX=FOLDER               where tools/build_c.sh has installed the C library; out/c where none is named
+#   BEFORE=FOLDER               where another build of it lies: a row more, in alternation with ours
 # Microseconds of a call, takes and reports alike, over 4, 16 and 4,096 objects on all cores, and over 16 on two cores:
-# the time of the slowest thread, by the calls of all. Nothing is read or written meanwhile. The rows, by turns:
+# the time of the slowest thread, by the calls of all. Nothing is read or written meanwhile. The rows, in alternation:
 #   desk     each thread has a pass of its own
 #   apart    the same, where no two of these passes share a cache line
 #   ticket   all threads use one pass, behind a ticket lock of C's that yields while it waits
@@ -35,7 +35,7 @@ one() {
     ${on_cores[@]+"${on_cores[@]}"} "$program" "$workload" "$2" "$3" "$takes" | tr '=' ' ' | awk '{ printf "%.3f\n", $2 / $4 / 1000 }'
 }
 
-# The times of all rows by so many threads over so many objects, each row by turns with the others.
+# The times of all rows by so many threads over so many objects, each row in alternation with the others.
 by_threads() {
     local row
     for _ in $(seq "$repeats"); do

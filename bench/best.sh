@@ -1,6 +1,6 @@
 # What the benchmarks share; each of them reads it in.
 
-# Builds the program bench/c_asks.c over the C library that lies under a folder: tools/build_c.sh lays it down there where it isn't yet.
+# Builds the program bench/c_asks.c over the C library that lies under a folder: tools/build_c.sh installs it there where it isn't yet.
 build_c_asks() {
     [[ -f $1/lib/libnagsched.a ]] || "$top/tools/build_c.sh" "$1"
     cc -std=c11 -O2 -Wall -Wextra -I"$1/include" "$top/bench/c_asks.c" "$1/lib/libnagsched.a" -lpthread -o "$2"

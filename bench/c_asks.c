@@ -9,7 +9,7 @@
  * apart   as desk, where the passes that are used don't share a cache line
  * ticket  as desk, but all threads use one pass, behind a ticket lock that yields while it waits
  * mutex   the same behind a mutex
- * glance  each thread glances TAKES times, while one thread more takes and reports; with 0 threads one glances alone
+ * glance  each thread glances TAKES times, while one thread more takes and reports; with 0 threads one glances by itself
  * entry   makes no call: prints the bytes that an entry of the history takes, by what a desk with room for TAKES of them asks for
  */
 #define _GNU_SOURCE

@@ -1,4 +1,4 @@
-/* Holds a conversation with a program over two pipes, and tells how long an exchange takes.
+/* Holds a conversation with a program over two pipes, and prints how long an exchange takes.
 
        converse LINES FIRST TAKE PROGRAM [WORD..]
 

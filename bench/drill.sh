@@ -1,7 +1,7 @@
 #!/usr/bin/env bash
 # Times the workers of `nagsched drill`, and prints one table. Run by hand; no part of the gate.
-#   bench/drill.sh [REPEATS]     of so many runs, 3 where no number is given, the best is told, and the middle one where workers wait for each other
-#   BEFORE=PROGRAM bench/drill.sh [REPEATS]     beside drills on 4, 16 and 4,096 hosts another build's, run by turns with ours
+#   bench/drill.sh [REPEATS]     of so many runs, 3 where no number is given, the best is printed, and the middle one where workers wait for each other
+#   BEFORE=PROGRAM bench/drill.sh [REPEATS]     beside drills on 4, 16 and 4,096 hosts another build's, run in alternation with ours
 # At the end drills on 16 hosts keep to two cores, so that waiting workers stand in the way of the one whose turn it is.
 # 4,096 hosts are taken and reported 500,000 times: a million asks, which fill the largest room. So many
 # moments are made here that 1, 2 and 4 workers share the takes equally, each taking once at each moment.

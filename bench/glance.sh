@@ -1,7 +1,7 @@
 #!/usr/bin/env bash
 # Times glances at the board of a desk, and prints one table. Run by hand; no part of the gate.
-#   bench/glance.sh [REPEATS]     the best of so many runs is told, 5 where no number is given
-#   PREFIX=FOLDER                 where tools/build_c.sh has laid the C library down; out/c where none is named
+#   bench/glance.sh [REPEATS]     the best of so many runs is printed, 5 where no number is given
+#   PREFIX=FOLDER                 where tools/build_c.sh has installed the C library; out/c where none is named
 # 1, 2 and 4 threads glance at 64 objects in turn, each so many times, while one thread more takes checks and
 # reports them. The ratio is to one thread, in the same run. Where valgrind is there, the instructions of a glance
 # are counted, with nobody reporting: the difference of two counts, so that reading the setup cancels.

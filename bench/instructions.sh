@@ -1,11 +1,11 @@
 #!/usr/bin/env bash
 # Counts instructions by valgrind's callgrind, and prints one table. Run by hand; no part of the gate.
 #   bench/instructions.sh
-#   PREFIX=FOLDER     where tools/build_c.sh has laid the C library down; out/c where none is named
+#   PREFIX=FOLDER     where tools/build_c.sh has installed the C library; out/c where none is named
 # A figure is the difference of two lengths of the same workload, by their cycles, so that reading the
 # setup cancels. Instructions are steady on any machine, as times aren't. The rows:
 #   queue    the first of n entries is taken out and put back 5 minutes later
-#   calls    a check of one of n objects is taken and reported, by the scheduler alone
+#   calls    a check of one of n objects is taken and reported, by the scheduler by itself
 #   vary     the same, where each report has a random code
 #   run      the same by the whole program: two lines read, two written
 #   ask      each of these two calls, by the only pass of a desk: what the lock, the turn and the history add to `calls`

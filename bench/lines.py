@@ -2,13 +2,13 @@
 """Counts the lines of the cache that a call over the C library writes and touches, and that another caller's call comes to as well. Run by
 hand; no part of the gate.
 
-    bench/lines.py [OBJECTS] [TAKES]     16 and 1,500 where no number is given; PREFIX=FOLDER where tools/build_c.sh has laid it down
+    bench/lines.py [OBJECTS] [TAKES]     16 and 1,500 where no number is given; PREFIX=FOLDER where tools/build_c.sh has installed it
     bench/lines.py --pass [OBJECTS] [TAKES]     the same of the only pass of a desk, by the workload `ask` of nagsched_bench, which rt has built
 
 Valgrind's lackey traces the loads and stores of the workload `turns` of bench/c_asks.c: two passes in alternation take a check and report it.
 The trace is cut where the program counts its calls, and the distinct lines of 64 bytes between two cuts are counted, in the second half of
 the run. The stack isn't counted, and neither is what is one caller's own: lines that its calls come to often, and the other's never.
-Constants of the program, which nobody writes, are told apart: each core keeps them. A pass's trace is cut where a call draws its ticket.
+Constants of the program, which nobody writes, are counted apart: each core keeps them. A pass's trace is cut where a call draws its ticket.
 Wants cc, nm, objdump and valgrind.
 """
 import collections
@@ -75,7 +75,7 @@ def owned(calls):
 
 
 def traced(words):
-    """What lackey tells of a run, line by line."""
+    """What lackey prints of a run, line by line."""
     words = ["valgrind", "--tool=lackey", "--trace-mem=yes", *words, "untimed"]
     return subprocess.Popen(words, stdout=subprocess.DEVNULL, stderr=subprocess.PIPE, text=True).stderr
 

@@ -1,6 +1,6 @@
 #!/usr/bin/env bash
 # Times `nagsched live`, and prints one table. Run by hand; no part of the gate.
-#   bench/live.sh [REPEATS]     of so many runs by turns, 5 where no number is given, the middle one is told; wants a C compiler
+#   bench/live.sh [REPEATS]     of so many runs in alternation, 5 where no number is given, the middle one is printed; wants a C compiler
 # Lines a second beside `run` on the same bytes; a line there and its answer back beside a C program that echoes it; the resident memory
 # after 1,000 lines and after 1,000,000; and a line of 70 MB without an end, in 64 MB.
 set -eu

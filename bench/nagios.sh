@@ -1,7 +1,7 @@
 #!/usr/bin/env bash
-# Times Nagios Core 4.4.6 beside our scheduler, by turns, and prints one table. Run by hand; no part of the gate.
+# Times Nagios Core 4.4.6 beside our scheduler, in alternation, and prints one table. Run by hand; no part of the gate.
 #   bench/nagios.sh DIRECTORY [REPEATS]     DIRECTORY for Nagios's sources and what is built of them (conformance/nagios/build.sh);
-#                                           of so many runs, 5 where no number is given, the least is told
+#                                           of so many runs, 5 where no number is given, the least is printed
 # The queue: the first of n is taken out and put back 5 minutes later. The cycle: the earliest service is taken, its result comes at once, and
 # it is scheduled anew. Nanoseconds each. Nagios's texts of times ask the system for the zone unless TZ is set, so it is set.
 set -eu

@@ -1,6 +1,6 @@
 #!/usr/bin/env bash
 # Times the built program on long scripts, and prints one table. Run by hand; no part of the gate.
-#   bench/run.sh [REPEATS]     the best of so many runs is told, 3 where no number is given
+#   bench/run.sh [REPEATS]     the best of so many runs is printed, 3 where no number is given
 # For 64, 512 and 4,096 hosts an input of 60 MB is made here: round after round each host is taken and
 # its result reported. The ratio is to the time in which `jq -c .` reads the same bytes, in the same run.
 set -eu

@@ -1,9 +1,9 @@
 #!/usr/bin/env bash
 # What sharing one scheduler costs, in one table. Run by hand; no part of the gate.
-#   bench/sharing.sh [REPEATS]    the middle one of so many times is told, 5 where no number is given
-#   PREFIX=FOLDER                 where tools/build_c.sh has laid the C library down; out/c where none is named
+#   bench/sharing.sh [REPEATS]    the middle one of so many times is printed, 5 where no number is given
+#   PREFIX=FOLDER                 where tools/build_c.sh has installed the C library; out/c where none is named
 # Lines of the cache by bench/lines.py over 16 objects, as two passes come to them in alternation, and as one pass of a desk does; times of
-# threads by bench/asks.sh, whose table comes first; a take and its report alone by nagsched_bench, which rt has built; the bytes of an
+# threads by bench/asks.sh, whose table comes first; a take and its report by themselves, by nagsched_bench, which rt has built; the bytes of an
 # entry by the C library.
 set -eu -o pipefail
 repeats=${1:-5}

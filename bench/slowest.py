@@ -4,7 +4,7 @@
     bench/slowest.py CRATE [COUNT]     behind `rt check --jobs 1` in the crate's folder, with no out/ there before
 
 By hand, and no part of the gate. A check with one job writes a file for each part of a function as it is done: what lies between
-two of them is what the later one took. Files that came from another clone are told as they were written there.
+two of them is what the later one took. Files that came from another clone are listed as they were written there.
 """
 import collections
 import pathlib

@@ -1,10 +1,10 @@
 #!/usr/bin/env python3
-"""Tells where the gate's time goes: the processor minutes of each crate's proofs, of its tests and of each must-fail edit.
+"""Prints where the gate's time goes: the processor minutes of each crate's proofs, of its tests and of each must-fail edit.
 
     bench/times.py [COMMAND..]     bash .ci/run where no command is named
 
 By hand, and no part of the gate. It runs the command, looks at its processes twice a second, and sums what each check used,
-with all that it started. What is told as no crate's check is programs and tests that run, links, and what ended between two looks.
+with all that it started. What is listed as no crate's check is programs and tests that run, links, and what ended between two looks.
 """
 import collections
 import os

@@ -1,9 +1,9 @@
 #!/usr/bin/env bash
-# Proves and builds the C library, and lays it down under a folder.
+# Proves and builds the C library, and installs it in a folder.
 #   tools/build_c.sh [--proved] [PREFIX]     out/c where no folder is named
 # With --proved it stands on the libraries that `rt ci` has just proved and left in this tree: `rt lib` proves them once more.
 # PREFIX gets include/nagsched.h, lib/libnagsched.a, lib/libnagsched.so and lib/pkgconfig/nagsched.pc. Of both libraries
-# only the names that the header declares are to be seen, and they need the C library alone.
+# only the names that the header declares are to be seen, and they need only the C library.
 # Wants rt, cc and the binutils: ld, ar, objcopy.
 set -eu -o pipefail
 top=$(cd "$(dirname "$0")/.." && pwd)

@@ -213,7 +213,7 @@ OPTIONS = {
 }
 # Options that change what Nagios schedules: the value at which they don't, and what leaving them out means.
 TELLING = {
-    "enable_flap_detection": ("1", "flapping is told of every object"),
+    "enable_flap_detection": ("1", "flapping is reported of every object"),
     "execute_service_checks": ("1", "services are checked all the same"),
     "execute_host_checks": ("1", "hosts are checked all the same"),
     "auto_reschedule_checks": ("0", "no check is moved to even out the load"),
@@ -243,7 +243,7 @@ MEMBERS = {
     "check_command": ((), "check_command", "whoever takes a check runs its plugin"),
     "passive_checks_enabled": (("0", "1"), "", ""),
     "initial_state": (("o",), "initial_state", "an object begins as OK or UP, never checked"),
-    "flap_detection_enabled": (("1",), "flap_detection_enabled 0", "flapping is told of every object"),
+    "flap_detection_enabled": (("1",), "flap_detection_enabled 0", "flapping is reported of every object"),
     "flap_detection_options": (("a",), "flap_detection_options", "every result counts"),
     "low_flap_threshold": (("0.000000", "0"), "flap thresholds of an object", "those of all hosts or all services hold"),
     "high_flap_threshold": (("0.000000", "0"), "flap thresholds of an object", "those of all hosts or all services hold"),
@@ -317,7 +317,7 @@ def end_of(members, place, before, service):
 
 
 def dependency_of(members, place, service, left_out):
-    """A dependency of execution; none where it is one of notifications alone."""
+    """A dependency of execution; none where it is one of notifications only."""
     letters = "owucpn" if service else "odupn"
     criteria = members.get("execution_failure_options", members.get("execution_failure_criteria"))
     if "dependency_period" in members and members["dependency_period"] not in left_out.always:

@@ -2,6 +2,7 @@
 import pathlib
 import re
 import shlex
+import sys
 
 # What can be known of an object before Nagios runs; every other macro of capital letters has a value only then.
 HOST_MACROS = {"HOSTNAME": "host_name", "HOSTALIAS": "alias", "HOSTDISPLAYNAME": "display_name", "HOSTADDRESS": "address"}
@@ -92,13 +93,17 @@ def without_shell(line, needs_shell):
 
 
 def resource_file(options, beside, named):
-    """Where the resource file is: where it was said, where nagios.cfg says, or beside that."""
+    """Where the resource file is: where it was said, where nagios.cfg says, or, of copied files, beside that; it says so then."""
     if named is not None:
         return named
     if "resource_file" not in options:
         return None
     path = pathlib.Path(options["resource_file"])
-    return path if path.exists() else beside.with_name(path.name)
+    copy = beside.with_name(path.name)
+    if path.exists() or not copy.exists():
+        return path
+    print(f"{path} isn't here: {copy} is read as the resource file (--resource FILE names another)", file=sys.stderr)
+    return copy
 
 
 def commands_of(objects, resource):

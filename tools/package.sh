@@ -2,7 +2,7 @@
 # Makes Debian packages of what was built: nagsched, libnagsched2, libnagsched-dev, python3-nagsched, nagsched-monitor. The number is
 # that of the library's surface.
 #   tools/package.sh [DIRECTORY]     out/packages where no folder is named
-# It builds and proves nothing: tools/install.sh lays down what is there, and says which command to run where something isn't. Wants dpkg-deb.
+# It builds and proves nothing: tools/install.sh installs what is there, and says which command to run where something isn't. Wants dpkg-deb.
 set -eu -o pipefail
 top=$(cd "$(dirname "$0")/.." && pwd)
 mkdir -p "${1:-$top/out/packages}"

@@ -15,17 +15,28 @@ NAMES = (
     (r"crates/nagsched/out/nagsched\b", "nagsched"),
     (r"(?<![\w/])monitor/nagsched-(monitor|gearman-worker)\b(?!@)", r"nagsched-\1"),
     (r"(?<![\w/])tools/from_nagios\.py", "nagsched-from-nagios"),
+    (r"\[docs/(\w+\.md)\]", r"[\1]"),
     (r"\]\(docs/", "]("),
 )
 NOTE = """> These pages are installed with the programs `nagsched`, `nagsched-monitor` and `nagsched-from-nagios`; the folder `examples` is beside them. Files under
 > `crates/`, `tools/`, `monitor/`, `bench/` and `.ci/`, and pages without a link, are in the repository.
 
 """
+# The trial where the program is built from its sources, and where it is installed.
+TRIAL = re.compile(r"(## See it in two minutes\n\n).*?(?=Line 1 of `examples/office\.txt`)", re.DOTALL)
+TRIAL_INSTALLED = r"""\1This answers the calls of an example that is beside this page:
+
+```
+nagsched < examples/office.txt
+```
+
+"""
 LINK = re.compile(r"\[([^\]\[]*)\]\(([\w./-]+)(#[\w-]*)?\)")
 
 
 def installed(text: str) -> str:
-    """A page under the names of an installation."""
+    """A page under the names of an installation, with the trial that works there."""
+    text = TRIAL.sub(TRIAL_INSTALLED, text)
     for old, new in NAMES:
         text = re.sub(old, new, text)
     there = {pathlib.PurePath(file).name for file in (*FILES, *PICTURES)}

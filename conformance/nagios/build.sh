@@ -1,5 +1,5 @@
 #!/usr/bin/env bash
-# Fetches Nagios Core 4.4.6 as Debian's source package, and builds of it what is laid beside nagsched. Run by hand; no part of the gate.
+# Fetches Nagios Core 4.4.6 as Debian's source package, and builds of it what is compared with nagsched. Run by hand; no part of the gate.
 #   conformance/nagios/build.sh DIRECTORY     wants apt-get, a C compiler and make; leaves DIRECTORY/results, cycle and queue
 set -eu
 here=$(cd "$(dirname "$0")" && pwd)

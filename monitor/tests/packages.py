@@ -23,7 +23,7 @@ from typing import Callable, Dict, List, Optional, Tuple
 from .page_pictures import BROWSERS, drawn
 
 MONITOR = pathlib.Path(__file__).resolve().parent.parent / "nagsched-monitor"
-# Hosts behind a router that is down, hosts that answer, and services of each kind of state; the trap gets its results through the pipe alone.
+# Hosts behind a router that is down, hosts that answer, and services of each kind of state; the trap gets its results only through the pipe.
 HOSTS = {"gate": ("", 0), "router": ("gate", 2), "h1": ("router", 2), "h2": ("router", 2), "h3": ("gate", 0), "h4": ("gate", 0)}
 SERVICES = {"http": 0, "load": 1, "disk / & more": 2, "odd": 3}
 TRAP = "trap"
@@ -188,7 +188,7 @@ def compared(cgis: pathlib.Path, site: Site) -> List[str]:
     on_page.update(shown(page(cgis, site, "status.cgi", "host=all&limit=0"), r"align='left'[^>]*><a href='extinfo.cgi\?type=2&host=([^'&]+)&service=([^'&]+)'"))
     printed = site.status()
     lines = [f"{name}: the page has {on_page.get(name)}, the monitor {it}" for name, it in printed.items() if not alike(on_page.get(name), it)]
-    return lines + [f"{name} is on the page alone" for name in on_page if name not in printed]
+    return lines + [f"{name} is only on the page" for name in on_page if name not in printed]
 
 
 def alike(on_page: Optional[Tuple[str, str]], printed: Tuple[str, str]) -> bool:

@@ -32,7 +32,7 @@ class Figures(SiteTest):
         self.assertEqual(figures["latest_start"], monitor.engine.latest_start / 1000)
 
     def test_they_are_written_every_five_seconds(self) -> None:
-        """A site with nothing to do writes them alone, and never sooner."""
+        """A site with nothing to do writes only them, and never sooner."""
         self.write_site([{"name": "h0", "check_interval": 3600, "max_check_attempts": 2}], [])
         monitor = self.monitor(fine)
         written = []

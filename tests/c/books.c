@@ -1,4 +1,4 @@
-/* Books: calls past their room, and books that are renewed. One that goes on is laid beside one that never ended. Books of many entries
+/* Books: calls past their room, and books that are renewed. One that goes on is compared with one that never ended. Books of many entries
  * and of none, large rooms and large documents.
  */
 #include "counted.h"

@@ -1,4 +1,4 @@
-/* What the C programs of the gate share: comparisons that are counted, and the last line that tells them. */
+/* What the C programs of the gate share: comparisons that are counted, and the last line that prints them. */
 #ifndef COUNTED_H
 #define COUNTED_H
 
@@ -10,7 +10,7 @@
 
 static long passed, failed;
 
-/* Counts one thing that has to be so, and tells it where it isn't. */
+/* Counts one thing that has to be so, and prints it where it isn't. */
 static inline void has_to_be(int is_so, const char *what, const char *file, int line) {
     if (is_so) {
         passed++;

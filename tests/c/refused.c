@@ -1,5 +1,5 @@
 /* Refuses each request for memory in turn, through the whole life of a desk: read, opened, asked past its room, gathered,
- * closed, told as text, renewed, opened again, saved, gone on from over a setup, freed.
+ * closed, written as text, renewed, opened again, saved, gone on from over a setup, freed.
  *
  * Linked with -Wl,--wrap=malloc,--wrap=realloc,--wrap=free, so that each request and each block is counted. A function that is
  * refused memory says so, leaves all handles and blocks as they were, and does the same again as if nothing had been. So

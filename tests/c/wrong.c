@@ -81,7 +81,7 @@ static void readings(void) {
     WRONG(nagsched_read(document, strlen(SETUP), &it.setup, &it.refusal));
 }
 
-/* A text that finds no room tells its length, and writes nothing else. */
+/* A text that finds no room reports its length, and writes nothing else. */
 #define NO_ROOM(wanted, call)                            \
     do {                                                 \
         memcpy(&was, &it, sizeof it);                    \

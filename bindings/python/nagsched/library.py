@@ -54,11 +54,11 @@ def _check_layout() -> None:
     for struct, wanted in LAYOUT.items():
         offsets = [getattr(struct, name).offset for name, *_ in struct._fields_]
         if (ctypes.sizeof(struct), offsets) != wanted:
-            raise ImportError(f"nagsched: {struct.__name__} is laid out otherwise than in nagsched.h")
+            raise ImportError(f"nagsched: {struct.__name__} has another layout than in nagsched.h")
 
 
 def u32(value: int) -> int:
-    """A number for a uint32_t, which ctypes alone would cut."""
+    """A number for a uint32_t, which ctypes by itself would cut."""
     value = operator.index(value)
     if not 0 <= value < 1 << 32:
         raise Wrong(f"{value} is no number of 32 bits")

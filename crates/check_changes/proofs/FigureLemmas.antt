@@ -1,5 +1,5 @@
 -- The figures by the objects' numbers.
-use Rattle.std.proofs.Common.{◌≡◌, ℕ, zero, suc, ◌+◌, ◌≤◌, ◌||◌, ◌==◌, List, [], ◌∷◌, cond, drop, length, map, not, Option, Some, None, option_map, refl, sym, ap, ◌∙◌, arith}
+use Rattle.std.proofs.Common.{◌≡◌, Bool, ℕ, zero, suc, ◌+◌, ◌≤◌, ◌||◌, ◌==◌, List, [], ◌∷◌, cond, drop, length, map, not, Option, Some, None, option_map, refl, sym, ap, ◌∙◌, arith}
 use Rattle.std.proofs.lemmas.List.Sums.{sum_by-cons}
 use Rattle.std.proofs.lemmas.List.{length-append, length-map}
 use Rattle.std.specs.Prelude.{count_by, is_none, is_some, nat_lt}
@@ -24,31 +24,23 @@ none_same : (c : Configuration) (o : Named) (found : Option SavedObject) → is_
 none_same c o None = refl
 none_same c o (Some x) = refl
 
-kept_from : (c : Configuration) (saved : Saved) (k : ℕ) (os : List Named)
-    → count_by is_some (map (λ p. option_map (kept_by c p.1.object) (saved_named saved p.1.name)) (enumerate_from k os))
-    ≡ count_by (λ (n : Named). is_some (saved_named saved n.name)) os
-kept_from c saved k [] = refl
-kept_from c saved k (o ∷ os) =
-    sum_by-cons (λ (x : Option Kept). cond (is_some x) 1 0) (option_map (kept_by c o.object) (saved_named saved o.name))
+counted_from : (counts : Option Kept → Bool) (sees : Option SavedObject → Bool) (c : Configuration) (saved : Saved)
+    → ((o : Named) (found : Option SavedObject) → counts (option_map (kept_by c o.object) found) ≡ sees found)
+    → (k : ℕ) (os : List Named)
+    → count_by counts (map (λ p. option_map (kept_by c p.1.object) (saved_named saved p.1.name)) (enumerate_from k os))
+    ≡ count_by (λ (n : Named). sees (saved_named saved n.name)) os
+counted_from counts sees c saved same k [] = refl
+counted_from counts sees c saved same k (o ∷ os) =
+    sum_by-cons (λ (x : Option Kept). cond (counts x) 1 0) (option_map (kept_by c o.object) (saved_named saved o.name))
     (map (λ p. option_map (kept_by c p.1.object) (saved_named saved p.1.name)) (enumerate_from (k + 1) os))
-    ∙ (λ i. cond (some_same c o (saved_named saved o.name) i) 1 0 + kept_from c saved (k + 1) os i)
-    ∙ sym (sum_by-cons (λ (n : Named). cond (is_some (saved_named saved n.name)) 1 0) o os)
+    ∙ (λ i. cond (same o (saved_named saved o.name) i) 1 0 + counted_from counts sees c saved same (k + 1) os i)
+    ∙ sym (sum_by-cons (λ (n : Named). cond (sees (saved_named saved n.name)) 1 0) o os)
 
 pub kept_counted : (c : Configuration) (saved : Saved) → count_by is_some (kept_of c saved) ≡ kept_count c saved
-kept_counted c saved = kept_from c saved 0 (objects_of c)
-
-new_from : (c : Configuration) (saved : Saved) (k : ℕ) (os : List Named)
-    → count_by is_none (map (λ p. option_map (kept_by c p.1.object) (saved_named saved p.1.name)) (enumerate_from k os))
-    ≡ count_by (λ (n : Named). is_none (saved_named saved n.name)) os
-new_from c saved k [] = refl
-new_from c saved k (o ∷ os) =
-    sum_by-cons (λ (x : Option Kept). cond (is_none x) 1 0) (option_map (kept_by c o.object) (saved_named saved o.name))
-    (map (λ p. option_map (kept_by c p.1.object) (saved_named saved p.1.name)) (enumerate_from (k + 1) os))
-    ∙ (λ i. cond (none_same c o (saved_named saved o.name) i) 1 0 + new_from c saved (k + 1) os i)
-    ∙ sym (sum_by-cons (λ (n : Named). cond (is_none (saved_named saved n.name)) 1 0) o os)
+kept_counted c saved = counted_from is_some is_some c saved (some_same c) 0 (objects_of c)
 
 pub new_counted : (c : Configuration) (saved : Saved) → count_by is_none (kept_of c saved) ≡ new_count c saved
-new_counted c saved = new_from c saved 0 (objects_of c)
+new_counted c saved = counted_from is_none is_none c saved (none_same c) 0 (objects_of c)
 
 -- ---- what is out
 

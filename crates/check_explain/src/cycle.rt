@@ -63,27 +63,34 @@ pub(crate) fn push_dependency_cycle(
     ensures { OnOk result
         (line.old ≡ [] → OfWhole (view tree.now) fault.dependency_cycle line.new) }
 {
-    match master_cycle(alloc, tree, Part::Services, Part::ServiceDependencies)? {
-        Some(cycle) => push_masters(
-            line,
-            tree,
-            Part::Services,
-            Part::ServiceDependencies,
-            &cycle,
-        ),
-        None => push_host_cycle(alloc, line, tree),
+    if push_masters(alloc, line, tree, Part::Services, Part::ServiceDependencies)? {
+        return Ok(());
     }
+    if push_masters(alloc, line, tree, Part::Hosts, Part::HostDependencies)? {
+        return Ok(());
+    }
+    push_no_fault(line)
 }
 
-/// Appends hosts each of which depends on the next one, and the last on the first.
-fn push_host_cycle(alloc: Global, line: &mut Line, tree: &Value) -> Result<(), AllocError>
-    ensures { OnOk result (line.old ≡ [] →
-        TellsMasters (view tree.now) part.Hosts part.HostDependencies line.new
-        ⊎ (line.new ≡ no_fault_text)) }
+/// Appends items of a list each of which depends on the next one, and the last on the first; and reports
+/// whether there are such.
+fn push_masters(
+    alloc: Global,
+    line: &mut Line,
+    tree: &Value,
+    part: Part,
+    dependencies: Part,
+) -> Result<bool, AllocError>
+    ensures said { IfOk result (λ there. there ≡ true → line.old ≡ []
+        → TellsMasters (view tree.now) part dependencies line.new) }
+    ensures none { IfOk result (λ there. there ≡ false → line.new ≡ line.old) }
 {
-    match master_cycle(alloc, tree, Part::Hosts, Part::HostDependencies)? {
-        Some(cycle) => push_masters(line, tree, Part::Hosts, Part::HostDependencies, &cycle),
-        None => push_no_fault(line),
+    match master_cycle(alloc, tree, part, dependencies)? {
+        Some(cycle) => {
+            push_cycle(line, dependencies.name(), items(tree, part), part, &cycle)?;
+            Ok(true)
+        }
+        None => Ok(false),
     }
 }
 
@@ -106,22 +113,7 @@ fn master_cycle(
 
 // ---- how a cycle is told
 
-/// Appends a cycle of dependencies.
-fn push_masters(
-    line: &mut Line,
-    tree: &Value,
-    part: Part,
-    dependencies: Part,
-    cycle: &[usize],
-) -> Result<(), AllocError>
-    requires { IsRound (has_master part (items_list (items_at (view tree.now) part))
-        (items_at (view tree.now) dependencies)) cycle.now }
-    ensures { OnOk result
-        (line.old ≡ [] → TellsMasters (view tree.now) part dependencies line.new) }
-{
-    push_cycle(line, dependencies.name(), items(tree, part), part, cycle)
-}
-
+/// Appends the objects of a cycle, and what links them.
 fn push_cycle(
     line: &mut Line,
     what: &str,

@@ -2,6 +2,7 @@
 //! setup is worked out by hand. Worked examples are cases that the built program is held to
 //! (`conformance/`).
 
+use crate::scheduler::is_due;
 use check_objects::Setup;
 use check_rules::Code;
 use check_saved::Saved;
@@ -310,17 +311,6 @@ fn switches_go_on(rt: HostRuntime) -> Result<(), Fail> {
 /// A host and two services, all of them out: `h` as run 1, `h;a` as 2, and `h;b` as 3 with a next time.
 const ALL_OUT: &[u8] =
     br#"{"format":1,"objects":[{"attempt":1,"check_interval":300000,"checked":false,"enabled":true,"enabled_in_setup":true,"flapping":"STEADY","forced":false,"kind":"HARD","last_hard_state":"UP","max_check_attempts":3,"name":"h","next_check":null,"results":"","run":{"number":1,"start":0},"state":"UP"},{"attempt":1,"check_interval":300000,"checked":false,"enabled":true,"enabled_in_setup":true,"flapping":"STEADY","forced":false,"kind":"HARD","last_hard_state":"OK","max_check_attempts":3,"name":"h;a","next_check":null,"results":"","run":{"number":2,"start":0},"state":"OK"},{"attempt":1,"check_interval":300000,"checked":false,"enabled":true,"enabled_in_setup":true,"flapping":"STEADY","forced":false,"kind":"HARD","last_hard_state":"OK","max_check_attempts":3,"name":"h;b","next_check":400000,"results":"","run":{"number":3,"start":0},"state":"OK"}],"runs":3,"start":0}"#;
-
-/// Compares the next time of an object and the run that is out.
-fn is_due(rt: &impl Abort, scheduler: &Sched, number: u32, next: Option<u64>, run: Option<u64>) {
-    assert!(rt; (number as usize) < scheduler.setup().len());
-    assert_eq!(rt;
-        scheduler.next_of(number),
-        next,
-        "the next time of {number}"
-    );
-    assert_eq!(rt; scheduler.running(number), run, "the run of {number}");
-}
 
 /// Those objects over a setup that lets two services be out.
 #[test]

@@ -38,195 +38,110 @@ fn reads_members_in_any_order(rt: HostRuntime) -> Result<(), Fail> {
     Ok(())
 }
 
-/// Compares the refusal of the text in which `new` stands for `old`.
+/// Compares the refusals of the texts in which the second of a row stands for its first.
 fn refuses(
     rt: &impl Abort,
     alloc: Global,
-    old: &str,
-    new: &str,
     fault: SavedFault,
+    rows: &[(&str, &str)],
 ) -> Result<(), Fail> {
-    let text = SAVED.replacen(alloc, old, new, 1)?;
-    assert_eq!(rt;
-        Saved::read(alloc, text.as_bytes()).err(),
-        Some(fault),
-        "{new}"
-    );
+    for (old, new) in rows {
+        let text = SAVED.replacen(alloc, old, new, 1)?;
+        let found = Saved::read(alloc, text.as_bytes()).err();
+        assert_eq!(rt; found, Some(fault), "{new}");
+    }
     Ok(())
 }
 
 #[test]
 fn refuses_what_is_no_saved_state(rt: HostRuntime) -> Result<(), Fail> {
     let alloc = rt.alloc();
-    refuses(
-        &rt,
-        alloc,
-        "\"start\":50}",
-        "\"start\":50",
-        SavedFault::NotJson,
-    )?;
-    refuses(
-        &rt,
-        alloc,
-        "\"format\":1",
-        "\"format\":2",
-        SavedFault::Version,
-    )?;
-    refuses(&rt, alloc, "\"format\":1,", "", SavedFault::Shape(None))?;
-    refuses(
-        &rt,
-        alloc,
-        "\"format\":1",
-        "\"format\":\"1\"",
-        SavedFault::Shape(None),
-    )?;
-    refuses(
-        &rt,
-        alloc,
-        "\"start\":50",
-        "\"begin\":50",
-        SavedFault::Shape(None),
-    )
+    let cut = [(r#""start":50}"#, r#""start":50"#)];
+    refuses(&rt, alloc, SavedFault::NotJson, &cut)?;
+    let later = [(r#""format":1"#, r#""format":2"#)];
+    refuses(&rt, alloc, SavedFault::Version, &later)?;
+    let whole = [
+        (r#""format":1,"#, ""),
+        (r#""format":1"#, r#""format":"1""#),
+        (r#""start":50"#, r#""begin":50"#),
+    ];
+    refuses(&rt, alloc, SavedFault::Shape(None), &whole)
 }
 
 #[test]
 fn refuses_members_of_the_wrong_shape(rt: HostRuntime) -> Result<(), Fail> {
     let alloc = rt.alloc();
-    let first = SavedFault::Shape(Some(0));
-    refuses(&rt, alloc, "\"odu\"", "\"odx\"", first)?;
-    refuses(&rt, alloc, "\"SOFT\"", "\"soft\"", first)?;
-    refuses(&rt, alloc, "\"DOWN\"", "\"PENDING\"", first)?;
-    refuses(&rt, alloc, "\"next_check\":70000,", "", first)?;
-    refuses(&rt, alloc, "\"attempt\":2", "\"attempt\":2.0", first)?;
-    refuses(
-        &rt,
-        alloc,
-        "{\"number\":7,",
-        "{",
-        SavedFault::Shape(Some(1)),
-    )?;
-    refuses(
-        &rt,
-        alloc,
-        "\"results\":\"\"",
-        "\"results\":null",
-        SavedFault::Shape(Some(1)),
-    )
+    let first = [
+        (r#""odu""#, r#""odx""#),
+        (r#""SOFT""#, r#""soft""#),
+        (r#""DOWN""#, r#""PENDING""#),
+        (r#""next_check":70000,"#, ""),
+        (r#""attempt":2"#, r#""attempt":2.0"#),
+    ];
+    refuses(&rt, alloc, SavedFault::Shape(Some(0)), &first)?;
+    let second = [
+        (r#"{"number":7,"#, "{"),
+        (r#""results":"""#, r#""results":null"#),
+    ];
+    refuses(&rt, alloc, SavedFault::Shape(Some(1)), &second)
 }
 
 #[test]
 fn refuses_names(rt: HostRuntime) -> Result<(), Fail> {
     let alloc = rt.alloc();
-    refuses(&rt, alloc, "\"gateway\"", "\"\"", SavedFault::BadName(0))?;
-    refuses(
-        &rt,
-        alloc,
-        "gateway;ping",
-        "gateway;",
-        SavedFault::BadName(1),
-    )?;
-    refuses(
-        &rt,
-        alloc,
-        "gateway;ping",
-        "gateway;ping;ping",
-        SavedFault::BadName(1),
-    )?;
-    refuses(
-        &rt,
-        alloc,
-        "\"gateway;ping\"",
-        "\"gateway\"",
-        SavedFault::Duplicate(1),
-    )
+    let empty = [(r#""gateway""#, r#""""#)];
+    refuses(&rt, alloc, SavedFault::BadName(0), &empty)?;
+    let parts = [
+        ("gateway;ping", "gateway;"),
+        ("gateway;ping", "gateway;ping;ping"),
+    ];
+    refuses(&rt, alloc, SavedFault::BadName(1), &parts)?;
+    let again = [(r#""gateway;ping""#, r#""gateway""#)];
+    refuses(&rt, alloc, SavedFault::Duplicate(1), &again)
 }
 
 #[test]
 fn refuses_numbers_out_of_their_limits(rt: HostRuntime) -> Result<(), Fail> {
     let alloc = rt.alloc();
-    refuses(
-        &rt,
-        alloc,
-        "\"start\":50",
-        "\"start\":1152921504606846977",
-        SavedFault::Range(None),
-    )?;
-    refuses(
-        &rt,
-        alloc,
-        "\"runs\":7",
-        "\"runs\":1152921504606846977",
-        SavedFault::Range(None),
-    )?;
-    refuses(
-        &rt,
-        alloc,
-        "\"attempt\":2",
-        "\"attempt\":0",
-        SavedFault::Range(Some(0)),
-    )?;
-    refuses(
-        &rt,
-        alloc,
-        "\"max_check_attempts\":4",
-        "\"max_check_attempts\":256",
-        SavedFault::Range(Some(1)),
-    )?;
-    refuses(
-        &rt,
-        alloc,
-        ":70000",
-        ":2305843009213693953",
-        SavedFault::Range(Some(0)),
-    )?;
-    refuses(
-        &rt,
-        alloc,
-        ":65000",
-        ":1152921504606846977",
-        SavedFault::Range(Some(1)),
-    )
+    let whole = [
+        (r#""start":50"#, r#""start":1152921504606846977"#),
+        (r#""runs":7"#, r#""runs":1152921504606846977"#),
+    ];
+    refuses(&rt, alloc, SavedFault::Range(None), &whole)?;
+    let first = [
+        (r#""attempt":2"#, r#""attempt":0"#),
+        (":70000", ":2305843009213693953"),
+    ];
+    refuses(&rt, alloc, SavedFault::Range(Some(0)), &first)?;
+    let second = [
+        (r#""max_check_attempts":4"#, r#""max_check_attempts":256"#),
+        (":65000", ":1152921504606846977"),
+    ];
+    refuses(&rt, alloc, SavedFault::Range(Some(1)), &second)
 }
 
 #[test]
 fn refuses_what_no_scheduler_has(rt: HostRuntime) -> Result<(), Fail> {
     let alloc = rt.alloc();
-    let host = SavedFault::Unlawful(0);
-    refuses(&rt, alloc, "\"attempt\":2", "\"attempt\":3", host)?;
-    refuses(&rt, alloc, "\"SOFT\"", "\"HARD\"", host)?;
-    refuses(&rt, alloc, "\"UP\"", "\"OK\"", host)?;
-    refuses(&rt, alloc, "\"odu\"", "\"odw\"", host)?;
-    refuses(&rt, alloc, "\"odu\"", "\"oooooooooooooooooooooo\"", host)?;
-    refuses(
-        &rt,
-        alloc,
-        "\"run\":null",
-        "\"run\":{\"number\":8,\"start\":1}",
-        host,
-    )?;
-    refuses(
-        &rt,
-        alloc,
-        "\"run\":null",
-        "\"run\":{\"number\":0,\"start\":1}",
-        host,
-    )?;
-    let service = SavedFault::Unlawful(1);
-    refuses(
-        &rt,
-        alloc,
-        "\"run\":null",
-        "\"run\":{\"number\":7,\"start\":1}",
-        service,
-    )?;
-    refuses(&rt, alloc, "\"HARD\"", "\"SOFT\"", service)?;
-    refuses(
-        &rt,
-        alloc,
-        "\"enabled\":false,\"enabled_in_setup\":true,\"flapping\":\"STEADY\",\"forced\":false",
-        "\"enabled\":false,\"enabled_in_setup\":true,\"flapping\":\"STEADY\",\"forced\":true",
-        service,
-    )
+    let host = [
+        (r#""attempt":2"#, r#""attempt":3"#),
+        (r#""SOFT""#, r#""HARD""#),
+        (r#""UP""#, r#""OK""#),
+        (r#""odu""#, r#""odw""#),
+        (r#""odu""#, r#""oooooooooooooooooooooo""#),
+        (r#""run":null"#, r#""run":{"number":8,"start":1}"#),
+        (r#""run":null"#, r#""run":{"number":0,"start":1}"#),
+    ];
+    refuses(&rt, alloc, SavedFault::Unlawful(0), &host)?;
+    let service = [
+        (r#""run":null"#, r#""run":{"number":7,"start":1}"#),
+        (r#""HARD""#, r#""SOFT""#),
+        (
+            r#""enabled":false,"enabled_in_setup":true,"flapping":"STEADY","forced":false"#,
+            r#""enabled":false,"enabled_in_setup":true,"flapping":"STEADY","forced":true"#,
+        ),
+    ];
+    refuses(&rt, alloc, SavedFault::Unlawful(1), &service)
 }
 
 /// Each test covers the whole text before the next begins.

@@ -47,8 +47,8 @@ fn opens_with_ample_memory(rt: HostRuntime) -> Result<(), Fail> {
     opens(rt.alloc(), b"{}", 0)
 }
 
-/// Compares what a scheduler tells of a host that was never checked.
-fn tells(rt: &impl Abort, scheduler: &Sched, number: u32, next: Option<u64>, run: Option<u64>) {
+/// Compares the next time of an object and the run that is out.
+pub fn is_due(rt: &impl Abort, scheduler: &Sched, number: u32, next: Option<u64>, run: Option<u64>) {
     assert!(rt; (number as usize) < scheduler.setup().len());
     assert_eq!(rt;
         scheduler.next_of(number),
@@ -56,6 +56,12 @@ fn tells(rt: &impl Abort, scheduler: &Sched, number: u32, next: Option<u64>, run
         "the next time of {number}"
     );
     assert_eq!(rt; scheduler.running(number), run, "the run of {number}");
+}
+
+/// Compares what a scheduler reports of a host that was never checked.
+fn tells(rt: &impl Abort, scheduler: &Sched, number: u32, next: Option<u64>, run: Option<u64>) {
+    is_due(rt, scheduler, number, next, run);
+    assert!(rt; (number as usize) < scheduler.setup().len());
     assert_eq!(rt; scheduler.standing(number), pending(true), "{number}");
 }
 

@@ -1,8 +1,11 @@
-use Rattle.std.proofs.Common.{◌<◌, ◌≡◌, ◌∙◌, ◌+◌, ◌-◌, ap, arith, drop, length, subst, sym}
+use Rattle.std.proofs.Common.{◌<◌, ◌≡◌, ℕ, ◌∙◌, ◌+◌, ◌-◌, ap, arith, drop, length, subst, sym}
 use Rattle.check_objects.specs.Configuration.{number_of}
 use Rattle.check_saved.specs.Saved.{SavedObject}
 use Rattle.check_changes.proofs.KeptLemmas.{AreFound, found_all, found_more, found_past, read_interval}
 use Rattle.check_changes.proofs.kept.list_kept.Goals as goal
+
+next : (n : ℕ) → 0 < n → n ≡ n - 1 + 1
+next n some = omega (arith, some)
 
 pub compare-requires-clause-interval : goal.compare-requires-clause-interval
 compare-requires-clause-interval c =
@@ -13,11 +16,9 @@ loop-place-preserved-in-Some c =
     let setup = c.args.setup.now in
     let objects = c.objects-objects.result.now in
     let k = c.loop-place.place - 1 in
-    let next : c.loop-place.place ≡ k + 1 = omega (arith, c.loop-place-test.true) in
     let there : k < length objects = omega (arith, c.loop-place-test.true, c.loop-place.auto.place) in
-    let was = subst (λ j. AreFound setup (drop j objects) c.loop-place.kept.items) next c.loop-place.invariant in
-    let name = c.deref.ensures ∙ ap (λ (x : SavedObject). x.name) c.object.view_is in
-    let number = ap (number_of setup) (sym name) ∙ sym c.number.ensures ∙ c.in-Some.is in
+    let was = subst (λ j. AreFound setup (drop j objects) c.loop-place.kept.items) (next c.loop-place.place c.loop-place-test.true) c.loop-place.invariant in
+    let number = ap (number_of setup) (sym (c.deref.ensures ∙ ap (λ (x : SavedObject). x.name) c.object.view_is)) ∙ sym c.number.ensures ∙ c.in-Some.is in
     rw c.compare.ensures (found_more setup k c.in-Some.number c.object-in-Some.result.now objects c.index-objects-place.result c.loop-place.kept.items c.len.ensures.setup there
     c.index-objects-place.is number c.object-in-Some.ensures was)
 
@@ -26,11 +27,9 @@ loop-place-preserved c =
     let setup = c.args.setup.now in
     let objects = c.objects-objects.result.now in
     let k = c.loop-place.place - 1 in
-    let next : c.loop-place.place ≡ k + 1 = omega (arith, c.loop-place-test.true) in
     let there : k < length objects = omega (arith, c.loop-place-test.true, c.loop-place.auto.place) in
-    let was = subst (λ j. AreFound setup (drop j objects) c.loop-place.kept.items) next c.loop-place.invariant in
-    let name = c.deref.ensures ∙ ap (λ (x : SavedObject). x.name) c.object.view_is in
-    let none = ap (number_of setup) (sym name) ∙ sym c.number.ensures ∙ c.in_default.is in
+    let was = subst (λ j. AreFound setup (drop j objects) c.loop-place.kept.items) (next c.loop-place.place c.loop-place-test.true) c.loop-place.invariant in
+    let none = ap (number_of setup) (sym (c.deref.ensures ∙ ap (λ (x : SavedObject). x.name) c.object.view_is)) ∙ sym c.number.ensures ∙ c.in_default.is in
     found_past setup k objects c.index-objects-place.result c.loop-place.kept.items c.len.ensures.setup there c.index-objects-place.is none was
 
 pub returns-clause-kept : goal.returns-clause-kept

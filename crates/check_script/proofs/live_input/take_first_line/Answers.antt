@@ -65,8 +65,7 @@ returns-then-is_full g c =
     let s = c.loop-reads.invariant in
     let r = c.in_ok-read_more.ensures.given in
     let t = c.in_ok-take_line.ensures in
-    let took = took_on _ s.given r.0 _ _ _ _ _ (Unit {0}) s.begun.feedless s.begun.kept r.2 t.whole t.rest t.line (λ e. tt) in
-    let begun = not_yet _ _ _ _ _ _ took c.if-branch.false in
+    let begun = not_yet _ _ _ _ _ _ (took_on _ s.given r.0 _ _ _ _ _ (Unit {0}) s.begun.feedless s.begun.kept r.2 t.whole t.rest t.line (λ e. tt)) c.if-branch.false in
     record {
       took = given_more _ _ _ _ s.given r.0 _ _ s.consumed r.1 s.begun.feedless s.few r.3
           (took_on _ s.given r.0 _ _ _ _ _ _ s.begun.feedless s.begun.kept r.2 (sym c.if-branch.false ∙ t.whole) t.rest t.line
@@ -78,8 +77,7 @@ loop-reads-preserved g c =
     let s = c.loop-reads.invariant in
     let r = c.in_ok-read_more.ensures.given in
     let t = c.in_ok-take_line.ensures in
-    let took = took_on _ s.given r.0 _ _ _ _ _ (Unit {0}) s.begun.feedless s.begun.kept r.2 t.whole t.rest t.line (λ e. tt) in
-    let begun = not_yet _ _ _ _ _ _ took c.if-branch.false in
+    let begun = not_yet _ _ _ _ _ _ (took_on _ s.given r.0 _ _ _ _ _ (Unit {0}) s.begun.feedless s.begun.kept r.2 t.whole t.rest t.line (λ e. tt)) c.if-branch.false in
     record {
       given = s.given ++ r.0;
       consumed = Consumes-then _ _ _ s.given r.0 s.consumed r.1;
