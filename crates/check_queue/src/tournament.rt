@@ -2,7 +2,7 @@
 //! other node i has the first of the entries at nodes 2i and 2i + 1, so that node 1 has the first of
 //! all. There is no node 0.
 
-ghost use Rattle.std.specs.Prelude.{◌≡◌, ◌<◌, ◌^◌, length, slice_set};
+ghost use Rattle.std.specs.Prelude.{◌≡◌, ◌<◌, length, slice_set};
 ghost use Rattle.check_queue.specs.Tournament.{IsTournament, leaves_of};
 
 use crate::entry::{Entry, first_of, is_same};
@@ -11,7 +11,6 @@ use crate::entry::{Entry, first_of, is_same};
 /// as far as that changes it.
 pub(crate) fn put_leaf(nodes: &mut [Entry], number: u32, entry: Entry)
     requires leaf { number < length (leaves_of nodes.old) }
-    requires few { length (leaves_of nodes.old) < 2 ^ 32 }
     requires tournament { IsTournament nodes.old }
     ensures tournament { IsTournament nodes.new }
     ensures leaves { leaves_of nodes.new ≡ slice_set (leaves_of nodes.old) number entry }

@@ -1,6 +1,5 @@
-use Rattle.std.proofs.Common.{◌≡◌, ◌<◌, refl, sym, ◌∙◌, arith}
+use Rattle.std.proofs.Common.{refl, sym, ◌∙◌, arith}
 use Rattle.std.proofs.lemmas.List.{length-set}
-use Rattle.check_queue.specs.Tournament.{half_of}
 use Rattle.check_queue.proofs.EntryLaws.{same_is}
 use Rattle.check_queue.proofs.TournamentLaws.{at_root, climbed, leaf_put, leaf_written, leaves_kept, leaves_length, settled}
 use Rattle.check_queue.proofs.tournament.put_leaf.Goals as goal

@@ -1,4 +1,4 @@
-use Rattle.std.proofs.Common.{◌≡◌, ◌<◌, length, None, Some, subst, sym, ap, ◌∙◌, arith}
+use Rattle.std.proofs.Common.{length, ap, ◌∙◌, arith}
 use Rattle.check_queue.specs.Entries.{time_of}
 use Rattle.check_queue.specs.Tournament.{node_at}
 use Rattle.check_queue.proofs.TournamentLaws.{nowhere}

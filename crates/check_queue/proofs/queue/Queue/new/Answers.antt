@@ -1,5 +1,5 @@
 use Rattle.std.proofs.Common.{◌*◌, refl, arith}
-use Rattle.check_queue.proofs.FirstLaws.{blank_queue}
+use Rattle.check_queue.proofs.LeafLaws.{blank_queue}
 use Rattle.check_queue.proofs.queue.Queue.new.Goals as goal
 
 pub returns : goal.returns

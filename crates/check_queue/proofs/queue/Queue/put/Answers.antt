@@ -1,9 +1,9 @@
-use Rattle.std.proofs.Common.{◌≡◌, ◌<◌, length, Some, ap, ◌∙◌, arith}
+use Rattle.std.proofs.Common.{◌<◌, length, Some, ap, ◌∙◌, arith}
 use Rattle.std.specs.Vec.{with_items}
 use Rattle.std.proofs.Math.ListN.{set}
 use Rattle.check_queue.specs.declared.entry.Entry.{Entry}
 use Rattle.check_queue.specs.Tournament.{leaves_of, times_in}
-use Rattle.check_queue.proofs.FirstLaws.{Written, after, entry_time, leaf_of, times_length}
+use Rattle.check_queue.proofs.LeafLaws.{Written, after, entry_time, leaf_of, times_length}
 use Rattle.check_queue.proofs.TournamentLaws.{leaves_length}
 use Rattle.check_queue.proofs.queue.Queue.put.Goals as goal
 

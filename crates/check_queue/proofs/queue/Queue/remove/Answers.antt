@@ -1,9 +1,9 @@
-use Rattle.std.proofs.Common.{◌≡◌, length, None, refl, ap, ◌∙◌}
+use Rattle.std.proofs.Common.{length, None, refl, ap, ◌∙◌}
 use Rattle.std.specs.Vec.{with_items}
 use Rattle.std.proofs.Math.ListN.{set}
 use Rattle.check_queue.specs.Entries.{blank}
 use Rattle.check_queue.specs.Tournament.{leaves_of}
-use Rattle.check_queue.proofs.FirstLaws.{Written, after, leaf_blank}
+use Rattle.check_queue.proofs.LeafLaws.{Written, after, leaf_blank}
 use Rattle.check_queue.proofs.queue.Queue.remove.Goals as goal
 
 -- what the queue is then
