@@ -11,8 +11,8 @@ pub(crate) struct Entry {
 }
 
 impl Entry {
-    /// What stands for a number without a time. It comes after the entry of each number, since a number
-    /// is less than `u32::MAX`.
+    /// What stands for a number without a time. It comes after the entry of each number, since a
+    /// number is less than `u32::MAX`.
     pub(crate) const BLANK: Entry = Entry {
         time: u64::MAX,
         number: u32::MAX,

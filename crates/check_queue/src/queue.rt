@@ -13,7 +13,7 @@ use std::marker::Model;
 /// list of these times, by number. (Our own profile.)
 #[derive(Drop)]
 pub struct Queue {
-    /// The tournament of the numbers' entries: that of number k is at the k-th node of the second half.
+    /// The tournament of the entries. That of number k is at place k of the second half.
     nodes: Vec<Entry>,
 }
 

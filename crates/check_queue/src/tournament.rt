@@ -1,6 +1,6 @@
 //! The tournament of the entries. The second half of its nodes are the leaves, one a number; each
-//! other node i has the first of the entries at nodes 2i and 2i + 1, so that node 1 has the first of
-//! all. There is no node 0.
+//! other node i has the first of the entries at nodes 2i and 2i + 1, so that node 1 has the first
+//! of all. Node 0 isn't used.
 
 ghost use Rattle.std.specs.Prelude.{◌≡◌, ◌<◌, length, slice_set};
 ghost use Rattle.check_queue.specs.Tournament.{IsTournament, leaves_of};
