@@ -1,5 +1,5 @@
 -- The leaves: the time of each number, what a call leaves of them, and those of a new queue.
-use Rattle.std.proofs.Common.{◌≡◌, ℕ, ◌+◌, ◌*◌, ◌<◌, ◌^◌, ◌==◌, false, List, length, Option, Some, None, refl, sym, ap, ◌∙◌, arith, inl, inr}
+use Rattle.std.proofs.Common.{◌≡◌, ℕ, zero, suc, ◌∷◌, ◌+◌, ◌*◌, ◌<◌, ◌^◌, ◌==◌, false, List, length, Option, Some, None, refl, sym, ap, ◌∙◌, arith, inl, inr}
 use Rattle.std.proofs.Common.{Vec, Global, replicate}
 use Rattle.std.specs.Prelude.{map}
 use Rattle.std.specs.Vec.{with_items}
@@ -7,9 +7,9 @@ use Rattle.std.proofs.Math.ListN.{set}
 use Rattle.std.proofs.lemmas.Bool.{cases_eq, cases_lt}
 use Rattle.std.proofs.lemmas.Bool.Decides.{nat_tests}
 use Rattle.std.proofs.lemmas.List.{length-set, length-map, get_or_past, get_or-set_same, get_or-set_other, get_or-drop, get_or-map, map-set, with_items_is}
-use Rattle.std.proofs.lemmas.List.{drop-replicate, get_or-replicate, length-replicate, ext_get_or}
+use Rattle.std.proofs.lemmas.List.{drop-replicate, length-replicate}
 use Rattle.check_queue.specs.declared.entry.Entry.{Entry}
-use Rattle.check_queue.specs.Entries.{blank, first_of, time_of, entry_of}
+use Rattle.check_queue.specs.Entries.{blank, time_of, entry_of}
 use Rattle.check_queue.specs.Tournament.{node_at, half_of, leaves_of, times_in, IsTournament, IsLeaf, AreLeaves}
 use Rattle.check_queue.proofs.TimesLaws.{time_at}
 use Rattle.check_queue.proofs.TournamentLaws.{leaves_length, nowhere}
@@ -99,46 +99,14 @@ leaf_blank k = record { is = refl; time = omega arith }
 
 -- ---- a new queue
 
-pub record IsNew (nodes : List Entry) (n : ℕ) : Type 0 where
-  pub tournament : IsTournament nodes
-  pub leaves : AreLeaves (leaves_of nodes)
-  pub times : times_in nodes ≡ replicate n None
+blank_map : (n : ℕ) → map time_of (replicate n blank) ≡ replicate n None
+blank_map zero = refl
+blank_map (suc n) = ap (λ ts. None ∷ ts) (blank_map n)
 
-blank_at : (n i : ℕ) → i < 2 * n → node_at (replicate (2 * n) blank) i ≡ blank
-blank_at n i l = get_or-replicate (2 * n) i blank nowhere l
-
-blank_tournament : (n : ℕ) → IsTournament (replicate (2 * n) blank)
-blank_tournament n =
-    let long = length-replicate (2 * n) blank in
-    record {
-      even = omega arith;
-      decided = λ i b c.
-          let left = blank_at n (2 * i) (omega arith) in
-          let right = blank_at n (2 * i + 1) (omega arith) in
-          record { is = blank_at n i (omega arith) ∙ (λ k. first_of (sym left k) (sym right k)) };
-    }
-
-blank_leaves : (n : ℕ) → n < 2 ^ 32 → AreLeaves (replicate n blank)
-blank_leaves n l =
-    let long = length-replicate n blank in
-    record { few = omega arith; each = λ k m. rw (get_or-replicate n k blank nowhere (omega arith)) (leaf_blank k) }
-
-blank_times : (n : ℕ) → map time_of (replicate n blank) ≡ replicate n None
+pub blank_times : (n : ℕ) → times_in (replicate (2 * n) blank) ≡ replicate n None
 blank_times n =
-    let long = length-replicate n blank in
-    let long' = length-map (replicate n blank) time_of in
-    ext_get_or None _ _ (long' ∙ long ∙ sym (length-replicate n None)) (λ k l.
-    get_or-map time_of (replicate n blank) k nowhere None (omega arith) ∙ ap time_of (get_or-replicate n k blank nowhere (omega arith))
-    ∙ sym (get_or-replicate n k None None (omega arith)))
-
-pub blank_queue : (n m : ℕ) → n < 2 ^ 32 → m ≡ 2 * n → IsNew (replicate m blank) n
-blank_queue n m l e =
-    let long = length-replicate (2 * n) blank in
+    let all = length-replicate (2 * n) blank in
     let half : half_of (replicate (2 * n) blank) ≡ n = omega arith in
     let leaves : leaves_of (replicate (2 * n) blank) ≡ replicate n blank =
     drop-replicate (half_of (replicate (2 * n) blank)) (2 * n) blank ∙ ap (λ i. replicate i blank) (omega arith) in
-    rw e (record {
-      tournament = blank_tournament n;
-      leaves = rw leaves (blank_leaves n l);
-      times = ap (λ es. map time_of es) leaves ∙ blank_times n;
-    })
+    ap (λ es. map time_of es) leaves ∙ blank_map n

@@ -24,8 +24,5 @@ written c =
     (entry_time c.args.number c.args.time small) (c.put_leaf.ensures.size ∙ ap length seen) c.put_leaf.ensures.tournament
     (c.put_leaf.ensures.leaves ∙ ap (λ es. set (leaves_of es) c.args.number leaf) seen)
 
-pub invariant_of-self : goal.invariant_of-self
-invariant_of-self c = let w = written c in record { tournament = w.tournament; leaves = w.leaves }
-
 pub returns : goal.returns
 returns c = (written c).times ∙ ap (λ ts. set ts c.args.number (Some c.args.time)) c.self.view_is
