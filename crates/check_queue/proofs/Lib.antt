@@ -1,7 +1,6 @@
 pub mod LeastLaws
 pub mod TimesLaws
 pub mod EntryLaws
-pub mod PlaceLaws
-pub mod SiftLaws
-pub mod HeapLaws
+pub mod TournamentLaws
+pub mod LeafLaws
 pub mod FirstLaws

@@ -1,12 +1,15 @@
 -- From the times of a queue to their pairs.
 use Rattle.std.proofs.Common.{◌≡◌, ℕ, zero, suc, ◌+◌, Bool, true, false, List, [], ◌∷◌, Option, Some, None, refl, ◌∙◌, arith}
-use Rattle.std.specs.Prelude.{◌||◌, not}
+use Rattle.std.specs.Prelude.{◌||◌, not, slice_index_or}
 use Rattle.std.specs.List.{list_all, list_any}
 use Rattle.std.proofs.lemmas.Bool.{and_from}
 use Rattle.check_queue.specs.Order.{is_before}
 use Rattle.check_queue.specs.Times.{pairs_from, pairs_of}
-use Rattle.check_queue.specs.Heap.{time_at}
 use Rattle.check_queue.proofs.LeastLaws.{Pair, IsLeast, is_no_later, is_same, is_same_itself, or_true}
+
+-- the time of a number
+abbrev pub time_at : List (Option ℕ) → ℕ → Option ℕ
+time_at times number = slice_index_or times number None
 
 or_here : (a b : Bool) → a ≡ true → (a || b) ≡ true
 or_here a b e = rw e refl

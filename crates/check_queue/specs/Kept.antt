@@ -1,15 +1,13 @@
--- The heap of the code as contracts see it.
-use Rattle.std.specs.Prelude.{◌≡◌, ℕ, List, Option, count_by, is_some}
-use Rattle.check_queue.specs.Heap.{IsOrdered, times_in}
-use Rattle.check_queue.specs.Rows.{entries_of, places_of}
-use Rattle.check_queue.specs.declared.heap.Heap.TheInside.{Inside}
+-- The queue of the code as contracts see it.
+use Rattle.std.specs.Prelude.{ℕ, List, Option}
+use Rattle.check_queue.specs.Tournament.{IsTournament, AreLeaves, leaves_of, times_in}
+use Rattle.check_queue.specs.declared.queue.Queue.TheInside.{Inside}
 
 -- the time of each number, by number
 abbrev pub times_of : Inside → List (Option ℕ)
-times_of q = times_in (entries_of q.rows.items) (places_of q.rows.items) q.len
+times_of q = times_in q.nodes.items
 
--- what is true of the fields of every heap
+-- what is true of the fields of every queue
 pub record IsKept (q : Inside) : Type 0 where
-  pub ordered : IsOrdered (entries_of q.rows.items) (places_of q.rows.items) q.len
-  -- so that there is room for a number without a time
-  pub size : count_by (λ time. is_some time) (times_of q) ≡ q.len
+  pub tournament : IsTournament q.nodes.items
+  pub leaves : AreLeaves (leaves_of q.nodes.items)

@@ -1,6 +1,5 @@
 pub mod Order
 pub mod Times
-pub mod Heap
-pub mod Rows
+pub mod Entries
+pub mod Tournament
 pub mod Kept
-pub mod Queues

@@ -4,21 +4,17 @@ ghost use Rattle.std.specs.Prelude.{◌≡◌, ◌<◌, ℕ, IfOk, IfSome, Match
 ghost use Rattle.check_queue.specs.Order.{least};
 ghost use Rattle.check_queue.specs.Times.{pairs_of};
 
-use crate::heap::Heap;
+use crate::entry::{Entry, time_of};
+use crate::tournament::put_leaf;
 use std::alloc::{AllocError, Global};
 use std::marker::Model;
 
 /// The numbers from 0 on, below a bound, each with a time or without one. Contracts see it as the
 /// list of these times, by number. (Our own profile.)
-///
-/// The first that is removed leaves its place vacant, and nothing moves: what is put in next, which is
-/// often the same number, takes that place. Another that is removed before closes the heap up.
 #[derive(Drop)]
 pub struct Queue {
-    /// The numbers with a time, and one more where the first place is vacant.
-    heap: Heap,
-    /// Whether the first of the heap was removed.
-    vacant: bool,
+    /// The tournament of the entries. That of number k is at place k of the second half.
+    nodes: Vec<Entry>,
 }
 
 impl Model for Queue {
@@ -26,9 +22,11 @@ impl Model for Queue {
 
     ghost Value = { List (Option ℕ) };
 
-    ghost use Rattle.check_queue.specs.Queues.{times_of};
+    ghost use Rattle.check_queue.specs.Kept.{times_of, IsKept};
 
     ghost view = { times_of };
+
+    ghost invariant = { IsKept };
 }
 
 impl Queue {
@@ -38,21 +36,16 @@ impl Queue {
     pub fn new(alloc: Global, n: u32) -> Result<Queue, AllocError>
         ensures { IfOk result (λ queue. queue ≡ replicate n None) }
     {
-        let heap = Heap::new(alloc, n)?;
-        Ok(Queue {
-            heap,
-            vacant: false,
-        })
+        let nodes = vec![in alloc; Entry::BLANK; 2 * n as usize]?;
+        Ok(Queue { nodes })
     }
 
     /// The time of a number; None where it has none, or isn't below the bound.
     pub fn time_of(&self, number: u32) -> Option<u64>
         ensures { result ≡ slice_index_or self.now number None }
     {
-        if self.vacant && self.heap.is_first(number) {
-            return None;
-        }
-        self.heap.time_of(number)
+        let leaf = self.nodes.len() / 2 + number as usize;
+        time_of(*self.nodes.get(leaf)?)
     }
 
     /// The least time with its number, and of equal times the one with the least number. None where
@@ -64,11 +57,9 @@ impl Queue {
             (λ first. slice_index_or self.now first.1 None ≡ Some first.0) }
         ensures within { IfSome result (λ first. first.1 < length self.now) }
     {
-        if self.vacant {
-            self.heap.second()
-        } else {
-            self.heap.first()
-        }
+        let first = *self.nodes.get(1)?;
+        let time = time_of(first)?;
+        Some((time, first.number))
     }
 
     /// Gives a number this time, in place of one that it may have. All others stay as they are.
@@ -76,12 +67,7 @@ impl Queue {
         requires { number < length self.old }
         ensures { self.new ≡ slice_set self.old number (Some time) }
     {
-        if self.vacant {
-            self.vacant = false;
-            self.heap.replace_first(number, time);
-        } else {
-            self.heap.put(number, time);
-        }
+        put_leaf(&mut self.nodes, number, Entry { time, number });
     }
 
     /// Takes the time of a number away, and tells whether it had one. All others stay as they are;
@@ -90,10 +76,10 @@ impl Queue {
         ensures had { result ≡ is_some (slice_index_or self.old number None) }
         ensures after { self.new ≡ slice_set self.old number None }
     {
-        if self.vacant {
-            self.heap.remove_first();
+        let had = self.time_of(number).is_some();
+        if had {
+            put_leaf(&mut self.nodes, number, Entry::BLANK);
         }
-        self.vacant = self.heap.is_first(number);
-        self.vacant || self.heap.remove(number)
+        had
     }
 }
