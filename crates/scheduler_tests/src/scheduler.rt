@@ -48,7 +48,13 @@ fn opens_with_ample_memory(rt: HostRuntime) -> Result<(), Fail> {
 }
 
 /// Compares the next time of an object and the run that is out.
-pub fn is_due(rt: &impl Abort, scheduler: &Sched, number: u32, next: Option<u64>, run: Option<u64>) {
+pub fn is_due(
+    rt: &impl Abort,
+    scheduler: &Sched,
+    number: u32,
+    next: Option<u64>,
+    run: Option<u64>,
+) {
     assert!(rt; (number as usize) < scheduler.setup().len());
     assert_eq!(rt;
         scheduler.next_of(number),
