@@ -23,6 +23,7 @@ use check_spread::{LAST_MOMENT, LAST_TIME};
 impl Sched {
     /// Begins the check of the least object that is due and may be checked, or puts it off; or tells
     /// why there is none.
+    #[inline(never)]
     pub(super) fn take(&mut self, now: u64) -> Result<Reply, Refusal>
         ensures state { self.new ≡ (step self.old (Call.Take now)).0 }
         ensures reply { reply_of result ≡ (step self.old (Call.Take now)).1 }
@@ -134,6 +135,7 @@ impl Sched {
     }
 
     /// Takes the result of a run, which ends: the object's standing and next time follow from it.
+    #[inline(never)]
     pub(super) fn report(&mut self, object: u32, run: u64, code: Code) -> Result<Reply, Refusal>
         ensures state { self.new ≡ (step self.old (Call.Report object run code)).0 }
         ensures reply { reply_of result ≡ (step self.old (Call.Report object run code)).1 }
@@ -194,15 +196,18 @@ impl Sched {
         ensures reply { result ≡ (report_told object start code already self.old).1 }
         ensures times { TellsTimesUpTo LAST_TIME result }
     {
-        let before = self.standings[object as usize];
         let found = state_found(&self.setup, &self.standings, object, code);
         let thresholds = flap_thresholds(&self.setup, object);
-        let flapping = self.results.add(object, found, before.flapping, thresholds);
+        let was = self.standings[object as usize];
+        let flapping = self.results.add(object, found, was.flapping, thresholds);
+        // The standing is read again, and put back before the queue is asked: so little of it has to be
+        // kept over a call.
+        let before = self.standings[object as usize];
         let standing = judged(&self.setup, &self.standings, object, found, flapping);
         let changed = is_changed(before, standing);
         let intervals = self.intervals[object as usize];
         let next = next_by(intervals, standing, start, already);
-        self.roster.change(object, Change::End(next));
+        put_standing(&mut self.standings, object, standing);
         self.steady[object as usize] = is_steady_after(
             &self.results,
             object,
@@ -211,7 +216,7 @@ impl Sched {
             before,
             standing,
         );
-        put_standing(&mut self.standings, object, standing);
+        self.roster.change(object, Change::End(next));
         Reply::Standing {
             standing,
             changed,
