@@ -13,7 +13,7 @@ ghost use Rattle.check_sched.specs.Reply.{NamesObjectOf, TellsTimesUpTo, reply_o
 use super::{MAX_RUNS, Sched};
 use crate::call::{Call, Refusal, Reply};
 use crate::candidate::{Candidate, if_due};
-use crate::intervals::next_by;
+use crate::intervals::{next_by, next_past};
 use crate::object_state::{Change, Run};
 use crate::report::{flap_thresholds, is_changed, judged, put_off_until, state_found};
 use crate::results::Results;
@@ -174,7 +174,7 @@ impl Sched {
     {
         let standing = self.standing(object);
         let intervals = self.intervals[object as usize];
-        let next = next_by(intervals, standing, start, already);
+        let next = next_past(intervals.check, start, already);
         self.change(object, Change::End(next));
         Reply::Standing {
             standing,
@@ -271,14 +271,15 @@ fn put_standing(standings: &mut Vec<Standing>, number: u32, standing: Standing)
 }
 
 /// Whether two standings are the same. Field by field, since the proof search knows what `==` says of a
-/// field and not what a derived one says of two fields of the same enum.
+/// field and not what a derived one says of two fields of the same enum. The state by itself and first,
+/// since where it differs no other field needs to be compared.
 fn is_same(one: Standing, other: Standing) -> bool
     ensures { result ≡ true → one ≡ other }
 {
-    if one.state != other.state || one.last_hard != other.last_hard {
+    if one.state != other.state {
         return false;
     }
-    if one.kind != other.kind || one.attempt != other.attempt {
+    if one.last_hard != other.last_hard || one.kind != other.kind || one.attempt != other.attempt {
         return false;
     }
     one.checked == other.checked && one.flapping == other.flapping
