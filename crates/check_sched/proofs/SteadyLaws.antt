@@ -1,7 +1,7 @@
 -- Laws of objects that an OK leaves as they stand: what such a report answers, and which objects are such ones after one.
-use Rattle.std.proofs.Common.{◌≡◌, ℕ, zero, suc, ◌<◌, ◌==◌, Bool, true, false, List, [], replicate, length, Option, Some, None, refl, sym, ap, subst, ◌∙◌}
+use Rattle.std.proofs.Common.{◌≡◌, ℕ, zero, suc, ◌<◌, ◌==◌, Bool, true, false, cond, List, [], replicate, length, Option, Some, None, refl, sym, ap, subst, ◌∙◌}
 use Rattle.std.specs.Prelude.{is_some, option_and_then, slice_get, unwrap_or}
-use Rattle.std.specs.Option.{option_map_or}
+use Rattle.std.specs.Option.{option_map_or, option_or}
 use Rattle.std.proofs.lemmas.Bool.{eqb-true, eqb-false}
 use Rattle.check_objects.specs.Configuration.{Configuration, host_of, object_count}
 use Rattle.check_rules.specs.declared.state.Code.{Code}
@@ -10,13 +10,15 @@ use Rattle.check_rules.specs.declared.state.State as rules
 use Rattle.check_rules.specs.declared.state.State.TheVariants as state
 use Rattle.check_rules.specs.declared.standing.Standing.{Standing}
 use Rattle.check_rules.specs.Flapping.{is_flapping, kept_after}
-use Rattle.check_rules.specs.Standing.{pending_standing}
+use Rattle.check_rules.specs.Standing.{is_soft_problem, pending_standing}
 use Rattle.check_rules.specs.State.{fine_state, is_another_state, is_host_state, is_problem}
 use Rattle.check_rules.specs.Verdict.{verdict_on}
 use Rattle.check_saved.specs.Scheduling.{Scheduling, is_timed, is_timed_if_forced}
 use Rattle.check_sched.specs.declared.call.Call.TheVariants as call
 use Rattle.check_sched.specs.declared.call.Reply.{Reply}
 use Rattle.check_sched.specs.declared.call.Reply.TheVariants as reply
+use Rattle.check_sched.specs.declared.intervals.Intervals.{Intervals}
+use Rattle.check_sched.specs.Intervals.{next_by, time_past}
 use Rattle.check_sched.specs.Report.{is_host_up, next_after, state_found_by}
 use Rattle.check_sched.specs.Scheduling.{ended}
 use Rattle.check_sched.specs.State.{State, IsState, flap_thresholds_of, is_host, max_attempts_of, next_of, results_at, standing_at}
@@ -115,6 +117,25 @@ pub report_timed : (s : State) (n start : ℕ) (standing : Standing) (already : 
 report_timed s n start standing already is e =
     timed_by s n (next_after s.setup n standing start already) (slice_get s.objects n) is refl
     (λ set. next_already s.setup n standing start already (ap is_some (sym e) ∙ set))
+
+-- the standing that a verdict on an OK makes is no soft problem
+fine_phase : (host : Bool) (before : Standing) (max : ℕ) (flapping : Bool) → is_soft_problem (verdict_on before (fine_state host) max true flapping) ≡ false
+fine_phase true before max flapping = refl
+fine_phase false before max flapping = refl
+
+-- so an object that an OK leaves as it stands is none
+steady_phase : (s : State) (n : ℕ) → IsSteadyIn s n → is_soft_problem (standing_at s.standings n) ≡ false
+steady_phase s n is =
+    let standing = standing_at s.standings n in
+    let thresholds = flap_thresholds_of s.setup n in
+    let flapping = is_flapping (results_at s.results n) standing.flapping thresholds.0 thresholds.1 in
+    subst (λ t. is_soft_problem t ≡ false) is.stands (fine_phase (is_host s.setup n) standing (max_attempts_of s.setup n) flapping)
+
+-- and its next check comes after its check interval
+pub steady_next : (s : State) (n start : ℕ) (intervals : Intervals) (already : Option ℕ) → IsSteadyIn s n
+    → option_or already (time_past start intervals.check) ≡ next_by intervals (standing_at s.standings n) start already
+steady_next s n start intervals already is =
+    ap (λ soft. option_or already (time_past start (cond soft intervals.retry intervals.check))) (sym (steady_phase s n is))
 
 -- ---- which objects are left as they stand, after a report
 

@@ -2,7 +2,8 @@
 
 ghost use Rattle.std.specs.Prelude.{◌≡◌, ◌≤◌, IfOk, IfSome, OnOk};
 ghost use Rattle.check_objects.specs.Configuration.{IsSetup};
-ghost use Rattle.check_sched.specs.Intervals.{AreFew, interval_by, intervals_for, intervals_of, next_by};
+ghost use Rattle.std.specs.Option.{option_or};
+ghost use Rattle.check_sched.specs.Intervals.{AreFew, interval_by, intervals_for, intervals_of, next_by, time_past};
 
 use crate::report::milliseconds;
 use check_objects::{MAX_INTERVAL, Object, Setup};
@@ -60,10 +61,21 @@ pub(crate) fn next_by(
     ensures value { result ≡ next_by intervals standing start already }
     ensures within { IfSome result (λ time. time ≤ LAST_TIME) }
 {
+    next_past(interval_by(intervals, standing), start, already)
+}
+
+/// The time of the check that follows one that began at `start` by this interval: `already`, where a time
+/// was set while it ran, else the interval after the start; None where the interval is 0.
+pub(crate) fn next_past(interval: u64, start: u64, already: Option<u64>) -> Option<u64>
+    requires few { interval ≤ 45411840000000 }
+    requires moment { start ≤ LAST_MOMENT }
+    requires in_time { IfSome already (λ time. time ≤ LAST_TIME) }
+    ensures value { result ≡ option_or already (time_past start interval) }
+    ensures within { IfSome result (λ time. time ≤ LAST_TIME) }
+{
     if already.is_some() {
         return already;
     }
-    let interval = interval_by(intervals, standing);
     if interval == 0 {
         None
     } else {

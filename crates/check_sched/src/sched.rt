@@ -116,6 +116,8 @@ impl Sched {
     /// objects that a reply names are those of the setup, and each time that it tells is at most
     /// 2^61 milliseconds. No more services are being checked than the option
     /// `max_concurrent_checks` allows, where it isn't 0 ([`limit`](crate::laws::limit)).
+    // Where a caller knows which call it makes, the compiler keeps that part alone.
+    #[inline(always)]
     pub fn apply(&mut self, call: Call) -> Reply
         ensures state { self.new ≡ (step self.old call).0 }
         ensures reply { result ≡ (step self.old call).1 }

@@ -13,7 +13,7 @@ ghost use Rattle.check_sched.specs.Reply.{NamesObjectOf, TellsTimesUpTo, reply_o
 use super::{MAX_RUNS, Sched};
 use crate::call::{Call, Refusal, Reply};
 use crate::candidate::{Candidate, if_due};
-use crate::intervals::next_by;
+use crate::intervals::{next_by, next_past};
 use crate::object_state::{Change, Run};
 use crate::report::{flap_thresholds, is_changed, judged, put_off_until, state_found};
 use crate::results::Results;
@@ -23,6 +23,7 @@ use check_spread::{LAST_MOMENT, LAST_TIME};
 impl Sched {
     /// Begins the check of the least object that is due and may be checked, or puts it off; or tells
     /// why there is none.
+    #[inline(never)]
     pub(super) fn take(&mut self, now: u64) -> Result<Reply, Refusal>
         ensures state { self.new ≡ (step self.old (Call.Take now)).0 }
         ensures reply { reply_of result ≡ (step self.old (Call.Take now)).1 }
@@ -134,6 +135,7 @@ impl Sched {
     }
 
     /// Takes the result of a run, which ends: the object's standing and next time follow from it.
+    #[inline(never)]
     pub(super) fn report(&mut self, object: u32, run: u64, code: Code) -> Result<Reply, Refusal>
         ensures state { self.new ≡ (step self.old (Call.Report object run code)).0 }
         ensures reply { reply_of result ≡ (step self.old (Call.Report object run code)).1 }
@@ -172,7 +174,7 @@ impl Sched {
     {
         let standing = self.standing(object);
         let intervals = self.intervals[object as usize];
-        let next = next_by(intervals, standing, start, already);
+        let next = next_past(intervals.check, start, already);
         self.change(object, Change::End(next));
         Reply::Standing {
             standing,
@@ -194,15 +196,18 @@ impl Sched {
         ensures reply { result ≡ (report_told object start code already self.old).1 }
         ensures times { TellsTimesUpTo LAST_TIME result }
     {
-        let before = self.standings[object as usize];
         let found = state_found(&self.setup, &self.standings, object, code);
         let thresholds = flap_thresholds(&self.setup, object);
-        let flapping = self.results.add(object, found, before.flapping, thresholds);
+        let was = self.standings[object as usize];
+        let flapping = self.results.add(object, found, was.flapping, thresholds);
+        // The standing is read again, and put back before the queue is asked: so little of it has to be
+        // kept over a call.
+        let before = self.standings[object as usize];
         let standing = judged(&self.setup, &self.standings, object, found, flapping);
         let changed = is_changed(before, standing);
         let intervals = self.intervals[object as usize];
         let next = next_by(intervals, standing, start, already);
-        self.roster.change(object, Change::End(next));
+        put_standing(&mut self.standings, object, standing);
         self.steady[object as usize] = is_steady_after(
             &self.results,
             object,
@@ -211,7 +216,7 @@ impl Sched {
             before,
             standing,
         );
-        put_standing(&mut self.standings, object, standing);
+        self.roster.change(object, Change::End(next));
         Reply::Standing {
             standing,
             changed,
@@ -266,14 +271,15 @@ fn put_standing(standings: &mut Vec<Standing>, number: u32, standing: Standing)
 }
 
 /// Whether two standings are the same. Field by field, since the proof search knows what `==` says of a
-/// field and not what a derived one says of two fields of the same enum.
+/// field and not what a derived one says of two fields of the same enum. The state by itself and first,
+/// since where it differs no other field needs to be compared.
 fn is_same(one: Standing, other: Standing) -> bool
     ensures { result ≡ true → one ≡ other }
 {
-    if one.state != other.state || one.last_hard != other.last_hard {
+    if one.state != other.state {
         return false;
     }
-    if one.kind != other.kind || one.attempt != other.attempt {
+    if one.last_hard != other.last_hard || one.kind != other.kind || one.attempt != other.attempt {
         return false;
     }
     one.checked == other.checked && one.flapping == other.flapping

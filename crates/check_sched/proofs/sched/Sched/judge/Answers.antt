@@ -49,41 +49,41 @@ next_by-next-requires-clause-few c =
     c.self.invariant.intervals (count_there c.self.inside c.args.object _ c.self.view_is c.requires.there) c.index-intervals.ensures).few
 
 -- the object, its standing, its results and its mark
-there : (c : goal.After-put_standing) → c.args.object < object_count c.self.inside.setup
+there : (c : goal.After-change) → c.args.object < object_count c.self.inside.setup
 there c = count_there c.self.inside c.args.object _ c.self.view_is c.requires.there
 
-standing_there : (c : goal.After-put_standing) → c.args.object < length c.self.inside.standings.items
+standing_there : (c : goal.After-change) → c.args.object < length c.self.inside.standings.items
 standing_there c = let known = there c in let each = c.self.invariant.state.one_standing_each in omega (arith, known, each)
 
-results_there : (c : goal.After-put_standing) → c.args.object < length c.self.inside.results
+results_there : (c : goal.After-change) → c.args.object < length c.self.inside.results
 results_there c = let known = there c in let each = c.self.invariant.state.results_each in omega (arith, known, each)
 
-mark_there : (c : goal.After-put_standing) → c.args.object < length c.self.inside.steady.items
+mark_there : (c : goal.After-change) → c.args.object < length c.self.inside.steady.items
 mark_there c = let known = there c in let each = c.self.invariant.steady_each in omega (arith, known, each)
 
 -- the state that the code means
-meant : (c : goal.After-put_standing) → c.state_found-found.result ≡ found_in (state_of c.self.inside) c.args.object c.args.code
+meant : (c : goal.After-change) → c.state_found-found.result ≡ found_in (state_of c.self.inside) c.args.object c.args.code
 meant c =
     c.state_found-found.ensures.value
     ∙ ap (λ standings. state_found c.self.inside.setup standings c.args.object c.args.code) c.deref.ensures.value
 
 -- whether the object flaps
-flapping : (c : goal.After-put_standing) → c.add-flapping.result
+flapping : (c : goal.After-change) → c.add-flapping.result
     ≡ flaps_with c.self.inside.setup c.self.inside.standings.items c.self.inside.results c.args.object c.state_found-found.result
 flapping c =
-    let before = standing_read c.self.inside.standings.items c.args.object c.index-before.result.now (standing_there c) c.index-before.ensures in
+    let was = standing_read c.self.inside.standings.items c.args.object c.index-was.result.now (standing_there c) c.index-was.ensures in
     c.add-flapping.ensures.flaps
-    ∙ (λ i. is_flapping (kept_after (results_at c.self.inside.results c.args.object) c.state_found-found.result) (sym before i).flapping
+    ∙ (λ i. is_flapping (kept_after (results_at c.self.inside.results c.args.object) c.state_found-found.result) (sym was i).flapping
     (c.flap_thresholds-thresholds.ensures i).0 (c.flap_thresholds-thresholds.ensures i).1)
 
 -- the standing that the verdict makes
-made : (c : goal.After-put_standing) → c.judged-standing.result ≡ judged_in (state_of c.self.inside) c.args.object c.state_found-found.result
+made : (c : goal.After-change) → c.judged-standing.result ≡ judged_in (state_of c.self.inside) c.args.object c.state_found-found.result
 made c =
     c.judged-standing.ensures
     ∙ (λ i. judged c.self.inside.setup (c.deref-2.ensures.value i) c.args.object c.state_found-found.result (flapping c i))
 
 -- the next time is the one that the setup gives
-next_given : (c : goal.After-put_standing)
+next_given : (c : goal.After-change)
     → c.next_by-next.result ≡ next_after c.self.inside.setup c.args.object c.judged-standing.result c.args.start c.args.already
 next_given c =
     let read = intervals_read c.self.inside.setup c.args.object c.self.inside.intervals.items c.index-intervals.result.now c.self.invariant.state.valid_setup
@@ -91,7 +91,7 @@ next_given c =
     c.next_by-next.ensures.value ∙ read.next c.judged-standing.result c.args.start c.args.already
 
 -- what is answered, by what the code makes
-answer : (c : goal.After-put_standing) → report_told c.args.object c.args.start c.args.code c.args.already (state_of c.self.inside)
+answer : (c : goal.After-change) → report_told c.args.object c.args.start c.args.code c.args.already (state_of c.self.inside)
     ≡ (
       reported c.args.object c.state_found-found.result c.judged-standing.result c.next_by-next.result
           (state_of c.self.inside),
@@ -102,14 +102,14 @@ answer c =
     c.state_found-found.result c.judged-standing.result c.next_by-next.result (meant c) (made c) (next_given c)
 
 -- the standings that the write leaves
-standings_left : (c : goal.After-put_standing)
+standings_left : (c : goal.After-change)
     → c.put_standing.new.standings.items ≡ update_at c.args.object
     (λ (before : Standing). c.judged-standing.result) c.self.inside.standings.items
 standings_left c =
     c.put_standing.ensures
     ∙ set_is_update _ (λ (before : Standing). c.judged-standing.result) _ c.judged-standing.result _ (standing_there c) refl
 
-state_left : (c : goal.After-put_standing) (objects : List Scheduling) (standings : List Standing) (results : List (List rules.State))
+state_left : (c : goal.After-change) (objects : List Scheduling) (standings : List Standing) (results : List (List rules.State))
     → objects ≡ update_at c.args.object (ended c.next_by-next.result) c.self.inside.roster.objects
     → standings ≡ update_at c.args.object (λ (before : Standing). c.judged-standing.result) c.self.inside.standings.items
     → results ≡ update_at c.args.object (λ kept. kept_after kept c.state_found-found.result) c.self.inside.results
@@ -133,7 +133,7 @@ state_left c objects standings results e f g i = record {
 }
 
 -- a next time that was set while the check ran stays
-already_set : (c : goal.After-put_standing) (o : Scheduling) → slice_get c.self.inside.roster.objects c.args.object ≡ Some o → is_some o.next ≡ true
+already_set : (c : goal.After-change) (o : Scheduling) → slice_get c.self.inside.roster.objects c.args.object ≡ Some o → is_some o.next ≡ true
     → is_some c.next_by-next.result ≡ true
 already_set c o e f =
     let next = ap (λ (s : State). next_of c.args.object s) c.self.view_is ∙ c.requires.already in
@@ -142,7 +142,7 @@ already_set c o e f =
     (ap is_some (sym here) ∙ f))
 
 -- the mark that the object gets
-marked : (c : goal.After-put_standing) → c.is_steady_after.result ≡ true
+marked : (c : goal.After-change) → c.is_steady_after.result ≡ true
     → IsSteady c.self.inside.setup c.args.object c.judged-standing.result (kept_after (results_at c.self.inside.results c.args.object) c.state_found-found.result)
 marked c set =
     let before = standing_read c.self.inside.standings.items c.args.object c.index-before.result.now (standing_there c) c.index-before.ensures in
@@ -152,7 +152,7 @@ marked c set =
     (there c) (meant c) before (made c) (c.is_steady_after.ensures.ok set) (c.is_steady_after.ensures.same set)
     (subst (λ (results : List rules.State). kept_after results c.state_found-found.result ≡ results) kept (c.is_steady_after.ensures.kept set))
 
-marks_left : (c : goal.After-put_standing) → set c.self.inside.steady.items c.args.object c.is_steady_after.result
+marks_left : (c : goal.After-change) → set c.self.inside.steady.items c.args.object c.is_steady_after.result
     ≡ update_at c.args.object (λ (before : Bool). c.is_steady_after.result) c.self.inside.steady.items
 marks_left c = set_is_update c.args.object (λ (before : Bool). c.is_steady_after.result) c.self.inside.steady.items true c.is_steady_after.result (mark_there c) refl
 
