@@ -89,7 +89,7 @@ after v nodes k e o all leaf f long m w =
     })
 
 pub entry_time : (k t : ℕ) → k < 4294967295 → time_of (record { time = t; number = k }) ≡ Some t
-entry_time k t l = let other : (k == 4294967295) ≡ false = grind (arith, nat_tests, l) in rw other refl
+entry_time k t l = let other : (k == 18446744073709551615) ≡ false = grind (arith, nat_tests, l) in rw other refl
 
 pub leaf_of : (k t : ℕ) → t < 2 ^ 64 → k < 4294967295 → IsLeaf k (record { time = t; number = k })
 leaf_of k t l m = record { is = sym (ap (λ o. entry_of k o) (entry_time k t m)); time = l }

@@ -5,7 +5,7 @@ use Rattle.check_queue.specs.Order.{is_before}
 
 -- what stands for a number without a time: a time and a number than which none is greater
 abbrev pub blank : Entry
-blank = record { time = 18446744073709551615; number = 4294967295 }
+blank = record { time = 18446744073709551615; number = 18446744073709551615 }
 
 -- whether entry a comes before entry b
 abbrev pub comes_before : Entry → Entry → Bool

@@ -3,19 +3,20 @@
 ghost use Rattle.std.specs.Prelude.{◌≡◌, ◌+◌, ◌*◌, ◌^◌, ◌==◌, ◌&&◌};
 ghost use Rattle.check_queue.specs.Entries.{comes_before, first_of, time_of};
 
-/// A number and the time for which it waits.
+/// A number and the time for which it waits. The number is kept as wide as the time, so that an entry
+/// is two words and is moved as such.
 #[derive(Clone, Copy)]
 pub(crate) struct Entry {
     pub(crate) time: u64,
-    pub(crate) number: u32,
+    pub(crate) number: u64,
 }
 
 impl Entry {
     /// What stands for a number without a time. It comes after the entry of each number, since a
-    /// number is less than `u32::MAX`.
+    /// number is less than `u64::MAX`.
     pub(crate) const BLANK: Entry = Entry {
         time: u64::MAX,
-        number: u32::MAX,
+        number: u64::MAX,
     };
 }
 

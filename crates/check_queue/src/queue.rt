@@ -59,7 +59,7 @@ impl Queue {
     {
         let first = *self.nodes.get(1)?;
         let time = time_of(first)?;
-        Some((time, first.number))
+        Some((time, first.number as u32))
     }
 
     /// Gives a number this time, in place of one that it may have. All others stay as they are.
@@ -67,7 +67,11 @@ impl Queue {
         requires { number < length self.old }
         ensures { self.new ≡ slice_set self.old number (Some time) }
     {
-        put_leaf(&mut self.nodes, number, Entry { time, number });
+        let entry = Entry {
+            time,
+            number: number as u64,
+        };
+        put_leaf(&mut self.nodes, number, entry);
     }
 
     /// Takes the time of a number away, and tells whether it had one. All others stay as they are;

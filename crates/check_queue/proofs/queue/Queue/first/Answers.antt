@@ -1,7 +1,8 @@
 use Rattle.std.proofs.Common.{length, ap, ◌∙◌, arith}
 use Rattle.check_queue.specs.Entries.{time_of}
 use Rattle.check_queue.specs.Tournament.{node_at}
-use Rattle.check_queue.proofs.TournamentLaws.{nowhere}
+use Rattle.check_queue.proofs.TournamentLaws.{leaves_length, nowhere}
+use Rattle.check_queue.proofs.LeafLaws.{times_length}
 use Rattle.check_queue.proofs.FirstLaws.{IsFirst, IsNone, first_is, none_where_blank, none_where_empty}
 use Rattle.check_queue.proofs.queue.Queue.first.Goals as goal
 
@@ -38,6 +39,15 @@ first_root c =
     let same = ap length c.deref.ensures.value in
     let root = there.1 nowhere ∙ ap (λ es. node_at es 1) c.deref.ensures.value in
     rw root (first_is _ c.in_ok-time.time c.self.invariant.tournament c.self.invariant.leaves (omega arith) (c.in_ok-time.ensures ∙ ap time_of root))
+
+-- which is below the bound
+pub overflow_cast-result : goal.overflow_cast-result
+overflow_cast-result c =
+    let within = (first_root c).within in
+    let long = times_length c.self.inside.nodes.items c.self.invariant.tournament in
+    let long' = leaves_length c.self.inside.nodes.items c.self.invariant.tournament in
+    let few = c.self.invariant.leaves.few in
+    omega (arith, within, long, long', few)
 
 pub returns-clause-least : goal.returns-clause-least
 returns-clause-least c = rw (← c.self.view_is) (first_root c).least
