@@ -1,4 +1,4 @@
-//! The intervals of each object in milliseconds, reckoned once for all reports.
+//! The intervals of each object in milliseconds, reckoned once for all reports, and the next time after a report.
 
 ghost use Rattle.std.specs.Prelude.{◌≡◌, ◌≤◌, IfOk, IfSome, OnOk};
 ghost use Rattle.check_objects.specs.Configuration.{IsSetup};
