@@ -4,13 +4,13 @@ import datetime
 import json
 import os
 import pathlib
-import selectors
+import select
 import shutil
 import signal
 import socket
 import sys
 import time
-from typing import Any, Dict, List, Optional, Set
+from typing import Any, Dict, List, Optional
 
 from . import changes, control, places
 from .beside import Beside
@@ -30,6 +30,7 @@ DAY = 86_400
 BUSY_WAIT = 100
 # From one turn to the next at least, in seconds: what comes meanwhile is kept by one sync, which is what a turn costs most for.
 BETWEEN_TURNS = 0.05
+BETWEEN_CHORES = 1.0
 
 
 class Monitor:
@@ -39,8 +40,7 @@ class Monitor:
         folder, program = words.folder, words.program
         self._folder, self._program = folder, program
         self._service = Service()
-        self._selector = selectors.DefaultSelector()
-        self._watched: Set[int] = set()
+        self._poll = select.epoll()
         self._is_ended = self._is_reload_wanted = False
         self.site = read_site(folder, program)
         self.store = Store(folder)
@@ -52,7 +52,7 @@ class Monitor:
         self.engine = Engine(self.site, self.scheduling, self.runners, self.store, self.clock, self.log)
         self.requests = Requests(self.engine, self.clock, self.reload, self.stop)
         self.control = control.Control(folder, self.requests.answer, self._watch, self._unwatch)
-        self._dropped_at = 0.0
+        self._dropped_at = self._chores_at = 0.0
         self._beside = self._besides(words)
 
     def _besides(self, words: argparse.Namespace) -> List[Beside]:
@@ -90,44 +90,52 @@ class Monitor:
             for change in self.scheduling.changed():
                 self.log(changes.line_of(change, self.site.zone))
             self._notifier.work()
-            self._drop_old_changes()
-            self._service.alive()
-            for process in self._beside:
-                process.work()
+            if begun >= self._chores_at:
+                self._chores_at = begun + BETWEEN_CHORES
+                self._do_chores()
             if self._is_reload_wanted:
                 self._is_reload_wanted = False
                 self._reload_by_signal()
             self._rest(begun, min(wanted, self.clock.moment() + BUSY_WAIT) if self._notifier.is_busy() else wanted)
 
-    def _rest(self, begun: float, wanted: int) -> None:
-        """Waits for the next turn: until the moment for which it is wanted, or until something has come, and what comes soon after it."""
-        came = self._wait(max(0, wanted - self.clock.moment()))
-        now = time.monotonic()
-        left = max(0, wanted - self.clock.moment()) / 1000
-        rest = max(begun + BETWEEN_TURNS - now, min(BETWEEN_TURNS, left) if came else 0)
-        if rest > 0:
-            time.sleep(rest)
-            self._wait(0)
+    def _do_chores(self) -> None:
+        """What has to be seen to every second."""
+        self._drop_old_changes()
+        self._service.alive()
+        for process in self._beside:
+            process.work()
 
-    def _wait(self, milliseconds: int) -> bool:
+    def _rest(self, begun: float, wanted: int) -> None:
+        """Waits for the next turn: until the moment for which it is wanted, or until something has come, and what comes soon after it.
+
+        What comes within the rest of a turn waits for the moment that is wanted, where that is near: so a result has no turn of its own."""
+        now = time.monotonic()
+        until, rested = now + (wanted - self.clock.moment()) / 1000, begun + BETWEEN_TURNS
+        is_near = until <= rested + BETWEEN_TURNS
+        pause(max(rested, until) if is_near else rested)
+        if self._wait(0) or is_near or not self._wait(max(0.0, until - time.monotonic())):
+            return
+        rested = time.monotonic() + BETWEEN_TURNS
+        pause(until if until <= rested + BETWEEN_TURNS else rested)
+        self._wait(0)
+
+    def _wait(self, seconds: float) -> bool:
         """Waits so long for something to come, and reads what came; False where nothing did."""
-        ready = self._selector.select(milliseconds / 1000)
-        for key, _ in ready:
-            if key.data is not None:
-                key.data.recv(4096)  # a signal came
-            elif self.control.owns(key.fd):
-                self.control.read(key.fd)
-            elif key.fd in self._watched:
-                self.runners.read(key.fd)
+        ready = self._poll.poll(seconds)
+        for file, _ in ready:
+            if self.runners.owns(file):
+                self.runners.read(file)
+            elif self.control.owns(file):
+                self.control.read(file)
+            elif file == self._signals[0].fileno():
+                self._signals[0].recv(4096)
         return bool(ready)
 
     def _watch(self, file: int) -> None:
-        self._watched.add(file)
-        self._selector.register(file, selectors.EVENT_READ)
+        self._poll.register(file, select.EPOLLIN)
 
     def _unwatch(self, file: int) -> None:
-        self._watched.discard(file)
-        self._selector.unregister(file)
+        self._poll.unregister(file)
 
     def _take_signals(self) -> None:
         there, back = socket.socketpair()
@@ -135,7 +143,7 @@ class Monitor:
         back.setblocking(False)
         signal.set_wakeup_fd(back.fileno(), warn_on_full_buffer=False)
         self._signals = (there, back)
-        self._selector.register(there, selectors.EVENT_READ, there)
+        self._watch(there.fileno())
         for number in (signal.SIGINT, signal.SIGTERM):
             signal.signal(number, lambda *_: self.stop())
         signal.signal(signal.SIGHUP, lambda *_: setattr(self, "_is_reload_wanted", True))
@@ -189,6 +197,13 @@ class Monitor:
         self.log("ends")
         self.scheduling.close()
         self.store.close()
+
+
+def pause(until: float) -> None:
+    """Sleeps until a time of the monotonic clock."""
+    seconds = until - time.monotonic()
+    if seconds > 0:
+        time.sleep(seconds)
 
 
 # ---- words

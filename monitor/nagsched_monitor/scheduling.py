@@ -1,6 +1,7 @@
 """The schedulers of a site, one a part: each call is kept before it is made, and what the answers say is known."""
 import itertools
 import json
+import operator
 import time
 from dataclasses import replace
 from typing import AbstractSet, Callable, Dict, List, Optional, Sequence, Tuple
@@ -20,6 +21,8 @@ from .store import BeginGeneration, KeepCalls, KeepChange, Store, Write
 # Calls that are made again at a time, and how often it is said how many are left, in seconds.
 AT_ONCE = 4_096
 SAY_EVERY = 1.0
+
+PART = operator.itemgetter(0)
 
 # A call, and the words of the plugin that it reports.
 Asked = Tuple[Call, Optional[str]]
@@ -203,31 +206,33 @@ class Scheduling:
             return []
         asked = self._with_mirrors(asked)
         if by_part:
-            asked = sorted(asked, key=lambda each: each[0])
+            asked = sorted(asked, key=PART)
         number = self._store.last_call
+        kept = [(part, call.line(), words) for part, call, words in asked]
         standings = self._standings.writes()
-        self._store.write(*self._later, *writes, *standings, KeepCalls([(part, call.line(), words) for part, call, words in asked]))
+        self._store.write(*self._later, *writes, *standings, KeepCalls(kept))
         self._later = []
-        self._standings.written(standings)
+        if standings:
+            self._standings.written(standings)
         answers: List[Answer] = []
-        first = 0
-        while first < len(asked):
-            part, last = asked[first][0], first
-            while last < len(asked) and asked[last][0] == part:
-                last += 1
-            answers += self._conversations[part].ask([call for _, call, _ in asked[first:last]])
-            first = last
+        for part, some in itertools.groupby(kept, PART):
+            answers += self._conversations[part].ask_lines([line for _, line, _ in some])
+        return self._heard(asked, answers, number)
+
+    def _heard(self, asked: Sequence[AskedOf], answers: Sequence[Answer], number: int) -> List[Tuple[Call, Answer]]:
+        """Takes the answers to calls in, which are kept behind the one with this number; returns those that aren't of mirrors."""
         made: List[Tuple[Call, Answer]] = []
-        for (part, call, words), answer in zip(asked, answers):
-            number += 1
-            if self.mirrors.owns(part, call, answer):
+        has_mirrors = bool(self.mirrors.names)
+        for number, ((part, call, words), answer) in enumerate(zip(asked, answers), number + 1):
+            if has_mirrors and self.mirrors.owns(part, call, answer):
                 continue
             known = self._hear(call, words, answer, number)
             if known is not None:
                 self._standings.hear(known, call, answer)
             made.append((call, answer))
-        for part, name in self.mirrors.left_over():
-            raise ConversationEnded(f"the scheduler of part {part + 1} took another object than the mirror of {name}")
+        if has_mirrors:
+            for part, name in self.mirrors.left_over():
+                raise ConversationEnded(f"the scheduler of part {part + 1} took another object than the mirror of {name}")
         return made
 
     def _with_mirrors(self, asked: Sequence[AskedOf]) -> Sequence[AskedOf]:
@@ -241,8 +246,9 @@ class Scheduling:
 
     def _hear(self, call: Call, words: Optional[str], answer: Answer, number: int) -> Optional[Known]:
         """Takes an answer in, and what it changed; returns the object that it speaks of."""
-        name = getattr(call, "name", None)
-        before = self.known.objects[name].standing if name in self.known.objects else None
+        before = None
+        if isinstance(call, Report) and call.name in self.known.objects:
+            before = self.known.objects[call.name].standing
         known = self.known.hear(call, answer)
         if known is None or not isinstance(call, Report) or not isinstance(answer, Standing):
             return known
