@@ -140,7 +140,7 @@ def read_answer(line: str) -> Optional[Answer]:
     word, _, rest = line.partition(" ")
     if word == "standing":
         state, kind, attempt, changed, flapping, time, name = rest.split(" ", 6)
-        return Standing(state, kind, int(attempt), changed == "yes", flapping == "FLAPPING", time_of(time), name)
+        return Standing(state, kind, int(attempt), changed == "yes", flapping == "FLAPPING", None if time == "none" else int(time), name)
     first, _, name = rest.partition(" ")
     if word == "taken":
         return Taken(int(first), name)

@@ -27,5 +27,4 @@ class SystemClock:
     def moment(self) -> int:
         return (self._ahead + time.clock_gettime_ns(time.CLOCK_BOOTTIME)) // MILLISECOND
 
-    def wall(self) -> float:
-        return time.time()
+    wall = staticmethod(time.time)

@@ -47,7 +47,8 @@ class Engine:
         self._periods: Mapping[str, bool] = {}
         self._last_turn: Optional[int] = None
         self._minute: Optional[int] = None
-        self._opened = clock.moment()
+        # The moment at which this turn began.
+        self._now = self._opened = clock.moment()
         self._last_save = (self._opened, store.last_call)
         self._is_stuck = False
         self._can_save = True
@@ -58,7 +59,7 @@ class Engine:
 
     def turn(self) -> int:
         """Does all that there is to do now, and returns the moment at which it wants its next turn at the latest."""
-        now = self._clock.moment()
+        now = self._now = self._clock.moment()
         self._results.extend(self._runners.events())
         try:
             self._turn(now)
@@ -148,9 +149,14 @@ class Engine:
         if not due and not self._results:
             return False
         known = self.scheduling.known.objects
-        events = [event for event in self._results if self._is_awaited(event)]
-        asked = [self._ended(event) for event in events]
-        before = {event.job.name: known[event.job.name].standing for event in events}
+        events: List[Event] = []
+        asked: List[AskedOf] = []
+        before: Dict[str, Optional[Standing]] = {}
+        for event in self._results:
+            if self._is_awaited(event):
+                events.append(event)
+                asked.append(self._ended(event))
+                before[event.job.name] = known[event.job.name].standing
         if due:
             asked += self._takes(due, self.site.options.slots - len(self._jobs) + len(events))
         answers = self.scheduling.make_by_part(asked)
@@ -238,7 +244,7 @@ class Engine:
         self.made += 1
         self.counters.result(answer.state)
         known = self.scheduling.known.objects[job.name]
-        known.last_result = self._clock.moment()
+        known.last_result = self._now
         self._sooner.set_again(known, answer)
         self._sooner.look_at_hosts(known, answer, before)
 

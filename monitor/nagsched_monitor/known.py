@@ -165,5 +165,5 @@ class AllKnown:
             known.next, known.forced = call.time, call.forced
         elif isinstance(answer, Done) and isinstance(call, Enable):
             known.on = call.on
-        self._set_due(known)
+        self._due[known.watched.part].set(known.name, known.waits_until())
         return known

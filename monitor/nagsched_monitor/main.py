@@ -89,14 +89,16 @@ class Monitor:
             wanted = self.engine.turn()
             for change in self.scheduling.changed():
                 self.log(changes.line_of(change, self.site.zone))
-            self._notifier.work()
+            if self._notifier.is_wanted():
+                self._notifier.work()
+                wanted = min(wanted, self.clock.moment() + BUSY_WAIT) if self._notifier.is_busy() else wanted
             if begun >= self._chores_at:
                 self._chores_at = begun + BETWEEN_CHORES
                 self._do_chores()
             if self._is_reload_wanted:
                 self._is_reload_wanted = False
                 self._reload_by_signal()
-            self._rest(begun, min(wanted, self.clock.moment() + BUSY_WAIT) if self._notifier.is_busy() else wanted)
+            self._rest(begun, wanted)
 
     def _do_chores(self) -> None:
         """What has to be seen to every second."""

@@ -190,11 +190,13 @@ class Scheduling:
 
     def make(self, asked: Sequence[Asked], *writes: Write) -> List[Answer]:
         """Keeps these calls, with what else is to be written, and makes them. Where nothing can be kept none is made: `NotStored`."""
+        if not asked and not writes:
+            return []
         return [answer for _, answer in self._make([(self.part_of(call), call, words) for call, words in asked], writes)]
 
     def make_by_part(self, asked: Sequence[AskedOf]) -> List[Tuple[Call, Answer]]:
         """The same for calls with their parts. Those of one part are made in their order, one part after the other."""
-        return self._make(asked, (), by_part=True)
+        return self._make(asked, (), by_part=True) if asked else []
 
     def take(self, part: int) -> Answer:
         """Takes one check of a part."""
@@ -202,9 +204,8 @@ class Scheduling:
         return answers[0][1] if answers else Idle(None)
 
     def _make(self, asked: Sequence[AskedOf], writes: Sequence[Write], by_part: bool = False) -> List[Tuple[Call, Answer]]:
-        if not asked and not writes and not self._later and not self._standings.is_overdue():
-            return []
-        asked = self._with_mirrors(asked)
+        if self.mirrors.names:
+            asked = self._with_mirrors(asked)
         if by_part:
             asked = sorted(asked, key=PART)
         number = self._store.last_call
@@ -237,8 +238,6 @@ class Scheduling:
 
     def _with_mirrors(self, asked: Sequence[AskedOf]) -> Sequence[AskedOf]:
         """These calls, and those by which mirrors get the results that are among them. Mirrors that aren't out are taken before."""
-        if not self.mirrors.names:
-            return asked
         takes = self.mirrors.before(asked, self._clock.moment())
         if takes:
             self._make(takes, ())
@@ -246,12 +245,13 @@ class Scheduling:
 
     def _hear(self, call: Call, words: Optional[str], answer: Answer, number: int) -> Optional[Known]:
         """Takes an answer in, and what it changed; returns the object that it speaks of."""
-        before = None
-        if isinstance(call, Report) and call.name in self.known.objects:
-            before = self.known.objects[call.name].standing
-        known = self.known.hear(call, answer)
-        if known is None or not isinstance(call, Report) or not isinstance(answer, Standing):
-            return known
+        if not isinstance(call, Report) or not isinstance(answer, Standing):
+            return self.known.hear(call, answer)
+        known = self.known.objects.get(call.name)
+        if known is None:
+            return None
+        before = known.standing
+        self.known.hear(call, answer)
         known.words = words or ""
         if number > self._store.last_change and changes.is_change(before, answer):
             change = KeptChange(number, self._clock.wall(), known.name, answer.state, answer.kind, answer.attempt, answer.flapping, known.words)
@@ -271,7 +271,8 @@ class Scheduling:
 
     def flush(self) -> None:
         """Writes what was left for the next calls."""
-        self._make((), ())
+        if self._later or self._standings.is_overdue():
+            self._make((), ())
 
     # ---- saving and ending
 
