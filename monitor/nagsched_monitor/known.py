@@ -87,6 +87,12 @@ class Due:
         return self._heap[0][0] if self._heap else None
 
 
+    def second(self) -> Optional[int]:
+        """The time behind the first one, where it is at hand."""
+        times = [time for time, name in self._heap[1:3] if self._times.get(name) == time]
+        return min(times) if times else None
+
+
 class AllKnown:
     """What is known of all objects of a site."""
 
@@ -140,6 +146,11 @@ class AllKnown:
             if time is not None and (first is None or time < first):
                 first = time
         return first
+
+    def second(self) -> Optional[int]:
+        """The time behind the first one, where it is at hand."""
+        times = [time for due in self._due.values() for time in (due.first(), due.second()) if time is not None]
+        return sorted(times)[1] if len(times) > 1 else None
 
     def hear(self, call: Call, answer: Answer) -> Optional[Known]:
         """Takes in what an answer says; returns the object that it speaks of, if it is one of these."""

@@ -31,6 +31,8 @@ BUSY_WAIT = 100
 # From one turn to the next at least, in seconds: what comes meanwhile is kept by one sync, which is what a turn costs most for.
 BETWEEN_TURNS = 0.05
 BETWEEN_CHORES = 1.0
+# How long a check waits for the one behind it, and a rested turn for the check that is due next, so that both share a turn, in seconds.
+MOST_SHARED = 0.08
 
 
 class Monitor:
@@ -113,13 +115,21 @@ class Monitor:
         What comes within the rest of a turn waits for the moment that is wanted, where that is near: so a result has no turn of its own."""
         now = time.monotonic()
         until, rested = now + (wanted - self.clock.moment()) / 1000, begun + BETWEEN_TURNS
-        is_near = until <= rested + BETWEEN_TURNS
-        pause(max(rested, until) if is_near else rested)
+        is_near = until <= rested + MOST_SHARED
+        pause(max(rested, self._shared(wanted, until, rested)) if is_near else rested)
         if self._wait(0) or is_near or not self._wait(max(0.0, until - time.monotonic())):
             return
         rested = time.monotonic() + BETWEEN_TURNS
-        pause(until if until <= rested + BETWEEN_TURNS else rested)
+        pause(until if until <= rested + MOST_SHARED else rested)
         self._wait(0)
+
+    def _shared(self, wanted: int, until: float, rested: float) -> float:
+        """Until when it is waited, where the check that is due then can share its turn with the one behind it.
+
+        An object's next check is a whole interval behind this one, so that the two are due together from then on."""
+        second = self.scheduling.known.second()
+        behind = until if second is None else until + (second - wanted) / 1000
+        return behind if rested < behind <= until + MOST_SHARED else until
 
     def _wait(self, seconds: float) -> bool:
         """Waits so long for something to come, and reads what came; False where nothing did."""
