@@ -4,7 +4,6 @@ import datetime
 import json
 import os
 import pathlib
-import select
 import shutil
 import signal
 import socket
@@ -19,6 +18,7 @@ from .clock import Clock, SystemClock
 from .engine import Engine
 from .faults import ConversationEnded, MonitorFault, NotStored
 from .notify import Service
+from .pace import Pace
 from .requests import Requests
 from .runners import RunnerProcesses
 from .scheduling import Scheduling
@@ -28,12 +28,7 @@ from .typed import code_of, time_of
 
 DAY = 86_400
 BUSY_WAIT = 100
-# From one turn to the next at least, in seconds: what comes meanwhile is kept by one sync, which is what a turn costs most for.
-BETWEEN_TURNS = 0.05
 BETWEEN_CHORES = 1.0
-# How long a check waits for the one behind it, and a rested turn for the check that is due next, so that both share a turn, in seconds.
-MOST_SHARED = 0.08
-
 
 class Monitor:
     """A monitor of one site, while it runs."""
@@ -42,18 +37,18 @@ class Monitor:
         folder, program = words.folder, words.program
         self._folder, self._program = folder, program
         self._service = Service()
-        self._poll = select.epoll()
+        self._pace = Pace(self._read)
         self._is_ended = self._is_reload_wanted = False
         self.site = read_site(folder, program)
         self.store = Store(folder)
         self.clock: Clock = SystemClock(self.store.last_moment())
         self._notifier = Notifier(words.on_change, self.store, self.log)
         self.scheduling = self._opened(self.site)
-        self.runners = RunnerProcesses(os.cpu_count() or 1, self.log, self._watch, self._unwatch)
+        self.runners = RunnerProcesses(os.cpu_count() or 1, self.log, self._pace.watch, self._pace.unwatch)
         self.runners.serve(self.site.queues)
         self.engine = Engine(self.site, self.scheduling, self.runners, self.store, self.clock, self.log)
         self.requests = Requests(self.engine, self.clock, self.reload, self.stop)
-        self.control = control.Control(folder, self.requests.answer, self._watch, self._unwatch)
+        self.control = control.Control(folder, self.requests.answer, self._pace.watch, self._pace.unwatch)
         self._dropped_at = self._chores_at = 0.0
         self._beside = self._besides(words)
 
@@ -100,7 +95,8 @@ class Monitor:
             if self._is_reload_wanted:
                 self._is_reload_wanted = False
                 self._reload_by_signal()
-            self._rest(begun, wanted)
+            second = self.scheduling.known.second()
+            self._pace.rest(begun, self._time_of(wanted), None if second is None else self._time_of(second))
 
     def _do_chores(self) -> None:
         """What has to be seen to every second."""
@@ -109,45 +105,18 @@ class Monitor:
         for process in self._beside:
             process.work()
 
-    def _rest(self, begun: float, wanted: int) -> None:
-        """Waits for the next turn: until the moment for which it is wanted, or until something has come, and what comes soon after it.
+    def _time_of(self, moment: int) -> float:
+        """A moment by the monotonic clock."""
+        return time.monotonic() + (moment - self.clock.moment()) / 1000
 
-        What comes within the rest of a turn waits for the moment that is wanted, where that is near: so a result has no turn of its own."""
-        now = time.monotonic()
-        until, rested = now + (wanted - self.clock.moment()) / 1000, begun + BETWEEN_TURNS
-        is_near = until <= rested + MOST_SHARED
-        pause(max(rested, self._shared(wanted, until, rested)) if is_near else rested)
-        if self._wait(0) or is_near or not self._wait(max(0.0, until - time.monotonic())):
-            return
-        rested = time.monotonic() + BETWEEN_TURNS
-        pause(until if until <= rested + MOST_SHARED else rested)
-        self._wait(0)
-
-    def _shared(self, wanted: int, until: float, rested: float) -> float:
-        """Until when it is waited, where the check that is due then can share its turn with the one behind it.
-
-        An object's next check is a whole interval behind this one, so that the two are due together from then on."""
-        second = self.scheduling.known.second()
-        behind = until if second is None else until + (second - wanted) / 1000
-        return behind if rested < behind <= until + MOST_SHARED else until
-
-    def _wait(self, seconds: float) -> bool:
-        """Waits so long for something to come, and reads what came; False where nothing did."""
-        ready = self._poll.poll(seconds)
-        for file, _ in ready:
-            if self.runners.owns(file):
-                self.runners.read(file)
-            elif self.control.owns(file):
-                self.control.read(file)
-            elif file == self._signals[0].fileno():
-                self._signals[0].recv(4096)
-        return bool(ready)
-
-    def _watch(self, file: int) -> None:
-        self._poll.register(file, select.EPOLLIN)
-
-    def _unwatch(self, file: int) -> None:
-        self._poll.unregister(file)
+    def _read(self, file: int) -> None:
+        """Reads a file that can be read."""
+        if self.runners.owns(file):
+            self.runners.read(file)
+        elif self.control.owns(file):
+            self.control.read(file)
+        elif file == self._signals[0].fileno():
+            self._signals[0].recv(4096)
 
     def _take_signals(self) -> None:
         there, back = socket.socketpair()
@@ -155,7 +124,7 @@ class Monitor:
         back.setblocking(False)
         signal.set_wakeup_fd(back.fileno(), warn_on_full_buffer=False)
         self._signals = (there, back)
-        self._watch(there.fileno())
+        self._pace.watch(there.fileno())
         for number in (signal.SIGINT, signal.SIGTERM):
             signal.signal(number, lambda *_: self.stop())
         signal.signal(signal.SIGHUP, lambda *_: setattr(self, "_is_reload_wanted", True))
@@ -209,13 +178,6 @@ class Monitor:
         self.log("ends")
         self.scheduling.close()
         self.store.close()
-
-
-def pause(until: float) -> None:
-    """Sleeps until a time of the monotonic clock."""
-    seconds = until - time.monotonic()
-    if seconds > 0:
-        time.sleep(seconds)
 
 
 # ---- words
