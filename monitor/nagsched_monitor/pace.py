@@ -5,7 +5,7 @@ from typing import Callable, Optional
 
 # From one turn to the next at least, in seconds.
 BETWEEN_TURNS = 0.05
-# How long a check waits for the one behind it, and a result for the check that is due next, in seconds.
+# How long a check waits for the one behind it, and a result for the check that is due next, in seconds. Pairs of checks are twice as far from each other.
 MOST_SHARED = 0.08
 LONGEST_UNREPORTED = 2 * MOST_SHARED
 

@@ -5,6 +5,7 @@ import time
 import unittest
 from typing import List, Tuple
 
+from nagsched_monitor.known import Due
 from nagsched_monitor.pace import BETWEEN_TURNS, MOST_SHARED, Pace, turn_at
 
 INTERVAL = 10.0
@@ -47,6 +48,19 @@ class Turns(unittest.TestCase):
         self.assertEqual(turn_at(1.0, 1.01, None), 1.0 + BETWEEN_TURNS)
         self.assertEqual(turn_at(1.0, 1.01, 1.04), 1.0 + BETWEEN_TURNS)
         self.assertIsNone(turn_at(1.0, 2.0, 2.01))
+
+
+class Second(unittest.TestCase):
+    def test_the_time_behind_the_first_one(self) -> None:
+        due = Due()
+        self.assertIsNone(due.second())
+        for name, at in (("a", 5), ("b", 7), ("c", 9)):
+            due.set(name, at)
+        self.assertEqual((due.first(), due.second()), (5, 7))
+        due.set("b", None)
+        self.assertEqual((due.first(), due.second()), (5, 9))
+        due.set("d", 5)
+        self.assertEqual((due.first(), due.second()), (5, 5))
 
 
 class Waiting(unittest.TestCase):
