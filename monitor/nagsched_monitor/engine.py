@@ -226,7 +226,7 @@ class Engine:
         job = event.job
         watched = self.site.objects[job.name]
         if isinstance(event, Finished):
-            code, words = verdict(event, watched.host is None, self.site.options.timeout_code)
+            code, words = verdict(event, watched.is_host(), self.site.options.timeout_code)
             return watched.part, Report(job.name, job.run, code), words
         if self._lost[job.name] == MOST_LOST:
             return watched.part, Report(job.name, job.run, UNKNOWN), f"{event.why} {MOST_LOST + 1} times"
