@@ -29,6 +29,7 @@ Modules, lowest first:
     control      the socket through which it is asked
     places       addresses at which something is served
     notify       what a service manager hears
+    pace         when the next turn begins
     beside       a process of its own beside the monitor
     nagios_blocks the blocks of Nagios's status file
     nagios_pipe  the lines of Nagios's pipe

@@ -2,19 +2,17 @@
 import functools
 import json
 from dataclasses import dataclass
-from typing import Optional, Union
+from typing import NamedTuple, Optional, Union
 
 
-@dataclass(frozen=True)
-class Take:
+class Take(NamedTuple):
     now: int
 
     def line(self) -> str:
         return f'["take",{self.now}]'
 
 
-@dataclass(frozen=True)
-class Report:
+class Report(NamedTuple):
     name: str
     run: int
     code: int
@@ -23,8 +21,7 @@ class Report:
         return f'["report",{quoted(self.name)},{self.run},{self.code}]'
 
 
-@dataclass(frozen=True)
-class Abandon:
+class Abandon(NamedTuple):
     name: str
     run: int
     now: int
@@ -33,8 +30,7 @@ class Abandon:
         return f'["abandon",{quoted(self.name)},{self.run},{self.now}]'
 
 
-@dataclass(frozen=True)
-class Reschedule:
+class Reschedule(NamedTuple):
     name: str
     time: int
     forced: bool
@@ -43,8 +39,7 @@ class Reschedule:
         return f'["reschedule",{quoted(self.name)},{self.time},{switch(self.forced)}]'
 
 
-@dataclass(frozen=True)
-class Enable:
+class Enable(NamedTuple):
     name: str
     on: bool
 
@@ -52,8 +47,7 @@ class Enable:
         return f'["enable",{quoted(self.name)},{switch(self.on)}]'
 
 
-@dataclass(frozen=True)
-class Status:
+class Status(NamedTuple):
     name: str
 
     def line(self) -> str:
@@ -84,20 +78,17 @@ def read_call(line: str) -> Call:
 # ---- answers
 
 
-@dataclass(frozen=True)
-class Taken:
+class Taken(NamedTuple):
     run: int
     name: str
 
 
-@dataclass(frozen=True)
-class PutOff:
+class PutOff(NamedTuple):
     next: Optional[int]
     name: str
 
 
-@dataclass(frozen=True)
-class Idle:
+class Idle(NamedTuple):
     next: Optional[int]
 
 
@@ -106,8 +97,7 @@ class AtLimit:
     pass
 
 
-@dataclass(frozen=True)
-class Standing:
+class Standing(NamedTuple):
     state: str
     kind: str
     attempt: int
@@ -123,19 +113,16 @@ class Standing:
         return self.is_problem() and self.kind == "SOFT"
 
 
-@dataclass(frozen=True)
-class Freed:
+class Freed(NamedTuple):
     next: int
     name: str
 
 
-@dataclass(frozen=True)
-class Done:
+class Done(NamedTuple):
     name: str
 
 
-@dataclass(frozen=True)
-class Refused:
+class Refused(NamedTuple):
     """The call was refused, and changed nothing: its result comes too late, say."""
 
     why: str
@@ -151,12 +138,12 @@ def time_of(word: str) -> Optional[int]:
 def read_answer(line: str) -> Optional[Answer]:
     """What an answer says; None where it is none of the answers to a call."""
     word, _, rest = line.partition(" ")
+    if word == "standing":
+        state, kind, attempt, changed, flapping, time, name = rest.split(" ", 6)
+        return Standing(state, kind, int(attempt), changed == "yes", flapping == "FLAPPING", None if time == "none" else int(time), name)
     first, _, name = rest.partition(" ")
     if word == "taken":
         return Taken(int(first), name)
-    if word == "standing":
-        state, kind, attempt, changed, flapping, time, name = rest.split(" ", 6)
-        return Standing(state, kind, int(attempt), changed == "yes", flapping == "FLAPPING", time_of(time), name)
     if word == "putoff":
         return PutOff(time_of(first), name)
     if word == "idle":

@@ -24,8 +24,9 @@ def is_change(before: Optional[Standing], now: Standing) -> bool:
     """Whether there is something to print: another state, a problem that became hard, flapping that begins or ends."""
     if before is None or before.state == "PENDING":
         return now.is_problem() or now.flapping
-    hard_now = now.is_problem() and now.kind == "HARD" and before.kind == "SOFT"
-    return before.state != now.state or hard_now or before.flapping != now.flapping
+    if before.state != now.state or before.flapping != now.flapping:
+        return True
+    return before.kind == "SOFT" and now.kind == "HARD" and now.is_problem()
 
 
 def is_important(before: Optional[Standing], now: Standing) -> bool:

@@ -20,15 +20,11 @@ class SystemClock:
     the machine was started, also while it sleeps. So no clock that is set stops checks or hurries them."""
 
     def __init__(self, last_kept: int = 0) -> None:
-        self._since_boot = self._boot_time()
-        self._first = max(time.time_ns() // MILLISECOND, last_kept)
-
-    @staticmethod
-    def _boot_time() -> int:
-        return time.clock_gettime_ns(time.CLOCK_BOOTTIME) // MILLISECOND
+        first = max(time.time_ns() // MILLISECOND, last_kept)
+        # How far moments are ahead of the time since the machine was started, in nanoseconds.
+        self._ahead = first * MILLISECOND - time.clock_gettime_ns(time.CLOCK_BOOTTIME)
 
     def moment(self) -> int:
-        return self._first + self._boot_time() - self._since_boot
+        return (self._ahead + time.clock_gettime_ns(time.CLOCK_BOOTTIME)) // MILLISECOND
 
-    def wall(self) -> float:
-        return time.time()
+    wall = staticmethod(time.time)

@@ -17,7 +17,7 @@ The names of the figures that are kept, and what each is:
 import bisect
 import collections
 from dataclasses import dataclass
-from typing import DefaultDict, Deque, Dict, List, Mapping, Optional, Tuple
+from typing import DefaultDict, Deque, Dict, Mapping, Optional, Tuple
 
 from .clock import Clock
 from .store import Store, Write
@@ -79,15 +79,12 @@ class Counters:
 
     # ---- what is written
 
-    def due(self, calls: int) -> List[Write]:
-        """What is to be written with the next write, every five seconds; nothing in between. `calls` is how many calls were made."""
-        now = self._clock.moment()
-        if self._written_at is not None and now - self._written_at < EVERY:
-            return []
-        return [self.write(calls)]
+    def are_due(self, now: int) -> bool:
+        """Whether it is time to write them: every five seconds."""
+        return self._written_at is None or now - self._written_at >= EVERY
 
     def write(self, calls: int) -> Write:
-        """The figures that aren't what they were when they were written last."""
+        """The figures that aren't what they were when they were written last. `calls` is how many calls were made."""
         self._written_at = self._clock.moment()
         values = self._all(self._written_at, calls)
         changed = {name: value for name, value in values.items() if self._written.get(name) != value}

@@ -5,14 +5,15 @@ Clock, runners and database are its parameters, so that a day can be simulated i
 import collections
 from typing import Callable, Counter, Deque, Dict, List, Mapping, Optional, Sequence, Set, Tuple
 
-from .calls import Abandon, Answer, Call, Enable, Freed, PutOff, Refused, Report, Reschedule, Standing, Take, Taken
+from .calls import Abandon, Answer, Enable, Freed, PutOff, Refused, Report, Reschedule, Standing, Take, Taken
 from .clock import Clock
 from .counters import Counters
 from .faults import ConversationEnded, NotStored
 from .known import Known
+from .mirroring import AskedOf
 from .passive import Passive, is_stale
 from .rows import KeptResult
-from .runners import Event, Finished, Job, Runners
+from .runners import Event, Finished, Job, Lost, Runners
 from .scheduling import Scheduling
 from .site import Site, Watched
 from .sooner import Sooner, on_time
@@ -38,7 +39,7 @@ class Engine:
         self.site, self.scheduling, self.store = site, scheduling, store
         self._runners, self._clock, self._log = runners, clock, log
         self._sooner = Sooner(site, scheduling, clock)
-        self._passive = Passive(scheduling, self._sooner, lambda taken: self._start(taken, None), self._reported, store.waiting())
+        self._passive = Passive(scheduling, self._sooner, self._start, self._reported, store.waiting())
         self._results: Deque[Event] = collections.deque()
         self._jobs: Dict[Tuple[str, int], Job] = {}
         self._lost: Counter[str] = collections.Counter()
@@ -46,7 +47,8 @@ class Engine:
         self._periods: Mapping[str, bool] = {}
         self._last_turn: Optional[int] = None
         self._minute: Optional[int] = None
-        self._opened = clock.moment()
+        # The moment at which this turn began.
+        self._now = self._opened = clock.moment()
         self._last_save = (self._opened, store.last_call)
         self._is_stuck = False
         self._can_save = True
@@ -57,7 +59,7 @@ class Engine:
 
     def turn(self) -> int:
         """Does all that there is to do now, and returns the moment at which it wants its next turn at the latest."""
-        now = self._clock.moment()
+        now = self._now = self._clock.moment()
         self._results.extend(self._runners.events())
         try:
             self._turn(now)
@@ -83,17 +85,21 @@ class Engine:
         return now + LONGEST_WAIT if first is None else min(first, now + LONGEST_WAIT)
 
     def _turn(self, now: int) -> None:
-        self.scheduling.keep(*([] if self._is_stuck else self.counters.due(self.store.last_call)))
+        if self.counters.are_due(now) and not self._is_stuck:
+            self.scheduling.keep(self.counters.write(self.store.last_call))
         begun = self._follow_periods()
+        known = self.scheduling.known
         is_behind_pause = self._last_turn is None or now - self._last_turn > PAUSE
         # What is overdue is spread before it is taken.
-        self._exchange({} if begun or is_behind_pause else self.scheduling.known.all_due(now))
+        self._exchange({} if begun or is_behind_pause else known.all_due(now))
         self._sooner.make()
         self._passive.deliver()
-        self._see_to_freshness(now)
+        if self.site.with_freshness:
+            self._see_to_freshness(now)
         self._last_turn = now
-        self._sooner.spread(list(self.scheduling.known.objects.values()) if is_behind_pause else begun, now)
-        while self._exchange(self.scheduling.known.all_due(now)):
+        if begun or is_behind_pause:
+            self._sooner.spread(list(known.objects.values()) if is_behind_pause else begun, now)
+        while self._exchange(known.all_due(now)):
             pass
         self.scheduling.flush()
         if now - self._last_save[0] >= SAVE_AFTER or self.store.last_call - self._last_save[1] >= SAVE_CALLS:
@@ -140,55 +146,73 @@ class Engine:
         """Reports the results that have come, and takes what is due as far as there are free slots; all of it is kept by one sync.
 
         What can't be kept stays here. True where something was taken or put off."""
-        events = [event for event in self._results if self._is_awaited(event)]
-        asked: List[Tuple[int, Call, Optional[str]]] = []
-        for event in events:
-            call, words = self._ended(event)
-            asked.append((self.scheduling.part_of(call), call, words))
-        asked += self._takes(due, self.site.options.slots - self.out() + len(events))
+        if not due and not self._results:
+            return False
         known = self.scheduling.known.objects
-        before = {event.job.name: known[event.job.name].standing for event in events}
-        times = {name: known[name].next for names in due.values() for name in names}
+        events: List[Event] = []
+        asked: List[AskedOf] = []
+        before: Dict[str, Optional[Standing]] = {}
+        for event in self._results:
+            if self._is_awaited(event):
+                events.append(event)
+                asked.append(self._ended(event))
+                before[event.job.name] = known[event.job.name].standing
+        if due:
+            asked += self._takes(due, self.site.options.slots - len(self._jobs) + len(events))
         answers = self.scheduling.make_by_part(asked)
-        self._drop_results()
-        self._count_lost(events)
+        if self._results:
+            self._let_go(events)
+        is_moved = False
         for call, answer in answers:
             if isinstance(answer, Taken):
-                self._start(answer, times.get(answer.name))
+                self._start(answer)
+                is_moved = True
             elif isinstance(call, (Report, Abandon)):
                 self._reported(self._jobs.pop((call.name, call.run)), answer, before[call.name])
-        return any(isinstance(answer, (Taken, PutOff)) for _, answer in answers)
+            elif isinstance(answer, PutOff):
+                is_moved = True
+        return is_moved
 
-    def _takes(self, due: Mapping[int, Set[str]], free: int) -> List[Tuple[int, Call, Optional[str]]]:
+    def _takes(self, due: Mapping[int, Set[str]], free: int) -> List[AskedOf]:
         """A take for each check that is due and has a free slot."""
-        takes: List[Tuple[int, Call, Optional[str]]] = []
+        takes: List[AskedOf] = []
         moment = self._clock.moment()
         for part, names in due.items():
             count = max(0, min(len(names), free - len(takes)))
             takes += [(part, Take(moment), None)] * count
         return takes
 
-    def _drop_results(self) -> None:
-        """Lets go of the results that were made known; one that nobody waits for any more is named."""
-        for event in self._results:
-            if not self._is_awaited(event):
-                self._jobs.pop((event.job.name, event.job.run), None)
-                self._log(f"{event.job.name}: the result of run {event.job.run} is dropped: it was given up, or the object isn't part of the site any more")
-        self._results.clear()
+    def _let_go(self, events: Sequence[Event]) -> None:
+        """Lets go of the results that were made known, which are these; one that nobody waits for any more is named.
 
-    def _start(self, taken: Taken, due: Optional[int]) -> None:
+        Counts how often in a row a check's runner ended before it."""
+        if len(events) < len(self._results):
+            for event in self._results:
+                if not self._is_awaited(event):
+                    self._jobs.pop((event.job.name, event.job.run), None)
+                    self._log(f"{event.job.name}: the result of run {event.job.run} is dropped: "
+                              "it was given up, or the object isn't part of the site any more")
+        self._results.clear()
+        for event in events:
+            if isinstance(event, Lost) and self._lost[event.job.name] < MOST_LOST:
+                self._lost[event.job.name] += 1
+            elif self._lost:
+                self._lost.pop(event.job.name, None)
+
+    def _start(self, taken: Taken) -> None:
         """Runs the plugin of a check that was taken."""
         known = self.scheduling.known.objects[taken.name]
-        watched, time = known.watched, on_time(due)
-        late = 0 if time is None else self._clock.moment() - time
-        known.past.late = max(0, late) / 1000
-        self.latest_start = max(self.latest_start, late)
+        watched, command, time = known.watched, known.watched.command, on_time(known.due)
+        late = 0
         if time is not None:
+            late = self._clock.moment() - time
+            self.latest_start = max(self.latest_start, late)
             self.counters.started(late)
-        words, limit = ((), 0.0) if watched.command is None else (watched.command.words, watched.command.limit)
+        known.past.late = max(0, late) / 1000
+        words, limit = ((), 0.0) if command is None else (command.words, command.limit)
         job = Job(taken.name, taken.run, words, limit, watched.queue)
         self._jobs[taken.name, taken.run] = job
-        if watched.command is None:
+        if command is None:
             self._results.append(Finished(job, "exited", UNKNOWN, "it has no command"))
         else:
             self._runners.start(job)
@@ -197,23 +221,16 @@ class Engine:
         """Whether a check still runs, and its object is part of the site."""
         return (event.job.name, event.job.run) in self._jobs and event.job.name in self.scheduling.known.objects
 
-    def _ended(self, event: Event) -> Tuple[Call, Optional[str]]:
-        """The call by which a check ends, and the plugin's words. A check whose runner ended is given up, and at last UNKNOWN."""
+    def _ended(self, event: Event) -> AskedOf:
+        """The call by which a check ends, its part, and the plugin's words. A check whose runner ended is given up, and at last UNKNOWN."""
         job = event.job
+        watched = self.site.objects[job.name]
         if isinstance(event, Finished):
-            code, words = verdict(event, self.site.objects[job.name].is_host(), self.site.options.timeout_code)
-            return Report(job.name, job.run, code), words
+            code, words = verdict(event, watched.is_host(), self.site.options.timeout_code)
+            return watched.part, Report(job.name, job.run, code), words
         if self._lost[job.name] == MOST_LOST:
-            return Report(job.name, job.run, UNKNOWN), f"{event.why} {MOST_LOST + 1} times"
-        return Abandon(job.name, job.run, self._clock.moment()), None
-
-    def _count_lost(self, events: Sequence[Event]) -> None:
-        """Counts how often in a row a check's runner ended before it."""
-        for event in events:
-            if isinstance(event, Finished) or self._lost[event.job.name] == MOST_LOST:
-                self._lost.pop(event.job.name, None)
-            else:
-                self._lost[event.job.name] += 1
+            return watched.part, Report(job.name, job.run, UNKNOWN), f"{event.why} {MOST_LOST + 1} times"
+        return watched.part, Abandon(job.name, job.run, self._clock.moment()), None
 
     def _reported(self, job: Job, answer: Answer, before: Optional[Standing]) -> None:
         """What follows from a result."""
@@ -227,7 +244,7 @@ class Engine:
         self.made += 1
         self.counters.result(answer.state)
         known = self.scheduling.known.objects[job.name]
-        known.last_result = self._clock.moment()
+        known.last_result = self._now
         self._sooner.set_again(known, answer)
         self._sooner.look_at_hosts(known, answer, before)
 

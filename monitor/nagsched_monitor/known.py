@@ -3,7 +3,7 @@ import heapq
 from dataclasses import dataclass, field, replace
 from typing import Any, Dict, Iterable, List, Mapping, Optional, Set, Tuple
 
-from .calls import Abandon, Answer, Call, Done, Enable, Freed, PutOff, Refused, Report, Reschedule, Standing, Taken
+from .calls import Abandon, Answer, Call, Done, Enable, Freed, PutOff, Refused, Report, Reschedule, Standing, Take, Taken
 from .site import Watched
 
 
@@ -33,15 +33,17 @@ class Known:
     next: Optional[int] = None
     run: Optional[int] = None
     forced: bool = False
+    # The time for which its last run waited.
+    due: Optional[int] = None
     standing: Optional[Standing] = None
     # The moment of its last result, and the words that came with it.
     last_result: Optional[int] = None
     words: str = ""
     past: Past = field(default_factory=Past)
+    name: str = field(init=False)
 
-    @property
-    def name(self) -> str:
-        return self.watched.name
+    def __post_init__(self) -> None:
+        self.name = self.watched.name
 
     def waits_until(self) -> Optional[int]:
         """The time for which it waits; None while it is out, off, or has none."""
@@ -85,6 +87,12 @@ class Due:
         return self._heap[0][0] if self._heap else None
 
 
+    def second(self) -> Optional[int]:
+        """The time behind the first one, where it is at hand."""
+        times = [time for time, name in self._heap[1:3] if self._times.get(name) == time]
+        return min(times) if times else None
+
+
 class AllKnown:
     """What is known of all objects of a site."""
 
@@ -123,22 +131,39 @@ class AllKnown:
 
     def all_due(self, moment: int) -> Dict[int, Set[str]]:
         """The objects whose time has come, by their parts."""
-        due = {part: due.now(moment) for part, due in self._due.items()}
-        return {part: names for part, names in due.items() if names}
+        all_due: Dict[int, Set[str]] = {}
+        for part, due in self._due.items():
+            names = due.now(moment)
+            if names:
+                all_due[part] = names
+        return all_due
 
     def first(self) -> Optional[int]:
         """The least time for which an object waits that isn't due yet."""
-        times = [time for time in (due.first() for due in self._due.values()) if time is not None]
-        return min(times) if times else None
+        first: Optional[int] = None
+        for due in self._due.values():
+            time = due.first()
+            if time is not None and (first is None or time < first):
+                first = time
+        return first
+
+    def second(self) -> Optional[int]:
+        """The time behind the first one, where it is at hand."""
+        times = [time for due in self._due.values() for time in (due.first(), due.second()) if time is not None]
+        return sorted(times)[1] if len(times) > 1 else None
 
     def hear(self, call: Call, answer: Answer) -> Optional[Known]:
         """Takes in what an answer says; returns the object that it speaks of, if it is one of these."""
-        name = answer.name if isinstance(answer, (Taken, PutOff)) else getattr(call, "name", None)
-        known = self.objects.get(name) if name is not None else None
+        if not isinstance(call, Take):
+            known = self.objects.get(call.name)
+        elif isinstance(answer, (Taken, PutOff)):
+            known = self.objects.get(answer.name)
+        else:
+            return None
         if known is None or isinstance(answer, Refused):
             return known
         if isinstance(answer, Taken):
-            known.run, known.next, known.forced = answer.run, None, False
+            known.due, known.run, known.next, known.forced = known.next, answer.run, None, False
         elif isinstance(answer, PutOff):
             known.next = answer.next
         elif isinstance(answer, Standing):
@@ -151,5 +176,5 @@ class AllKnown:
             known.next, known.forced = call.time, call.forced
         elif isinstance(answer, Done) and isinstance(call, Enable):
             known.on = call.on
-        self._set_due(known)
+        self._due[known.watched.part].set(known.name, known.waits_until())
         return known

@@ -4,13 +4,12 @@ import datetime
 import json
 import os
 import pathlib
-import selectors
 import shutil
 import signal
 import socket
 import sys
 import time
-from typing import Any, Dict, List, Optional, Set
+from typing import Any, Dict, List, Optional
 
 from . import changes, control, places
 from .beside import Beside
@@ -19,6 +18,7 @@ from .clock import Clock, SystemClock
 from .engine import Engine
 from .faults import ConversationEnded, MonitorFault, NotStored
 from .notify import Service
+from .pace import Pace
 from .requests import Requests
 from .runners import RunnerProcesses
 from .scheduling import Scheduling
@@ -28,9 +28,7 @@ from .typed import code_of, time_of
 
 DAY = 86_400
 BUSY_WAIT = 100
-# From one turn to the next at least, in seconds: what comes meanwhile is kept by one sync, which is what a turn costs most for.
-BETWEEN_TURNS = 0.05
-
+BETWEEN_CHORES = 1.0
 
 class Monitor:
     """A monitor of one site, while it runs."""
@@ -39,20 +37,19 @@ class Monitor:
         folder, program = words.folder, words.program
         self._folder, self._program = folder, program
         self._service = Service()
-        self._selector = selectors.DefaultSelector()
-        self._watched: Set[int] = set()
+        self._pace = Pace(self._read)
         self._is_ended = self._is_reload_wanted = False
         self.site = read_site(folder, program)
         self.store = Store(folder)
         self.clock: Clock = SystemClock(self.store.last_moment())
         self._notifier = Notifier(words.on_change, self.store, self.log)
         self.scheduling = self._opened(self.site)
-        self.runners = RunnerProcesses(os.cpu_count() or 1, self.log, self._watch, self._unwatch)
+        self.runners = RunnerProcesses(os.cpu_count() or 1, self.log, self._pace.watch, self._pace.unwatch)
         self.runners.serve(self.site.queues)
         self.engine = Engine(self.site, self.scheduling, self.runners, self.store, self.clock, self.log)
         self.requests = Requests(self.engine, self.clock, self.reload, self.stop)
-        self.control = control.Control(folder, self.requests.answer, self._watch, self._unwatch)
-        self._dropped_at = 0.0
+        self.control = control.Control(folder, self.requests.answer, self._pace.watch, self._pace.unwatch)
+        self._dropped_at = self._chores_at = 0.0
         self._beside = self._besides(words)
 
     def _besides(self, words: argparse.Namespace) -> List[Beside]:
@@ -89,45 +86,37 @@ class Monitor:
             wanted = self.engine.turn()
             for change in self.scheduling.changed():
                 self.log(changes.line_of(change, self.site.zone))
-            self._notifier.work()
-            self._drop_old_changes()
-            self._service.alive()
-            for process in self._beside:
-                process.work()
+            if self._notifier.is_wanted():
+                self._notifier.work()
+                wanted = min(wanted, self.clock.moment() + BUSY_WAIT) if self._notifier.is_busy() else wanted
+            if begun >= self._chores_at:
+                self._chores_at = begun + BETWEEN_CHORES
+                self._do_chores()
             if self._is_reload_wanted:
                 self._is_reload_wanted = False
                 self._reload_by_signal()
-            self._rest(begun, min(wanted, self.clock.moment() + BUSY_WAIT) if self._notifier.is_busy() else wanted)
+            second = self.scheduling.known.second()
+            self._pace.rest(begun, self._time_of(wanted), None if second is None else self._time_of(second))
 
-    def _rest(self, begun: float, wanted: int) -> None:
-        """Waits for the next turn: until the moment for which it is wanted, or until something has come, and what comes soon after it."""
-        came = self._wait(max(0, wanted - self.clock.moment()))
-        now = time.monotonic()
-        left = max(0, wanted - self.clock.moment()) / 1000
-        rest = max(begun + BETWEEN_TURNS - now, min(BETWEEN_TURNS, left) if came else 0)
-        if rest > 0:
-            time.sleep(rest)
-            self._wait(0)
+    def _do_chores(self) -> None:
+        """What has to be seen to every second."""
+        self._drop_old_changes()
+        self._service.alive()
+        for process in self._beside:
+            process.work()
 
-    def _wait(self, milliseconds: int) -> bool:
-        """Waits so long for something to come, and reads what came; False where nothing did."""
-        ready = self._selector.select(milliseconds / 1000)
-        for key, _ in ready:
-            if key.data is not None:
-                key.data.recv(4096)  # a signal came
-            elif self.control.owns(key.fd):
-                self.control.read(key.fd)
-            elif key.fd in self._watched:
-                self.runners.read(key.fd)
-        return bool(ready)
+    def _time_of(self, moment: int) -> float:
+        """A moment by the monotonic clock."""
+        return time.monotonic() + (moment - self.clock.moment()) / 1000
 
-    def _watch(self, file: int) -> None:
-        self._watched.add(file)
-        self._selector.register(file, selectors.EVENT_READ)
-
-    def _unwatch(self, file: int) -> None:
-        self._watched.discard(file)
-        self._selector.unregister(file)
+    def _read(self, file: int) -> None:
+        """Reads a file that can be read."""
+        if self.runners.owns(file):
+            self.runners.read(file)
+        elif self.control.owns(file):
+            self.control.read(file)
+        elif file == self._signals[0].fileno():
+            self._signals[0].recv(4096)
 
     def _take_signals(self) -> None:
         there, back = socket.socketpair()
@@ -135,7 +124,7 @@ class Monitor:
         back.setblocking(False)
         signal.set_wakeup_fd(back.fileno(), warn_on_full_buffer=False)
         self._signals = (there, back)
-        self._selector.register(there, selectors.EVENT_READ, there)
+        self._pace.watch(there.fileno())
         for number in (signal.SIGINT, signal.SIGTERM):
             signal.signal(number, lambda *_: self.stop())
         signal.signal(signal.SIGHUP, lambda *_: setattr(self, "_is_reload_wanted", True))

@@ -18,6 +18,9 @@ TABLES: Dict[str, str] = {
     "standings": "name TEXT UNIQUE, state TEXT, kind TEXT, attempt INTEGER, flapping INTEGER, since REAL, hard_since REAL, last_check REAL, "
     "next_check REAL, is_on INTEGER, out_since REAL, took REAL, late REAL, words TEXT",
 }
+INSERTS: Dict[str, str] = {
+    table: f"INSERT OR REPLACE INTO {table} VALUES ({','.join('?' * (len(members.split(',')) + 2))})" for table, members in TABLES.items()
+}
 # The last generation of each part is the last of these.
 GENERATIONS = "SELECT part, setup, start, saved, last_call, names FROM generations LEFT JOIN mirrors USING (part) ORDER BY generations.id"
 

@@ -6,19 +6,19 @@ import pathlib
 import subprocess
 import sys
 from dataclasses import dataclass, field
-from typing import Any, Callable, Dict, List, Optional, Protocol, Sequence, Tuple, Union
+from typing import Any, Callable, Dict, List, NamedTuple, Optional, Protocol, Sequence, Tuple, Union
 
 from .queues import Queues
 
 READ_BYTES = 65_536
+READER = json.JSONDecoder()
 MODULE, QUEUE_MODULE = "nagsched_monitor.plugins", "nagsched_monitor.gearman_runner"
 # The folder of the package, and where the runner in C may lie: installed, or built in the tree.
 FOLDER = pathlib.Path(__file__).resolve().parent.parent
 COMPILED = (FOLDER / "nagsched-runner", FOLDER / "out/nagsched-runner")
 
 
-@dataclass(frozen=True)
-class Job:
+class Job(NamedTuple):
     """A check that was taken, and the command that makes it."""
 
     name: str
@@ -29,8 +29,7 @@ class Job:
     queue: Optional[str] = None
 
 
-@dataclass(frozen=True)
-class Finished:
+class Finished(NamedTuple):
     """A plugin's end: how it ended, with which exit code or signal, and what it wrote."""
 
     job: Job
@@ -39,8 +38,7 @@ class Finished:
     output: str
 
 
-@dataclass(frozen=True)
-class Lost:
+class Lost(NamedTuple):
     """A job whose runner ended before it, or that no worker of its queue took or answered."""
 
     job: Job
@@ -72,14 +70,13 @@ class Process:
     jobs: Dict[int, Job] = field(default_factory=dict)
     unread: bytes = b""
     unsent: bytes = b""
+    # The files by which it reads jobs, and writes results.
+    reads_from: int = field(init=False)
+    writes_to: int = field(init=False)
 
-    def reads_from(self) -> int:
-        assert self.process.stdin is not None
-        return self.process.stdin.fileno()
-
-    def writes_to(self) -> int:
-        assert self.process.stdout is not None
-        return self.process.stdout.fileno()
+    def __post_init__(self) -> None:
+        assert self.process.stdin is not None and self.process.stdout is not None
+        self.reads_from, self.writes_to = self.process.stdin.fileno(), self.process.stdout.fileno()
 
 
 def runner_words() -> List[str]:
@@ -114,9 +111,9 @@ class RunnerProcesses:
     def _begin(self, words: Sequence[str]) -> Process:
         environment = {**os.environ, "PYTHONPATH": str(FOLDER)}
         process = Process(subprocess.Popen(words, stdin=subprocess.PIPE, stdout=subprocess.PIPE, env=environment, bufsize=0), words)
-        os.set_blocking(process.writes_to(), False)
-        self._processes[process.writes_to()] = process
-        self._watch(process.writes_to())
+        os.set_blocking(process.writes_to, False)
+        self._processes[process.writes_to] = process
+        self._watch(process.writes_to)
         return process
 
     def serve(self, queues: Optional[Queues]) -> None:
@@ -129,25 +126,36 @@ class RunnerProcesses:
 
     def _begin_queued(self, words: Sequence[str]) -> None:
         self._queued = self._begin(words)
-        os.set_blocking(self._queued.reads_from(), False)  # what it doesn't read at once doesn't hold up the monitor
+        os.set_blocking(self._queued.reads_from, False)  # what it doesn't read at once doesn't hold up the monitor
 
     def start(self, job: Job) -> None:
         self._number += 1
-        queued = self._queued if job.queue is not None else None
-        process = queued or min((each for each in self._processes.values() if each is not self._queued), key=lambda process: len(process.jobs))
+        process = self._least_busy() if job.queue is None or self._queued is None else self._queued
         process.jobs[self._number] = job
         process.unsent += b'{"job":%d,%s\n' % (self._number, command_line(tuple(job.words), job.limit, job.queue))
 
+    def _least_busy(self) -> Process:
+        """The runner of this machine that has the fewest jobs."""
+        least: Optional[Process] = None
+        for process in self._processes.values():
+            if process is not self._queued and (least is None or len(process.jobs) < len(least.jobs)):
+                least = process
+        assert least is not None
+        return least
+
     def flush(self) -> None:
         """Hands on the jobs that were started, with one write for each runner."""
-        for process in [process for process in self._processes.values() if process.unsent]:
+        for process in list(self._processes.values()):
             try:
                 while process.unsent:
-                    process.unsent = process.unsent[os.write(process.reads_from(), process.unsent) :]
+                    process.unsent = process.unsent[os.write(process.reads_from, process.unsent) :]
             except BlockingIOError:
                 pass  # the rest goes at the next time
             except BrokenPipeError:
                 self._restart(process)
+
+    def owns(self, file: int) -> bool:
+        return file in self._processes
 
     def read(self, file: int) -> None:
         """Reads the results of a runner."""
@@ -161,7 +169,7 @@ class RunnerProcesses:
             return
         *lines, process.unread = (process.unread + data).split(b"\n")
         for line in lines:
-            self._hear(process, json.loads(line))
+            self._hear(process, READER.raw_decode(line.decode())[0])
 
     def _hear(self, process: Process, result: Dict[str, Any]) -> None:
         job = process.jobs.pop(result["job"], None)
@@ -175,7 +183,7 @@ class RunnerProcesses:
 
     def _restart(self, process: Process) -> None:
         """Another runner in place of one that has ended."""
-        if process.writes_to() not in self._processes:
+        if process.writes_to not in self._processes:
             return  # it was seen before
         is_queued = process is self._queued
         status = self._end(process)
@@ -187,9 +195,9 @@ class RunnerProcesses:
 
     def _end(self, process: Process) -> int:
         """Ends a runner, and returns its status; what it ran is lost."""
-        del self._processes[process.writes_to()]
+        del self._processes[process.writes_to]
         self._queued = None if process is self._queued else self._queued
-        self._unwatch(process.writes_to())
+        self._unwatch(process.writes_to)
         self._events.extend(Lost(job) for job in process.jobs.values())
         process.process.kill()
         status = process.process.wait(timeout=10)

@@ -1,6 +1,7 @@
 """The schedulers of a site, one a part: each call is kept before it is made, and what the answers say is known."""
 import itertools
 import json
+import operator
 import time
 from dataclasses import replace
 from typing import AbstractSet, Callable, Dict, List, Optional, Sequence, Tuple
@@ -20,6 +21,8 @@ from .store import BeginGeneration, KeepCalls, KeepChange, Store, Write
 # Calls that are made again at a time, and how often it is said how many are left, in seconds.
 AT_ONCE = 4_096
 SAY_EVERY = 1.0
+
+PART = operator.itemgetter(0)
 
 # A call, and the words of the plugin that it reports.
 Asked = Tuple[Call, Optional[str]]
@@ -187,11 +190,13 @@ class Scheduling:
 
     def make(self, asked: Sequence[Asked], *writes: Write) -> List[Answer]:
         """Keeps these calls, with what else is to be written, and makes them. Where nothing can be kept none is made: `NotStored`."""
+        if not asked and not writes:
+            return []
         return [answer for _, answer in self._make([(self.part_of(call), call, words) for call, words in asked], writes)]
 
     def make_by_part(self, asked: Sequence[AskedOf]) -> List[Tuple[Call, Answer]]:
         """The same for calls with their parts. Those of one part are made in their order, one part after the other."""
-        return self._make(asked, (), by_part=True)
+        return self._make(asked, (), by_part=True) if asked else []
 
     def take(self, part: int) -> Answer:
         """Takes one check of a part."""
@@ -199,41 +204,40 @@ class Scheduling:
         return answers[0][1] if answers else Idle(None)
 
     def _make(self, asked: Sequence[AskedOf], writes: Sequence[Write], by_part: bool = False) -> List[Tuple[Call, Answer]]:
-        if not asked and not writes and not self._later and not self._standings.is_overdue():
-            return []
-        asked = self._with_mirrors(asked)
+        if self.mirrors.names:
+            asked = self._with_mirrors(asked)
         if by_part:
-            asked = sorted(asked, key=lambda each: each[0])
+            asked = sorted(asked, key=PART)
         number = self._store.last_call
+        kept = [(part, call.line(), words) for part, call, words in asked]
         standings = self._standings.writes()
-        self._store.write(*self._later, *writes, *standings, KeepCalls([(part, call.line(), words) for part, call, words in asked]))
+        self._store.write(*self._later, *writes, *standings, KeepCalls(kept))
         self._later = []
-        self._standings.written(standings)
+        if standings:
+            self._standings.written(standings)
         answers: List[Answer] = []
-        first = 0
-        while first < len(asked):
-            part, last = asked[first][0], first
-            while last < len(asked) and asked[last][0] == part:
-                last += 1
-            answers += self._conversations[part].ask([call for _, call, _ in asked[first:last]])
-            first = last
+        for part, some in itertools.groupby(kept, PART):
+            answers += self._conversations[part].ask_lines([line for _, line, _ in some])
+        return self._heard(asked, answers, number)
+
+    def _heard(self, asked: Sequence[AskedOf], answers: Sequence[Answer], number: int) -> List[Tuple[Call, Answer]]:
+        """Takes the answers to calls in, which are kept behind the one with this number; returns those that aren't of mirrors."""
         made: List[Tuple[Call, Answer]] = []
-        for (part, call, words), answer in zip(asked, answers):
-            number += 1
-            if self.mirrors.owns(part, call, answer):
+        has_mirrors = bool(self.mirrors.names)
+        for number, ((part, call, words), answer) in enumerate(zip(asked, answers), number + 1):
+            if has_mirrors and self.mirrors.owns(part, call, answer):
                 continue
             known = self._hear(call, words, answer, number)
             if known is not None:
                 self._standings.hear(known, call, answer)
             made.append((call, answer))
-        for part, name in self.mirrors.left_over():
-            raise ConversationEnded(f"the scheduler of part {part + 1} took another object than the mirror of {name}")
+        if has_mirrors:
+            for part, name in self.mirrors.left_over():
+                raise ConversationEnded(f"the scheduler of part {part + 1} took another object than the mirror of {name}")
         return made
 
     def _with_mirrors(self, asked: Sequence[AskedOf]) -> Sequence[AskedOf]:
         """These calls, and those by which mirrors get the results that are among them. Mirrors that aren't out are taken before."""
-        if not self.mirrors.names:
-            return asked
         takes = self.mirrors.before(asked, self._clock.moment())
         if takes:
             self._make(takes, ())
@@ -241,11 +245,13 @@ class Scheduling:
 
     def _hear(self, call: Call, words: Optional[str], answer: Answer, number: int) -> Optional[Known]:
         """Takes an answer in, and what it changed; returns the object that it speaks of."""
-        name = getattr(call, "name", None)
-        before = self.known.objects[name].standing if name in self.known.objects else None
-        known = self.known.hear(call, answer)
-        if known is None or not isinstance(call, Report) or not isinstance(answer, Standing):
-            return known
+        if not isinstance(call, Report) or not isinstance(answer, Standing):
+            return self.known.hear(call, answer)
+        known = self.known.objects.get(call.name)
+        if known is None:
+            return None
+        before = known.standing
+        self.known.hear(call, answer)
         known.words = words or ""
         if number > self._store.last_change and changes.is_change(before, answer):
             change = KeptChange(number, self._clock.wall(), known.name, answer.state, answer.kind, answer.attempt, answer.flapping, known.words)
@@ -265,7 +271,8 @@ class Scheduling:
 
     def flush(self) -> None:
         """Writes what was left for the next calls."""
-        self._make((), ())
+        if self._later or self._standings.is_overdue():
+            self._make((), ())
 
     # ---- saving and ending
 

@@ -104,7 +104,7 @@ class Sooner:
     def set_again(self, known: Known, standing: Standing) -> None:
         """Sets the next time that an object had before its check was made sooner or later than it was due. A soft problem keeps its retry."""
         put, behind = self._put.pop(known.name, None), self._behind.pop(known.name, None)
-        if standing.is_soft_problem():
+        if put is None and behind is None or standing.is_soft_problem():
             return
         now = self._clock.moment()
         if put is not None:

@@ -93,14 +93,11 @@ class Standings:
 
     def is_overdue(self) -> bool:
         """Whether a marked object has waited too long for calls to be written with."""
-        return self._has_waited(LONGEST + 1)
-
-    def _has_waited(self, milliseconds: int) -> bool:
-        return self._is_settled and self._marked_at is not None and self._clock.moment() - self._marked_at >= milliseconds
+        return self._marked_at is not None and self._is_settled and self._clock.moment() - self._marked_at > LONGEST
 
     def writes(self) -> Sequence[Write]:
         """What is to be written with the next calls."""
-        if not self._has_waited(TOGETHER):
+        if self._marked_at is None or not self._is_settled or self._clock.moment() - self._marked_at < TOGETHER:
             return ()
         for name in self._dropped:
             self._numbers.pop(name, None)

@@ -21,7 +21,8 @@ from typing import Dict, Iterator, List, Optional, Sequence, Tuple
 
 from .calls import Abandon, Take, read_call
 from .faults import DamagedRow, MonitorFault, NotStored
-from .rows import GENERATIONS, TABLES, Cell, Generation, KeptCall, KeptChange, KeptResult, KeptStanding, LastChanges, checksum_of, names_of, text_of
+from .rows import GENERATIONS, INSERTS, TABLES, Cell, Generation, KeptCall, KeptChange, KeptResult, KeptStanding, LastChanges, checksum_of, names_of, text_of
+
 
 class Store:
     """The database of one monitor. A second one of the same site is refused."""
@@ -154,9 +155,7 @@ class Store:
     def insert_all(self, table: str, rows: Sequence[Tuple[int, Sequence[Cell]]]) -> None:
         """Writes rows, each with its number."""
         if rows:
-            marks = ",".join("?" * (len(rows[0][1]) + 2))
-            given = [(number, *cells, checksum_of(table, number, cells)) for number, cells in rows]
-            self._database.executemany(f"INSERT OR REPLACE INTO {table} VALUES ({marks})", given)
+            self._database.executemany(INSERTS[table], [(number, *cells, checksum_of(table, number, cells)) for number, cells in rows])
 
     def delete(self, table: str, condition: str, *cells: Cell) -> None:
         self._database.execute(f"DELETE FROM {table} WHERE {condition}", cells)

@@ -1,0 +1,93 @@
+"""When turns begin: how many there are, and how late checks are."""
+import heapq
+import os
+import time
+import unittest
+from typing import List, Tuple
+
+from nagsched_monitor.known import Due
+from nagsched_monitor.pace import BETWEEN_TURNS, MOST_SHARED, Pace, turn_at
+
+INTERVAL = 10.0
+
+
+def turns(a_second: int, seconds: float) -> Tuple[List[float], List[float]]:
+    """The turns of so many checks a second, each object every ten seconds, spread evenly at first; and how late each check of the last ten seconds was."""
+    waiting = [number / a_second for number in range(round(a_second * INTERVAL))]
+    begun, late = [0.0], []
+    while begun[-1] < seconds:
+        first, second = heapq.nsmallest(2, waiting)
+        now = turn_at(begun[-1], first, second)
+        # The results of this turn have one of their own, where the next one is far off.
+        begun.append(begun[-1] + BETWEEN_TURNS if now is None else now)
+        if now is None:
+            begun.append(first)
+        while waiting[0] <= begun[-1]:
+            late += [begun[-1] - waiting[0]] if begun[-1] > seconds - INTERVAL else []
+            heapq.heapreplace(waiting, begun[-1] + INTERVAL)
+    return begun, late
+
+
+class Turns(unittest.TestCase):
+    def test_how_many_and_how_late(self) -> None:
+        """At each rate: the most turns a second, and how late a check is at most, in the first round and in later ones."""
+        for a_second, most_turns in ((1, 2), (5, 10), (8, 8), (10, 10), (12, 12), (13, 7), (18, 9), (25, 13), (40, 20), (100, 20), (500, 20)):
+            with self.subTest(a_second=a_second):
+                _, at_first = turns(a_second, INTERVAL)
+                begun, late = turns(a_second, 5 * INTERVAL)
+                self.assertLessEqual(max(at_first), MOST_SHARED + 1e-6)
+                self.assertLessEqual(max(late), BETWEEN_TURNS + 1e-6)
+                self.assertLessEqual(len([each for each in begun if each > 4 * INTERVAL]) / INTERVAL, most_turns + 1)
+
+    def test_two_checks_that_are_due_soon_one_behind_the_other_share_a_turn_from_then_on(self) -> None:
+        begun, late = turns(18, 3 * INTERVAL)
+        self.assertAlmostEqual(max(late), 0)
+        self.assertEqual(len([each for each in begun if 20 <= each < 29.9]), 89)
+
+    def test_a_turn_isn_t_begun_before_the_last_one_is_rested(self) -> None:
+        self.assertEqual(turn_at(1.0, 1.01, None), 1.0 + BETWEEN_TURNS)
+        self.assertEqual(turn_at(1.0, 1.01, 1.04), 1.0 + BETWEEN_TURNS)
+        self.assertIsNone(turn_at(1.0, 2.0, 2.01))
+
+
+class Second(unittest.TestCase):
+    def test_the_time_behind_the_first_one(self) -> None:
+        due = Due()
+        self.assertIsNone(due.second())
+        for name, at in (("a", 5), ("b", 7), ("c", 9)):
+            due.set(name, at)
+        self.assertEqual((due.first(), due.second()), (5, 7))
+        due.set("b", None)
+        self.assertEqual((due.first(), due.second()), (5, 9))
+        due.set("d", 5)
+        self.assertEqual((due.first(), due.second()), (5, 5))
+
+
+class Waiting(unittest.TestCase):
+    def setUp(self) -> None:
+        self.there, self.back = os.pipe()
+        self.addCleanup(os.close, self.there)
+        self.addCleanup(os.close, self.back)
+        self.read: List[bytes] = []
+        self.pace = Pace(lambda file: self.read.append(os.read(file, 10)))
+        self.pace.watch(self.there)
+
+    def test_what_came_since_the_last_turn_has_a_turn_at_once(self) -> None:
+        os.write(self.back, b"x")
+        begun = time.monotonic()
+        self.pace.rest(begun, begun + 60, None)
+        self.assertLess(time.monotonic() - begun, 10)
+        self.assertEqual(self.read, [b"x"])
+
+    def test_a_turn_that_is_wanted_begins_with_nothing_to_read(self) -> None:
+        begun = time.monotonic()
+        self.pace.rest(begun, begun + 0.3, None)
+        self.assertGreaterEqual(time.monotonic() - begun, 0.3)
+        self.assertEqual(self.read, [])
+
+    def test_a_file_that_isn_t_watched_any_more(self) -> None:
+        self.pace.unwatch(self.there)
+        os.write(self.back, b"x")
+        begun = time.monotonic()
+        self.pace.rest(begun, begun, None)
+        self.assertEqual(self.read, [])
