@@ -1,6 +1,6 @@
 /* A scheduler written by hand in C, for bench/anchor.sh to compare nagsched's with: the takes and reports that the
  * workloads `cycle` and `vary` of nagsched_bench make, over one host that is never due and services that are checked
- * every 5 minutes. Its queue is a binary heap of times and numbers, with each number's place in it.
+ * every 5 minutes. Its queue is a tournament, as nagsched's is: a leaf a number, and above two nodes the first of both.
  *   anchor WORKLOAD N CYCLES [untimed]
  * It has no dependencies, no limit, no calls of operators, and hosts only as what a service stands on. */
 #define _POSIX_C_SOURCE 199309L
@@ -35,14 +35,15 @@ struct object {
 
 struct entry {
     uint64_t time;
-    uint32_t number;
+    uint64_t number;
 };
+
+/* Of a number that doesn't wait: it comes after all others. */
+static const struct entry BLANK = { NEVER, UINT64_MAX };
 
 struct scheduler {
     struct object *objects;
-    struct entry *heap;
-    uint32_t *places; /* where each number stands in the heap */
-    uint32_t waiting;
+    struct entry *nodes; /* the second half are the leaves; node i has the first of nodes 2i and 2i + 1 */
     uint32_t count;
     uint64_t runs;
 };
@@ -59,47 +60,22 @@ struct reply {
 
 /* ---- the queue */
 
-static inline bool is_before(struct entry a, struct entry b) {
-    return a.time < b.time || (a.time == b.time && a.number < b.number);
+/* The two words of an entry as one number: to compare two takes a subtraction and no branch. */
+static inline unsigned __int128 rank(struct entry e) {
+    return (unsigned __int128)e.time << 64 | e.number;
 }
 
-static inline void set_place(struct scheduler *s, uint32_t place, struct entry entry) {
-    s->heap[place] = entry;
-    s->places[entry.number] = place;
-}
-
-static void sift_up(struct scheduler *s, uint32_t place, struct entry entry) {
-    while (place > 0) {
-        uint32_t parent = (place - 1) / 2;
-        if (!is_before(entry, s->heap[parent]))
-            break;
-        set_place(s, place, s->heap[parent]);
-        place = parent;
+/* Puts an entry at the leaf of a number. From there up each node gets the first of the two below, as far as that changes it. */
+static void put(struct scheduler *s, uint32_t number, struct entry entry) {
+    size_t node = (size_t)s->count + number;
+    s->nodes[node] = entry;
+    while ((node /= 2) > 0) {
+        struct entry left = s->nodes[2 * node], right = s->nodes[2 * node + 1];
+        struct entry first = rank(right) < rank(left) ? right : left;
+        if (rank(first) == rank(s->nodes[node]))
+            return;
+        s->nodes[node] = first;
     }
-    set_place(s, place, entry);
-}
-
-/* The last entry goes where the first was: the hole sinks to a leaf, and the entry rises from there. */
-static void remove_first(struct scheduler *s) {
-    struct entry last = s->heap[--s->waiting];
-    uint32_t place = 0, child = 1;
-    if (s->waiting == 0)
-        return;
-    while (child + 1 < s->waiting) {
-        child += is_before(s->heap[child + 1], s->heap[child]);
-        set_place(s, place, s->heap[child]);
-        place = child;
-        child = 2 * place + 1;
-    }
-    if (child < s->waiting) {
-        set_place(s, place, s->heap[child]);
-        place = child;
-    }
-    sift_up(s, place, last);
-}
-
-static void put(struct scheduler *s, uint32_t number, uint64_t time) {
-    sift_up(s, s->waiting++, (struct entry){ time, number });
 }
 
 /* ---- the rules */
@@ -143,15 +119,15 @@ static struct standing verdict(struct standing before, uint8_t found, bool host_
 /* ---- the calls */
 
 __attribute__((noinline)) static void take(struct scheduler *s, uint64_t now, struct reply *reply) {
-    uint64_t first = s->waiting ? s->heap[0].time : NEVER;
-    if (first > now) {
+    struct entry first = s->nodes[1];
+    if (first.time > now) {
         reply->answer = IDLE;
-        reply->next = first;
+        reply->next = first.time;
         return;
     }
-    uint32_t number = s->heap[0].number;
+    uint32_t number = (uint32_t)first.number;
     struct object *o = &s->objects[number];
-    remove_first(s);
+    put(s, number, BLANK);
     o->next = NEVER;
     o->run = ++s->runs;
     o->started = now;
@@ -174,7 +150,7 @@ __attribute__((noinline)) static void report(struct scheduler *s, uint32_t numbe
     bool retries = is_problem(found) && o->standing.kind == SOFT;
     o->run = 0;
     o->next = o->started + (retries ? RETRY_INTERVAL : CHECK_INTERVAL);
-    put(s, number, o->next);
+    put(s, number, (struct entry){ o->next, number });
     reply->answer = STANDING;
     reply->standing = o->standing;
     reply->next = o->next;
@@ -240,16 +216,17 @@ static uint64_t vary(struct scheduler *s, uint64_t cycles) {
 static bool make(struct scheduler *s, uint32_t count) {
     *s = (struct scheduler){ .count = count };
     s->objects = calloc(count, sizeof *s->objects);
-    s->heap = calloc(count, sizeof *s->heap);
-    s->places = calloc(count, sizeof *s->places);
-    if (!s->objects || !s->heap || !s->places)
+    s->nodes = malloc(2 * (size_t)count * sizeof *s->nodes);
+    if (!s->objects || !s->nodes)
         return false;
+    for (size_t node = 0; node < 2 * (size_t)count; node++)
+        s->nodes[node] = BLANK;
     for (uint32_t number = 0; number < count; number++) {
         uint8_t fine = number == 0 ? UP : OK;
         s->objects[number].next = number == 0 ? NEVER : 0;
         s->objects[number].standing = (struct standing){ .state = fine, .kind = HARD, .attempt = 1, .last_hard = fine };
         if (number > 0)
-            put(s, number, 0);
+            put(s, number, (struct entry){ 0, number });
     }
     return true;
 }

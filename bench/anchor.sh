@@ -2,7 +2,7 @@
 # Compares the scheduler with two that are written by hand in C, and prints one table. Run by hand; no part of the gate.
 #   bench/anchor.sh [REPEATS]     the best time of so many runs is printed, 5 where no number is given
 # The rows are workloads of nagsched_bench at n objects: `cycle`, a check is taken and reported OK, and `vary`, each report
-# has a random code. `C` is bench/anchor.c, built here: a heap with places, the same rules, and no calls but these two. That
+# has a random code. `C` is bench/anchor.c, built here: the same tournament, the same rules, and no calls but these two. That
 # both programs saw the same is held by their sums. `limit` is another scheduler written by hand in C, with all six calls, the
 # fastest that was found: a tournament without branches, and a byte of each object that says which code would change nothing.
 # Its figures are written in: instructions count the same on every machine, and its times, of another machine, are left out.
