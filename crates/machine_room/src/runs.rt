@@ -2,7 +2,7 @@
 
 ghost use Rattle.std.specs.Prelude.{◌≡◌, ℕ, ◌+◌, ◌<◌, ◌≤◌, Some, None, IfOk, IfSome, length, slice_get};
 ghost use Rattle.std.specs.List.{All};
-ghost use Rattle.check_sched.specs.declared.call.Reply.TheVariants as reply;
+ghost use Rattle.check_sched.specs.declared.call.Reply.TheVariants as answer;
 ghost use Rattle.machine_room.specs.Loop.{IsOut};
 
 use check_sched::{Call, LAST_MOMENT, Reply, Sched};
@@ -85,8 +85,8 @@ pub(crate) fn limit_of(is_begun: bool, now: u64) -> u64
 /// and never past the limit of a run.
 pub(crate) fn wake(now: u64, reply: Reply, runs: &[Run]) -> u64
     requires { now ≤ LAST_MOMENT }
-    ensures due { (time : ℕ) → reply ≡ reply.Idle (Some time) → result ≤ time }
-    ensures at_limit { reply ≡ reply.AtLimit → result ≤ now + 1000 }
+    ensures due { (time : ℕ) → reply ≡ answer.Idle (Some time) → result ≤ time }
+    ensures at_limit { reply ≡ answer.AtLimit → result ≤ now + 1000 }
     ensures runs { All (λ run. result ≤ run.limit) runs.now }
 {
     until_limits(due(now, reply), runs)
@@ -106,8 +106,8 @@ fn until_limits(until: u64, runs: &[Run]) -> u64
 /// Until when to sleep, whatever is out.
 fn due(now: u64, reply: Reply) -> u64
     requires { now ≤ LAST_MOMENT }
-    ensures due { (time : ℕ) → reply ≡ reply.Idle (Some time) → result ≤ time }
-    ensures at_limit { reply ≡ reply.AtLimit → result ≤ now + 1000 }
+    ensures due { (time : ℕ) → reply ≡ answer.Idle (Some time) → result ≤ time }
+    ensures at_limit { reply ≡ answer.AtLimit → result ≤ now + 1000 }
 {
     match reply {
         Reply::Idle { next: Some(time) } => time,
