@@ -18,7 +18,8 @@ abbrev pub saved_text_of : State → List ℕ
 saved_text_of state = saved_text (saved_of state)
 
 -- the state goes on from what this text says, over this setup and from this moment on
-pub record IsResumed (setup : Configuration) (text : List ℕ) (start : ℕ) (state : State) : Type 0 where
+pub record IsResumed (setup : Configuration) (text : List ℕ) (start : ℕ) (state : State)
+    : Type 0 where
   pub saved : Saved
   pub read : saved_of_text text ≡ Ok saved
   pub goes_on : state ≡ resumed setup saved start

@@ -3,8 +3,8 @@
 //! desk runs for months. Each day is one generation of the book, and each night the program is as
 //! if it ended and started again: the book is put down as text, and another one goes on from it.
 //!
-//! Each worker goes round the loop of `months`, which one who embeds the scheduler may take as it
-//! is.
+//! Each worker goes round the loop of `months`, which a program that embeds the scheduler may take
+//! as it is.
 //!
 //! Its words are `DAYS [WORKERS]`, 1 to 10,000 days and 1 to 64 workers, 2 where none are named.
 //! It writes the setup, and then for each day:
@@ -19,10 +19,10 @@
 //! which writes the replies. With one worker nothing runs beside another thread, and the output
 //! is the same each time.
 //!
-//! By the words `loop DAYS` the whole loop watches the room by itself, with a simulated clock,
-//! machines that answer late or never, and a setup that changes at half of the days. It writes
-//! each setup that it takes up, and for each generation the state that it keeps, as one line, and
-//! then the lines of the entries.
+//! By the words `loop DAYS` the whole loop watches the room, with a simulated clock, machines that
+//! answer late or never, and a setup that changes after half of the days. It writes each setup
+//! that it takes up, and for each generation the state that it keeps, as one line, and then the
+//! lines of the entries.
 //!
 //! It ends in status 0, and in 2 where the words are wrong, 3 where the output can't be written,
 //! 4 out of memory, 5 where a setup or a kept state is refused.
@@ -30,8 +30,7 @@
 //! `months` has the loop, `round` a round of it, `outside` what it has to do with, `runs` the
 //! checks that it has out, and `restart` what is put down and taken up. `job` has the program's
 //! words, `room` the setup and the plugin, `operator` the operator's calls, `shift` a worker's
-//! clock, `day` a day of all, `simulated` what is outside of the loop by itself, and `told` the
-//! lines.
+//! clock, `day` a day of all, `simulated` the outside of `loop DAYS`, and `told` the lines.
 
 mod day;
 mod fault;

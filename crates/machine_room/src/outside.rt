@@ -23,7 +23,8 @@ pub(crate) enum News {
 pub(crate) enum End {
     /// It is long enough.
     Renewal,
-    /// Another setup is to be taken over.
+    /// Another setup is to be taken over. The checks that are out are given up, and a plugin that
+    /// runs on is no longer asked for.
     Setup,
     /// The program is to end.
     Program,
@@ -41,6 +42,10 @@ pub(crate) trait Outside {
 
     /// What has come in since it was asked last, one by one.
     fn came_in(&mut self) -> Option<News>;
+
+    /// Is handed the reply to a call that came in: how an object stands after a report, or why the
+    /// call was refused.
+    fn answered(&mut self, call: Call, reply: Reply);
 
     /// Sleeps until this moment, or until something comes in. It may end earlier.
     fn sleep(&mut self, until: u64);

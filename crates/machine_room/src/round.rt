@@ -1,7 +1,8 @@
 //! A round of the loop: it makes the calls that have come in, gives up what takes too long, takes
 //! what is due, and sleeps.
 
-ghost use Rattle.std.specs.Prelude.{◌≡◌, ℕ, ◌<◌, ◌≤◌, ◌∷◌, ◌++◌, [], IfOk, OnOk, vec_capacity, vec_len};
+ghost use Rattle.std.specs.Prelude.{◌≡◌, ℕ, ◌<◌, ◌≤◌, ◌∷◌, ◌++◌, []};
+ghost use Rattle.std.specs.Prelude.{IfOk, OnOk, vec_capacity, vec_len};
 ghost use Rattle.std.specs.List.{All};
 ghost use Rattle.check_desk.specs.Desks.{HasRecorded, IsPassOf};
 ghost use Rattle.check_desk.specs.Passes.{pass_of};
@@ -62,9 +63,10 @@ fn make_calls<O: Outside>(
     for _call in 0..CALLS_AT_ONCE {
         match outside.came_in() {
             Some(News::Call(call)) => {
-                let (back, _reply) = ask(rt, desk, pass, call)?;
+                let (back, reply) = ask(rt, desk, pass, call)?;
                 pass = back;
                 forget(runs, call);
+                outside.answered(call, reply);
             }
             Some(News::Ends(end)) => return Err(Ended { pass, end }),
             None => return Ok(pass),
@@ -99,7 +101,8 @@ fn give_up(rt: &impl Wait, desk: &Desk, pass: Pass, run: Run, now: u64) -> Resul
     requires overdue { run.limit ≤ now }
     ensures desk { IsBack desk.now result }
     ensures given_up { IfOk result (λ back. (reply : ReplyOf)
-        × HasRecorded (call.Abandon run.object run.number now) reply (pass_of pass) (pass_of back)) }
+        × HasRecorded (call.Abandon run.object run.number now) reply
+        (pass_of pass) (pass_of back)) }
 {
     let Run { object, number, .. } = run;
     let given_up = Call::Abandon {
@@ -138,7 +141,7 @@ fn take<O: Outside>(
     Ok((pass, reply))
 }
 
-/// Starts the plugin of a check that was taken, and adds its run to the list, for which there is room.
+/// Starts the plugin of a check that was taken, and adds its run to the list. The list has room.
 fn start<O: Outside>(outside: &mut O, runs: &mut Vec<Run>, object: u32, number: u64, now: u64)
     requires moment { now ≤ LAST_MOMENT }
     requires room { vec_len runs.old < vec_capacity runs.old }

@@ -1,6 +1,7 @@
 //! The checks that a loop has out, and until when it may sleep.
 
-ghost use Rattle.std.specs.Prelude.{◌≡◌, ℕ, ◌+◌, ◌<◌, ◌≤◌, Some, None, IfOk, IfSome, length, slice_get};
+ghost use Rattle.std.specs.Prelude.{◌≡◌, ℕ, ◌+◌, ◌<◌, ◌≤◌, Some, None};
+ghost use Rattle.std.specs.Prelude.{IfOk, IfSome, length, slice_get};
 ghost use Rattle.std.specs.List.{All};
 ghost use Rattle.check_sched.specs.declared.call.Reply.TheVariants as answer;
 ghost use Rattle.machine_room.specs.Loop.{IsOut};

@@ -2,7 +2,7 @@
 
 use crate::outside::{End, News, Outside};
 use crate::room::{DAY, HALF_HOUR, Machines, morning};
-use check_sched::{Call, LAST_MOMENT};
+use check_sched::{Call, LAST_MOMENT, Reply};
 use check_workers::Plugin;
 
 /// A clock that goes on by half an hour each time that it is read, through a day, and machines
@@ -48,6 +48,8 @@ impl Outside for Shift {
         }
         None
     }
+
+    fn answered(&mut self, _call: Call, _reply: Reply) {}
 
     /// The clock goes on by itself.
     fn sleep(&mut self, _until: u64) {}

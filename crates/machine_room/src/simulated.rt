@@ -124,6 +124,8 @@ impl Outside for Days {
         }
     }
 
+    fn answered(&mut self, _call: Call, _reply: Reply) {}
+
     fn sleep(&mut self, until: u64) {
         self.now = self.now.max(until.min(self.next()));
     }
