@@ -4,7 +4,7 @@
     .ci/examples.py [PROGRAM]     crates/nagsched/out/nagsched where no program is named
 
 What office.out, sequence.out and drill.out say was worked out by hand from the rules. The whole program that the page on embedding shows is a
-test of desk_tests, byte for byte, and the code of its section on months stands in the sources of machine_room.
+test of desk_tests, byte for byte, and the code of its sections on the loop and on months stands in the sources of machine_room.
 """
 import re
 
@@ -12,7 +12,8 @@ from program import EXAMPLES, TOP, Held
 
 EMBEDDING = TOP / "docs" / "EMBEDDING_RATTLE.md"
 EMBEDDED = TOP / "crates" / "desk_tests" / "src" / "workers" / "own_threads.rt"
-MONTHS = "## For months"
+# The sections whose code is machine_room's, and how many blocks each shows.
+SECTIONS = {"## The loop": 5, "## For months": 4}
 MACHINE_ROOM = TOP / "crates" / "machine_room" / "src"
 RUNS = {"office": ["run"], "sequence": ["run"], "drill": ["drill", "--workers", "1"]}
 
@@ -30,8 +31,9 @@ shown = f"```rust\n{EMBEDDED.read_text(encoding='utf-8')}```\n"
 page = EMBEDDING.read_text(encoding="utf-8")
 held.compare(f"{EMBEDDING.name} shows {EMBEDDED.name}", True, shown in page)
 sources = "\n".join(file.read_text(encoding="utf-8") for file in sorted(MACHINE_ROOM.glob("*.rt")))
-blocks = re.findall(r"```rust\n(.*?)```", section(page, MONTHS), re.DOTALL)
-held.compare(f"{EMBEDDING.name}, {MONTHS}: code blocks", 4, len(blocks))
-for block in blocks:
-    held.compare(f"{EMBEDDING.name}, {MONTHS}: {block.splitlines()[0]}", True, block in sources)
+for heading, count in SECTIONS.items():
+    blocks = re.findall(r"```rust\n(.*?)```", section(page, heading), re.DOTALL)
+    held.compare(f"{EMBEDDING.name}, {heading}: code blocks", count, len(blocks))
+    for block in blocks:
+        held.compare(f"{EMBEDDING.name}, {heading}: {block.splitlines()[0]}", True, block in sources)
 held.end()

@@ -66,7 +66,11 @@ done
 for example in embed.py loop.py monitor.py mail_change.py alert_change.py; do
     place 755 "$top/examples/$example" "share/doc/nagsched/examples/$example"
 done
-place 644 "$top/crates/machine_room/src/restart.rt" share/doc/nagsched/examples/loop.rt
+# The loop in Rattle is a part of machine_room: its file and, in a folder, the modules that it names.
+place 644 "$top/crates/machine_room/src/months.rt" share/doc/nagsched/examples/loop.rt
+for module in outside restart round runs; do
+    place 644 "$top/crates/machine_room/src/$module.rt" "share/doc/nagsched/examples/loop/$module.rt"
+done
 [ -n "$library" ] || exit 0
 place 644 "$built/include/nagsched.h" include/nagsched.h
 place 644 "$built/lib/libnagsched.a" lib/libnagsched.a

@@ -8,13 +8,14 @@ ghost use Rattle.check_book.specs.Books.{entries_of, refused_of};
 
 use crate::fault::Fault;
 use crate::job::Job;
+use crate::months::watch;
 use crate::operator::{Runs, begin_the_night, operate};
-use crate::restart::restart;
-use crate::room::{Machines, OBJECTS, moments};
+use crate::restart::{saved_text, take_up};
+use crate::room::{MOMENTS, OBJECTS, night};
+use crate::shift::Shift;
 use crate::told::{Board, Past, write_day};
 use check_book::Book;
 use check_desk::{Desk, Pass};
-use check_workers::work;
 use std::alloc::{AllocError, Global};
 use std::io::Write;
 use std::sync::Wait;
@@ -39,7 +40,7 @@ pub(crate) fn watch_day<R: Threads + Wait + Sync, W: Write>(
     let Ok((desk, passes)) = Desk::open(alloc, book, job.workers() + 1) else {
         return Err(Fault::Memory);
     };
-    let (pass, before, after) = pass_day(rt, &desk, passes, day, &out)?;
+    let (pass, before, after) = pass_day(rt, alloc, &desk, passes, day, &out)?;
     let calls = pass.calls();
     let Ok(book) = desk.close(pass) else {
         return Err(Fault::Pass);
@@ -57,13 +58,15 @@ pub(crate) fn watch_day<R: Threads + Wait + Sync, W: Write>(
         refused,
     };
     write_day(alloc, book.sched().setup(), &past, writer)?;
-    restart(alloc, book, job.room())
+    let text = saved_text(alloc, &book)?;
+    take_up(alloc, book.into_setup(), &text, night(day), job.room())
 }
 
 /// The day of all passes at a desk: workers and operator, and a look at the board before and after.
 /// Gives the one pass into which all were gathered.
 fn pass_day<R: Threads + Wait + Sync>(
     rt: &R,
+    alloc: Global,
     desk: &Desk,
     mut passes: Vec<Pass>,
     day: u32,
@@ -76,7 +79,7 @@ fn pass_day<R: Threads + Wait + Sync>(
         return Err(Fault::Pass);
     };
     let (operator, before) = look(desk, operator);
-    let pass = work_together(rt, desk, passes, operator, day, out)?;
+    let pass = work_together(rt, alloc, desk, passes, operator, day, out)?;
     let pass = begin_the_night(rt, desk, pass, day);
     let (pass, after) = look(desk, pass);
     Ok((pass, before, after))
@@ -101,6 +104,7 @@ fn look(desk: &Desk, pass: Pass) -> (Pass, Board)
 /// returned. A single worker works when the operator is done.
 fn work_together<R: Threads + Wait + Sync>(
     rt: &R,
+    alloc: Global,
     desk: &Desk,
     workers: Vec<Pass>,
     operator: Pass,
@@ -113,7 +117,7 @@ fn work_together<R: Threads + Wait + Sync>(
 {
     if workers.len() == 1 {
         let operator = operate(rt, desk, operator, day, out);
-        return Ok(work_alone(rt, desk, workers, operator, day));
+        return Ok(work_alone(rt, alloc, desk, workers, operator, day));
     }
     let (operator, workers) = join(
         rt,
@@ -121,7 +125,7 @@ fn work_together<R: Threads + Wait + Sync>(
         || -> Result<Vec<Pass>, AllocError>
             requires { All (IsPassOf desk.now) workers.items }
             ensures { IfOk result (λ back. All (IsPassOf desk.entry.now) back.items) }
-        { work_all(rt, desk, workers, day) },
+        { work_all(rt, alloc, desk, workers, day) },
     );
     Ok(gather_all(desk, workers?, operator))
 }
@@ -129,6 +133,7 @@ fn work_together<R: Threads + Wait + Sync>(
 /// Each worker in a thread of its own, where one can be made.
 fn work_all<R: Threads + Wait + Sync>(
     rt: &R,
+    alloc: Global,
     desk: &Desk,
     passes: Vec<Pass>,
     day: u32,
@@ -136,20 +141,28 @@ fn work_all<R: Threads + Wait + Sync>(
     requires { All (IsPassOf desk.now) passes.items }
     ensures { IfOk result (λ back. All (IsPassOf desk.now) back.items) }
 {
-    thread::map_vec(rt, passes, &|pass| work_day(rt, desk, pass, day))
+    thread::map_vec(rt, passes, &|pass| work_day(rt, alloc, desk, pass, day))
 }
 
 /// A worker's day: at each of its moments it takes what is due, looks at the machine, and reports.
-fn work_day(rt: &impl Wait, desk: &Desk, pass: Pass, day: u32) -> Pass
+fn work_day(rt: &impl Wait, alloc: Global, desk: &Desk, pass: Pass, day: u32) -> Pass
     requires { IsPassOf desk.now pass }
     ensures { IsPassOf desk.now result }
 {
-    let (pass, _tally, _open) = work(rt, desk, pass, &Machines, &moments(day));
-    pass
+    let mut shift = Shift::of(day);
+    let mut runs = Vec::new(alloc);
+    watch(rt, desk, pass, &mut shift, &mut runs, MOMENTS + 1).pass
 }
 
 /// A single worker's day in this thread; its pass is gathered into the operator's.
-fn work_alone(rt: &impl Wait, desk: &Desk, workers: Vec<Pass>, operator: Pass, day: u32) -> Pass
+fn work_alone(
+    rt: &impl Wait,
+    alloc: Global,
+    desk: &Desk,
+    workers: Vec<Pass>,
+    operator: Pass,
+    day: u32,
+) -> Pass
     requires workers { All (IsPassOf desk.now) workers.items }
     requires operator { IsPassOf desk.now operator }
     ensures { IsPassOf desk.now result }
@@ -158,7 +171,7 @@ fn work_alone(rt: &impl Wait, desk: &Desk, workers: Vec<Pass>, operator: Pass, d
     let Some(worker) = workers.pop() else {
         return operator;
     };
-    let worker = work_day(rt, desk, worker, day);
+    let worker = work_day(rt, alloc, desk, worker, day);
     desk.gather(operator, worker)
 }
 

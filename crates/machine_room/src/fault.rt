@@ -13,6 +13,8 @@ pub(crate) enum Fault {
     Memory,
     /// A pass of the desk is missing at the day's end.
     Pass,
+    /// A setup or a kept state is refused.
+    Refused,
 }
 
 impl Fault {
@@ -23,6 +25,7 @@ impl Fault {
             Fault::Words => 2,
             Fault::Output => 3,
             Fault::Memory => 4,
+            Fault::Refused => 5,
         }
     }
 }

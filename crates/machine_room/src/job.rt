@@ -8,6 +8,9 @@ use std::env;
 use std::io::ErrorKind;
 use std::rt::Env;
 
+/// The word that asks for the loop.
+const LOOP: &str = "loop";
+
 /// The most days.
 const MAX_DAYS: u32 = 10_000;
 
@@ -23,6 +26,7 @@ const CALLS_OF_OPERATOR: usize = 32;
 /// For how many days a room is watched, and by how many workers.
 #[derive(Drop)]
 pub(crate) struct Job {
+    is_loop: bool,
     days: u32,
     workers: u32,
     ghost some: { 0 < workers },
@@ -30,6 +34,11 @@ pub(crate) struct Job {
 }
 
 impl Job {
+    /// Whether one loop watches all days, and no day is one generation.
+    pub(crate) fn is_loop(&self) -> bool {
+        self.is_loop
+    }
+
     pub(crate) fn days(&self) -> u32 {
         self.days
     }
@@ -69,15 +78,34 @@ fn job_of(words: &[String]) -> Option<Job> {
     match words {
         [_program, days] => {
             let days = number_of(days, MAX_DAYS)?;
-            Some(Job { days, workers: 2 })
+            Some(Job {
+                is_loop: false,
+                days,
+                workers: 2,
+            })
         }
-        [_program, days, workers] => {
-            let days = number_of(days, MAX_DAYS)?;
-            let workers = number_of(workers, MAX_WORKERS)?;
-            Some(Job { days, workers })
-        }
+        [_program, first, second] => job_of_two(first, second),
         _ => None,
     }
+}
+
+/// The job that two words ask for: the loop and its days, or days and workers.
+fn job_of_two(first: &String, second: &String) -> Option<Job> {
+    if first.as_str() == LOOP {
+        let days = number_of(second, MAX_DAYS)?;
+        return Some(Job {
+            is_loop: true,
+            days,
+            workers: 1,
+        });
+    }
+    let days = number_of(first, MAX_DAYS)?;
+    let workers = number_of(second, MAX_WORKERS)?;
+    Some(Job {
+        is_loop: false,
+        days,
+        workers,
+    })
 }
 
 /// The number that a word is, 1 to this limit.

@@ -1,36 +1,65 @@
-//! A restart: the book is put down as text, and another one goes on from that text. Nothing of it is seen
-//! in the output, since over the same setup a book goes on as if it had not been put down.
+//! A restart: the book is put down as text, and another one goes on from that text. A program
+//! that really ends keeps the text in a file, and reads its setup anew.
 
-ghost use Rattle.std.specs.Prelude.{◌≡◌, [], IfOk};
-ghost use Rattle.check_book.specs.Books.{entries_of, refused_of};
+ghost use Rattle.std.specs.Prelude.{◌≡◌, ◌≤◌, [], None, IfOk, IfSome};
+ghost use Rattle.check_book.specs.Books.{entries_of, refused_of, sched_of};
+ghost use Rattle.check_sched.specs.State.{opening};
+ghost use Rattle.machine_room.specs.Loop.{IsResumed, saved_text_of};
 
 use crate::fault::Fault;
 use check_book::Book;
 use check_objects::Setup;
-use check_sched::Saved;
-use std::alloc::Global;
+use check_sched::{LAST_MOMENT, Saved};
+use std::alloc::{AllocError, Global};
 
-/// Puts a book down as text, as a program does when it ends, and takes another one up from that text, as it
-/// does when it starts again. A program that really ends keeps the text in a file, and reads its setup anew.
-pub(crate) fn restart(alloc: Global, book: Book, room: usize) -> Result<Book, Fault>
-    ensures next { IfOk result (λ next. (entries_of next ≡ []) × (refused_of next ≡ 0)) }
+/// The text of what is saved of a book, as it stands.
+pub(crate) fn saved_text(alloc: Global, book: &Book) -> Result<Vec<u8>, AllocError>
+    ensures { IfOk result (λ text. text.items ≡ saved_text_of (sched_of book.now)) }
 {
-    let text = book.save(alloc)?.write(alloc)?;
-    take_up(alloc, book.into_setup(), &text, room)
+    book.save(alloc)?.write(alloc)
 }
 
-/// The book that goes on from a saved state over a setup. Its start is the saved one; over another setup it
-/// would be the present moment, since new objects are spread from it.
-fn take_up(alloc: Global, setup: Setup, text: &[u8], room: usize) -> Result<Book, Fault>
-    ensures next { IfOk result (λ next. (entries_of next ≡ []) × (refused_of next ≡ 0)) }
+/// The book that goes on from a saved text over this setup, which may be another one, from this
+/// moment on.
+pub(crate) fn take_up(
+    alloc: Global,
+    setup: Setup,
+    text: &[u8],
+    start: u64,
+    room: usize,
+) -> Result<Book, Fault>
+    requires { start ≤ LAST_MOMENT }
+    ensures empty { IfOk result (λ book. (entries_of book ≡ []) × (refused_of book ≡ 0)) }
+    ensures resumed { IfOk result (λ book. IsResumed setup text.now start (sched_of book)) }
 {
     let Ok(saved) = Saved::read(alloc, text) else {
-        return Err(Fault::Memory);
+        return Err(Fault::Refused);
     };
-    // for the proof: the saved start is a moment
-    saved.is_saved();
-    match Book::resume(alloc, setup, &saved, saved.start(), room) {
+    match Book::resume(alloc, setup, &saved, start, room) {
         Ok(book) => Ok(book),
         Err(_setup) => Err(Fault::Memory),
+    }
+}
+
+/// The book to begin with: it goes on from the text that was kept, or opens anew where none was.
+pub(crate) fn begin(
+    alloc: Global,
+    setup: Setup,
+    kept: Option<Vec<u8>>,
+    start: u64,
+    room: usize,
+) -> Result<Book, Fault>
+    requires { start ≤ LAST_MOMENT }
+    ensures empty { IfOk result (λ book. (entries_of book ≡ []) × (refused_of book ≡ 0)) }
+    ensures anew { kept ≡ None → IfOk result (λ book. sched_of book ≡ opening setup start) }
+    ensures resumed { IfSome kept (λ text. IfOk result (λ book.
+        IsResumed setup text.items start (sched_of book))) }
+{
+    match kept {
+        Some(text) => take_up(alloc, setup, &text, start, room),
+        None => match Book::open(alloc, setup, start, room) {
+            Ok(book) => Ok(book),
+            Err(_setup) => Err(Fault::Memory),
+        },
     }
 }

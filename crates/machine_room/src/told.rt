@@ -36,17 +36,29 @@ pub(crate) fn write_day<W: Write>(
 ) -> Result<(), Fault> {
     let mut line = String::new(alloc);
     write_board(setup, "before", &past.before, &mut line, writer)?;
-    for entry in past.entries.iter() {
+    write_entries(alloc, setup, &past.entries, writer)?;
+    write_board(setup, "after", &past.after, &mut line, writer)?;
+    line.clear();
+    push_counts(&mut line, past)?;
+    write(writer, line.as_str())
+}
+
+/// Writes entries, a line each.
+pub(crate) fn write_entries<W: Write>(
+    alloc: Global,
+    setup: &Setup,
+    entries: &[Entry<Call, Reply>],
+    writer: &mut W,
+) -> Result<(), Fault> {
+    let mut line = String::new(alloc);
+    for entry in entries {
         line.clear();
         push_call(&mut line, setup, entry.call)?;
         line.push_str("\t")?;
         push_entry(&mut line, setup, entry)?;
         write(writer, line.as_str())?;
     }
-    write_board(setup, "after", &past.after, &mut line, writer)?;
-    line.clear();
-    push_counts(&mut line, past)?;
-    write(writer, line.as_str())
+    Ok(())
 }
 
 /// Writes what a board shows, a line an object. A board has no next times, so that they are `none`.
@@ -148,7 +160,12 @@ fn number_of(code: Code) -> u8 {
 
 /// Writes a text.
 pub(crate) fn write<W: Write>(writer: &mut W, text: &str) -> Result<(), Fault> {
-    match writer.write_all(text.as_bytes()) {
+    write_bytes(writer, text.as_bytes())
+}
+
+/// Writes a text, as bytes.
+pub(crate) fn write_bytes<W: Write>(writer: &mut W, text: &[u8]) -> Result<(), Fault> {
+    match writer.write_all(text) {
         Ok(()) => Ok(()),
         Err(_fault) => Err(Fault::Output),
     }

@@ -1,0 +1,5 @@
+use Rattle.check_desk.specs.Desks.{IsPassOf}
+use Rattle.machine_room.proofs.round.make_calls.Given as goal
+
+abbrev pub invariant-loop-call : goal.invariant-loop-call
+invariant-loop-call g l = IsPassOf l.desk l.pass

@@ -1,0 +1,127 @@
+//! The whole loop of a program that watches for months: it goes on from the state that was kept,
+//! works at a desk round by round, keeps the state now and then and at the end, and takes over
+//! other setups.
+//!
+//! `outside` has what the program brings, `round` a round, `runs` the list of the checks that are
+//! out and how long all takes, `restart` the text of a state.
+
+ghost use Rattle.std.specs.Prelude.{◌≡◌, [], Some, IfOk};
+ghost use Rattle.check_book.specs.Books.{entries_of, refused_of, sched_of};
+ghost use Rattle.check_desk.specs.Desks.{IsPassOf};
+ghost use Rattle.machine_room.specs.Loop.{saved_text_of};
+
+use crate::fault::Fault;
+use crate::outside::{End, Files, Outside};
+use crate::restart::{begin, saved_text};
+use crate::round::{Ended, round};
+use crate::runs::{Run, out_at};
+use check_book::Book;
+use check_desk::{Desk, Pass};
+use std::alloc::Global;
+use std::sync::Wait;
+
+/// Watches until the program is to end, and gives the book as it stands then; the text of its state
+/// is what was kept last. To take over another setup is to begin again as after a restart: from the
+/// state that was kept, over the setup as it is then.
+pub(crate) fn watch_months<O: Outside, F: Files>(
+    rt: &impl Wait,
+    alloc: Global,
+    outside: &mut O,
+    files: &mut F,
+    room: usize,
+) -> Result<Book, Fault>
+    ensures { IfOk result (λ book. F.kept files.new ≡ Some (saved_text_of (sched_of book))) }
+{
+    for _ in rt.forever() {
+        let (book, end) = watch_setup(rt, alloc, outside, files, room)?;
+        match end {
+            End::Program => return Ok(book),
+            End::Setup | End::Renewal => {}
+        }
+    }
+    unreachable!()
+}
+
+/// Watches over one setup, a generation after another. The checks that were out when the state
+/// was kept are past their limit at once: nobody runs their plugins any more.
+fn watch_setup<O: Outside, F: Files>(
+    rt: &impl Wait,
+    alloc: Global,
+    outside: &mut O,
+    files: &mut F,
+    room: usize,
+) -> Result<(Book, End), Fault>
+    ensures { IfOk result (λ made.
+        F.kept files.new ≡ Some (saved_text_of (sched_of made.0))) }
+{
+    let start = outside.now();
+    let setup = files.setup(alloc)?;
+    let kept = files.state(alloc)?;
+    let mut book = begin(alloc, setup, kept, start, room)?;
+    let mut runs = out_at(alloc, book.sched(), start)?;
+    for _ in rt.forever() {
+        let (next, end) = generation(rt, alloc, book, outside, files, &mut runs, room)?;
+        book = match end {
+            End::Renewal => next,
+            End::Setup | End::Program => return Ok((next, end)),
+        };
+    }
+    unreachable!()
+}
+
+/// One generation: opens a desk on the book, works there, closes it, keeps the state, and renews
+/// the book. The plugins go on meanwhile.
+fn generation<O: Outside, F: Files>(
+    rt: &impl Wait,
+    alloc: Global,
+    book: Book,
+    outside: &mut O,
+    files: &mut F,
+    runs: &mut Vec<Run>,
+    room: usize,
+) -> Result<(Book, End), Fault>
+    requires { (entries_of book ≡ []) × (refused_of book ≡ 0) }
+    ensures empty { IfOk result (λ made. (entries_of made.0 ≡ []) × (refused_of made.0 ≡ 0)) }
+    ensures kept { IfOk result (λ made. F.kept files.new ≡ Some (saved_text_of (sched_of made.0))) }
+{
+    let Ok((desk, mut passes)) = Desk::open(alloc, book, 1) else {
+        return Err(Fault::Memory);
+    };
+    let Some(pass) = passes.pop() else {
+        return Err(Fault::Pass);
+    };
+    let Ended { pass, end } = watch(rt, &desk, pass, outside, runs, room / 2);
+    let Ok(book) = desk.close(pass) else {
+        return Err(Fault::Pass);
+    };
+    files.keep(&saved_text(alloc, &book)?)?;
+    let Ok((book, entries)) = book.renew(alloc, room) else {
+        return Err(Fault::Memory);
+    };
+    files.past(book.sched().setup(), &entries)?;
+    Ok((book, end))
+}
+
+/// Works at a desk by one pass, so many rounds at most. Where several threads work at a desk,
+/// each has a pass, an outside and a list of runs of its own.
+pub(crate) fn watch<O: Outside>(
+    rt: &impl Wait,
+    desk: &Desk,
+    pass: Pass,
+    outside: &mut O,
+    runs: &mut Vec<Run>,
+    rounds: usize,
+) -> Ended
+    requires { IsPassOf desk.now pass }
+    ensures { IsPassOf desk.now result.pass }
+{
+    let mut pass = pass;
+    for _round in 0..rounds {
+        pass = match round(rt, desk, pass, outside, runs) {
+            Ok(pass) => pass,
+            Err(ended) => return ended,
+        };
+    }
+    let end = End::Renewal;
+    Ended { pass, end }
+}

@@ -1,0 +1,175 @@
+//! A round of the loop: it makes the calls that have come in, gives up what takes too long, takes
+//! what is due, and sleeps.
+
+ghost use Rattle.std.specs.Prelude.{◌≡◌, ℕ, ◌<◌, ◌≤◌, ◌∷◌, ◌++◌, []};
+ghost use Rattle.std.specs.Prelude.{IfOk, OnOk, vec_capacity, vec_len};
+ghost use Rattle.std.specs.List.{All};
+ghost use Rattle.check_desk.specs.Desks.{HasRecorded, IsPassOf};
+ghost use Rattle.check_desk.specs.Passes.{pass_of};
+ghost use Rattle.check_sched.specs.declared.call.Call.TheVariants as call;
+ghost use Rattle.check_sched.specs.declared.call.Reply.{Reply as ReplyOf};
+ghost use Rattle.machine_room.specs.Loop.{IsBack, IsBackWith, IsBegun, run_of};
+
+use crate::outside::{End, News, Outside};
+use crate::runs::{Run, forget, limit_of, overdue, wake};
+use check_desk::{Answer, Desk, Pass};
+use check_sched::{Call, LAST_MOMENT, Reply};
+use std::sync::Wait;
+
+/// How many calls that came in are made in a round at most.
+const CALLS_AT_ONCE: u32 = 1_000;
+
+/// A pass whose generation has ended, and why.
+#[derive(Drop)]
+pub(crate) struct Ended {
+    pub(crate) pass: Pass,
+    pub(crate) end: End,
+}
+
+/// One round. Where a check was taken or put off the next round comes at once; else it sleeps.
+pub(crate) fn round<O: Outside>(
+    rt: &impl Wait,
+    desk: &Desk,
+    pass: Pass,
+    outside: &mut O,
+    runs: &mut Vec<Run>,
+) -> Result<Pass, Ended>
+    requires { IsPassOf desk.now pass }
+    ensures { IsBack desk.now result }
+{
+    let now = outside.now();
+    let pass = make_calls(rt, desk, pass, outside, runs)?;
+    let pass = give_up_overdue(rt, desk, pass, runs, now)?;
+    let (pass, reply) = take(rt, desk, pass, outside, runs, now)?;
+    match reply {
+        Reply::Taken { .. } | Reply::PutOff { .. } => {}
+        _ => outside.sleep(wake(now, reply, runs.as_slice())),
+    }
+    Ok(pass)
+}
+
+/// Makes the calls that have come in: reports of plugins, and calls of operators.
+fn make_calls<O: Outside>(
+    rt: &impl Wait,
+    desk: &Desk,
+    pass: Pass,
+    outside: &mut O,
+    runs: &mut Vec<Run>,
+) -> Result<Pass, Ended>
+    requires { IsPassOf desk.now pass }
+    ensures { IsBack desk.now result }
+{
+    let mut pass = pass;
+    for _call in 0..CALLS_AT_ONCE {
+        match outside.came_in() {
+            Some(News::Call(call)) => {
+                let (back, reply) = ask(rt, desk, pass, call)?;
+                pass = back;
+                forget(runs, call);
+                outside.answered(call, reply);
+            }
+            Some(News::Ends(end)) => return Err(Ended { pass, end }),
+            None => return Ok(pass),
+        }
+    }
+    Ok(pass)
+}
+
+/// Gives up each run that is past its limit: its object is due again.
+fn give_up_overdue(
+    rt: &impl Wait,
+    desk: &Desk,
+    pass: Pass,
+    runs: &mut Vec<Run>,
+    now: u64,
+) -> Result<Pass, Ended>
+    requires { IsPassOf desk.now pass }
+    ensures desk { IsBack desk.now result }
+    ensures none_left { OnOk result (All (λ run. now < run.limit) runs.new.items) }
+{
+    let mut pass = pass;
+    while let Some((place, run)) = overdue(runs.as_slice(), now) {
+        pass = give_up(rt, desk, pass, run, now)?;
+        runs.swap_remove(place);
+    }
+    Ok(pass)
+}
+
+/// Gives up a run that is past its limit.
+fn give_up(rt: &impl Wait, desk: &Desk, pass: Pass, run: Run, now: u64) -> Result<Pass, Ended>
+    requires desk { IsPassOf desk.now pass }
+    requires overdue { run.limit ≤ now }
+    ensures desk { IsBack desk.now result }
+    ensures given_up { IfOk result (λ back. (reply : ReplyOf)
+        × HasRecorded (call.Abandon run.object run.number now) reply
+        (pass_of pass) (pass_of back)) }
+{
+    let Run { object, number, .. } = run;
+    let given_up = Call::Abandon {
+        object,
+        run: number,
+        now,
+    };
+    let (pass, _reply) = ask(rt, desk, pass, given_up)?;
+    Ok(pass)
+}
+
+/// Takes a check, and starts its plugin. One that can't be started is past its limit at once.
+fn take<O: Outside>(
+    rt: &impl Wait,
+    desk: &Desk,
+    pass: Pass,
+    outside: &mut O,
+    runs: &mut Vec<Run>,
+    now: u64,
+) -> Result<(Pass, Reply), Ended>
+    requires desk { IsPassOf desk.now pass }
+    requires moment { now ≤ LAST_MOMENT }
+    ensures desk { IsBackWith desk.now result }
+    ensures taken { IfOk result (λ made.
+        HasRecorded (call.Take now) made.1 (pass_of pass) (pass_of made.0)) }
+    ensures begun { IfOk result (λ made. IsBegun now made.1 runs.old.items runs.new.items) }
+{
+    if runs.reserve(1).is_err() {
+        let end = End::Renewal;
+        return Err(Ended { pass, end });
+    }
+    let (pass, reply) = ask(rt, desk, pass, Call::Take { now })?;
+    if let Reply::Taken { object, run } = reply {
+        start(outside, runs, object, run, now);
+    }
+    Ok((pass, reply))
+}
+
+/// Starts the plugin of a check that was taken, and adds its run to the list. The list has room.
+fn start<O: Outside>(outside: &mut O, runs: &mut Vec<Run>, object: u32, number: u64, now: u64)
+    requires moment { now ≤ LAST_MOMENT }
+    requires room { vec_len runs.old < vec_capacity runs.old }
+    ensures { (limit : ℕ) × (now ≤ limit)
+        × (runs.new.items ≡ runs.old.items ++ run_of object number limit ∷ []) }
+{
+    let is_begun = outside.begin(object, number, now);
+    let limit = limit_of(is_begun, now);
+    runs.push_reserved(Run {
+        object,
+        number,
+        limit,
+    });
+}
+
+/// Makes a call. Where that can't be the generation ends: the next one has room and calls again.
+fn ask(rt: &impl Wait, desk: &Desk, pass: Pass, call: Call) -> Result<(Pass, Reply), Ended>
+    requires { IsPassOf desk.now pass }
+    ensures desk { IsBackWith desk.now result }
+    ensures made { IfOk result (λ made.
+        HasRecorded call made.1 (pass_of pass) (pass_of made.0)) }
+{
+    let (pass, answer) = desk.ask(rt, pass, call);
+    match answer {
+        Answer::Reply(reply) => Ok((pass, reply)),
+        Answer::NoMemory | Answer::Spent => {
+            let end = End::Renewal;
+            Err(Ended { pass, end })
+        }
+    }
+}

@@ -1,0 +1,197 @@
+//! What is outside of the loop, simulated: a clock that goes on only while the loop sleeps,
+//! machines that answer after minutes or never, an operator, a setup that changes, and files that
+//! are kept in memory.
+
+ghost use Rattle.std.specs.Prelude.{option_map};
+
+use crate::fault::Fault;
+use crate::outside::{End, Files, News, Outside};
+use crate::room::{
+    CHANGED_ROOM, GATEWAY, HOUR, MACHINE_ROOM, MINUTE, Machines, OBJECTS, morning, next_noon,
+};
+use crate::told;
+use check_objects::Setup;
+use check_sched::{Call, LAST_MOMENT, Reply};
+use check_workers::Plugin;
+use std::alloc::Global;
+use std::io::Write;
+use ticket_steps::Entry;
+
+/// A report that comes in later.
+#[derive(Clone, Copy)]
+struct Pending {
+    time: u64,
+    call: Call,
+}
+
+/// The clock, the machines and the operator of some days. At half of them another setup is taken
+/// over.
+#[derive(Drop)]
+pub(crate) struct Days {
+    now: u64,
+    noon: u64,
+    change: Option<u64>,
+    end: u64,
+    pending: [Option<Pending>; OBJECTS],
+}
+
+impl Days {
+    pub(crate) fn of(days: u32) -> Days {
+        Days {
+            now: 0,
+            noon: next_noon(0),
+            change: Some(morning(days) / 2),
+            end: morning(days),
+            pending: [None; OBJECTS],
+        }
+    }
+
+    /// The next report that is there.
+    fn report(&mut self) -> Option<Call> {
+        for object in 0..OBJECTS {
+            if let Some(Pending { time, call }) = self.pending[object] {
+                if time <= self.now {
+                    self.pending[object] = None;
+                    return Some(call);
+                }
+            }
+        }
+        None
+    }
+
+    /// When the next report, the operator's next call, the change of the setup or the end comes.
+    fn next(&self) -> u64 {
+        let mut next = self.noon.min(self.end);
+        if let Some(change) = self.change {
+            next = next.min(change);
+        }
+        for object in 0..OBJECTS {
+            if let Some(pending) = self.pending[object] {
+                next = next.min(pending.time);
+            }
+        }
+        next
+    }
+}
+
+impl Outside for Days {
+    fn now(&mut self) -> u64 {
+        self.now.min(LAST_MOMENT)
+    }
+
+    /// A check takes some minutes. Now and then a machine doesn't answer, or its plugin can't be
+    /// started.
+    fn begin(&mut self, object: u32, run: u64, now: u64) -> bool {
+        if run % 31 == 0 {
+            return false;
+        }
+        let Some(place) = self.pending.get_mut(object as usize) else {
+            return false;
+        };
+        if run % 17 != 0 {
+            let code = Machines.check(object, run, now);
+            *place = Some(Pending {
+                time: now.saturating_add((1 + u64::from(object % 4)) * MINUTE),
+                call: Call::Report { object, run, code },
+            });
+        }
+        true
+    }
+
+    fn came_in(&mut self) -> Option<News> {
+        if let Some(call) = self.report() {
+            return Some(News::Call(call));
+        }
+        if self.now >= self.end {
+            return Some(News::Ends(End::Program));
+        }
+        if self.now >= self.noon {
+            let time = self.noon.saturating_add(HOUR);
+            self.noon = next_noon(self.noon);
+            return Some(News::Call(Call::Reschedule {
+                object: GATEWAY,
+                time,
+                forced: true,
+            }));
+        }
+        match self.change {
+            Some(change) if self.now >= change => {
+                self.change = None;
+                self.pending = [None; OBJECTS];
+                Some(News::Ends(End::Setup))
+            }
+            _ => None,
+        }
+    }
+
+    fn answered(&mut self, _call: Call, _reply: Reply) {}
+
+    fn sleep(&mut self, until: u64) {
+        self.now = self.now.max(until.min(self.next()));
+    }
+}
+
+/// Files in memory, whose texts and history are written to a writer.
+#[derive(Drop)]
+pub(crate) struct Memory<W: Write> {
+    alloc: Global,
+    writer: W,
+    is_changed: bool,
+    text: Option<Vec<u8>>,
+}
+
+impl<W: Write> Memory<W> {
+    pub(crate) fn empty(alloc: Global, writer: W) -> Memory<W> {
+        Memory {
+            alloc,
+            writer,
+            is_changed: false,
+            text: None,
+        }
+    }
+
+    /// Ends the writing.
+    pub(crate) fn flush(&mut self) -> Result<(), Fault> {
+        match self.writer.flush() {
+            Ok(()) => Ok(()),
+            Err(_fault) => Err(Fault::Output),
+        }
+    }
+}
+
+impl<W: Write> Files for Memory<W> {
+    ghost kept = { λ files. option_map (λ text. text.items) files.text };
+
+    /// The room's setup first, and then the changed one.
+    fn setup(&mut self, alloc: Global) -> Result<Setup, Fault> {
+        let document = if self.is_changed {
+            CHANGED_ROOM
+        } else {
+            MACHINE_ROOM
+        };
+        self.is_changed = true;
+        told::write(&mut self.writer, document)?;
+        told::write(&mut self.writer, "\n")?;
+        match Setup::read(alloc, document.as_bytes()) {
+            Ok(setup) => Ok(setup),
+            Err(_refused) => Err(Fault::Refused),
+        }
+    }
+
+    fn state(&self, _alloc: Global) -> Result<Option<Vec<u8>>, Fault> {
+        match &self.text {
+            Some(text) => Ok(Some(text.clone()?)),
+            None => Ok(None),
+        }
+    }
+
+    fn keep(&mut self, text: &[u8]) -> Result<(), Fault> {
+        self.text = Some(text.to_vec(self.alloc)?);
+        told::write_bytes(&mut self.writer, text)?;
+        told::write(&mut self.writer, "\n")
+    }
+
+    fn past(&mut self, setup: &Setup, entries: &[Entry<Call, Reply>]) -> Result<(), Fault> {
+        told::write_entries(self.alloc, setup, entries, &mut self.writer)
+    }
+}
