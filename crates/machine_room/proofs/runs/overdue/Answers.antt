@@ -10,6 +10,9 @@ loop-place-preserved c =
     All-more (λ (run : Run). c.args.now < run.limit) c.args.runs.now c.loop-place.place _
     (omega arith) c.loop-place.invariant c.if-run-now.false
 
+pub returns-then-run-now-clause-past : goal.returns-then-run-now-clause-past
+returns-then-run-now-clause-past c = c.if-run-now.true
+
 pub returns-clause-none : goal.returns-clause-none
 returns-clause-none c =
     let runs : List Run = c.args.runs.now in
