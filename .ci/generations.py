@@ -7,6 +7,9 @@ Ten days with four workers and an operator in threads: `nagsched run` answers th
 were answered when they were made; the calls of each day are its entries and its refusals; no object is taken while its check is out,
 over a day's end neither; run numbers go on; and the board shows in the evening what a question for the status is answered, and the same in
 the morning. With one worker the first day is compared with what was worked out by hand from the rules.
+
+Four days of the loop for months, which goes over to another setup on the way: each of its generations, gone on from the state that was kept before it,
+is answered the same by `nagsched run`, and leaves the state that was kept after it.
 """
 import pathlib
 import re
@@ -189,6 +192,40 @@ def nights(held, number, told, taken):
     held.compare(f"day {number}: the night's check ends", (wanted, True), (wanted, re.fullmatch(wanted, told[0]) is not None))
 
 
+def kept_generations(text):
+    """The generations of the loop for months: each with its setup, the state that was kept after it, and its commands with their replies."""
+    setup, generations = "", []
+    for line in text.decode().splitlines():
+        entry = ENTRY.fullmatch(line)
+        if entry:
+            generations[-1][2].append((entry[1], entry[3]))
+        elif line.startswith('{"format"'):
+            generations.append((setup, line, []))
+        else:
+            setup = line
+    return generations
+
+
+def months(held):
+    """Four days of the loop for months, replayed a generation at a time."""
+    written, status = watched("loop", "4")
+    held.compare("the loop: status", 0, status)
+    generations = kept_generations(written)
+    held.compare("the loop: its setups", 2, len({setup for setup, _, _ in generations}))
+    before = None
+    for number, (setup, state, entries) in enumerate(generations):
+        commands = [command for command, _ in entries]
+        words, head = ["run"], [setup]
+        if before is not None:
+            words, head = ["run", "--resume"], [setup, before[1]]
+            if setup != before[0]:
+                words += ["--start", re.search(r"(\d+)\]$", commands[0])[1]]
+        came, status = held.run(words, lines(*head, *commands, '["save"]'))
+        wanted = lines(*(reply for _, reply in entries), f"saved {state}")
+        held.compare(f"the loop, generation {number}", (wanted, 0), (came, status))
+        before = setup, state
+
+
 def faults(held):
     """Words that are wrong, and an output that nobody reads."""
     for words in ([], ["0"], ["10001"], ["x"], ["1", "0"], ["1", "65"], ["1", "x"], ["1", "1", "1"], [b"\xff"]):
@@ -204,5 +241,6 @@ if not ROOM.is_file():
     held.end()
 many_workers(held)
 one_worker(held)
+months(held)
 faults(held)
 held.end()
