@@ -4,12 +4,22 @@ use super::devices::{FailingReader, KINDS, OnceFailingReader, ShortWriter};
 use super::with_host;
 use check_drive::drive::{Outcome, drive};
 use check_script::DriveError;
-use std::io::ErrorKind;
+use std::alloc::Global;
+use std::io::{ErrorKind, Read};
+use std::process::Abort;
 use std::test::Fail;
 
 const LINES: &str = "[\"take\",0]\n[\"take\",0]\n";
 
 const TEXT: &[u8] = b"taken 1 h\nidle none\n";
+
+/// Compares a run whose reader fails: nothing is written.
+fn reads_in_vain<R: Read>(rt: &impl Abort, alloc: Global, reader: &mut R) {
+    let mut writer = ShortWriter::new(alloc, 7);
+    let result = drive(alloc, 0, reader, &mut writer);
+    assert_eq!(rt; result, Err(DriveError::Read));
+    assert!(rt; writer.taken.is_empty());
+}
 
 #[test]
 fn readers_fail(rt: HostRuntime) -> Result<(), Fail> {
@@ -22,10 +32,7 @@ fn readers_fail(rt: HostRuntime) -> Result<(), Fail> {
                 most: 7,
                 error,
             };
-            let mut writer = ShortWriter::new(alloc, 7);
-            let result = drive(alloc, 0, &mut reader, &mut writer);
-            assert_eq!(rt; result, Err(DriveError::Read));
-            assert!(rt; writer.taken.is_empty());
+            reads_in_vain(&rt, alloc, &mut reader);
         }
     }
     Ok(())
@@ -44,10 +51,7 @@ fn readers_fail_once(rt: HostRuntime) -> Result<(), Fail> {
                 fails_at: Some(count),
                 error,
             };
-            let mut writer = ShortWriter::new(alloc, 7);
-            let result = drive(alloc, 0, &mut reader, &mut writer);
-            assert_eq!(rt; result, Err(DriveError::Read));
-            assert!(rt; writer.taken.is_empty());
+            reads_in_vain(&rt, alloc, &mut reader);
         }
     }
     Ok(())

@@ -37,25 +37,54 @@ fn conversation(alloc: Global, lines: &str) -> Result<(String, String), Fail> {
     Ok((format!(in alloc; "{HOST}\n{lines}")?, answers))
 }
 
-/// A reader that gives so many bytes a call, and a note of each call that came while an answer was out.
+/// What a reader and the writer beside it have seen of each other.
+#[derive(Drop)]
+struct Notes {
+    /// How many lines were flushed.
+    flushed: Cell<usize>,
+    /// Whether the reader was asked while an answer was out.
+    late: Cell<bool>,
+    /// How often the reader was asked.
+    asked: Cell<usize>,
+}
+
+impl Notes {
+    fn new() -> Self {
+        Notes {
+            flushed: Cell::new(0),
+            late: Cell::new(false),
+            asked: Cell::new(0),
+        }
+    }
+}
+
+/// A reader that gives so many bytes a call, and notes each call that came while an answer was out.
 #[derive(Drop)]
 struct Asker<'a> {
     rest: &'a [u8],
     most: usize,
     /// How many line feeds it gave.
     given: usize,
-    /// How many lines were flushed.
-    told: &'a Cell<usize>,
-    late: &'a Cell<bool>,
-    /// How often it was asked.
-    asked: &'a Cell<usize>,
+    notes: &'a Notes,
+}
+
+impl<'a> Asker<'a> {
+    fn new(rest: &'a [u8], most: usize, notes: &'a Notes) -> Self {
+        Asker {
+            rest,
+            most,
+            given: 0,
+            notes,
+        }
+    }
 }
 
 impl Read for Asker<'_> {
     fn read(&mut self, buf: &mut [u8]) -> io::Result<usize> {
-        self.asked.set(self.asked.get().saturating_add(1));
-        if self.told.get() < self.given.saturating_sub(1) {
-            self.late.set(true);
+        let notes = self.notes;
+        notes.asked.set(notes.asked.get().saturating_add(1));
+        if notes.flushed.get() < self.given.saturating_sub(1) {
+            notes.late.set(true);
         }
         let count = buf.len().min(self.most);
         let count = self.rest.read(&mut buf[..count])?;
@@ -68,14 +97,14 @@ impl Read for Asker<'_> {
     }
 }
 
-/// A writer that tells at each flush how many lines it has got.
+/// A writer that notes at each flush how many lines it has got.
 #[derive(Drop)]
-struct Teller<'a> {
+struct Noter<'a> {
     lines: usize,
-    told: &'a Cell<usize>,
+    notes: &'a Notes,
 }
 
-impl Write for Teller<'_> {
+impl Write for Noter<'_> {
     fn write(&mut self, buf: &[u8]) -> io::Result<usize> {
         for byte in buf {
             if *byte == b'\n' {
@@ -86,7 +115,7 @@ impl Write for Teller<'_> {
     }
 
     fn flush(&mut self) -> io::Result<()> {
-        self.told.set(self.lines);
+        self.notes.flushed.set(self.lines);
         Ok(())
     }
 }
@@ -97,22 +126,13 @@ fn answers_whatever_the_pieces(rt: HostRuntime) -> Result<(), Fail> {
     let alloc = rt.alloc();
     let (input, answers) = conversation(alloc, LINES)?;
     for most in [1, 7, 100_000] {
-        let told = Cell::new(0);
-        let late = Cell::new(false);
-        let asked = Cell::new(0);
-        let mut reader = Asker {
-            rest: input.as_bytes(),
-            most,
-            given: 0,
-            told: &told,
-            late: &late,
-            asked: &asked,
-        };
+        let notes = Notes::new();
+        let mut reader = Asker::new(input.as_bytes(), most, &notes);
         let mut writer = Vec::new(alloc);
         let ended = live(alloc, 0, &mut reader, &mut writer);
         assert_eq!(rt; ended, Ok(Outcome::Ran));
         assert!(rt; writer.as_slice() == answers.as_bytes());
-        assert_eq!(rt; asked.get(), reads_of(input.len(), most));
+        assert_eq!(rt; notes.asked.get(), reads_of(input.len(), most));
     }
     Ok(())
 }
@@ -132,25 +152,16 @@ fn flushes_before_it_asks(rt: HostRuntime) -> Result<(), Fail> {
         "[\"take\",0]\n[\"report\",\"h\",1,2]\n[\n[\"take\",1]\n",
     )?;
     for most in [1, 7, 100_000] {
-        let told = Cell::new(0);
-        let late = Cell::new(false);
-        let asked = Cell::new(0);
-        let mut reader = Asker {
-            rest: input.as_bytes(),
-            most,
-            given: 0,
-            told: &told,
-            late: &late,
-            asked: &asked,
-        };
-        let mut writer = Teller {
+        let notes = Notes::new();
+        let mut reader = Asker::new(input.as_bytes(), most, &notes);
+        let mut writer = Noter {
             lines: 0,
-            told: &told,
+            notes: &notes,
         };
         let ended = live(alloc, 0, &mut reader, &mut writer);
         assert_eq!(rt; ended, Ok(Outcome::Ran));
-        assert!(rt; !late.get());
-        assert_eq!(rt; told.get(), 4);
+        assert!(rt; !notes.late.get());
+        assert_eq!(rt; notes.flushed.get(), 4);
     }
     Ok(())
 }
