@@ -1,4 +1,4 @@
--- What the log behind a book tells.
+-- What the log behind a book says.
 use Rattle.check_book.specs.declared.book.Log.{Log}
 use Rattle.check_book.specs.BookState.{BookState}
 

@@ -169,7 +169,7 @@ impl Book {
     /// A new book that opens in the state in which this one stands, without entries and refusals, and
     /// with room for so many entries; beside it the entries of this one. What the scheduler knows goes
     /// on: standings, next times, checks that are out, the results kept, and how many runs were handed
-    /// out. The entries are moved, not copied: memory is taken for the room alone. The count of
+    /// out. The entries are moved, not copied: memory is taken for the room only. The count of
     /// refusals ends with this book, so read [`refused`](Kept::refused) before.
     ///
     /// An Err means out of memory, and hands this book back as it was.

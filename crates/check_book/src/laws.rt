@@ -83,7 +83,7 @@ pub fn board_shows_standings()
 ///
 /// The same holds where a scheduler was put down and another book was [resumed](crate::Book::resume) from
 /// what was saved of it, over the same setup, with whatever start and room (`resumed`, `resumed_state`):
-/// the state is the same but for the start, by which no call goes.
+/// the state is the same except for the start, by which no call goes.
 pub fn generations()
     ensures legal { (opened : State) → (earlier later : List (Entry Call Reply))
         → IsLegal step opened earlier → IsLegal step (replay step opened earlier) later

@@ -1,4 +1,4 @@
-//! What a book began with, for contracts alone.
+//! What a book began with, only for contracts.
 
 ghost use Rattle.std.specs.Prelude.{◌≡◌};
 ghost use Rattle.std.specs.Borrow.{ftrue};

@@ -13,9 +13,9 @@ use check_saved::{Saved, SavedObject};
 pub struct Figures {
     /// Objects of both.
     pub kept: usize,
-    /// Objects of the setup alone.
+    /// Objects that only the setup has.
     pub new: usize,
-    /// Objects of the saved state alone.
+    /// Objects that only the saved state has.
     pub dropped: usize,
     /// Runs of services that are given up, since more services are out than the setup's limit allows.
     pub given_up: usize,

@@ -44,7 +44,7 @@ pub record IsHandingOut (desk : Desk) (n : ℕ) (rest : Caller Call Reply) (ps :
 pub rest_size : (calls n count : ℕ) (rest : Caller Call Reply) → rest ≡ rest_from calls n count → length rest.numbers ≡ count
 rest_size calls n count rest e = ap (λ r. length r.numbers) e ∙ length-counted n count
 
--- the seat of one pass, split off the front of the rest
+-- the seat of one pass, split off the beginning of the rest
 pub own_is : (calls n count : ℕ) (rest : Caller Call Reply) → 1 < count → rest ≡ rest_from calls n count
     → keeping calls (length rest.numbers - 1) rest ≡ new_pass_with calls n
 own_is calls n zero rest h e = absurd (omega arith)

@@ -20,7 +20,7 @@ use Rattle.check_book.specs.contracts.book.BookKept.TheImpl.{ghosts as kept_book
 use Rattle.check_book.proofs.PublicLaws.{book_is_legal, joined_book, joined_book_state}
 use Rattle.check_desk.specs.Schedules.{IsScheduleAfter, IsScheduleFrom, IsScheduleOver}
 
--- the scheduler of a book goes through its calls alone
+-- the scheduler of a book goes only through its calls
 sched_replayed : (s : State) (room : ℕ) (es : List (Entry Call Reply)) → (replay book_step (record { sched = s; room = room }) es).sched ≡ replay step s es
 sched_replayed s room [] = refl
 sched_replayed s room (e ∷ es) = sched_replayed (step s e.call).0 room es
@@ -69,7 +69,7 @@ module _ (opened : BookState) (s : Schedule BookState Call Reply) (is : IsSchedu
   pub sched_from : s.end.book.state.sched ≡ replay step opened.sched s.end.book.entries
   sched_from = ap (λ (b : BookState). b.sched) lawful_from.replayed ∙ sched_replayed opened.sched opened.room s.end.book.entries
 
--- Where one seat stands for all numbers, the calls that it tells of are all, and one more while it has posted a call.
+-- Where one seat stands for all numbers, the calls that it counts are all, and one more while it has posted a call.
 pub taken_by_one : (s : Schedule BookState Call Reply) → IsSchedule kept_book s → (i : ℕ) (p : CoreSeat) → get_elem? s.end.seats i ≡ some p
     → length p.numbers ≡ s.numbers → calls_taken s.end.book ≡ p.calls + posted_one p.phase
 taken_by_one s is i p at stands_for_all =

@@ -67,7 +67,7 @@ impl Desk {
     ghost use Rattle.check_desk.specs.Passes.{book_in_hand, drawn_ticket, holder_of, pass_of, waiting_of};
 
     /// A desk over the book, and its passes in the order of their numbers, from 0. Each has 2^32 - 1
-    /// calls, the most that [`Desk::open_with`] gives, stands for itself alone, and has made no call
+    /// calls, the most that [`Desk::open_with`] gives, stands only for itself, and has made no call
     /// and seen nothing.
     ///
     /// An Err means out of memory, and hands the book back as it was. No other call but
@@ -90,7 +90,7 @@ impl Desk {
     /// few calls. A pass is spent when it has made them.
     ///
     /// An Err means out of memory, and hands the book back as it was. Which other calls need memory
-    /// is told at [`Desk::open`].
+    /// is said at [`Desk::open`].
     pub fn open_with(
         alloc: Global,
         book: Book,

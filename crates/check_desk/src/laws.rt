@@ -45,12 +45,12 @@ ghost use Rattle.check_desk.specs.Schedules.{IsScheduleAfter, IsScheduleFrom, Is
 ///
 /// - Each reply is the sequential scheduler's at its place (`legal`), and the scheduler is in the
 ///   state that those calls leave (`state`).
-/// - No object is taken while it runs, by the history alone (`once`), and the numbers of runs are 1,
+/// - The history shows no object taken while it runs (`once`), and the numbers of runs are 1,
 ///   2, 3 and so on (`runs`).
 /// - Each number's entries are the calls that it recorded, each once and in its order (`entries`); a
 ///   number that was never given out has none (`strangers`).
 /// - Entries and refusals together are the calls that were made (`made`); where one seat stands for
-///   all numbers, they are the calls that it tells of, and one more while it has posted a call and
+///   all numbers, they are the calls that it counts, and one more while it has posted a call and
 ///   not left (`all`).
 ///
 /// A book that was [renewed](check_book::Book::renew) goes on from those before it. Of each such book,
@@ -129,7 +129,7 @@ pub fn headline()
 ///
 /// - Each reply is the sequential scheduler's at its place, from that state on (`legal`), and the
 ///   scheduler is in the state that those calls leave (`state`).
-/// - No object is taken while it runs, by the history alone (`once`), nor while a check of it is out from
+/// - The history shows no object taken while it runs (`once`), nor while a check of it is out from
 ///   before, until that run was reported or given up (`out`). The numbers of runs go on from those that
 ///   were handed out before (`runs`).
 /// - What the schedule of the book's callers leaves is as `headline` says (`entries`, `strangers`,

@@ -1,7 +1,7 @@
 //! Passes, turns and holds: what callers have in hand.
 //!
 //! They have no bytes of their own beyond their counts. What a caller has seen, which is always a
-//! beginning of the one history, exists in contracts alone.
+//! beginning of the one history, exists only in contracts.
 
 ghost use Rattle.std.specs.Prelude.{◌≡◌, ◌+◌, ◌<◌, ◌≤◌, ◌^◌, false, length};
 ghost use Rattle.ticket_steps.specs.Sums.{times};

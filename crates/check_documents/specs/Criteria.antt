@@ -29,7 +29,7 @@ criteria_in text = record {
   none = has_letter (codes "n") text;
 }
 
--- what a text says, whether it has these letters alone or not
+-- what a text says, whether it has only these letters or not
 abbrev pub found_in : List (List ℕ) → List ℕ → Found
 found_in letters text = record { known = are_letters letters text; criteria = criteria_in text }
 
@@ -48,6 +48,6 @@ with_piece letters found piece = record {
   };
 }
 
--- the criteria of a text that has these letters alone
+-- the criteria of a text that has only these letters
 unfoldable pub criteria_of : List (List ℕ) → List ℕ → Option Criteria
 criteria_of letters text = if are_letters letters text then Some (criteria_in text) else None

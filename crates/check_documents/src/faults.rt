@@ -12,8 +12,8 @@ use serde_json::Value;
 
 /// The fault of the document with this tree, which was refused by this.
 ///
-/// Of a refusal that the document doesn't have the place is the one that is given, and what is told
-/// besides says nothing.
+/// Of a refusal that the document doesn't have the place is the one that is given, and what is said
+/// besides has no meaning.
 pub fn fault_of(tree: &Value, refusal: LoadError) -> Fault
     ensures { seen result ≡ fault_of (view tree.now) refusal }
 {

@@ -1,7 +1,7 @@
 //! A setup document: from its bytes to a tree, and from the tree to drafts.
 //!
 //! [`read_tree`] refuses what is no JSON, [`read_drafts`] what hasn't the right shape. What else is
-//! wrong with drafts is told by `check_faults`. [`fault_of`] adds to a refusal which member or which
+//! wrong with drafts `check_faults` reports. [`fault_of`] adds to a refusal which member or which
 //! count of the document is at fault.
 #![tactic(auto)]
 

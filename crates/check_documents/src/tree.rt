@@ -14,7 +14,7 @@ use serde_json::{Map, Value};
 use std::alloc::Global;
 
 /// The tree that `serde_json` reads from the bytes. `NotJson` where it gives no reading, and `Memory`
-/// where that is for want of memory.
+/// where that is because memory was refused.
 pub fn read_tree(alloc: Global, bytes: &[u8]) -> Result<Value, LoadError>
     ensures { Gives view result (ok_or (tree_of bytes.now) LoadError.NotJson) }
 {

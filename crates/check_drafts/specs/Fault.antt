@@ -41,7 +41,7 @@ pub data Fault : Type 0 where
   parent_cycle : Fault
   memory : Fault
 
--- the refusal without what is told besides
+-- the refusal without what is said besides
 abbrev pub load_error : Fault → LoadError
 load_error too_long = errors.TooLong
 load_error not_json = errors.NotJson

@@ -7,7 +7,7 @@ use std::alloc::{AllocError, AllocFailed};
 
 /// Why a setup was not read. `TooLong` is tested first; then each test covers the whole document
 /// before the next begins, in the order of these variants, and the fault of the first place is
-/// told. Nothing is made of a document that is refused. The refusals are our own profile.
+/// reported. Nothing is made of a document that is refused. The refusals are our own profile.
 #[derive(Clone, Copy, Debug, PartialEq, Eq)]
 pub enum LoadError {
     /// More than 16,777,216 bytes. Tested first, and without any need of memory.
@@ -23,7 +23,7 @@ pub enum LoadError {
     /// a byte below 32 or the byte 127 in it.
     BadName(Place),
     /// A host with the name of an earlier one, or a service with the host and the description of an
-    /// earlier one. The later one is told.
+    /// earlier one. The later one is reported.
     Duplicate(Place),
     /// A host with a parent that isn't there, or a service whose host isn't there.
     UnknownHost(Place),

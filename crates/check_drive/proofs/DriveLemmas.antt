@@ -38,7 +38,7 @@ use Rattle.check_drive.specs.Written.{LeftOfText}
 use Rattle.check_drive.proofs.WrittenLemmas.{Keeps-same, text_clauses}
 use Rattle.check_drive.specs.Drive.{AfterFaultOf, Drove, HasRead, IsInput, outcome_by, outcome_of, resumed_outcome_of, run_outcome, run_text}
 
--- what says the same of all that is longer than `most` says of a longer front what it says of the whole
+-- what says the same of all that is longer than `most` says of a longer prefix what it says of the whole
 front_tells_by : {A : Type 0} (says : List ℕ → A) (most kept : ℕ) (long : A) → most < kept
     → ((bytes : List ℕ) → most < length bytes → says bytes ≡ long)
     → (bytes : List ℕ) → (most < length bytes) ⊎ (length bytes ≤ most) → says (take kept bytes) ≡ says bytes
@@ -188,7 +188,7 @@ pub input_of-is : (had : Option (List ℕ)) (read : List ℕ) → IsInput had (i
 input_of-is None read = tt
 input_of-is (Some bytes) read = refl
 
--- what is cut off past the limit tells nothing of the text, or of the outcome
+-- what is cut off past the limit says nothing of the text, or of the outcome
 pub input_of-says : {A : Type 0} (says : List ℕ → A) → IsOfRead says → (had : Option (List ℕ)) (read : List ℕ)
     → IfSome had (λ bytes. read ≡ take MAX_READ_BYTES bytes) → says read ≡ says (input_of had read)
 input_of-says says cut None read all = refl

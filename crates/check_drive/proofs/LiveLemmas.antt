@@ -133,14 +133,14 @@ leaves_before e held mid holds text k f = leaves_on e held mid holds [] text tex
 pub leaves_kept : (e : DriveError) (held holds : Option (List ℕ)) (text : List ℕ) → Keeps held holds → LeavesText e held holds text
 leaves_kept e held holds text k = leaves_before e held holds holds text k (leaves_none e holds text)
 
--- a front of a text, and nothing where there was no memory
+-- a prefix of a text, and nothing where there was no memory
 pub leaves_by : (e : DriveError) (held holds : Option (List ℕ)) (text : List ℕ) → WroteFront held holds text → (e ≡ errors.Memory → Keeps held holds)
     → LeavesText e held holds text
 leaves_by errors.Read held holds text f none = f
 leaves_by errors.Write held holds text f none = f
 leaves_by errors.Memory held holds text f none = leaves_kept errors.Memory held holds text (none refl)
 
--- of a line that is told otherwise
+-- of a line of which another fault is reported
 pub leaves_line : {T : Type 0} (r : Result T DriveError) (held holds : Option (List ℕ)) (line other : List ℕ) → line ≡ other
     → IsLineWritten r held holds line → IfErr r (λ e. LeavesText e held holds other)
 leaves_line (Ok x) held holds line other same h = tt
@@ -237,7 +237,7 @@ taken_more opened hand rest part given taken e feed behind =
 
 -- Where a conversation stands that began at this state with these bytes at hand: the bytes that were given, the whole lines that
 -- were written, and that the text goes on from here as it goes on from the beginning, whatever comes later.
--- Those bytes are whole lines from the front of what was at hand and was given, with their answers and the state behind them.
+-- Those bytes are whole lines from the beginning of what was at hand and was given, with their answers and the state behind them.
 pub record Talked (begins : ℕ) (first : State) (opened : List ℕ) (had left held holds : Option (List ℕ)) (number : ℕ) (s : State) (hand : List ℕ) : Type 0 where
   pub given : List ℕ
   pub front : List ℕ

@@ -12,7 +12,7 @@ pub Keeps-same : (known : Option (List ℕ)) → Keeps known known
 Keeps-same None = tt
 Keeps-same (Some xs) = refl
 
--- where the writer was left as it was, a front without a byte was written
+-- where the writer was left as it was, a prefix without a byte was written
 pub kept_front : (old new : Option (List ℕ)) (text : List ℕ) → Keeps old new → WroteFront old new text
 kept_front old new text kept = (text, record { front = []; parts = refl; appended = Appends-Keeps old old new [] (Appends-none old) kept })
 

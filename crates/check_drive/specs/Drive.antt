@@ -32,7 +32,7 @@ abbrev pub HasRead : Option (List ℕ) → Option (List ℕ) → List ℕ → Ty
 HasRead had left input = Consumes had left (take MAX_READ_BYTES input)
 
 -- What an error leaves of a run that writes such a text on an input, by what the reader had and has left and what the writer held
--- and holds. After a fault of the reader nothing was written. After any other error a front of the text was,
+-- and holds. After a fault of the reader nothing was written. After any other error a prefix of the text was,
 -- and nothing at all where the input was read neither to its end nor to the limit.
 abbrev pub AfterFaultOf : (List ℕ → List ℕ) → DriveError → Option (List ℕ) → Option (List ℕ) → Option (List ℕ) → Option (List ℕ) → Type 0
 AfterFaultOf says errors.Read had left held holds = Keeps held holds
@@ -52,7 +52,7 @@ abbrev pub IsInput : Option (List ℕ) → List ℕ → Type 0
 IsInput had input = IfSome had (λ bytes. input ≡ bytes)
 
 -- Whatever is known of reader and writer, a run that ended so is that of one input: it ran or refused that input and wrote
--- its text, or after an error a front of it.
+-- its text, or after an error a prefix of it.
 pub record IsRunOf (outcomes : List ℕ → Outcome) (says : List ℕ → List ℕ) (ended : Result Outcome DriveError) (had held holds : Option (List ℕ)) : Type 0 where
   pub input : List ℕ
   pub is_input : IsInput had input

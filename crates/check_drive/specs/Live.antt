@@ -32,7 +32,7 @@ use Rattle.check_drive.specs.Drive.{IsInput, outcome_by}
 abbrev pub AreWholeLines : List ℕ → Type 0
 AreWholeLines bytes = (bytes ≡ []) ⊎ ((xs : List ℕ) × (bytes ≡ xs ++ 10 ∷ []))
 
--- the writer took whole lines from the front of the text, and no more
+-- the writer took whole lines from the beginning of the text, and no more
 pub record WroteLines (old new : Option (List ℕ)) (text : List ℕ) : Type 0 where
   pub front : List ℕ
   pub rest : List ℕ
@@ -40,12 +40,12 @@ pub record WroteLines (old new : Option (List ℕ)) (text : List ℕ) : Type 0 w
   pub appended : Appends old new front
   pub whole : AreWholeLines front
 
--- What an error leaves of a text: a front of it was written, and whole lines of it where there was no memory.
+-- What an error leaves of a text: a prefix of it was written, and whole lines of it where there was no memory.
 abbrev pub LeavesText : DriveError → Option (List ℕ) → Option (List ℕ) → List ℕ → Type 0
 LeavesText errors.Memory held holds text = WroteLines held holds text
 LeavesText e held holds text = WroteFront held holds text
 
--- So many lines were answered, of which the first has the number `begins`, each from its beginning to its line feed: the front of
+-- So many lines were answered, of which the first has the number `begins`, each from its beginning to its line feed: the beginning of
 -- what was at hand and was given then.
 pub record AnsweredLines (count begins : ℕ) (first : State) (hand : List ℕ) (had left held holds : Option (List ℕ)) : Type 0 where
   pub given : List ℕ
@@ -76,7 +76,7 @@ AfterAll had left e = IsSpent e → GaveMany (2 ^ 64 - 3) had left
 abbrev pub live_outcome : List ℕ → Outcome
 live_outcome input = outcome_by (in_setup (setup_of (first_line_of input)))
 
--- What was read: the input to its end, or of one whose setup is refused no more than tells it.
+-- What was read: the input to its end, or of one whose setup is refused no more than shows it.
 abbrev pub ReadBy : Result Configuration LoadError → Option (List ℕ) → Option (List ℕ) → List ℕ → Type 0
 ReadBy (Ok c) had left input = Consumes had left input
 ReadBy (Err e) had left input = (given : List ℕ) × Consumes had left given × StopsSoon KEPT_SETUP_BYTES given
@@ -85,7 +85,7 @@ abbrev pub HasReadLive : Option (List ℕ) → Option (List ℕ) → List ℕ �
 HasReadLive had left input = ReadBy (setup_of (first_line_of input)) had left input
 
 -- Whatever is known of reader and writer, a conversation that ended so is that of one input: it answered that input's lines or
--- refused its setup and wrote its text, or after an error a front of it.
+-- refused its setup and wrote its text, or after an error a prefix of it.
 pub record IsLiveOf (outcomes : List ℕ → Outcome) (says : List ℕ → List ℕ) (reads : Option (List ℕ) → Option (List ℕ) → List ℕ → Type 0)
     (ended : Result Outcome DriveError) (had left held holds : Option (List ℕ)) : Type 0 where
   pub input : List ℕ
@@ -109,12 +109,12 @@ saved_in bytes = in_saved (saved_of_text (first_line_of bytes))
 abbrev pub live_resumed_outcome : List ℕ → Outcome
 live_resumed_outcome input = outcome_by (in_setup (setup_of (first_line_of input)) >>= λ c. saved_in (behind_line input))
 
--- what was read behind a setup: all, or a front of it where what was saved is refused
+-- what was read behind a setup: all, or a prefix of it where what was saved is refused
 abbrev pub ReadBehind : Result Saved InputRefusal → Option (List ℕ) → Option (List ℕ) → List ℕ → Type 0
 ReadBehind (Ok saved) had left input = Consumes had left input
 ReadBehind (Err e) had left input = (given : List ℕ) × Consumes had left given
 
--- What was read: the input to its end; where the setup is refused no more of it than that takes, and where the saved state is refused a front.
+-- What was read: the input to its end; where the setup is refused no more of it than that takes, and where the saved state is refused a prefix.
 abbrev pub ReadResumedBy : Result Configuration LoadError → Option (List ℕ) → Option (List ℕ) → List ℕ → Type 0
 ReadResumedBy (Ok c) had left input = ReadBehind (saved_in (behind_line input)) had left input
 ReadResumedBy (Err e) had left input = (given : List ℕ) × Consumes had left given × StopsSoon KEPT_SETUP_BYTES given
@@ -168,7 +168,7 @@ LaterReads (beginning.Opened start) bytes = Consumes
 LaterReads (beginning.Saved start) bytes = ReadBehind (saved_in bytes)
 
 -- How a conversation ended behind a setup, with these bytes at hand: some came, and no more where none may follow; by all of them together it
--- answered lines, or refused what was saved, and wrote its text, or after an error a front of it.
+-- answered lines, or refused what was saved, and wrote its text, or after an error a prefix of it.
 pub record WentOn (begins : Beginning) (c : Configuration) (may_follow : Bool) (hand : List ℕ) (ended : Result Outcome LiveError)
     (had left held holds : Option (List ℕ)) : Type 0 where
   pub coming : List ℕ
@@ -180,7 +180,7 @@ pub record WentOn (begins : Beginning) (c : Configuration) (may_follow : Bool) (
   pub front : IfErr ended (λ e. LeavesText (told e) held holds (later_text begins c (hand ++ coming)))
 
 -- How the answering of lines ended, of which the first has the number `begins`, with these bytes at hand: some came, and as the lines of all of
--- them together are answered its text was written, or after an error a front of it.
+-- them together are answered its text was written, or after an error a prefix of it.
 abbrev pub TalkEnded : {T : Type 0} → ℕ → State → List ℕ → Option (List ℕ) → Option (List ℕ) → Option (List ℕ) → Option (List ℕ) → Result T LiveError → Type 0
 TalkEnded begins first opened had left held holds ended =
     (coming : List ℕ) × IsInput had coming × OnOk ended (Consumes had left coming)

@@ -5,7 +5,7 @@ use Rattle.check_script.specs.declared.drive_error.DriveError.{DriveError}
 use Rattle.check_script.specs.declared.drive_error.DriveError.TheVariants as errors
 use Rattle.check_text.specs.Output.{WroteFront, WroteShort}
 
--- What an error leaves of a line: after a fault of the writer a front of it, and out of memory nothing. It is no fault of a reader.
+-- What an error leaves of a line: after a fault of the writer a prefix of it, and out of memory nothing. It is no fault of a reader.
 abbrev pub LeftOfLine : DriveError → Option (List ℕ) → Option (List ℕ) → List ℕ → Type 0
 LeftOfLine errors.Read old new line = ⊥
 LeftOfLine errors.Write old new line = WroteFront old new line

@@ -34,7 +34,7 @@ pub enum Outcome {
 /// The input is read whole, but no more than 67,108,865 bytes of it. Any error of the reader or the
 /// writer, an interruption among them, and a write that takes no byte, ends the run: `Read` comes
 /// where the reader fails, and nothing was written then; `Write` where the writer or its flush fails,
-/// and `Memory` where there is no memory, and a front of the text was written then, which is empty
+/// and `Memory` where there is no memory, and a prefix of the text was written then, which is empty
 /// where the input wasn't read, and after `Memory` never is the whole of a text that has a line.
 pub fn drive<R: Read, W: Write>(
     alloc: Global,

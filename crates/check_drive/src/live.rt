@@ -44,7 +44,7 @@ use std::io::{Read, Write};
 /// Any error of the reader or the writer, an interruption among them, and a write that takes no byte,
 /// ends the conversation: `Read` comes where the reader fails, or after 2^64 lines or reads, `Write`
 /// where the writer or its flush fails, and `Memory` where there is no memory, which a save may want
-/// too. A front of the text was written then, after `Memory` whole lines of it.
+/// too. A prefix of the text was written then, after `Memory` whole lines of it.
 pub fn live<R: Read, W: Write>(
     alloc: Global,
     start: u64,
@@ -276,7 +276,7 @@ impl Talk {
         Err(LiveError::LinesSpent)
     }
 
-    /// Takes the next line, which has this number, and writes its answer; tells whether lines may
+    /// Takes the next line, which has this number, and writes its answer; returns whether lines may
     /// follow. Where a whole line is at hand the reader stays as it was. Where there is no memory the
     /// scheduler stays as it was, and nothing is written.
     fn answer_next<R: Read, W: Write>(

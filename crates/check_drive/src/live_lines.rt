@@ -10,8 +10,8 @@ use check_script::{InputBuffer, KeptLine, LiveError};
 use check_text::flush;
 use std::io::{Read, Write};
 
-/// Takes the next line, and tells whether its line feed came: where it didn't, the input has ended.
-/// Where a whole line is at hand the reader isn't asked, and memory alone may be wanting. `ReadsSpent` comes
+/// Takes the next line, and returns whether its line feed came: where it didn't, the input has ended.
+/// Where a whole line is at hand the reader isn't asked, and only memory may be refused. `ReadsSpent` comes
 /// only where 2^64 - 1 reads each gave something of the line.
 pub fn take_next_line<R: Read, W: Write>(
     at_hand: &mut InputBuffer,
@@ -63,7 +63,7 @@ fn take_rest<R: Read, W: Write>(
     Err(LiveError::ReadsSpent)
 }
 
-/// Asks the reader for more, where nothing is at hand, and tells whether it gave any. What was
+/// Asks the reader for more, where nothing is at hand, and returns whether it gave any. What was
 /// written goes out before.
 fn ask<R: Read, W: Write>(
     at_hand: &mut InputBuffer,

@@ -46,7 +46,7 @@ shallow_tree bytes d e = depth-read bytes d (read_by (is_utf8 bytes) (read bytes
 
 -- ---- why there is no line
 
--- a document that is refused is told by its fault
+-- of a document that is refused the fault is returned
 pub refused_is_told : (r : Option Fault) (setup : Result Configuration Fault) → Fails r setup → IsTold r setup
 refused_is_told None setup h = tt
 refused_is_told (Some e) setup h = rw h refl

@@ -1,4 +1,4 @@
--- A good document has whole numbers alone: each member of each object is read, and where a number is read it is a whole one.
+-- A good document has only whole numbers: each member of each object is read, and where a number is read it is a whole one.
 use Rattle.std.proofs.Common.{◌≡◌, ℕ, ◌+◌, List, [], ◌∷◌, Option, Some, None, Bool, true, false, cond, ◌||◌, bytes_eq, Ok, refl, sym, ap, ◌∙◌, subst}
 use Rattle.std.specs.Prelude.{codes, ok_or, option_and_then, ℤ, Float}
 use Rattle.std.proofs.lemmas.Bool.{and_parts, or_parts}
@@ -31,7 +31,7 @@ use Rattle.check_explain.proofs.LineLemmas.{setup_by_tree, short_document}
 
 -- ---- members by name
 
--- a value, where there is one, has whole numbers alone
+-- a value, where there is one, has only whole numbers
 abbrev IsWhole : Option Data → Type 0
 IsWhole None = Unit {0}
 IsWhole (Some d) = has_other_number d ≡ false
@@ -59,7 +59,7 @@ members_whole names (member l d ms) s only each =
     (λ k e among h. each k e among (found_behind k l d e ms s.0 h)) in
     rw (first, rest) refl
 
--- an object that has only members of these names, each of them with whole numbers alone
+-- an object that has only members of these names, each of them with only whole numbers
 object_whole : (names : List (List ℕ)) (d : Data) → IsSorted d → has_only names d ≡ true → AreWhole names d → has_other_number d ≡ false
 object_whole names null s only each = refl
 object_whole names (boolean b) s only each = refl
@@ -70,7 +70,7 @@ object_whole names (object ms) s only each = members_whole names ms s only (λ k
 
 -- ---- single values
 
--- what is read of whole numbers, texts and switches alone
+-- what is read of only whole numbers, texts and switches
 read_whole : {A : Type 0} (parse : Data → Option A) → ((z : ℤ) → parse (number (negative z)) ≡ None) → ((x : Float) → parse (number (float x)) ≡ None)
     → ((ds : Items) → parse (array ds) ≡ None) → ((ms : Members) → parse (object ms) ≡ None) → (d : Data) (a : A) → parse d ≡ Some a → has_other_number d ≡ false
 read_whole parse sign point list members null a e = refl

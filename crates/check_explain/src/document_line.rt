@@ -16,7 +16,7 @@ use std::alloc::Global;
 /// Writes a setup document, which may stand over many lines, in JSON's compact form, without a line
 /// feed in it or at its end. What is written is read to the same setup.
 ///
-/// A document that is refused is told by its fault, as `Setup::examine` gives it. One whose compact
+/// Of a document that is refused the fault is returned, as `Setup::examine` gives it. One whose compact
 /// form has more than 16,777,216 bytes is `TooLong`. `Memory` may come in place of any other answer.
 pub fn write_line(alloc: Global, document: &[u8]) -> Result<Vec<u8>, Fault>
     ensures same { IfOk result (λ line. setup_of line.items ≡ setup_of document.now) }

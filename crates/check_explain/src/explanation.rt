@@ -26,7 +26,7 @@ use std::alloc::{AllocError, Global};
 /// Why a setup document was refused, in one line of plain words without a line feed: the place, the
 /// name that stands there, the member or the name that is at fault, and what is wrong with it.
 ///
-/// The fault is the one that `Setup::examine` gave for the document; but for a cycle nothing is looked
+/// The fault is the one that `Setup::examine` gave for the document; except for a cycle nothing is looked
 /// for again. The line begins with the fault's place, and names its member (`begins`). Of a fault that
 /// has no place the whole line is known (`whole`): how much there is and how much there can be, or the
 /// objects of a cycle, each linked to the next one and the last to the first; where no cycle is found, it

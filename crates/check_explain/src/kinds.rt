@@ -1,4 +1,4 @@
-//! How a kind of members and a value are told.
+//! How a kind of members and a value are written.
 
 use crate::line::Line;
 use check_drafts::Kind;

@@ -1,4 +1,4 @@
-//! How a place of a document is told: by its part, its index and the name that stands there.
+//! How a place of a document is written: by its part, its index and the name that stands there.
 ghost use Rattle.std.specs.Prelude.{◌≡◌, ◌++◌, OnOk, option_and_then, option_map};
 ghost use Rattle.serde_json.specs.View.{view};
 ghost use Rattle.check_drafts.specs.declared.place.Part.TheVariants as part;

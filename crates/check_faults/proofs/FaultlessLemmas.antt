@@ -152,7 +152,7 @@ names_are : (o : Option ℕ) (fault : ℕ → LoadError) (names others : List (L
 names_are None fault names others e = let same : names ≡ others = cc in same
 names_are (Some i) fault names others e = cc
 
--- the tests but for the ends of dependencies: those after the repeats, after the names and after the counts
+-- the tests except for the ends of dependencies: those after the repeats, after the names and after the counts
 abbrev pub links_but_ends : Drafts → List (List ℕ) → Result (Unit {0}) LoadError
 links_but_ends ds names = known_parents names ds.hosts >>= λ _. (known_hosts names ds.services >>= λ _. ranges_behind_ends names ds)
 
@@ -162,7 +162,7 @@ repeats_but_ends ds names = no_repeated_services ds.services >>= λ _. links_but
 abbrev pub names_but_ends : Drafts → Unit {0} → Result (Unit {0}) LoadError
 names_but_ends ds u = good_names ds.hosts ds.services >>= λ _. (host_names ds.hosts >>= repeats_but_ends ds)
 
--- a document is without a fault where it is but for the ends of dependencies, and these are there
+-- a document is without a fault where it is except for the ends of dependencies, and these are there
 pub ends_asked_last : (ds : Drafts) → is_faultless ds ≡ (is_faultless_but_ends ds >>= λ _. both_ends ds (names_of ds.hosts))
 unfolding is_faultless is_faultless_but_ends
 ends_asked_last ds =
@@ -175,11 +175,11 @@ ends_asked_last ds =
     ∙ ap (λ ns. links_but_ends ds names >>= λ _. both_ends ds ns)
     (sym (names_are (first_repeat bytes_eq (names_of ds.hosts)) (λ i. errors.Duplicate (host_at i)) (names_of ds.hosts) names g))))))
 
--- what is refused but for the ends of dependencies is refused
+-- what is refused except for the ends of dependencies is refused
 pub refused_but_ends : (ds : Drafts) (e : LoadError) → is_faultless_but_ends ds ≡ Err e → is_faultless ds ≡ Err e
 refused_but_ends ds e refused = ends_asked_last ds ∙ ap (λ r. r >>= λ _. both_ends ds (names_of ds.hosts)) refused
 
--- where all is well but for the ends of dependencies, these alone are left to ask
+-- where all is well except for the ends of dependencies, only these are left to ask
 pub ends_are_left : (ds : Drafts) → is_faultless_but_ends ds ≡ Ok tt → is_faultless ds ≡ both_ends ds (names_of ds.hosts)
 ends_are_left ds well = ends_asked_last ds ∙ ap (λ r. r >>= λ _. both_ends ds (names_of ds.hosts)) well
 
@@ -204,7 +204,7 @@ ranges_alone ends (Ok u) e = e
 ranges_alone (Ok v) (Err d) e = cc
 ranges_alone (Err c) (Err d) e = cc
 
--- where all is well but for the ends of dependencies, it is well without the dependencies
+-- where all is well except for the ends of dependencies, it is well without the dependencies
 pub faultless_alone : (ds : Drafts) → is_faultless_but_ends ds ≡ Ok tt → is_faultless (without_dependencies ds) ≡ Ok tt
 unfolding is_faultless_but_ends
 faultless_alone ds well =

@@ -51,11 +51,11 @@ good_names hosts services = good_host_names hosts >>= λ _. good_descriptions se
 
 -- ---- repeats
 
--- the names of the hosts, if every one stands once; else the first that stood before is told
+-- the names of the hosts, if each occurs once; else the first that occurred before
 abbrev pub host_names : List HostDraft → Result (List (List ℕ)) LoadError
 host_names hosts = refused_at (λ i. errors.Duplicate (host_at i)) (first_repeat bytes_eq (names_of hosts)) >>= λ _. Ok (names_of hosts)
 
--- every service stands once; else the first that stood before is told
+-- every service occurs once; else the first that occurred before
 abbrev pub no_repeated_services : List ServiceDraft → Result (Unit {0}) LoadError
 no_repeated_services services = refused_at (λ i. errors.Duplicate (service_at i)) (first_repeat same_key (map key_of services))
 
@@ -152,7 +152,7 @@ abbrev pub behind : Result (Unit {0}) LoadError → Result (Unit {0}) LoadError 
 behind earlier (Ok u) = Ok u
 behind earlier (Err e) = earlier >>= λ _. Err e
 
--- the first number beyond its limits, if there is one; an unknown end of a dependency is told before it
+-- the first number beyond its limits, if there is one; an unknown end of a dependency comes before it
 abbrev pub ranges_behind_ends : List (List ℕ) → Drafts → Result (Unit {0}) LoadError
 ranges_behind_ends names drafts =
     behind (known_dependencies (full_names drafts.services) names drafts) (good_ranges drafts.options drafts.hosts drafts.services)
@@ -165,7 +165,7 @@ faultless_behind_names names drafts =
     (known_hosts names drafts.services >>= λ _.
     ranges_behind_ends names drafts))
 
--- The first refusal after the shape, if there is one that isn't of an unknown end alone: where nothing else is at fault, the
+-- The first refusal after the shape, if there is one that isn't only of an unknown end: where nothing else is at fault, the
 -- ends of dependencies are asked when they are numbered.
 unfoldable pub is_faultless_but_ends : Drafts → Result (Unit {0}) LoadError
 is_faultless_but_ends drafts =

@@ -1,4 +1,4 @@
-//! What is wrong with the drafts of a setup document, but for dependencies on what isn't there and
+//! What is wrong with the drafts of a setup document, except for dependencies on what isn't there and
 //! for cycles: [`verify_but_ends`].
 #![tactic(auto)]
 

@@ -1,5 +1,5 @@
 //! Verifying drafts (manual: "Verifying Your Configuration"): counts, names, repeats, links, limits.
-//! Each of these covers all drafts before the next begins, and tells the first place of a fault.
+//! Each of these covers all drafts before the next begins, and returns the first place of a fault.
 ghost use Rattle.std.specs.Prelude.{◌≡◌, ◌≤◌, ◌+◌, ◌&&◌, ℕ, List, string_bytes, IfOk, IsOkUnless, map, length, not, position, IfNone, OnOk, IsTrue, All};
 ghost use Rattle.std.specs.List.{list_all};
 ghost use Rattle.check_drafts.specs.LoadError.{Gives};
@@ -26,11 +26,11 @@ use indexmap::IndexSet;
 use serde_json::Value;
 use std::alloc::Global;
 
-/// Whether drafts are without a fault but for the ends of dependencies, or the first one after the
+/// Whether drafts are without a fault except for the ends of dependencies, or the first one after the
 /// shape, in the order of [`LoadError`]. `Memory` may come in place of either.
 ///
-/// An unknown end is told here only where a number is beyond its limits too, since it comes before
-/// that. Where nothing is told, whoever numbers the dependencies looks their ends up.
+/// An unknown end is reported here only where a number is beyond its limits too, since it comes before
+/// that. Where nothing is reported, whoever numbers the dependencies looks their ends up.
 #[tactic(auto, unfolding(crate::specs::Verification::is_faultless_but_ends))]
 pub fn verify_but_ends(alloc: Global, drafts: &Drafts<'_>) -> Result<(), LoadError>
     ensures exact { Gives (λ u. u) result (is_faultless_but_ends (drafts_view drafts.now)) }
@@ -316,7 +316,7 @@ fn unknown_end(dependencies: &[DependencyDraft<'_>], names: &IndexSet<&str>) -> 
 // ---- limits
 
 /// Whether all numbers are within their limits; where one isn't, an unknown end of a dependency is
-/// told before it.
+/// reported before it.
 fn verify_ranges_behind_ends(
     alloc: Global,
     drafts: &Drafts<'_>,

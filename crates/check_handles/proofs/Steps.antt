@@ -13,7 +13,7 @@ use Rattle.check_handles.specs.declared.stage.Step.{Step}
 use Rattle.check_handles.specs.declared.stage.Step.TheVariants as tried
 use Rattle.check_handles.specs.Tries.{HasAdvanced, HasBegun, HasLooked, HasTurn, MayGoOn}
 
--- one that has drawn a ticket looks, and isn't told that its calls are spent
+-- one that has drawn a ticket looks, and isn't answered that its calls are spent
 pub begun : (desk : Desk) (call : Call) (pass : Pass) (turn : Turn) (made : Step) (after : Stage) → (pass_of pass).left ≢ 0
     → waiting_of turn ≡ drawn (pass_of pass) → HasLooked desk call turn made after → HasBegun desk call pass made after
 begun desk call pass turn (tried.Replied reply) after left is looked = (left, (turn, is, looked))

@@ -37,7 +37,7 @@ abbrev pub IsNewAtRest : ℕ → ℕ → Stage → Type 0
 IsNewAtRest calls number (stage.Resting pass) = pass_of pass ≡ new_pass_with calls number
 IsNewAtRest calls number other = ⊥
 
--- a pass of this desk that stands for itself alone, and has made no call and seen nothing
+-- a pass of this desk that stands only for itself, and has made no call and seen nothing
 pub record IsFreshPassOf (desk : Desk) (pass : Pass) : Type 0 where
   pub own : IsPassOf desk pass
   pub alone : length (pass_of pass).numbers ≡ 1

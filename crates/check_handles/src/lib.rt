@@ -3,7 +3,7 @@
 //!
 //! A handle leads to a setup, a pass of a desk, a book or an old history. What is in it is taken out,
 //! gone on with, and put back. No status and no struct of C's is here: whoever exports a function says
-//! what C is told.
+//! what C is handed.
 //!
 //! The modules: `handle` has the handle, `raw` and `unboxed` the address in it, `lodged` what it leads to,
 //! `shared`, `desk_pass` and `stage` a pass of a desk. `reading` makes a setup, `opening` the passes of a

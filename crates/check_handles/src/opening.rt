@@ -274,8 +274,8 @@ fn gather_all(desk: &Desk, passes: Vec<Pass>) -> Pass
     whole
 }
 
-/// Gives each handle a pass: the first handle the first pass. Each has so many calls, which is for the
-/// proof alone.
+/// Gives each handle a pass: the first handle the first pass. Each has so many calls, which only the
+/// proof reads.
 fn hand_out(
     shared: &Arc<Shared, Global>,
     calls: u32,

@@ -66,7 +66,7 @@ fn hindrance(stage: &Stage, call: Call) -> Option<Step>
 }
 
 /// Takes the turn out of the stage by which the pass goes on: the one that waits, or a new one, by
-/// one of the calls of its pass. The call is there for the proof alone: that one may go on by it.
+/// one of the calls of its pass. The call is there only for the proof: that one may go on by it.
 fn take_turn(desk: &Desk, stage: &mut Stage, call: Call) -> Turn
     requires own { IsStageOf desk.now stage.old }
     requires free { MayGoOn call stage.old }

@@ -17,7 +17,7 @@ sorted_host e = (e.0.now, (e.1.0, map text e.1.1.now))
 abbrev pub sorted_service : (Bor (List ℕ) × Bor (List ℕ)) × Object → (List ℕ × List ℕ) × Object
 sorted_service e = ((e.0.0.now, e.0.1.now), e.1)
 
--- what stands behind the first semicolon of a full name: the code keeps a service's description there alone
+-- what stands behind the first semicolon of a full name: the code keeps a service's description only there
 abbrev pub description_in : List ℕ → List ℕ
 description_in [] = []
 description_in (b ∷ name) = if b == 59 then name else description_in name

@@ -59,7 +59,7 @@ pub fn list_dependencies(
 }
 
 /// Adds each dependency by the numbers of its dependent and its master among these objects, which
-/// stand behind so many others; or tells the first one with an end that isn't among them.
+/// stand behind so many others; or returns the first one with an end that isn't among them.
 fn number_dependencies<T>(
     numbered: &mut Vec<(u32, Dependency)>,
     part: Part,

@@ -70,7 +70,7 @@ module _ (ds : Drafts) (e : is_faultless ds ≡ Ok tt) (hosts : List (String Glo
       let of_hosts = same_ends part.HostDependencies (names_in hosts) (names_of ds.hosts) drafts.host_dependencies host_known in
       λ i. of_services i >>= λ _. of_hosts i
 
--- where all is well but for the ends of dependencies, these are asked of the maps
+-- where all is well except for the ends of dependencies, these are asked of the maps
 pub ends_are_asked : (ds : Drafts) → is_faultless_but_ends ds ≡ Ok tt → (hosts : List (String Global × Host)) (services : List (String Global × Service))
     → map host_entry hosts ≡ (configuration ds).hosts → map service_entry services ≡ (configuration ds).services
     → is_faultless ds ≡ known_dependencies (names_in services) (names_in hosts) ds

@@ -28,7 +28,7 @@ no_parent_cycle hosts = if has_cycle (map (λ h. h.parents) hosts) then Err erro
 abbrev pub without_parent_cycle : Configuration → Result Configuration LoadError
 without_parent_cycle c = if has_cycle (parents_by_host c) then Err errors.ParentCycle else Ok c
 
--- The setup, unless it has a cycle. One of dependencies is told before one of parents.
+-- The setup, unless it has a cycle. One of dependencies is reported before one of parents.
 abbrev pub without_cycles : Configuration → Result Configuration LoadError
 without_cycles c = without_dependency_cycle c >>= without_parent_cycle
 
@@ -44,7 +44,7 @@ setup_of_tree d = drafts_of d >>= setup_of_drafts
 unfoldable pub setup_of : List ℕ → Result Configuration LoadError
 setup_of bytes = if nat_lt 16777216 (length bytes) then Err errors.TooLong else (ok_or (tree_of bytes) errors.NotJson >>= setup_of_tree)
 
--- ---- with what is told besides
+-- ---- with what is said besides
 
 -- a result with a fault in place of its refusal
 abbrev pub or_fault : {A : Type 0} → (LoadError → Fault) → Result A LoadError → Result A Fault

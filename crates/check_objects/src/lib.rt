@@ -2,8 +2,8 @@
 //! numbers, and the links between them.
 //!
 //! A setup is read from one JSON document, whole or not at all. Each fault of a document has a
-//! name of its own, and the first one, in the order of [`LoadError`], is told with its place.
-//! Reading costs time linear in the document, but for the sort of the names; a name is looked up
+//! name of its own, and the first one, in the order of [`LoadError`], is reported with its place.
+//! Reading costs time linear in the document, except for the sort of the names; a name is looked up
 //! by its hash.
 #![tactic(auto)]
 

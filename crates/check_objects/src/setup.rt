@@ -110,7 +110,7 @@ impl Setup {
         Setup::of_drafts(alloc, &drafts)
     }
 
-    /// The setup of drafts without a fault but for the ends of dependencies, unless one of these isn't
+    /// The setup of drafts without a fault except for the ends of dependencies, unless one of these isn't
     /// there, some object depends on itself through one dependency or more, or some host is its own
     /// parent through one parent or more.
     fn of_drafts(alloc: Global, drafts: &Drafts<'_>) -> Result<Setup, LoadError>
@@ -213,7 +213,7 @@ impl Setup {
     }
 
     /// The full name of the object with this number, and how it is checked.
-    // In each caller the compiler keeps the half that is asked for alone: a call reads no name.
+    // In each caller the compiler keeps only the half that is asked for: a call reads no name.
     #[inline(always)]
     fn entry(&self, number: u32) -> (&str, &Object)
         requires { number < object_count self.now }

@@ -74,7 +74,7 @@ impl Queue {
         put_leaf(&mut self.nodes, number, entry);
     }
 
-    /// Takes the time of a number away, and tells whether it had one. All others stay as they are;
+    /// Takes the time of a number away, and returns whether it had one. All others stay as they are;
     /// so does the queue where the number isn't below the bound.
     pub fn remove(&mut self, number: u32) -> bool
         ensures had { result ≡ is_some (slice_index_or self.old number None) }

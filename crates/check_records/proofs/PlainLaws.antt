@@ -31,7 +31,7 @@ use Rattle.check_rules.proofs.Cases.{each_state}
 use Rattle.check_records.specs.Plain.{flag, has_time, time_or_0}
 use Rattle.check_records.specs.Plain.{plain_call, plain_entry, plain_refusal, plain_reply, plain_standing, refusal_at}
 
--- what can be read back tells values apart
+-- what can be read back distinguishes values
 pub told : {X Y : Type 0} (back : Y → X) (plain : X → Y) → ((x : X) → back (plain x) ≡ x) → (a b : X) → plain a ≡ plain b → a ≡ b
 told back plain is a b same = sym (is a) ∙ (ap back same ∙ is b)
 

@@ -184,6 +184,6 @@ IsNoReply plain = (r : Reply) → HasByteAttempt r → plain_reply r ≢ plain
 abbrev pub IsNoEntry : PlainEntry → Type 0
 IsNoEntry plain = (e : Entry Call Reply) → e.pass < 2 ^ 32 → HasByteAttempt e.reply → plain_entry e ≢ plain
 
--- want of memory is told by no struct
+-- no struct says that memory was refused
 abbrev pub IsNoRefusal : PlainRefusal → Type 0
 IsNoRefusal plain = (e : LoadError) → e ≢ load.Memory → plain_refusal e ≢ plain

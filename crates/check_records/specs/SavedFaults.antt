@@ -29,6 +29,6 @@ fault_back p = cond (p.kind == 11) fault.TooLong (cond (p.kind == 12) fault.NotJ
     (cond (p.kind == 17) (fault.Duplicate p.index) (cond (p.kind == 18) (fault.Range (time_back p.has_index p.index))
     (cond (p.kind == 19) (fault.Unlawful p.index) fault.Memory))))))))
 
--- want of memory is told by no struct
+-- no struct says that memory was refused
 abbrev pub IsNoFault : PlainRefusal → Type 0
 IsNoFault plain = (e : SavedFault) → e ≢ fault.Memory → plain_fault e ≢ plain

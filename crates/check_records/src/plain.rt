@@ -115,7 +115,7 @@ const NO_STANDING: PlainStanding = PlainStanding {
     flapping: 0,
 };
 
-/// A reply of which nothing is told yet.
+/// A reply of which nothing is written yet.
 const NO_REPLY: PlainReply = PlainReply {
     kind: 0,
     object: 0,
@@ -208,7 +208,7 @@ fn has_time(time: Option<u64>) -> u32
     }
 }
 
-/// Writes a time: none is told as 0, and that there is none.
+/// Writes a time: none is written as 0, and that there is none.
 fn tell_time(time: Option<u64>, told: &mut PlainReply)
     ensures { told.new ≡ with_time time told.old }
 {
@@ -216,7 +216,7 @@ fn tell_time(time: Option<u64>, told: &mut PlainReply)
     told.has_time = has_time(time);
 }
 
-/// Writes what a call is answered, for C: first that nothing is told, and then what the reply tells.
+/// Writes what a call is answered, for C: first that there is nothing, and then what the reply says.
 pub fn tell_reply(reply: Reply, told: &mut PlainReply)
     ensures { told.new ≡ plain_reply reply }
 {
@@ -304,7 +304,7 @@ fn refusal_at(kind: u32, place: Place) -> PlainRefusal
     }
 }
 
-/// Why a document is no setup, for C. Want of memory has a status of its own: its struct is told to
+/// Why a document is no setup, for C. Want of memory has a status of its own: its struct is said to
 /// nobody.
 pub fn plain_refusal(error: LoadError) -> PlainRefusal
     ensures { result ≡ plain_refusal error }

@@ -172,7 +172,7 @@ pub fn refusal_of(plain: PlainRefusal) -> Option<LoadError>
 }
 
 /// The refusal that the fields of a struct name, where they are those of a refusal; of others want of
-/// memory, which no struct tells.
+/// memory, which no struct says.
 fn refusal_back(plain: PlainRefusal) -> LoadError
     ensures { result ≡ refusal_back plain }
 {

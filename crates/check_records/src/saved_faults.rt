@@ -24,7 +24,7 @@ fn fault_struct(kind: u32, index: Option<usize>) -> PlainRefusal
     }
 }
 
-/// Why a saved state is refused, for C. Want of memory has a status of its own: its struct is told to
+/// Why a saved state is refused, for C. Want of memory has a status of its own: its struct is said to
 /// nobody.
 pub fn plain_fault(fault: SavedFault) -> PlainRefusal
     ensures { result ≡ plain_fault fault }
@@ -62,7 +62,7 @@ pub fn fault_of(plain: PlainRefusal) -> Option<SavedFault>
 }
 
 /// The refusal that the fields of a struct name, where they are those of a refusal; of others want of
-/// memory, which no struct tells.
+/// memory, which no struct says.
 fn fault_back(plain: PlainRefusal) -> SavedFault
     ensures { result ≡ fault_back plain }
 {

@@ -24,7 +24,7 @@ abbrev pub state_read : Bool → Standing → State
 state_read reads_soft s = if reads_soft then s.state else s.last_hard
 
 -- Whether what is known of a master is among the criteria; one that was never checked meets
--- `pending` alone. (Our own profile.)
+-- only `pending`. (Our own profile.)
 abbrev pub meets : Bool → Criteria → Standing → Bool
 meets reads_soft c s = if s.checked then is_criterion c (state_read reads_soft s) else c.pending
 

@@ -1,5 +1,5 @@
 -- How the weights of changes are added up, one result after another. What is promised of the percent is the sum over pairs,
--- `changes_weight`; this is the contract of the loop alone.
+-- `changes_weight`; this is only the contract of the loop.
 use Rattle.std.specs.Prelude.{ℕ, ◌+◌, List, [], ◌∷◌, if◌then◌else◌}
 use Rattle.check_rules.specs.declared.state.State.{State}
 use Rattle.check_rules.specs.State.{is_another_state}

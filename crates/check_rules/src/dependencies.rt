@@ -17,7 +17,7 @@ use check_objects::{Criteria, Dependency, Setup};
 /// A dependency fails where its master's state is among its criteria: the last hard state, or with
 /// the option `soft_state_dependencies` the current one. A dependency that inherits fails too where
 /// some dependency of its master does. (Manual: "Host and Service Dependencies".) A master that was
-/// never checked meets the criterion `p` alone. (Our own profile.)
+/// never checked meets only the criterion `p`. (Our own profile.)
 ///
 /// `marks` is scratch with a place for each object, and may hold anything. Where a master that the
 /// object depends on is in one of the criteria, or none of its dependencies inherits, it is left

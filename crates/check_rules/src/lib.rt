@@ -7,7 +7,7 @@
 //! "Determining Status and Reachability of Network Hosts", "State Types", "Detection and Handling of
 //! State Flapping" and "Host and Service Dependencies"; where the manual leaves a choice, the profile
 //! of this project makes it, and the item says so. Every function changes nothing but what it is handed
-//! for that, and takes no memory but for a copy of results.
+//! for that, and takes no memory except for a copy of results.
 //!
 //! The modules: `state` has return codes and states, `standing` what is known of an object, `numbers`
 //! and `words` their numbers and words, `verdicts` the verdict on a result, `flapping` whether a state

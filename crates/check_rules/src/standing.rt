@@ -99,7 +99,7 @@ pub fn pending(is_host: bool) -> Standing
 
 /// Whether an object with `max` check attempts can have this standing. A soft problem has an
 /// attempt from 1 to `max - 1`, a hard problem the attempt `max`, and OK and UP one from 1 to
-/// `max`; and but for hard problems the last hard state is OK or UP. Any may flap. (Our own profile, after the
+/// `max`; and except for hard problems the last hard state is OK or UP. Any may flap. (Our own profile, after the
 /// manual's "State Types".)
 pub fn lawful(standing: Standing, max: u8) -> bool
     ensures { result ≡ is_lawful standing max }

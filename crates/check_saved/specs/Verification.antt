@@ -69,7 +69,7 @@ abbrev pub is_hard : Kind → Bool
 is_hard kind.Soft = false
 is_hard kind.Hard = true
 
--- whether a standing is that of an object that was never checked, but for the sort of its states
+-- whether a standing is that of an object that was never checked, except for the sort of its states
 abbrev pub is_as_pending : Standing → Bool
 is_as_pending s = not (is_problem s.state) && is_hard s.kind && s.attempt == 1 && not (is_problem s.last_hard) && not s.flapping
 
@@ -116,7 +116,7 @@ lawful_objects runs objects =
 
 -- ---- all of it
 
--- the tests but for what an object can have
+-- the tests except for what an object can have
 abbrev pub tests_of_draft : Saved → Result (Unit {0}) SavedFault
 tests_of_draft saved =
     few_objects saved.objects >>= λ _.

@@ -90,7 +90,7 @@ fn can_stand(host: bool, max: u8, standing: Standing) -> bool
         && (standing.checked || is_as_pending(standing))
 }
 
-/// Whether a standing is that of an object that was never checked, but for the sort of its states.
+/// Whether a standing is that of an object that was never checked, except for the sort of its states.
 fn is_as_pending(standing: Standing) -> bool
     ensures { result ≡ is_as_pending standing }
 {

@@ -28,7 +28,7 @@ known_by (Some x) o e = let same : x ≡ o = cc in ap Some same
 pub known_is : (n : ℕ) (s : State) (o : Scheduling) → known n s ≡ Ok o → slice_get s.objects n ≡ Some o
 known_is n s o e = known_by (slice_get s.objects n) o e
 
--- ---- what a passed test tells
+-- ---- what a passed test shows
 
 range_by : (moment : ℕ) (u : Unit {0}) (late : Bool) → nat_lt (2 ^ 60) moment ≡ late
     → cond late (Err refusal.TimeRange) (Ok tt) ≡ Ok u → moment ≤ 2 ^ 60

@@ -63,7 +63,7 @@ place_by_place f g count n k false e h less =
     get_or-set_other (map f (range_with_len 0 count)) n k _ 0 (λ back. apart (sym back))
     ∙ get_or-map-range_with_len f 0 count k k 0 less (omega arith) ∙ sym (h k apart)
 
--- two lists of words that agree but for one place differ by the word at that place
+-- two lists of words that agree except for one place differ by the word at that place
 one_word : (f g : ℕ → ℕ) (count n : ℕ) → ((j : ℕ) → n ≢ j → g j ≡ f j)
     → map g (range_with_len 0 count) ≡ slice_set (map f (range_with_len 0 count)) n (slice_index (map g (range_with_len 0 count)) n)
 one_word f g count n h =

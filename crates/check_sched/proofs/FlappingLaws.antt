@@ -1,4 +1,4 @@
--- Flapping by a history: what a state has of an object's results is what its history tells.
+-- Flapping by a history: what a state has of an object's results is what its history says.
 use Rattle.std.proofs.Common.{◌≡◌, ◌≢◌, ℕ, zero, suc, ◌+◌, ◌-◌, ◌<◌, ◌≤◌, ◌==◌, Bool, true, false, cond, List, [], ◌∷◌, ◌++◌, length, map, drop, min}
 use Rattle.std.proofs.Common.{replicate, Option, Some, None, refl, sym, ap, subst, ◌∙◌, arith}
 use Rattle.std.specs.Prelude.{unwrap_or, zip}
@@ -112,7 +112,7 @@ reported_by s n object found next true e l m =
 reported_by s n object found next false e l m =
     reported_apart s n object found (judged_in s n found) next (λ same. let clash : true ≡ false = sym (eq-eqb n object same) ∙ e in cc)
 
--- what a call leaves of an object, by what its answer tells
+-- what a call leaves of an object, by what its answer says
 abbrev Tells : State → ℕ → Call → State × Reply → Type 0
 Tells s object c a = flapping_in a.0 object ≡ with_told (flap_thresholds_of s.setup object) (flapping_in s object) (told_by object c a.1)
 

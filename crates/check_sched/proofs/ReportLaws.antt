@@ -97,7 +97,7 @@ judged_is_standing setup standings n found flapping h sort b = record {
   until_checked = λ never. cc;
 }
 
--- a verdict goes by whether the host is up where a problem was found alone
+-- a verdict goes by whether the host is up where a problem was found, and by nothing else
 pub verdict_by_host : (before : Standing) (found : rules.State) (max : ℕ) (one other flapping : Bool) → (is_problem found ≡ true → one ≡ other)
     → verdict_on before found max one flapping ≡ verdict_on before found max other flapping
 verdict_by_host before state.Ok max one other flapping same = refl

@@ -1,4 +1,4 @@
--- No object is taken while it runs: what a history alone says of runs is what the state says that its calls leave.
+-- No object is taken while it runs: what a history says of runs is what the state says that its calls leave.
 use Rattle.std.proofs.Common.{◌≡◌, ℕ, suc, ◌+◌, ◌<◌, ◌==◌, ◌&&◌, ◌||◌, Bool, true, false, not, cond, List, [], ◌∷◌, ◌++◌, length, Option, Some}
 use Rattle.std.proofs.Common.{None, Ok, Err, option_map, refl, sym, ap, ◌∙◌, arith, inl, inr}
 use Rattle.std.specs.Prelude.{is_none, nat_le, nat_lt, slice_get}
@@ -213,7 +213,7 @@ runs_by s e h o r true is any legal more =
     (not_false (list_any (ends o r) h) (and_right (begins o r e) _ is))
 runs_by s e h o r false is any legal more = more any
 
--- what runs by the history alone runs in the state that it leaves
+-- what runs by the history runs in the state that it leaves
 runs_in_state : (s : State) (h : List (Entry Call Reply)) (o r : ℕ) → IsLegal step s h → runs_under o r h ≡ true → run_in o (replay step s h).objects ≡ Some r
 runs_in_state s [] o r legal runs = cc
 runs_in_state s (e ∷ h) o r legal runs =

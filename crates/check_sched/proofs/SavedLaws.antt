@@ -148,7 +148,7 @@ objects_stay s start is =
     (λ n o x e f. rw (found_saved s n o is.valid_setup e, f, eq-eqb _ _ refl, switch_same o.object.enabled) refl))
     ∙ limit_stays s start is.limit
 
--- Over the same setup a scheduler goes on in the state in which it was put down, but for the start.
+-- Over the same setup a scheduler goes on in the state in which it was put down, except for the start.
 pub resumed_same : (s : State) (start : ℕ) → IsState s → resumed s.setup (saved_of s) start ≡ record s { start = start }
 resumed_same s start is = λ i. record {
   setup = s.setup;

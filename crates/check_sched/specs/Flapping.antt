@@ -1,4 +1,4 @@
--- The results that are kept of an object, and whether it flaps, by a history alone.
+-- The results that are kept of an object, and whether it flaps, read off a history.
 use Rattle.std.specs.Prelude.{ℕ, ◌==◌, Bool, false, List, [], ◌∷◌, Option, Some, None, if◌then◌else◌}
 use Rattle.std.specs.List.{filter_map}
 use Rattle.ticket_steps.specs.declared.kept.Entry.{Entry}
@@ -11,9 +11,9 @@ use Rattle.check_sched.specs.declared.call.Reply.TheVariants as reply
 use Rattle.check_sched.specs.State as sched
 use Rattle.check_sched.specs.State.{results_at, standing_at}
 
--- ---- what a history tells
+-- ---- what a history says
 
--- the state that an answer tells, where it is the standing that a report of the object was answered with
+-- the state in an answer, where it is the standing that a report of the object was answered with
 abbrev pub told_by : ℕ → Call → Reply → Option State
 told_by object (call.Report o run code) (reply.Standing standing changed next) = if o == object then Some standing.state else None
 told_by object c r = None

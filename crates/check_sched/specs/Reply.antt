@@ -33,7 +33,7 @@ NamesObjectOf setup (reply.Freed next) = ⊤
 NamesObjectOf setup reply.Done = ⊤
 NamesObjectOf setup (reply.Refused why) = ⊤
 
--- the time that the reply tells, if any, is at most this one
+-- the time in the reply, if any, is at most this one
 abbrev pub TellsTimesUpTo : ℕ → Reply → Type 0
 TellsTimesUpTo last (reply.Taken object run) = ⊤
 TellsTimesUpTo last (reply.PutOff object until) = IfSome until (λ time. time ≤ last)

@@ -1,4 +1,4 @@
--- Which object is being checked, and under which run, by a history alone.
+-- Which object is being checked, and under which run, read off a history.
 use Rattle.std.specs.Prelude.{ℕ, ◌==◌, ◌&&◌, ◌||◌, Bool, true, false, not, List, [], ◌∷◌, count_by}
 use Rattle.std.specs.List.{list_any}
 use Rattle.ticket_steps.specs.declared.kept.Entry.{Entry}
@@ -29,7 +29,7 @@ begins object run e = begins_by object run e.reply
 abbrev pub ends : ℕ → ℕ → Entry Call Reply → Bool
 ends object run e = ends_by object run e.call e.reply
 
--- By the history alone the object is being checked under this run: some entry begins the run, and no later one ends it.
+-- The history shows the object being checked under this run: some entry begins the run, and no later one ends it.
 abbrev pub runs_under : ℕ → ℕ → List (Entry Call Reply) → Bool
 runs_under object run [] = false
 runs_under object run (e ∷ es) = (begins object run e && not (list_any (ends object run) es)) || runs_under object run es

@@ -168,7 +168,7 @@ report_answer number run code s = known number s >>= λ o. (run_under run o.run 
 
 -- ---- the operators' calls
 
--- Abandon: the run ends without a result, and the caller is told the time of the next check.
+-- Abandon: the run ends without a result, and the caller is answered the time of the next check.
 abbrev pub abandon_answer : ℕ → ℕ → ℕ → State → Result (State × Reply) Refusal
 abandon_answer number run now s =
     known number s >>= λ o. (within_range now >>= λ _. (run_under run o.run >>= λ _.

@@ -54,9 +54,9 @@ pub fn constants()
     ensures max_runs { MAX_RUNS ≡ 2 ^ 60 }
 {}
 
-/// In every legal history of a scheduler that was opened: no object is taken while it runs, by the
-/// history alone (`once`): where it is taken, each run of it that was begun before has ended, by its
-/// result or by being given up. The numbers of runs are 1, 2, 3 and so on (`numbers`). The history
+/// In every legal history of a scheduler that was opened no object is taken while it runs (`once`):
+/// where it is taken, each run of it that the history shows begun before has ended, by its result or
+/// by being given up. The numbers of runs are 1, 2, 3 and so on (`numbers`). The history
 /// of a book of check_book is such a history.
 pub fn runs_once()
     ensures once { (setup : Configuration) → (start : ℕ) → (front back : List (Entry Call Reply))
@@ -70,7 +70,7 @@ pub fn runs_once()
 {}
 
 /// In every legal history of a scheduler that was opened, whatever it has of an object's results is
-/// what the history tells: of the states that the object's reports were answered with, in their order.
+/// what the history says: of the states that the object's reports were answered with, in their order.
 /// The results that are kept, and whether the object flaps, are what comes of these states one after
 /// another, under the object's thresholds (`fold`): each pushes the oldest out where there are 21
 /// already, and the object begins to flap or stops by the results with it. So the results that are kept
@@ -180,7 +180,7 @@ pub fn runs_from_any_state()
 {}
 
 /// In every legal history from such a state on, what it has of an object's results is what the history
-/// tells, behind the results that were kept before (`fold`, `last`).
+/// says, behind the results that were kept before (`fold`, `last`).
 pub fn flaps_from_any_state()
     ensures fold { (s : State) → (history : List (Entry Call Reply)) → (object : ℕ) → IsState s
         → IsLegal step s history → flapping_in (replay step s history) object

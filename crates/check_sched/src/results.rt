@@ -1,4 +1,4 @@
-//! The last results of each object, by which it is told whether it flaps.
+//! The last results of each object, by which it is known whether it flaps.
 
 ghost use Rattle.std.specs.Prelude.{◌≡◌, ◌<◌, ◌≤◌, List, [], IfOk, length, replicate, true};
 ghost use Rattle.check_rules.specs.declared.state.State.{State};
@@ -54,7 +54,7 @@ impl Results {
         self.rings[number as usize].copy(alloc)
     }
 
-    /// Keeps one more result of the object with this number, and tells whether the object flaps with
+    /// Keeps one more result of the object with this number, and returns whether the object flaps with
     /// it: `was` says whether it did before, and `thresholds` are the low and the high one in
     /// percents. (Manual: "Detection and Handling of State Flapping".)
     pub(crate) fn add(&mut self, number: u32, found: State, was: bool, thresholds: (u8, u8)) -> bool
@@ -125,7 +125,7 @@ impl Ring {
         self.results.are_all(state)
     }
 
-    /// Keeps one more result, and tells whether the object flaps with it, as [`Results::add`] does.
+    /// Keeps one more result, and returns whether the object flaps with it, as [`Results::add`] does.
     fn add(&mut self, found: State, was: bool, thresholds: (u8, u8)) -> bool
         ensures kept { self.new ≡ kept_after self.old found }
         ensures flaps { result ≡ is_flapping (kept_after self.old found) was thresholds.0 thresholds.1 }

@@ -79,7 +79,7 @@ impl Roster {
     }
 
     /// Does this to the object with this number, in its place.
-    // In each caller the compiler knows what is done, and keeps that part alone.
+    // In each caller the compiler knows what is done, and keeps only that part.
     #[inline(always)]
     pub(crate) fn change(&mut self, number: u32, change: Change)
         requires { number < length self.old.objects }

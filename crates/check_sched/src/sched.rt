@@ -38,7 +38,7 @@ pub struct Sched {
     start: u64,
     /// Scratch of the search through dependencies: a mark for each object.
     marks: Vec<bool>,
-    // What a report alone reads stands beside the count of hosts, with which a setup begins; what each
+    // What only a report reads is beside the count of hosts, with which a setup begins; what each
     // call reads and writes stands behind what a setup says of services, with which it ends.
     results: Results,
     standings: Vec<Standing>,
@@ -113,10 +113,10 @@ impl Sched {
     /// Answers one call and moves the scheduler on, as `step` says. It needs no memory.
     ///
     /// A refused call leaves the scheduler as it was. No call changes the setup or the start. The
-    /// objects that a reply names are those of the setup, and each time that it tells is at most
+    /// objects that a reply names are those of the setup, and each time in it is at most
     /// 2^61 milliseconds. No more services are being checked than the option
     /// `max_concurrent_checks` allows, where it isn't 0 ([`limit`](crate::laws::limit)).
-    // Where a caller knows which call it makes, the compiler keeps that part alone.
+    // Where a caller knows which call it makes, the compiler keeps only that part.
     #[inline(always)]
     pub fn apply(&mut self, call: Call) -> Reply
         ensures state { self.new ≡ (step self.old call).0 }
@@ -145,7 +145,7 @@ impl Sched {
     }
 
     /// Does this to the scheduling of an object; all else stays as it was.
-    // In each caller the compiler knows what is done, and keeps that part alone.
+    // In each caller the compiler knows what is done, and keeps only that part.
     #[inline(always)]
     fn change(&mut self, object: u32, change: Change)
         requires there { object < object_count self.old.setup }

@@ -1,4 +1,4 @@
--- What is kept of a line tells what it says.
+-- What is kept of a line says what the line does.
 use Rattle.std.proofs.Common.{◌≡◌, ℕ, ◌<◌, ◌≤◌, Bool, true, false, List, [], ◌++◌, length, take, Option, None, Some, Result, Ok, Err, refl, sym, ap, ◌∙◌}
 use Rattle.std.proofs.Common.{arith, length-take, length-append, inl, inr, ◌⊎◌, append-nil}
 use Rattle.std.specs.Prelude.{nat_lt}
@@ -83,7 +83,7 @@ kept_setup_by line (inr h) = ap setup_of (take_all KEPT_SETUP_BYTES line (omega 
 pub kept_setup : (line : List ℕ) → setup_of (take KEPT_SETUP_BYTES line) ≡ setup_of line
 kept_setup line = kept_setup_by line (cases_lt 16777216 (length line))
 
--- What comes later tells nothing of the setup: where its line feed came, or so many bytes of it as are kept, or nothing does come.
+-- What comes later says nothing of the setup: where its line feed came, or so many bytes of it as are kept, or nothing does come.
 pub setup_stays : (given more : List ℕ) → (has_feed given ≡ true) ⊎ ((has_feed given ≡ false) × ((more ≡ []) ⊎ (KEPT_SETUP_BYTES ≤ length given)))
     → setup_of (first_line_of (given ++ more)) ≡ setup_of (first_line_of given)
 setup_stays given more (inl feed) = ap setup_of (first_stays given more feed)

@@ -27,7 +27,7 @@ abbrev pub three_of : Items → Option (Data × Data × Data)
 three_of (item a (item b (item c no_items))) = Some (a, b, c)
 three_of members = None
 
--- a name alone
+-- only a name
 abbrev pub name_in : Items → Option (List ℕ)
 name_in members = one_of members >=> as_str
 

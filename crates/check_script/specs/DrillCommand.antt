@@ -35,7 +35,7 @@ abbrev pub name_and_returned : Items → Option (List ℕ × Items)
 name_and_returned no_items = None
 name_and_returned (item name returned) = if are_some_numbers returned then (as_str name >=> λ n. Some (n, returned)) else None
 
--- a number alone
+-- only a number
 abbrev pub number_in : Items → Option ℕ
 number_in members = one_of members >=> whole_number
 

@@ -12,7 +12,7 @@ without_last_feed (b ∷ c ∷ bs) = b ∷ without_last_feed (c ∷ bs)
 abbrev pub HasNoFeed : List ℕ → Type 0
 HasNoFeed line = AllByRecursion (λ b. b ≢ 10) line
 
--- These are the lines of the input: none has a line feed, and with a line feed between each two they are the input, but for
+-- These are the lines of the input: none has a line feed, and with a line feed between each two they are the input, except for
 -- one line feed at its end. No byte gives no line, and any bytes give one.
 pub record AreLines (input : List ℕ) (lines : List (List ℕ)) : Type 0 where
   pub feedless : AllByRecursion HasNoFeed lines

@@ -11,7 +11,7 @@ use Rattle.check_script.specs.declared.refusal.LineFault.TheVariants as fault
 use Rattle.check_script.specs.declared.refusal.InputRefusal.{InputRefusal}
 use Rattle.check_script.specs.declared.refusal.InputRefusal.TheVariants as refusal
 
--- a line that is passed over: spaces, tabs and carriage returns alone, or nothing
+-- a line that is passed over: only spaces, tabs and carriage returns, or nothing
 abbrev pub is_blank : List ℕ → Bool
 is_blank line = list_all (λ b. b == 32 || b == 9 || b == 13) line
 

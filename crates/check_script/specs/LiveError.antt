@@ -5,7 +5,7 @@ use Rattle.check_script.specs.declared.drive_error.DriveError.TheVariants as dri
 use Rattle.check_script.specs.declared.live_error.LiveError.{LiveError}
 use Rattle.check_script.specs.declared.live_error.LiveError.TheVariants as live
 
--- the reader's fault and both loops that are spent are told alike
+-- the reader's fault and both loops that are spent are reported alike
 abbrev pub told : LiveError → DriveError
 told (live.Reader fault) = drive.Read
 told live.Writer = drive.Write
@@ -13,7 +13,7 @@ told live.Memory = drive.Memory
 told live.LinesSpent = drive.Read
 told live.ReadsSpent = drive.Read
 
--- a result with its error told so
+-- a result with its error reported so
 abbrev pub told_by : {T : Type 0} → Result T LiveError → Result T DriveError
 told_by (Ok x) = Ok x
 told_by (Err e) = Err (told e)

@@ -24,7 +24,7 @@ pub record LineFront : Type 0 where
   pub bytes : List ℕ
   pub blank : Bool
 
--- What is kept of a line: so many bytes at most from its front, and whether all of it is blank.
+-- What is kept of a line: so many bytes at most from its beginning, and whether all of it is blank.
 abbrev pub front_of : ℕ → List ℕ → LineFront
 front_of most line = record { most = most; bytes = take most line; blank = is_blank line }
 

@@ -164,7 +164,7 @@ fn status_call(setup: &Setup, members: &[Value]) -> Result<Call, LineFault>
     Ok(Call::Status { object })
 }
 
-/// A name alone.
+/// Only a name.
 #[tactic(auto, using(crate::proofs::CommandLemmas::one_few, crate::proofs::CommandLemmas::one_many))]
 fn name_in(members: &[Value]) -> Option<&str>
     ensures { option_map (λ name. name.now) result ≡ name_in (items_view members.now) }

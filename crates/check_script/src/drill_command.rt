@@ -134,7 +134,7 @@ fn are_numbers(values: &[Value]) -> bool
     values.iter().all(|value| value.as_u64().is_some())
 }
 
-/// A number alone.
+/// Only a number.
 #[tactic(auto, using(crate::proofs::CommandLemmas::one_few, crate::proofs::CommandLemmas::one_many))]
 fn number_in(members: &[Value]) -> Option<u64>
     ensures { result ≡ number_in (items_view members.now) }

@@ -13,11 +13,11 @@ pub enum DriveError {
     /// conversation the answers to the lines that came.
     #[error("the input could not be read")]
     Read,
-    /// The writer failed, was interrupted or took no byte, or its flush failed. A front of the text
+    /// The writer failed, was interrupted or took no byte, or its flush failed. A prefix of the text
     /// was written.
     #[error("the output could not be written")]
     Write,
-    /// Out of memory. A front of the text was written, and nothing where the input was not
+    /// Out of memory. A prefix of the text was written, and nothing where the input was not
     /// read.
     #[error("out of memory")]
     Memory,

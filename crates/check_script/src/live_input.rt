@@ -176,7 +176,7 @@ impl InputBuffer {
     }
 }
 
-/// Takes the first line of an input, of which nothing is at hand, and tells whether its line feed
+/// Takes the first line of an input, of which nothing is at hand, and returns whether its line feed
 /// came. Where it didn't, the input has ended, or as many bytes of the line have come as are kept of
 /// it at most. The reader is asked no more than that. An Err is the reader's fault, `Memory`, or `ReadsSpent`
 /// where 2^64 - 1 reads each gave something.

@@ -30,7 +30,7 @@ use Rattle.check_session.proofs.ReadingLemmas.{cut_length, read_all, read_long}
 use Rattle.check_drive.proofs.DriveLemmas.{input_of, input_of-is}
 use Rattle.check_drive.proofs.WrittenLemmas.{Keeps-same}
 
--- ---- an input of which a front was read
+-- ---- an input of which a prefix was read
 
 too_long : (bs : List ℕ) → 16777216 < length bs → setup_of bs ≡ Err load.TooLong
 unfolding setup_of
@@ -64,7 +64,7 @@ read_by start line bytes text told (inl long) h =
 read_by start line bytes text told (inr short) h =
     subst (λ read. IsTold start line (without_last_feed read) text told) (read_all bytes short) h
 
--- what was told of what was read is told of the input
+-- what was printed of what was read is what is printed of the input
 told_read : (start : ℕ) (line : Bool) (bytes input text : List ℕ) (told : Outcome) → input ≡ read_of bytes
     → IsTold start line (without_last_feed input) text told → IsTold start line (without_last_feed bytes) text told
 told_read start line bytes input text told all h =
@@ -75,11 +75,11 @@ pub told_of : (start : ℕ) (line : Bool) (had : Option (List ℕ)) (read text :
 told_of start line None read text told all h = h
 told_of start line (Some bytes) read text told all h = told_read start line bytes read text told all h
 
--- what is told of an input, of which one line feed at its end is no part of the document
+-- what is printed of an input, of which one line feed at its end is no part of the document
 abbrev pub IsToldOf : ℕ → Bool → List ℕ → List ℕ → Outcome → Type 0
 IsToldOf start line input = IsTold start line (without_last_feed input)
 
--- ---- how a check ends, where these texts and outcomes can be told of an input
+-- ---- how a check ends, where these texts and outcomes can be printed of an input
 
 pub memory_is_no_write : (e : DriveError) → e ≡ errors.Memory → e ≢ errors.Write
 memory_is_no_write e memory write = let both : errors.Memory ≡ errors.Write = sym memory ∙ write in cc
@@ -106,7 +106,7 @@ pub unflushed_check : (Can : List ℕ → List ℕ → Outcome → Type 0) (e : 
 unflushed_check Can e had held mid holds read text told is_write can a k =
     torn_check Can e had held holds read text told is_write can (front_all held holds text (Appends-Keeps held mid holds text a k))
 
--- all was told
+-- all was printed
 pub flushed_check : (Can : List ℕ → List ℕ → Outcome → Type 0) (had held mid holds : Option (List ℕ)) (read text : List ℕ) (told : Outcome)
     → Can (input_of had read) text told → Appends held mid text → Keeps mid holds → IsCheckOf Can (Ok told) had held holds
 flushed_check Can had held mid holds read text told can a k =

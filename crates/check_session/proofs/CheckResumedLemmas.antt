@@ -1,4 +1,4 @@
--- What a check of a setup and a saved state tells by a front of its input that was read.
+-- What a check of a setup and a saved state prints by a prefix of its input that was read.
 use Rattle.std.proofs.Common.{◌≡◌, ℕ, ◌<◌, List, length, take, Option, None, refl, subst}
 use Rattle.std.specs.Prelude.{IfSome}
 use Rattle.check_script.specs.declared.input.TheConstants.{MAX_READ_BYTES}
@@ -10,7 +10,7 @@ use Rattle.check_session.specs.CheckResumed.{AreLinesTold, IsResumedTold, two_li
 two_long : (bytes : List ℕ) → MAX_INPUT_BYTES < length bytes → two_lines_of bytes ≡ None
 two_long bytes h = rw (is_too_long bytes h) refl
 
--- what was told of what was read is told of the input
+-- what was printed of what was read is what is printed of the input
 pub resumed_told_of : (start : Option ℕ) (had : Option (List ℕ)) (read text : List ℕ) (told : Outcome)
     → IfSome had (λ bytes. read ≡ take MAX_READ_BYTES bytes) → IsResumedTold start read text told → IsResumedTold start (input_of had read) text told
 resumed_told_of start had read text told all h =

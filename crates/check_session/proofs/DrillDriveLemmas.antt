@@ -23,7 +23,7 @@ pub text_of_drill : (start workers room : ℕ) (input : List ℕ) (s : DrillScri
     → IsDrill s start workers room history refused → IsTextOf start workers room input (drill_text s.setup history refused)
 text_of_drill start workers room input s history refused e d = rw e (record { history = history; refused = refused; drill = d; text_is = refl })
 
--- a front of it was written
+-- a prefix of it was written
 pub front_of_drill : (r : Result Outcome DriveError) (start workers room : ℕ) (input : List ℕ) (s : DrillScript) (history : List (Entry Call Reply))
     (refused : ℕ) (held holds : Option (List ℕ))
     → drill_script_of input ≡ Ok s → IsDrill s start workers room history refused → OnErr r (WroteFront held holds (drill_text s.setup history refused))
@@ -45,7 +45,7 @@ short_of_drill start workers room input s history refused held holds e d (inr w)
   written = w.2;
 })
 
--- ---- what was read is the input, or its front that is too long
+-- ---- what was read is the input, or its prefix that is too long
 
 text_at : (start workers room : ℕ) (input bytes text : List ℕ) → input ≡ take MAX_READ_BYTES bytes → IsTextOf start workers room input text
     → IsTextOf start workers room bytes text

@@ -114,7 +114,7 @@ pub has_read : (had left : Option (List ℕ)) (input : List ℕ) → IfSome had 
 has_read None left input all c = tt
 has_read (Some bytes) left input all c = subst (λ read. Consumes (Some bytes) left read) all c
 
--- ---- what is read tells whether the document is too long
+-- ---- what is read shows whether the document is too long
 
 all_by : (b : Bool) (bytes : List ℕ) → length bytes ≤ 16777217 → take (if b then MAX_CHECKED_BYTES + 1 else MAX_CHECKED_BYTES) bytes ≡ bytes
 all_by true bytes short = take_all (MAX_CHECKED_BYTES + 1) bytes (omega (arith, short))

@@ -22,7 +22,7 @@ use Rattle.check_drive.specs.declared.drive.Outcome.{Outcome}
 use Rattle.check_drive.specs.declared.drive.Outcome.TheVariants as outcome
 use Rattle.check_drive.specs.Drive.{IsInput}
 
--- ---- what is told of a document
+-- ---- what is printed of a document
 
 -- a good setup: its figures
 abbrev pub IsSummaryTold : ℕ → Configuration → List ℕ → Outcome → Type 0
@@ -57,7 +57,7 @@ pub record IsLineOf (document line : List ℕ) : Type 0 where
 abbrev pub IsWritten : List ℕ → List ℕ → Outcome → Type 0
 IsWritten document text told = ((line : List ℕ) × IsLineOf document line × (text ≡ line ++ 10 ∷ [])) × (told ≡ outcome.Ran)
 
--- a good one whose line would be too long: that is told of it
+-- a good one whose line would be too long: that is reported
 abbrev pub IsTooLong : List ℕ → List ℕ → Outcome → Type 0
 IsTooLong document text told =
     OfTree document (λ tree. 16777216 < length (compact_text tree)) × IsRefusalTold document errors.TooLong text told
@@ -77,19 +77,19 @@ IsTold start false document = IsToldBy (IsSummaryTold start) document (setup_of 
 
 -- ---- a whole check
 
--- What a check that ended so has told, where these texts and outcomes can be: all of it, after a fault of the writer a front of it, and
+-- What a check that ended so has printed, where these texts and outcomes can be: all of it, after a fault of the writer a prefix of it, and
 -- after any other error nothing.
 abbrev pub HasTold : (List ℕ → Outcome → Type 0) → Result Outcome DriveError → Option (List ℕ) → Option (List ℕ) → Type 0
 HasTold Can (Ok told) held holds = (text : List ℕ) × Can text told × Appends held holds text
 HasTold Can (Err fault.Write) held holds = (text : List ℕ) × (told : Outcome) × Can text told × WroteFront held holds text
 HasTold Can (Err e) held holds = Keeps held holds
 
--- Whatever is known of reader and writer, a check that ended so is that of one input, of which these texts and outcomes can be told.
+-- Whatever is known of reader and writer, a check that ended so is that of one input, of which these texts and outcomes can be printed.
 pub record IsCheckOf (Can : List ℕ → List ℕ → Outcome → Type 0) (ended : Result Outcome DriveError) (had held holds : Option (List ℕ)) : Type 0 where
   pub input : List ℕ
   pub is_input : IsInput had input
   pub told : HasTold (Can input) ended held holds
 
--- of an input that is a document but for one line feed at its end
+-- of an input that is a document except for one line feed at its end
 abbrev pub IsCheckOnInput : ℕ → Bool → Result Outcome DriveError → Option (List ℕ) → Option (List ℕ) → Option (List ℕ) → Type 0
 IsCheckOnInput start line ended had held holds = IsCheckOf (λ input. IsTold start line (without_last_feed input)) ended had held holds

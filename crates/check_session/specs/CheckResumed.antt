@@ -18,7 +18,7 @@ use Rattle.check_drive.specs.declared.drive.Outcome.{Outcome}
 use Rattle.check_drive.specs.declared.drive.Outcome.TheVariants as outcome
 use Rattle.check_session.specs.Check.{IsCheckOf, IsToldBy}
 
--- What is told of a good setup and a saved state. Of a good one: the figures of the setup, of which the first checks are those of a scheduler
+-- What is printed of a good setup and a saved state. Of a good one: the figures of the setup, of which the first checks are those of a scheduler
 -- that starts at this moment, or at the saved start, and what becomes of the objects. Of a refused one: the line of a run, and one line
 -- more, which explains the fault.
 abbrev pub IsSavedTold : Option ℕ → Configuration → Result Saved SavedFault → List ℕ → Outcome → Type 0
@@ -26,7 +26,7 @@ IsSavedTold start c (Ok saved) text told =
     (text ≡ summary_text (summary_of c (unwrap_or start saved.start)) ++ changes_text c saved) × (told ≡ outcome.Ran)
 IsSavedTold start c (Err e) text told = (text ≡ refusal_line (refusal.Saved e) ++ saved_explanation e) × (told ≡ outcome.Refused)
 
--- what is told of a setup document and of the text of a saved state: the setup is tested first
+-- what is printed of a setup document and of the text of a saved state: the setup is tested first
 abbrev pub AreBothTold : Option ℕ → List ℕ → List ℕ → List ℕ → Outcome → Type 0
 AreBothTold start document text = IsToldBy (λ c. IsSavedTold start c (saved_of_text text)) document (setup_of document)
 
@@ -50,7 +50,7 @@ abbrev pub AreLinesTold : Option ℕ → Option (List ℕ × List ℕ) → List 
 AreLinesTold start None = IsLengthTold
 AreLinesTold start (Some (document, text)) = AreBothTold start document text
 
--- what is told of an input: its length is tested first
+-- what is printed of an input: its length is tested first
 abbrev pub IsResumedTold : Option ℕ → List ℕ → List ℕ → Outcome → Type 0
 IsResumedTold start input = AreLinesTold start (two_lines_of input)
 

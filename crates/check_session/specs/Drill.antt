@@ -24,7 +24,7 @@ abbrev pub gives_scripted : List (List Code) → ℕ → ℕ → ℕ → Code �
 gives_scripted codes object run now code = code ≡ scripted_code codes object run
 
 -- The entries of the pass with this number are those of this shift: a take for each moment in order, and behind each check
--- that was taken its report with the scripted code; where the worker stopped early, a beginning of that alone.
+-- that was taken its report with the scripted code; where the worker stopped early, only a beginning of that.
 pub record IsWorkerOf (s : DrillScript) (number : ℕ) (entries : List (Entry Call Reply)) (shift : Shift) : Type 0 where
   pub number_is : shift.number ≡ number
   pub worked : IsShift (gives_scripted s.returns) s.moments shift
@@ -81,13 +81,13 @@ pub record WroteDrill (start workers room : ℕ) (input : List ℕ) (held holds 
   pub is_text : IsTextOf start workers room input text
   pub written : Appends held holds text
 
--- a front of such a text was
+-- a prefix of such a text was
 pub record WroteDrillFront (start workers room : ℕ) (input : List ℕ) (held holds : Option (List ℕ)) : Type 0 where
   pub text : List ℕ
   pub is_text : IsTextOf start workers room input text
   pub written : WroteFront held holds text
 
--- a front of such a text was, and not all of it
+-- a prefix of such a text was, and not all of it
 pub record WroteDrillPart (start workers room : ℕ) (input : List ℕ) (held holds : Option (List ℕ)) : Type 0 where
   pub text : List ℕ
   pub is_text : IsTextOf start workers room input text
@@ -95,12 +95,12 @@ pub record WroteDrillPart (start workers room : ℕ) (input : List ℕ) (held ho
   pub is_missing : rest ≢ []
   pub written : WroteUpTo held holds text rest
 
--- nothing was written, or a front of such a text that isn't all of it
+-- nothing was written, or a prefix of such a text that isn't all of it
 abbrev pub WroteDrillShort : ℕ → ℕ → ℕ → List ℕ → Option (List ℕ) → Option (List ℕ) → Type 0
 WroteDrillShort start workers room input held holds = Keeps held holds ⊎ WroteDrillPart start workers room input held holds
 
 -- What an error of a drill leaves, as `AfterFault` says it of a run: after a fault of the reader nothing was written. After
--- any other error nothing was, or the input was read and a front of a text that a drill can write on it was written.
+-- any other error nothing was, or the input was read and a prefix of a text that a drill can write on it was written.
 abbrev pub AfterDrillFault : DriveError → ℕ → ℕ → ℕ → Option (List ℕ) → Option (List ℕ) → Option (List ℕ) → Option (List ℕ) → Type 0
 AfterDrillFault errors.Read start workers room had left held holds = Keeps held holds
 AfterDrillFault e start workers room None left held holds = ⊤
@@ -108,7 +108,7 @@ AfterDrillFault e start workers room (Some input) left held holds =
     Keeps held holds ⊎ (HasRead (Some input) left input × WroteDrillFront start workers room input held holds)
 
 -- Whatever is known of reader and writer, a drill that ended so is that of one input: it let workers work over that input or
--- refused it, and wrote such a text on it, or after an error nothing or a front of one.
+-- refused it, and wrote such a text on it, or after an error nothing or a prefix of one.
 pub record IsDrillOnInput (start workers room : ℕ) (ended : Result Outcome DriveError) (had held holds : Option (List ℕ)) : Type 0 where
   pub input : List ℕ
   pub is_input : IsInput had input

@@ -74,8 +74,8 @@ FailedJob job.Schema e had left held holds = (left ≡ had) × IsSchemaTold (Err
 abbrev pub Asks : List Text → Job → Type 0
 Asks words asked = (fault_of program words ≡ []) × (job_asked words ≡ Some asked)
 
--- What is told to words that ask for no job, by how that ended and by what the writer held and holds: the text of help or version that
--- came with them, or the line that refuses them, or a front of it after a fault of the writer; out of memory nothing
+-- What is printed for words that ask for no job, by how that ended and by what the writer held and holds: the text of help or version that
+-- came with them, or the line that refuses them, or a prefix of it after a fault of the writer; out of memory nothing
 -- is written.
 abbrev pub Tells : WordsError → Result Ending DriveError → Option (List ℕ) → Option (List ℕ) → Type 0
 Tells (words_error.Help text) (Ok ending.Helped) held holds = Appends held holds (string_bytes text)
@@ -93,7 +93,7 @@ Did words (ending.Drove outcome) had left held holds = (asked : Job) × Asks wor
 Did words ending.Helped had left held holds = (told : List ℕ) × AsksText words told × (left ≡ had) × Appends held holds told
 Did words ending.RefusedWords had left held holds = IsRefused words × (left ≡ had) × Appends held holds (codes "refused words\n")
 
--- What an error leaves before any job: the writer as it was when out of memory, and after a fault of the writer a front
+-- What an error leaves before any job: the writer as it was when out of memory, and after a fault of the writer a prefix
 -- of the help, of the version or of the line that refuses the words. It is no fault of the reader.
 abbrev pub FailedWords : List Text → DriveError → Option (List ℕ) → Option (List ℕ) → Type 0
 FailedWords words errors.Read held holds = ⊥
@@ -112,7 +112,7 @@ abbrev pub Ends : List Text → Result Ending DriveError → Option (List ℕ) �
 Ends words (Ok ending) had left held holds = Did words ending had left held holds
 Ends words (Err e) had left held holds = Failed words e had left held holds
 
--- The exit status: 0 ran or told its help or version, 1 input refused, 2 words refused, 3 a fault of the
+-- The exit status: 0 ran or printed its help or version, 1 input refused, 2 words refused, 3 a fault of the
 -- reader or the writer, 4 out of memory.
 abbrev pub exit_status : Result Ending DriveError → ℕ
 exit_status (Ok (ending.Drove outcome.Ran)) = 0

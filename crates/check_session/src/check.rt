@@ -1,4 +1,4 @@
-//! A check of a setup: reads one document, and tells what is in it, or why it is refused.
+//! A check of a setup: reads one document, and reports what is in it, or why it is refused.
 ghost use Rattle.std.specs.Prelude.{◌≡◌, ◌≤◌, Ok, IfOk, IfErr, IfSome, OnOk};
 ghost use Rattle.check_drafts.specs.Fault.{but_memory, load_error, seen};
 ghost use Rattle.check_objects.specs.Setup.{setup_of};
@@ -16,25 +16,25 @@ use check_text::{flush, push_refusal, write_text};
 use std::alloc::{AllocError, Global};
 use std::io::{Read, Write};
 
-/// What is told of a document.
+/// What is reported of a document.
 #[derive(Drop)]
 pub(crate) struct Told {
     pub(crate) text: Vec<u8>,
     pub(crate) outcome: Outcome,
 }
 
-/// Reads one setup document, over as many lines as it likes, and tells what is in it, or why it is
-/// refused. The document is the whole input, but for one line feed at its end.
+/// Reads one setup document, over as many lines as it likes, and reports what is in it, or why it is
+/// refused. The document is the whole input, except for one line feed at its end.
 ///
-/// A good one is told by the line `setup ok` and its figures, of which the first checks are those of a
+/// Of a good one it prints the line `setup ok` and its figures, of which the first checks are those of a
 /// scheduler that starts at the moment `start`, in milliseconds; no scheduler is opened. With `line`
-/// the document itself is written in their place, on one line, which is read to the same setup. A
-/// refused one is told by the line that a run on it writes, and by a line of plain words behind it.
-/// So is a document whose line would be longer than one may be, as `TooLong`.
+/// the document itself is written in their place, on one line, which is read to the same setup. Of a
+/// refused one it prints the line that a run on it writes, and a line of plain words behind it. A document
+/// whose line would be longer than one may be is refused too, as `TooLong`.
 ///
-/// Of an input no more than 16,777,217 bytes are read, which tell that a document is too long; where
+/// Of an input no more than 16,777,217 bytes are read, which show that a document is too long; where
 /// the last of these is a line feed, one byte more. The writer is flushed once, at the end. After the
-/// errors `Read` and `Memory` nothing was written, after `Write` a front of what was to be told.
+/// errors `Read` and `Memory` nothing was written, after `Write` a prefix of what was to be printed.
 /// `Memory` comes only where a byte was read, or there was none.
 pub fn check<R: Read, W: Write>(
     alloc: Global,
@@ -59,7 +59,7 @@ pub fn check<R: Read, W: Write>(
     Ok(told.outcome)
 }
 
-/// What is to be told of a document. An Err is `Memory`.
+/// What is to be printed of a document. An Err is `Memory`.
 fn tell(alloc: Global, start: u64, line: bool, document: &[u8]) -> Result<Told, DriveError>
     requires start { start ≤ LAST_MOMENT }
     ensures told { IfOk result (λ told.

@@ -1,4 +1,4 @@
-//! A check of a setup and a saved state: reads both, and tells what is in the setup and what becomes of
+//! A check of a setup and a saved state: reads both, and reports what is in the setup and what becomes of
 //! the saved objects over it, or why one of the two is refused.
 ghost use Rattle.std.specs.Prelude.{◌≡◌, ◌≤◌, ℕ, Option, Ok, Err, IfOk, IfErr, IfSome, OnOk};
 ghost use Rattle.check_objects.specs.Configuration.{Configuration};
@@ -20,17 +20,17 @@ use std::alloc::{AllocError, Global};
 use std::io::{Read, Write};
 
 /// Reads the input of a run that goes on from a saved state: line 1 is the setup, line 2 the saved state,
-/// and what stands behind the two isn't tested. It tells the figures of the setup, as
+/// and what stands behind the two isn't tested. It prints the figures of the setup, as
 /// [`check`](crate::check::check) does, of which the first checks are those of a scheduler that starts at
 /// the moment `start`, in milliseconds, or at the saved start where none is given; and behind them what
 /// becomes of the saved objects. No scheduler is opened.
 ///
-/// The setup is tested first, then the saved state. One that is refused is told by the line that such a
-/// run writes, and by a line of plain words behind it, and so is an input of more than 67,108,864 bytes,
+/// The setup is tested first, then the saved state. Of one that is refused it prints the line that such a
+/// run writes, and a line of plain words behind it. An input of more than 67,108,864 bytes is refused
 /// before either is tested.
 ///
 /// The writer is flushed once, at the end. After the errors `Read` and `Memory` nothing was written, after
-/// `Write` a front of what was to be told.
+/// `Write` a prefix of what was to be printed.
 pub fn check_resumed<R: Read, W: Write>(
     alloc: Global,
     start: Option<u64>,
@@ -50,7 +50,7 @@ pub fn check_resumed<R: Read, W: Write>(
     Ok(told.outcome)
 }
 
-/// What is to be told of an input. An Err is `Memory`.
+/// What is to be printed of an input. An Err is `Memory`.
 fn tell(alloc: Global, start: Option<u64>, input: &[u8]) -> Result<Told, DriveError>
     requires { IfSome start (λ moment. moment ≤ LAST_MOMENT) }
     ensures told { IfOk result (λ told.
@@ -85,7 +85,7 @@ fn tell_length(alloc: Global) -> Result<Told, AllocError>
     })
 }
 
-/// What is to be told of a setup document and of the text of a saved state. An Err is `Memory`.
+/// What is to be printed of a setup document and of the text of a saved state. An Err is `Memory`.
 fn tell_both(
     alloc: Global,
     start: Option<u64>,
@@ -104,7 +104,7 @@ fn tell_both(
     }
 }
 
-/// What is to be told of the text of a saved state over a setup. An Err is `Memory`.
+/// What is to be printed of the text of a saved state over a setup. An Err is `Memory`.
 fn tell_saved(
     alloc: Global,
     start: Option<u64>,

@@ -34,9 +34,9 @@ use ticket_steps::{Entry, Kept};
 /// is flushed once, at the end.
 ///
 /// The book has room for so many entries: memory for more is asked for as they come. A worker stops
-/// at its first call without memory, which the total tells. The error `Memory` comes where there is
+/// at its first call without memory, which the total counts. The error `Memory` comes where there is
 /// no memory elsewhere, as for a thread, `Read` where the reader fails, `Write` where the writer or
-/// its flush fails. After `Read` nothing was written, after the others nothing or a front of a text
+/// its flush fails. After `Read` nothing was written, after the others nothing or a prefix of a text
 /// that the drill can write, after `Memory` never the whole of it.
 pub fn drill<H: Threads + Wait + Sync, R: Read, W: Write>(
     rt: &H,
@@ -166,7 +166,7 @@ fn write_book<W: Write>(alloc: Global, book: &Book, writer: &mut W) -> Result<Ou
 /// are, and how many calls were refused when out of memory. One buffer serves all lines. Nothing is
 /// flushed.
 ///
-/// An Err is `Write`, where the writer fails or takes no byte, or `Memory`. A front of the text was
+/// An Err is `Write`, where the writer fails or takes no byte, or `Memory`. A prefix of the text was
 /// written then.
 pub fn write_history<W: Write>(
     alloc: Global,

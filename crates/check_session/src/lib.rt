@@ -1,11 +1,11 @@
 #![tactic(auto)]
 //! What the program `nagsched` does for its words, with a reader and a writer that the caller gives:
-//! a run, a conversation, a check, a drill, or a line that tells why none of them. The program's own
+//! a run, a conversation, a check, a drill, or a line that says why none of them. The program's own
 //! words and streams are no matter of this crate.
 //!
 //! The modules: `session` does what the words ask for, which `check_words` reads, and gives the exit
-//! status; a run and a conversation are `check_drive`'s. `check` tells what is in a setup, of which
-//! `reading` reads no more than tells that it is too long, and `check_resumed` what becomes of a saved
+//! status; a run and a conversation are `check_drive`'s. `check` reports what is in a setup, of which
+//! `reading` reads no more than shows that it is too long, and `check_resumed` what becomes of a saved
 //! state over one. `drill` lets workers work on an input, with
 //! the plugin of `scripted`, and writes what came of it.
 //!

@@ -41,10 +41,10 @@ pub enum Ending {
 /// line `refused words` or the text that is asked for is written. The writer is flushed once, at the end, but by `live`
 /// before each read too.
 ///
-/// The status is that of [`exit_status`]. Where it tells a fault or that there was no memory, a job
+/// The status is that of [`exit_status`]. Where it means a fault or that there was no memory, a job
 /// leaves what `drive`, `live`, `drive_resumed`, `live_resumed`, `check_resumed` or `drill` says of that
-/// error; without a job the reader is as it was, and the writer has got a front of what it was to be
-/// told, or nothing.
+/// error; without a job the reader is as it was, and the writer has got a prefix of what it was to be
+/// handed, or nothing.
 ///
 /// `rt` is the machine that starts threads and waits, which only a drill uses.
 pub fn session<H: Threads + Wait + Sync, R: Read, W: Write>(
@@ -152,7 +152,7 @@ fn tell_words<W: Write>(error: WordsError, writer: &mut W) -> Result<Ending, Dri
 }
 
 /// Writes the line that refuses the program's words, and flushes it. An Err is `Write`: the writer or
-/// its flush failed, or a write took no byte. A front of the line was written then.
+/// its flush failed, or a write took no byte. A prefix of the line was written then.
 pub fn refuse_words<W: Write>(writer: &mut W) -> Result<(), DriveError>
     ensures written { OnOk result
         (Appends (W.contents writer.old) (W.contents writer.new) (codes "refused words\n")) }
@@ -175,7 +175,7 @@ fn tell<W: Write>(writer: &mut W, text: &[u8]) -> Result<(), DriveError>
     flush(writer)
 }
 
-/// The exit status of a session: 0 ran or told its help or version, 1 input refused, 2 words refused, 3 a fault
+/// The exit status of a session: 0 ran or printed its help or version, 1 input refused, 2 words refused, 3 a fault
 /// of the reader or the writer, 4 out of memory.
 pub fn exit_status(ended: Result<Ending, DriveError>) -> u8
     ensures { result ≡ exit_status ended }

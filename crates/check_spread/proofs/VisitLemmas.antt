@@ -96,7 +96,7 @@ visits_either t u v i (x ∷ xs) h =
 
 -- ---- counts by remainder
 
--- the counts after a scheduled object at position p, where the tests differ there alone
+-- the counts after a scheduled object at position p, where the tests differ only there
 pub counts_add : (t u : ℕ → ℕ → Bool) (factor p : ℕ) (xs : List Object) (d : Object) (counts : List ℕ) → 0 < factor → p % factor < factor
     → p < length xs → is_scheduled (get_or xs p d) ≡ true
     → ((r j : ℕ) → j ≢ p → t r j ≡ u r j) → ((r : ℕ) → one (u r p) ≡ one (t r p) + one (p % factor == r))

@@ -54,7 +54,7 @@ smart_delay max_spread scheduled k =
     else k * max_spread / scheduled.count
 
 -- How long after the start the check of rank k is due: with a delay the ranks follow one another by
--- it. The maximum spread acts on the smart delay alone. (Our own profile.)
+-- it. The maximum spread acts only on the smart delay. (Our own profile.)
 abbrev pub delay_by : DelayMethod → ℕ → Scheduled → ℕ → ℕ
 delay_by method.NoDelay max_spread scheduled k = 0
 delay_by method.Dumb max_spread scheduled k = 1000 * k

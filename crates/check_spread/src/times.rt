@@ -18,7 +18,7 @@ use std::alloc::{AllocError, Global};
 ///
 /// Hosts and services are spread each by their own inter-check delay method and maximum spread, and
 /// services are interleaved. (Manual: "Service and Host Check Scheduling"; the rounding of the
-/// smart delay, and that the maximum spread acts on it alone, are our own profile.) It takes time
+/// smart delay, and that the maximum spread acts only on it, are our own profile.) It takes time
 /// linear in the objects. An Err means out of memory.
 #[tactic(auto, unfolding(crate::specs::Spread::initial_times))]
 pub fn initial_times(

@@ -73,7 +73,7 @@ span_of times = record { first = earliest times; last = latest times }
 
 -- ---- all of it
 
--- what is told of a setup whose first checks have these spans
+-- what is reported of a setup whose first checks have these spans
 abbrev pub with_spans : Configuration → Span → Span → Summary
 with_spans c host_span service_span = record {
   hosts = length c.hosts;
@@ -88,6 +88,6 @@ with_spans c host_span service_span = record {
   interleave_factor = factor_by c.options.service_interleave_factor (length c.services) (length c.hosts);
 }
 
--- what is told of a setup whose scheduling begins at this moment
+-- what is reported of a setup whose scheduling begins at this moment
 abbrev pub summary_of : Configuration → ℕ → Summary
 summary_of c start = with_spans c (span_of (take (host_count c) (initial_times c start))) (span_of (drop (host_count c) (initial_times c start)))

@@ -1,4 +1,4 @@
--- The lines that tell what an operator asks of a setup: a word and a value each.
+-- The lines that say what an operator asks of a setup: a word and a value each.
 use Rattle.std.specs.Prelude.{ℕ, List, ◌++◌, Option, Some, None, codes, decimal}
 use Rattle.check_drafts.specs.declared.options.DelayMethod.{DelayMethod}
 use Rattle.check_drafts.specs.declared.options.DelayMethod.TheVariants as method

@@ -1,6 +1,6 @@
 #![tactic(auto)]
 //! What an operator asks of a setup at a glance: how much there is, how much of it is scheduled, how
-//! its first checks are spread, and the text that tells it.
+//! its first checks are spread, and the text that says it.
 //!
 //! The modules: `counts` has how many objects and links there are, `chains` how many links follow one
 //! another, by the `depths` of objects, `spans` the first and the last of the first checks, `summary`

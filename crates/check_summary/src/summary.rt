@@ -40,7 +40,7 @@ pub struct Summary {
 }
 
 impl Summary {
-    /// What there is to tell of a setup whose scheduling starts at the moment `start`, in
+    /// What there is to report of a setup whose scheduling starts at the moment `start`, in
     /// milliseconds. It takes time linear in the objects and their links. An Err means out of memory.
     pub fn of(alloc: Global, setup: &Setup, start: u64) -> Result<Summary, AllocError>
         requires { start ≤ LAST_MOMENT }

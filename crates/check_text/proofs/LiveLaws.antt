@@ -183,7 +183,7 @@ state_after-setup s (Ok None) = refl
 state_after-setup s (Ok (Some call)) = command_keeps s call
 state_after-setup s (Err why) = refl
 
--- the same answers but for that of the refused line
+-- the same answers except for that of the refused line
 abbrev Passes : List ℕ → List ℕ → InputRefusal → Type 0
 Passes refused passed why = (before : List ℕ) × (behind : List ℕ) × (refused ≡ before ++ (refusal_line why ++ behind)) × (passed ≡ before ++ behind)
 

@@ -61,7 +61,7 @@ WroteUpTo-line old mid new text line rest w a = record {
   appended = Appends-trans old mid new w.front line w.appended a;
 }
 
--- a front of that line was
+-- a prefix of that line was
 pub WroteUpTo-part : (old mid new : Option (List ℕ)) (text line rest : List ℕ) → WroteUpTo old mid text (line ++ rest) → WroteFront mid new line
     → WroteFront old new text
 WroteUpTo-part old mid new text line rest w (left, f) = (

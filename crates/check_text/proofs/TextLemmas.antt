@@ -40,7 +40,7 @@ entries_next c es i d total h =
     let e : drop i es ≡ get_or es i d ∷ drop (i + 1) es = grind (arith, common_steps) in
     ap (λ l. flat_map (entry_line c) l ++ total) e ∙ append_assoc (entry_line c (get_or es i d)) (flat_map (entry_line c) (drop (i + 1) es)) total
 
--- after the last entry the total alone is left, with nothing behind it
+-- after the last entry only the total is left, with nothing behind it
 pub entries_end : (c : Configuration) (es : List (Entry Call Reply)) (i : ℕ) (total : List ℕ) → length es ≤ i
     → flat_map (entry_line c) (drop i es) ++ total ≡ total ++ []
 entries_end c es i total h = ap (λ l. flat_map (entry_line c) l ++ total) (drop_all i es h) ∙ sym (append-nil total)

@@ -21,7 +21,7 @@ answer_to s (Ok None) = []
 answer_to s (Ok (Some command)) = answer_line s command
 answer_to s (Err why) = refusal_line why
 
--- the state after it: calls alone change it
+-- the state after it: only calls change it
 abbrev pub state_after : State → Result (Option RunCommand) InputRefusal → State
 state_after s (Ok None) = s
 state_after s (Ok (Some command)) = state_by s command

@@ -8,10 +8,10 @@ pub record WroteUpTo (old new : Option (List ℕ)) (text rest : List ℕ) : Type
   pub parts : text ≡ front ++ rest
   pub appended : Appends old new front
 
--- the writer took some front of the text, and no more
+-- the writer took some prefix of the text, and no more
 abbrev pub WroteFront : Option (List ℕ) → Option (List ℕ) → List ℕ → Type 0
 WroteFront old new text = (rest : List ℕ) × WroteUpTo old new text rest
 
--- the writer took nothing, or a front of the text that isn't all of it
+-- the writer took nothing, or a prefix of the text that isn't all of it
 abbrev pub WroteShort : Option (List ℕ) → Option (List ℕ) → List ℕ → Type 0
 WroteShort old new text = Keeps old new ⊎ ((rest : List ℕ) × (rest ≢ []) × WroteUpTo old new text rest)

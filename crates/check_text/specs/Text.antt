@@ -103,7 +103,7 @@ call_refusal_text refused.NotRunning = codes "C3 NotRunning"
 call_refusal_text refused.WrongRun = codes "C4 WrongRun"
 call_refusal_text refused.RunsSpent = codes "C5 RunsSpent"
 
--- The text of the reply to a call. The object is told by its full name: the one of the reply, or else of the call.
+-- The text of the reply to a call. The object is named by its full name: the one of the reply, or else of the call.
 abbrev pub reply_text : Configuration → Call → Reply → List ℕ
 reply_text c asked (reply.Taken object run) = taken_text run (name_of c object)
 reply_text c asked (reply.PutOff object until) = putoff_text until (name_of c object)

@@ -24,7 +24,7 @@ pub fn live_agrees_with_run()
         → script_of input ≡ Ok script → live_text start input ≡ text start input }
 {}
 
-/// What a conversation writes on whole lines is a front of what it writes on them and what comes later:
+/// What a conversation writes on whole lines is a prefix of what it writes on them and what comes later:
 /// no answer depends on what comes later.
 pub fn live_goes_on()
     ensures { (start : ℕ) → (front back : List ℕ) → (rest : List ℕ)
@@ -32,9 +32,9 @@ pub fn live_goes_on()
         ≡ live_text start (front ++ 10 ∷ []) ++ rest) }
 {}
 
-/// With an empty line in the place of a refused one, a conversation writes the same but for the line of
+/// With an empty line in the place of a refused one, a conversation writes the same except for the line of
 /// that refusal. `front` has the setup and the lines before the refused one, each with its line feed,
-/// but for the last one's.
+/// except for the last one's.
 pub fn live_passes_refusals()
     ensures { (start : ℕ) → (setup : Configuration) → (front line back : List ℕ)
         → (why : InputRefusal)

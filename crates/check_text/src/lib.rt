@@ -1,5 +1,5 @@
 #![tactic(auto)]
-//! What is told of a scheduler's calls: the lines of replies, standings and refusals, and how they
+//! What is written of a scheduler's calls: the lines of replies, standings and refusals, and how they
 //! are written.
 //!
 //! `text` has the text of each line, one definition each, whatever subcommand writes it; `output`

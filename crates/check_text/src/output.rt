@@ -11,7 +11,7 @@ use check_script::{DriveError, InputRefusal};
 use std::alloc::Global;
 use std::io::Write;
 
-/// Writes all of the text, or before a fault the front of it that the writer took.
+/// Writes all of the text, or before a fault the prefix of it that the writer took.
 ///
 /// Each error of the writer is a fault, an interruption among them, and so is a write that takes no
 /// byte: nothing is tried again.
@@ -34,7 +34,7 @@ pub fn write_text<W: Write>(writer: &mut W, text: &[u8]) -> Result<(), DriveErro
     Ok(())
 }
 
-/// Writes the line of a refusal. An Err is `Write`, and a front of the line was written then, or
+/// Writes the line of a refusal. An Err is `Write`, and a prefix of the line was written then, or
 /// `Memory`, and nothing was. Nothing is flushed.
 pub fn write_refusal<W: Write>(
     alloc: Global,
@@ -55,7 +55,7 @@ pub fn write_refusal<W: Write>(
 }
 
 /// Writes the line of what is saved of a scheduler, which stays as it is. An Err is `Write`, and a
-/// front of the line was written then, or `Memory`, and nothing was. Nothing is flushed.
+/// prefix of the line was written then, or `Memory`, and nothing was. Nothing is flushed.
 pub fn write_saved<W: Write>(alloc: Global, sched: &Sched, writer: &mut W) -> Result<(), DriveError>
     ensures written { OnOk result
         (Appends (W.contents writer.old) (W.contents writer.new) (saved_line sched.now)) }

@@ -21,7 +21,7 @@ use ticket_steps::Entry;
 /// How many bytes the line of a reply has at most, with its line feed.
 pub const REPLY_BYTES: usize = 1024;
 
-/// Appends the line of the reply to a call, with its line feed. Objects are told by their full
+/// Appends the line of the reply to a call, with its line feed. Objects are named by their full
 /// names, and by nothing where the setup has no object of the number. An Err comes only where the
 /// line had no room for `REPLY_BYTES` more.
 pub fn push_reply(

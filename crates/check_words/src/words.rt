@@ -26,14 +26,14 @@ pub enum Job {
     LiveResumed {
         start: Option<u64>,
     },
-    /// To check a setup, and to tell what is in it or why it is refused. Its first checks are those of
+    /// To check a setup, and to report what is in it or why it is refused. Its first checks are those of
     /// a scheduler that starts at the moment `start`, as above. With `line` the setup itself is written
     /// on one line in place of what is in it.
     Check {
         start: u64,
         line: bool,
     },
-    /// To check a setup and a saved state, and to tell what is in the setup and what becomes of the saved
+    /// To check a setup and a saved state, and to report what is in the setup and what becomes of the saved
     /// objects in it, or why one of the two is refused. The start is that of `RunResumed`.
     CheckResumed {
         start: Option<u64>,

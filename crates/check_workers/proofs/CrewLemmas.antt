@@ -104,7 +104,7 @@ shift_short s moments p =
     let same = length-map s.rounds (λ r. r.now) in
     omega arith
 
--- where calls are left, a worker stops out of memory alone
+-- where calls are left, a worker stops only out of memory
 stops_by : (room recorded left before calls moments : ℕ) (o : Option Stop) → IsReason room recorded left o → before ≡ left + calls + unanswered o
     → calls ≤ 2 * moments → 2 * moments < before → length (stops_of o) ≡ unanswered o
 stops_by room recorded left before calls moments None r e short many = refl

@@ -108,7 +108,7 @@ plus_none t =
     }
     ≡ plus t (tally_of [] []) = simp unary_clauses refl in is
 
--- one pass alone
+-- one pass only
 pub gathered_one : (desk : Desk) (pass : Pass) (t : Tally) → IsTallied desk pass t → AreGathered desk ((pass, t) ∷ []) pass t
 gathered_one desk pass t h = record {
   tallied = h;

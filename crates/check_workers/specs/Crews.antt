@@ -19,7 +19,7 @@ use Rattle.check_workers.specs.declared.tally.Tally.{Tally}
 use Rattle.check_workers.specs.Shifts.{HasWorked, Shift, IsReason, IsShift, shift_entries, stops_of, unanswered}
 use Rattle.check_workers.specs.Tallies.{IsSum, plus, tally_of}
 
--- The shift that a worker worked on these moments with this pass, as the history of the closed book tells: of the numbers that
+-- The shift that a worker worked on these moments with this pass, as the history of the closed book shows: of the numbers that
 -- the pass answers for, what is new since it came to the crew are the entries of the shift.
 pub record IsShiftOf (allows : ℕ → ℕ → ℕ → Code → Type 0) (moments : List ℕ) (room : ℕ)
     (history : List (Entry Call Reply)) (brought : Caller Call Reply) (s : Shift) : Type 0 where

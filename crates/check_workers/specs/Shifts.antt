@@ -1,4 +1,4 @@
--- What a worker does with its moments, as its entries in the history tell: rounds, and how its shift ended.
+-- What a worker does with its moments, as its entries in the history show: rounds, and how its shift ended.
 use Rattle.std.specs.Prelude.{◌≡◌, ℕ, ◌+◌, ◌≤◌, ◌<◌, ⊤, List, [], ◌∷◌, ◌++◌, length, map, flat_map, Option, Some, None}
 use Rattle.std.specs.List.{All}
 use mathlib.Core.List.{IsPrefix}

@@ -17,7 +17,7 @@ use std::sync::Wait;
 pub enum Progress {
     /// Its work is done.
     Done,
-    /// A call got no answer. The check that was taken and couldn't be reported, if any, is told by
+    /// A call got no answer. The check that was taken and couldn't be reported, if any, is named by
     /// its object and run.
     Stopped(Stop, Option<(u32, u64)>),
 }

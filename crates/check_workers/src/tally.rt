@@ -47,7 +47,7 @@ pub enum Stop {
 }
 
 impl Tally {
-    /// The tally of one take with this reply. No other reply than those that are told apart here
+    /// The tally of one take with this reply. No other reply than those that have an arm here
     /// answers a take.
     pub(crate) fn of_take(reply: Reply) -> Tally
         ensures { (number now : ℕ)

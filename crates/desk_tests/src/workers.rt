@@ -89,7 +89,7 @@ impl Plugin for Meeting {
 }
 
 /// At the first moment a host is put off, and at the second its master is taken: the plugin is called
-/// for what was taken alone.
+/// only for what was taken.
 #[test]
 fn no_plugin_is_called_for_what_is_put_off(rt: HostRuntime) -> Result<(), Fail> {
     let (desk, pass) = one_pass(rt.alloc(), FIRST_ON_PENDING)?;

@@ -55,7 +55,7 @@ none_by : (a b : Bool) → not a ≡ true → not b ≡ true → not (a || b) �
 none_by true b h k = h
 none_by false b h k = k
 
--- links to shallow objects alone
+-- only links to shallow objects
 pub shallow_links : (links : List (List ℕ)) (k : ℕ) (placed ls : List ℕ) → list_all (is_among placed) ls ≡ true
     → list_all (shallow links k) placed ≡ true → not (list_any (λ m. deep links m k) ls) ≡ true
 shallow_links links k placed [] h s = refl

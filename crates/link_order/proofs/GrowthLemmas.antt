@@ -194,7 +194,7 @@ follows-append links placed (x ∷ xs) ys h k =
 among_more : (placed more : List ℕ) (l : ℕ) → is_among placed l ≡ true → is_among (placed ++ more) l ≡ true
 among_more placed more l h = rw (list_any-append (λ x. x == l) placed more, h) refl
 
--- objects that link to placed ones alone come behind all that they link to
+-- objects that link only to placed ones come behind all that they link to
 pub follows_placed : (links : List (List ℕ)) (placed xs : List ℕ) → list_all (λ o. list_all (is_among placed) (links_of links o)) xs ≡ true
     → follows links placed xs ≡ true
 follows_placed links placed [] h = refl

@@ -1,5 +1,5 @@
 #![tactic(auto)]
-//! The program `nagsched_bench`: makes a workload so many times, and tells how long it took. It is
+//! The program `nagsched_bench`: makes a workload so many times, and prints how long it took. It is
 //! timed by hand, by the scripts of `bench/`.
 //!
 //! Its words are `WORKLOAD N CYCLES [untimed]`; it writes one line, `ns=TIME ops=CYCLES sum=SUM`, or
@@ -80,7 +80,7 @@ fn main(rt: HostRuntime) -> ExitCode {
     }
 }
 
-/// Makes what is asked for; tells what it took and saw, and how many cycles were made. None where there
+/// Makes what is asked for; returns what it took and saw, and how many cycles were made. None where there
 /// is no memory, or it can't be made of so many numbers.
 fn work_on(rt: &(impl Clock + Wait), alloc: Global, job: &Job) -> Option<(Made, u64)> {
     match job.workload {

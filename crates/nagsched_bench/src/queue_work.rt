@@ -71,7 +71,7 @@ impl QueueWork {
         })
     }
 
-    /// Makes the workload, at least so many cycles of it, and tells how many.
+    /// Makes the workload, at least so many cycles of it, and returns how many.
     pub(crate) fn make(&mut self, cycles: u64) -> u64 {
         match self.workload {
             QueueWorkload::Drain => {

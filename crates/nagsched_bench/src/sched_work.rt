@@ -128,7 +128,7 @@ impl Moments {
 }
 
 /// Takes a check at the time of the first of `objects` objects and reports that it is OK, so many
-/// times; tells a sum of what was taken.
+/// times; returns a sum of what was taken.
 pub(crate) fn cycle(scheduler: &mut Sched, objects: u32, cycles: u64) -> u64 {
     let mut moments = Moments::of(objects);
     let mut sum = 1;

@@ -1,4 +1,4 @@
--- What C is told of a desk that was ended, and of a book that goes on.
+-- What C is handed of a desk that was ended, and of a book that goes on.
 use Rattle.std.proofs.Common.{ℕ, inl, inr, refl, ap, true, false, Some, None}
 use Rattle.check_handles.specs.declared.lodged.Lodged.{Lodged}
 use Rattle.check_handles.specs.Closing.{HasGoneOn, HasShut}

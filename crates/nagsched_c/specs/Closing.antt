@@ -1,4 +1,4 @@
--- What C is told of passes that are put together, of a desk that is ended, and of a book that goes on.
+-- What C is handed of passes that are put together, of a desk that is ended, and of a book that goes on.
 use Rattle.std.specs.Prelude.{◌≡◌, ◌⊎◌, ℕ, true, is_some, Option, Some, None}
 use Rattle.check_handles.specs.declared.desk_pass.DeskPass.{DeskPass}
 use Rattle.check_handles.specs.declared.lodged.Ledger.{Ledger}

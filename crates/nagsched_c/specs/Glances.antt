@@ -1,4 +1,4 @@
--- What C is told of a glance.
+-- What C is handed of a glance.
 use Rattle.std.specs.Prelude.{◌≡◌, ℕ, Option, Some, None}
 use Rattle.check_rules.specs.declared.standing.Standing.{Standing}
 use Rattle.check_handles.specs.declared.lodged.Lodged.{Lodged}
@@ -8,7 +8,7 @@ use Rattle.check_handles.specs.Desks.{AreOneDesk, desk_of}
 use Rattle.check_handles.specs.Glances.{HasLookedAt}
 use Rattle.check_records.specs.Plain.{plain_standing}
 
--- what C is told of a standing, and where there is none
+-- what C is handed of a standing, and where there is none
 abbrev pub IsTold : Option Standing → PlainStanding → ℕ → PlainStanding → Type 0
 IsTold (Some standing) before status told = (status ≡ 0) × (told ≡ plain_standing standing)
 IsTold None before status told = (status ≡ 6) × (told ≡ before)

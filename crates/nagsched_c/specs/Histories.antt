@@ -1,4 +1,4 @@
--- What C is told of histories.
+-- What C is handed of histories.
 use Rattle.std.specs.Prelude.{◌≡◌, ℕ, List, slice_get, Option, Some, None}
 use Rattle.ticket_steps.specs.declared.kept.Entry.{Entry}
 use Rattle.check_sched.specs.declared.call.Call.{Call}
@@ -24,7 +24,7 @@ abbrev pub MatchKept : {X : Type 0} → Option X → (X → Type 0) → Type 0 �
 MatchKept (Some kept) P Q = P kept
 MatchKept None P Q = Q
 
--- what C is told of an entry, and where there is none
+-- what C is handed of an entry, and where there is none
 abbrev pub IsEntryTold : Option (Entry Call Reply) → PlainEntry → ℕ → PlainEntry → Type 0
 IsEntryTold (Some entry) before status told = (status ≡ 0) × (told ≡ plain_entry entry)
 IsEntryTold None before status told = (status ≡ 6) × (told ≡ before)

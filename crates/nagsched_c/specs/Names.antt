@@ -1,4 +1,4 @@
--- What C is told of an object's name, number and host.
+-- What C is handed of an object's name, number and host.
 use Rattle.std.specs.Prelude.{◌≡◌, ◌⊎◌, ◌<◌, ◌≤◌, ◌++◌, ℕ, List, length, drop, IsUtf8, Some, None}
 use Rattle.check_objects.specs.Configuration.{Configuration, host_of, name_of, number_of, object_count}
 
@@ -8,7 +8,7 @@ HasNumber setup name before status after =
     ((status ≡ 0) × (number_of setup name ≡ Some after))
     ⊎ ((status ≡ 5) × (after ≡ before) × (IsUtf8 name → number_of setup name ≡ None))
 
--- A text stands at the front of the room, where it fits; its length was written in any case.
+-- A text stands at the beginning of the room, where it fits; its length was written in any case.
 abbrev pub IsPut : List ℕ → List ℕ → ℕ → List ℕ → ℕ → Type 0
 IsPut text room status after bytes =
     (bytes ≡ length text)

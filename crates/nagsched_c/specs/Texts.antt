@@ -1,4 +1,4 @@
--- The texts that C is told.
+-- The texts that C is handed.
 use Rattle.std.specs.Prelude.{◌≡◌, ◌≢◌, ◌⊎◌, ℕ, List}
 use Rattle.ticket_steps.specs.declared.kept.Entry.{Entry}
 use Rattle.check_drafts.specs.declared.error.LoadError.{LoadError}
@@ -19,7 +19,7 @@ use Rattle.check_records.specs.Plain.{plain_call, plain_entry, plain_refusal, pl
 use Rattle.check_records.specs.SavedFaults.{plain_fault, IsNoFault}
 use Rattle.check_records.specs.Plain.{IsNoCall, IsNoEntry, IsNoRefusal, IsNoReply}
 
--- nothing was written, and the status tells why
+-- nothing was written, and the status says why
 abbrev pub IsUntold : ℕ → List ℕ → ℕ → ℕ → List ℕ → ℕ → Type 0
 IsUntold why room before status after bytes = (status ≡ why) × (after ≡ room) × (bytes ≡ before)
 
@@ -36,13 +36,13 @@ HasRefusalText told room before status after bytes =
     ⊎ (((why : SavedFault) × (why ≢ fault.Memory) × (plain_fault why ≡ told) × IsTold (refusal_line (refusal.Saved why)) room before status after bytes)
     ⊎ (IsUntold 6 room before status after bytes × IsNoRefusal told × IsNoFault told))
 
--- the line of the reply with this struct, to the call with this struct, was told; or no call or no reply has its struct
+-- the line of the reply with this struct, to the call with this struct, was written; or no call or no reply has its struct
 abbrev pub HasReplyText : Configuration → PlainCall → PlainReply → List ℕ → ℕ → ℕ → List ℕ → ℕ → Type 0
 HasReplyText setup asked told room before status after bytes =
     ((call : Call) × (reply : Reply) × (plain_call call ≡ asked) × (plain_reply reply ≡ told) × IsTold (reply_line setup call reply) room before status after bytes)
     ⊎ (IsUntold 6 room before status after bytes × (IsNoCall asked ⊎ IsNoReply told))
 
--- the line of the entry with this struct was told; or no entry has it
+-- the line of the entry with this struct was written; or no entry has it
 abbrev pub HasEntryText : Configuration → PlainEntry → List ℕ → ℕ → ℕ → List ℕ → ℕ → Type 0
 HasEntryText setup told room before status after bytes =
     ((entry : Entry Call Reply) × (plain_entry entry ≡ told) × IsTold (entry_line setup entry) room before status after bytes)

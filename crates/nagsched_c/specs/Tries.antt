@@ -1,4 +1,4 @@
--- What C is told of a try of one of the six calls.
+-- What C is handed of a try of one of the six calls.
 use Rattle.std.specs.Prelude.{◌≡◌, ℕ, Option, Some, None}
 use Rattle.check_sched.specs.declared.call.Call.{Call}
 use Rattle.check_handles.specs.declared.desk_pass.DeskPass.{DeskPass}
@@ -11,7 +11,7 @@ use Rattle.check_handles.specs.Desks.{AreOneDesk, desk_of}
 use Rattle.check_handles.specs.Tries.{HasAdvanced}
 use Rattle.check_records.specs.Plain.{plain_reply}
 
--- what C is told
+-- what C is handed
 abbrev pub status_of : Step → ℕ
 status_of (tried.Replied reply) = 0
 status_of tried.NotYet = 1

@@ -35,7 +35,7 @@ pub extern "C" fn nagsched_try_take(
     try_call(alloc, pass, Call::Take { now }, reply)
 }
 
-/// Tells what the check of an object returned that was handed out under the number `run`, and ends that
+/// Reports what the check of an object returned that was handed out under the number `run`, and ends that
 /// run. A code above 3 is `WRONG`. The rest is as of [`nagsched_try_take`].
 #[unsafe(no_mangle)]
 pub extern "C" fn nagsched_try_report(

@@ -113,7 +113,7 @@ pub extern "C" fn nagsched_name(
     status
 }
 
-/// Writes a text to the front of the room, where it fits, and its length in any case.
+/// Writes a text at the beginning of the room, where it fits, and its length in any case.
 pub(crate) fn put(text: &[u8], room: &mut [u8], bytes: &mut usize) -> u32
     ensures { IsPut text.now room.old result room.new bytes.new }
 {

@@ -15,9 +15,9 @@ use std::alloc::Global;
 /// Reads a setup of a JSON document into an empty handle. The document is read twice: passes keep the
 /// names of the objects beside the desk.
 ///
-/// Refused, where the document is no setup: the struct tells why and where. Wrong, exactly where the
-/// handle isn't empty. Where memory is refused the status tells so; nothing is said of the document.
-/// But where the setup was made the handle is as it was, and but for a refusal the struct is.
+/// Refused, where the document is no setup: the struct says why and where. Wrong, exactly where the
+/// handle isn't empty. Where memory is refused the status says so; nothing is said of the document.
+/// But where the setup was made the handle is as it was, and except for a refusal the struct is.
 #[unsafe(no_mangle)]
 pub extern "C" fn nagsched_read(
     alloc: Global,

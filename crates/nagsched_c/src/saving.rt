@@ -66,7 +66,7 @@ fn put_saved(alloc: Global, book: &Book, text: &mut [u8], bytes: &mut usize) -> 
 /// Refused, where the text is no saved state: the struct says why and where. Wrong, exactly where the
 /// first handle has no setup, the other isn't empty, or the start is later. Where memory is refused the
 /// status says so; nothing is known of the text. But where a book was made the handles are as they were,
-/// and but for a refusal the struct is.
+/// and except for a refusal the struct is.
 #[unsafe(no_mangle)]
 pub extern "C" fn nagsched_resume(
     alloc: Global,

@@ -48,7 +48,7 @@ fn record_once(book: &mut Book, made: usize) -> Result<Outcome, Wrong>
     where_right(is_unchecked(reply), outcome)
 }
 
-/// Whether a reply tells the standing of an object that was never checked and is due at 0.
+/// Whether a reply says the standing of an object that was never checked and is due at 0.
 fn is_unchecked(reply: Reply) -> bool {
     match reply {
         Reply::Standing {

@@ -1,4 +1,4 @@
-//! Workers out of memory: the first refusal ends a worker's shift, and the book tells it.
+//! Workers out of memory: the first refusal ends a worker's shift, and the book shows it.
 
 ghost use Rattle.std.specs.Prelude.{⊤, IfOk};
 ghost use Rattle.std.specs.List.{All};
@@ -54,7 +54,7 @@ fn work_once(rt: &impl Wait, alloc: Global) -> Result<Outcome, Wrong> {
     }
 }
 
-/// What a book and its tally tell, after each of so many workers had one moment and a check to take.
+/// What a book and its tally say, after each of so many workers had one moment and a check to take.
 fn outcome_of(book: &Book, tally: &Tally, workers: u64) -> Result<Outcome, Wrong> {
     let recorded = book.entries().len() as u64;
     let is_right = book.refused() == tally.unanswered

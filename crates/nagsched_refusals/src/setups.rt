@@ -28,7 +28,7 @@ pub(crate) fn setup_of(alloc: Global, text: &[u8]) -> Result<Setup, Wrong> {
     }
 }
 
-/// The outcome, where a setup tells all that the setup of this text does.
+/// The outcome, where a setup says all that the setup of this text does.
 pub(crate) fn where_same(
     alloc: Global,
     setup: &Setup,
@@ -39,7 +39,7 @@ pub(crate) fn where_same(
     where_right(is_same(setup, &other), outcome)
 }
 
-/// Whether all that two setups tell is the same.
+/// Whether all that two setups say is the same.
 fn is_same(one: &Setup, other: &Setup) -> bool {
     if one.len() != other.len() || one.hosts() != other.hosts() {
         return false;
@@ -55,7 +55,7 @@ fn is_same(one: &Setup, other: &Setup) -> bool {
     true
 }
 
-/// Whether two setups tell the same of the object with this number.
+/// Whether two setups say the same of the object with this number.
 fn is_same_object(one: &Setup, other: &Setup, number: u32) -> bool
     requires { (number < object_count one.now) × (number < object_count other.now) }
 {

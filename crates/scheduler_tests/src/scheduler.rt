@@ -113,7 +113,7 @@ fn refusal_of(scheduler: &mut Sched, call: Call) -> Option<Refusal> {
     }
 }
 
-/// Object 2 isn't there: that is told before the moment is. Of an object that runs, the moment is told
+/// Object 2 isn't there: that is reported before the moment is. Of an object that runs, the moment is reported
 /// before the number of the run. (An input can't name an object that isn't there.)
 #[test]
 fn refuses_in_the_order_of_the_reasons(rt: HostRuntime) -> Result<(), Fail> {

@@ -1,4 +1,4 @@
--- What acts can leave in a table of one slot, and so which table alone an operation leaves that meets its play.
+-- What acts can leave in a table of one slot, and so which single table an operation leaves that meets its play.
 use Rattle.std.proofs.Common.{◌≡◌, ℕ, zero, suc, ◌⊎◌, List, [], ◌∷◌, length, get_or, set, sym, refl, ap, ◌∙◌, inl, inr, arith}
 use mathlib.Core.Option.{Option, some, none, some-injective, some-ne-none}
 use lib.ListN.{get_elem?}

@@ -1,4 +1,4 @@
--- What the calls owe the table: each step keeps the rule, and tells what its play says.
+-- What the calls owe the table: each step keeps the rule, and what its play says holds.
 use Rattle.std.proofs.Common.{◌≡◌, ℕ, suc, ◌+◌, ◌%◌, ◌<◌, ◌≤◌, ◌≢◌, List, [], ◌∷◌, ◌++◌, length, get_or, sym, refl, ap, ◌∙◌, subst, ⊎_elim, arith}
 use Rattle.std.proofs.Common.{Option, Some, None, Bool, true, false, cond}
 use mathlib.Core.Logic.{dite}
@@ -97,7 +97,7 @@ module _ {K C R : Type 0} (k : Ghosts K C R) (start : Start K) where
       let e = draw_event k start r.0 r.1 s id me r.2 at idle some_left in
       (drawn_view (get_or s.words next_word 0) me.0, keeps, tt, (r.0 ++ drew me.0.seat.own r.1.next ∷ [], e.0, e.2), refl)
 
-  -- what the play of a look tells of a look that holds
+  -- what the play of a look says of a look that holds
   pub look_held_told : (hs : List (Happening C R)) (c : Core) (s : Table) (id : ℕ) (me : Me (Option K) V) (book : K) (st : Step (Option K))
       → IsTableOf k start hs c s → get_elem? s.views id ≡ some me.0 → me.0.seat.phase ≡ Waiting c.served → me.1 ≡ []
       → IsBook k start c.book book → LookTells k st me (get_or s.words (grant_word c.served) 0) (held_view k c.served me.0 book, (0, Some book) ∷ me.1)
@@ -194,7 +194,7 @@ module _ {K C R : Type 0} (k : Ghosts K C R) (start : Start K) where
   looks n id t word me is waits bare =
       subst (λ (w : ℕ). Allows Rule n id me w (λ x. x) (LookTells k (step n w 0 0 none) me)) (sym is) (looks_at n id t me waits bare)
 
-  -- what the play of a leave tells
+  -- what the play of a leave says
   pub leave_told : (hs : List (Happening C R)) (c : Core) (s : Table) (id t : ℕ) (me : Me (Option K) V) (book : K) (st : Step (Option K))
       → IsTableOf k start hs c s → get_elem? s.views id ≡ some me.0 → Holds t me.0.seat.phase → me.1 ≡ (0, Some book) ∷ []
       → (found : ℕ) → LeaveTells k st me found (left_view k me.0 book, [])
@@ -267,7 +267,7 @@ module _ {K C R : Type 0} (k : Ghosts K C R) (start : Start K) where
       subst (λ (w : ℕ). Allows Rule n id me w (λ _. t + 1) (λ _. LeaveTells k (step n w (t + 1) 0 none) me (t + 1))) (sym is)
       (leaves_either laws posted n id t me book o hand holder known ret posts)
 
-  -- what the play of a post tells
+  -- what the play of a post says
   pub post_told : (t : ℕ) (me : Me (Option K) V) (entries : List (Entry C R)) (refused : ℕ) (st : Step (Option K)) → me.0.seat.phase ≡ Holding t
       → (found : ℕ) → PostTells entries refused st me found (posted_view t entries refused me.0, me.1)
   post_told t me entries refused st holder found =
@@ -296,7 +296,7 @@ module _ {K C R : Type 0} (k : Ghosts K C R) (start : Start K) where
   posts laws n id t place word number entries refused me book o at stores has kept holder known ret =
       rw (at, stores, has, kept) (posts_in laws n id t place me book o holder known ret)
 
-  -- what the play of a glance tells
+  -- what the play of a glance says
   pub glance_told : (hs : List (Happening C R)) (c : Core) (s : Table) (id place : ℕ) (me : Me (Option K) V) (st : Step (Option K))
       → IsTableOf k start hs c s → get_elem? s.views id ≡ some me.0 → st.word ≡ board_word place
       → GlanceTells k st me (get_or s.words (board_word place) 0) (glanced_view c.book.entries me.0, me.1)
@@ -345,7 +345,7 @@ module _ {K C R : Type 0} (k : Ghosts K C R) (start : Start K) where
       let e = gather_event k start r.0 r.1 s id other v w r.2 at apart there idle idle' in
       (r.0 ++ gathered v.seat.own w.seat.own ∷ [], e.0, e.2)
 
-  -- what the second load of a gather tells
+  -- what the second load of a gather says
   pub second_load_told : (hs : List (Happening C R)) (c : Core) (s : Table) (id : ℕ) (me : Me (Option K) V) (st : Step (Option K))
       → IsTableOf k start hs c s → get_elem? s.views id ≡ some me.0
       → SecondLoadTells st me (get_or s.words next_word 0) (reloaded_view me.0, me.1)

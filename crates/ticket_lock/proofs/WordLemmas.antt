@@ -1,4 +1,4 @@
--- The words of the table, read and written. What a word is and where it stands is opened here alone.
+-- The words of the table, read and written. What a word is and where it stands is opened only here.
 use Rattle.std.proofs.Common.{◌≡◌, ◌↔◌, ℕ, suc, ◌+◌, ◌-◌, ◌<◌, ◌≤◌, List, [], ◌∷◌, ◌++◌, length, get_or, set, sym, refl, ap, ◌∙◌, arith}
 use Rattle.std.proofs.lemmas.List.{get_or_append_left, get_or-append-add, set-append_left, set-append_right}
 use Rattle.ticket_steps.specs.Grants.{watched}

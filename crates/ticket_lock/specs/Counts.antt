@@ -1,4 +1,4 @@
--- What a token tells at run time of its seat.
+-- What a token says at run time of its seat.
 use Rattle.std.specs.Prelude.{◌≡◌, ◌<◌, ◌≤◌, length}
 use Rattle.ticket_steps.specs.declared.seats.CoreSeat.{CoreSeat}
 use Rattle.ticket_steps.specs.Sums.{times}

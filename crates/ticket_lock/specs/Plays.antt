@@ -1,4 +1,4 @@
--- What each step tells the seat that steps.
+-- What each step says to the seat that steps.
 use Rattle.std.specs.Prelude.{◌≡◌, ◌≢◌, ℕ, ◌<◌, ◌≤◌, List, [], ◌∷◌, length, Option, Some}
 use Rattle.atomic_table.specs.Table.{Me, Step}
 use Rattle.ticket_steps.specs.declared.kept.Entry.{Entry}

@@ -1,5 +1,5 @@
 -- The rule, second pass: where no seat holds, the book is in its slot, and while one holds, the slot is out.
--- A book is known by its opening state, its entries and its refusals alone.
+-- A book is known by its opening state, its entries and its refusals, and by nothing else.
 use Rattle.std.specs.Prelude.{◌≡◌, ◌<◌, Option, Some, length}
 use mathlib.Core.Option.{none, some}
 use lib.ListN.{get_elem?}

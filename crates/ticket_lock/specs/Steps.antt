@@ -122,15 +122,15 @@ module _ {K C R : Type 0} (k : Ghosts K C R) where
   abbrev pub IsNoEvent : TableMoment K k.State C R → State (Option K) (View K C R) → Type 0
   IsNoEvent m s = IsTableOf k m.start m.happened m.core s
 
-  -- In the table after a step this is the seat that stepped, and it is told so: of the number that was found in the word, and of itself.
-  -- A store finds no number: what it tells says nothing of one.
+  -- In the table after a step this is the seat that stepped, and this is said of it: of the number that was found in the word, and of itself.
+  -- A store finds no number: what is said of it names none.
   pub record IsTold (m : TableMoment K k.State C R) (word : ℕ) (tells : ℕ → Me (Option K) (View K C R) → Type 0)
       (after : Me (Option K) (View K C R)) (s : State (Option K) (View K C R)) : Type 0 where
     pub stands : get_elem? s.views m.id ≡ some after.0
     pub told : tells (slice_index m.table.words word) after
 
   -- A table that an operation by this seat may leave: one on this word, with this function, that meets the play. The seat has
-  -- some view after it and took or gave back what it could, and the play tells of the number found and of the seat.
+  -- some view after it and took or gave back what it could, and the play speaks of the number found and of the seat.
   pub record MayLeave (m : TableMoment K k.State C R) (word : ℕ) (makes : ℕ → ℕ)
       (tells : ℕ → Me (Option K) (View K C R) → Type 0) (s : State (Option K) (View K C R)) : Type 0 where
     pub view : View K C R

@@ -1,4 +1,4 @@
-//! What a seat, a turn or a hold tells at run time.
+//! What a seat, a turn or a hold says at run time.
 
 /// The numbers that go with a caller from seat to turn to hold.
 #[derive(Clone, Copy)]

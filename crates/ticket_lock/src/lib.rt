@@ -9,7 +9,7 @@
 //! lock, whatever threads do, and the board shows the state that the one history leaves.
 //!
 //! - `lock`: the lock and its calls; `layout`: at which place of the table each word stands.
-//! - `tokens`: seats, turns and holds; `counts`: what they tell at run time.
+//! - `tokens`: seats, turns and holds; `counts`: what they say at run time.
 //! - `views`: what seats know in proofs, and the rule; `plays`: the seven kinds of step (split, draw,
 //!   look, post, leave, gather, glance).
 //! - `steps`: the law that each kind of step is one event of the core; `laws`: what is so of every seat.

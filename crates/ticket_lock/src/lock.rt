@@ -32,9 +32,9 @@ type LockTable<K> = Table<
 /// A ticket lock round a book, for threads that have seats of it.
 ///
 /// Each call of a caller takes a ticket (`draw`), looks until its ticket is served (`look`),
-/// records in the book that it is handed, posts it where the book's board is to tell of it (`post`),
+/// records in the book that it is handed, posts it where the book's board is to show it (`post`),
 /// and leaves (`leave`). Calls end in the order of their draws. No call waits: a caller that isn't
-/// served yet is told so, and may look again when it likes. Each call asks that its seat, turn or hold
+/// served yet is answered so, and may look again when it likes. Each call asks that its seat, turn or hold
 /// is of this lock.
 ///
 /// The lock shows the book's board: a caller reads one of its words, without a ticket, by one load

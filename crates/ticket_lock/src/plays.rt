@@ -1,4 +1,4 @@
-//! The seven kinds of step (split, draw, look, post, leave, gather, glance), and what each tells the
+//! The seven kinds of step (split, draw, look, post, leave, gather, glance), and what each says to the
 //! seat that steps.
 ghost use Rattle.std.specs.Prelude.{ℕ, List, []};
 ghost use Rattle.ticket_steps.specs.declared.kept.Entry.{Entry as EntryOf};
@@ -90,7 +90,7 @@ impl<K, C, R> Join<View<K, C, R>> for Gathers {
     ghost spent = { spent_view };
 }
 
-/// The second step of a gather: joining two seats tells nothing of the rule, so the joined seat
+/// The second step of a gather: joining two seats says nothing of the rule, so the joined seat
 /// loads once more, to learn that the two histories are beginnings of one.
 pub(crate) struct SecondLoad<K> {
     marker: PhantomData<K>,

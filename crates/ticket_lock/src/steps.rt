@@ -29,21 +29,21 @@ use ticket_steps::Kept;
 ///
 /// A holder that has recorded a call with a place on the board posts it (`post`), and its leave is the
 /// event Leave that brings no call (`leave_posted`). One whose call has no place leaves with it
-/// (`leave`). What a leave tells, and that it leaves one table alone, is said of a holder whether it
+/// (`leave`). What a leave says, and that it leaves only one table, is said of a holder whether it
 /// has posted or not.
 ///
 /// A look loads the word that its ticket watches, a post stores the book's word at the place of the
 /// call, a leave stores the next number in the word that this number watches, and a glance loads a
-/// word of the board. What the seat that steps is told, on which the lock's code relies, is so of
+/// word of the board. What is said to the seat that steps, on which the lock's code relies, is so of
 /// that very step: of the number found in the word, and of the seat as it stands in the table after
 /// it (`draw_tells`, `look_held_tells`, `look_waits_tells`, `post_tells`, `leave_tells`,
 /// `glance_tells`, `second_load_tells`).
 ///
 /// Nor could the step be another one: an operation on that word, an add of one, a load or a store of
-/// that number, by a seat that carries what its phase says, of which this is told, leaves that table
+/// that number, by a seat that carries what its phase says, of which this is said, leaves that table
 /// and no other, whatever the seat took or gave back (`draw_only`, `look_held_only`,
 /// `look_waits_only`, `post_only`, `leave_only`, `second_load_only`). Of a glance nothing like it is
-/// said: what it tells is so of any legal history that goes on from what the seat had seen and shows
+/// said: what it says is so of any legal history that goes on from what the seat had seen and shows
 /// that word, and the seat's view after it is one of these.
 pub fn every_step<K: Kept>()
     ensures opening { (start : Start K) → K.history start.book ≡ [] → K.refusals start.book ≡ 0

@@ -1,6 +1,6 @@
 //! Seats, turns and holds: the tokens by which callers take part in the lock.
 //!
-//! A token has no bytes that threads share. It carries what its caller knows, in proofs alone: the
+//! A token has no bytes that threads share. It carries what its caller knows, only in proofs: the
 //! history that it has seen, which is always a beginning of the one history of the book.
 ghost use Rattle.std.specs.Prelude.{◌≡◌, ◌+◌, ◌^◌, ◌<◌, ◌≤◌, nat_lt, false, cond, [], ◌∷◌, length, None};
 ghost use Rattle.std.specs.Coded.{Coded-set};
@@ -55,7 +55,7 @@ pub struct Turn<K: Kept> {
 }
 
 /// A caller whose turn it is: it has the book in hand. It posts its call (`TicketLock::post`), where
-/// the board is to tell of it, and leaves.
+/// the board is to show it, and leaves.
 ///
 /// It is not `Drop`, so one that isn't spent by `TicketLock::leave` doesn't compile: the book has
 /// to come back.

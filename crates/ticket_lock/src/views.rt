@@ -40,7 +40,7 @@ pub struct View<K, C, R> {
     pub two: Part<C, R>,
 }
 
-/// What the table is told when it is made.
+/// What is said to the table when it is made.
 #[derive(Drop)]
 pub struct TableStart<K: Kept> {
     pub book: Snapshot<K>,

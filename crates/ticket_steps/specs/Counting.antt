@@ -10,7 +10,7 @@ counts sum call = let next = (sum + call) % 2 ^ 64 in (next, next)
 abbrev pub sum_board : ℕ → List ℕ
 sum_board sum = sum % 2 ^ 64 ∷ []
 
--- a call is posted there, but for one that adds nothing
+-- a call is posted there, except for one that adds nothing
 abbrev pub sum_place : ℕ → ℕ → Option ℕ
 sum_place sum zero = None
 sum_place sum (suc n) = Some 0

@@ -129,7 +129,7 @@ impl<K: Kept> Core<K> {
     }
 
     /// Events, one after another, up to the first that has a fault: its place, from 0, and the fault
-    /// are told. The events before it have happened.
+    /// are returned. The events before it have happened.
     pub fn run(&mut self, events: &[Event<K::Call>]) -> Result<(), (usize, Fault)>
         ensures all { OnOk result (
             LeadsBy K.Kept (draws_of self.old) (state_of self.old) events.now (state_of self.new)) }
@@ -242,7 +242,7 @@ impl<K: Kept> Core<K> {
         Ok(Seen::Left(None))
     }
 
-    /// The holder's call, of which the board tells nothing, is recorded, and the seat leaves.
+    /// The holder's call, of which the board shows nothing, is recorded, and the seat leaves.
     fn leave(&mut self, seat: u32, call: K::Call) -> Result<Seen<K::Reply>, Fault>
         ensures step { Steps K.Kept (draws_of self.old) (state_of self.old)
             (Event.Leave seat (Some call)) result (state_of self.new) }

@@ -41,7 +41,7 @@ pub enum Seen<R> {
     Gathered,
 }
 
-/// Why an event doesn't happen. The first that applies is told, and nothing changes.
+/// Why an event doesn't happen. The first that applies is returned, and nothing changes.
 #[derive(Clone, Copy, PartialEq, Eq, Debug)]
 pub enum Fault {
     /// No seat has this own number, or it was gathered into another.

@@ -29,7 +29,7 @@ pub struct NoMemory;
 ///    opening state (`same`) nor the count of refusals.
 /// 4. A `record` that answers `NoMemory` adds one to the refusals and changes nothing else.
 /// 5. The words, and the place of a call, are functions of the state, so of the opening state and the
-///    entries alone (by `replayed`), and a place is one of a word (`within`).
+///    entries, and nothing else (by `replayed`), and a place is one of a word (`within`).
 /// 6. A call that is posted nowhere changes no word (`unposted`).
 /// 7. One that is posted changes at most the word at its place (`posted`).
 ///
@@ -85,7 +85,7 @@ pub trait Kept {
         requires { place < length (board (state self.now)) }
         ensures { result ≡ slice_index (board (state self.now)) place };
 
-    /// At which place the call is posted, if it is made now; None where no word tells of it.
+    /// At which place the call is posted, if it is made now; None where no word shows it.
     fn posts(&self, call: Self::Call) -> Option<u32>
         ensures { result ≡ posts_at (state self.now) call };
 

@@ -7,7 +7,7 @@ use std::alloc::Global;
 use std::io::ErrorKind;
 use std::process::Abort;
 
-/// A reader that fails behind these bytes is told as that, and nothing is written.
+/// A reader that fails behind these bytes is reported as that, and nothing is written.
 fn reader_fails<H: Abort>(rt: &H, alloc: Global, bytes: &[u8], error: ErrorKind) {
     let mut reader = FailingReader {
         bytes,
@@ -20,7 +20,7 @@ fn reader_fails<H: Abort>(rt: &H, alloc: Global, bytes: &[u8], error: ErrorKind)
     assert!(rt; writer.taken.is_empty());
 }
 
-/// A writer whose flush fails is told as that. It has taken the whole text by then.
+/// A writer whose flush fails is reported as that. It has taken the whole text by then.
 fn flush_fails<H: Abort>(rt: &H, alloc: Global, bytes: &[u8], error: ErrorKind) {
     let mut reader = bytes;
     let mut writer = ShortWriter::new(alloc, 100);

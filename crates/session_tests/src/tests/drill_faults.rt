@@ -67,7 +67,7 @@ fn drills_flush_once(rt: HostRuntime) -> Result<(), Fail> {
     )
 }
 
-/// A reader that gives so many bytes and then fails is told as that, and nothing is written.
+/// A reader that gives so many bytes and then fails is reported as that, and nothing is written.
 fn reader_fails<H: Abort + Threads + Wait + Sync>(
     rt: &H,
     alloc: Global,
@@ -98,7 +98,7 @@ fn readers_of_drills_fail(rt: HostRuntime) -> Result<(), Fail> {
     Ok(())
 }
 
-/// A writer that fails after so many bytes has taken that front of the text.
+/// A writer that fails after so many bytes has taken that prefix of the text.
 fn writer_fails<H: Abort + Threads + Wait + Sync>(
     rt: &H,
     alloc: Global,

@@ -202,7 +202,7 @@ fn writer_fails_in_a_conversation(rt: HostRuntime) -> Result<(), Fail> {
     Ok(())
 }
 
-/// A refused setup is told once its line feed has come, or too many bytes of it, and nothing behind it
+/// A refused setup is reported once its line feed has come, or too many bytes of it, and nothing behind it
 /// is asked for.
 #[test]
 fn refused_setup_ends_a_conversation(rt: HostRuntime) {

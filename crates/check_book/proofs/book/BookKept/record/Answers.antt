@@ -39,7 +39,7 @@ returns-clause-replied c =
       ap (λ (l : Log). l.refused) boxed,
     )
 
--- where there is a reply nothing was refused: said by name, so that a body that refuses here is told at once
+-- where there is a reply nothing was refused: said by name, so that a body that refuses here is refused at once
 pub returns-clause-refused : goal.returns-clause-refused
 returns-clause-refused c = tt
 

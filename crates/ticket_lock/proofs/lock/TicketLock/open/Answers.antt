@@ -1,6 +1,6 @@
 use Rattle.ticket_lock.proofs.lock.TicketLock.open.Goals as goal
 
--- what is opened with the most draws, said by name: a body that opens with fewer is told at once
+-- what is opened with the most draws, said by name: a body that opens with fewer is refused at once
 pub returns-clause-start : goal.returns-clause-start
 returns-clause-start g c = c.open_with.ensures.start
 

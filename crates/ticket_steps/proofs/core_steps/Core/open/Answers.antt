@@ -1,6 +1,6 @@
 use Rattle.ticket_steps.proofs.core_steps.Core.open.Goals as goal
 
--- what is opened with the most draws, said by name: a body that opens with fewer is told at once
+-- what is opened with the most draws, said by name: a body that opens with fewer is refused at once
 pub returns-clause-opened : goal.returns-clause-opened
 returns-clause-opened g c = c.open_with.ensures.opened
 

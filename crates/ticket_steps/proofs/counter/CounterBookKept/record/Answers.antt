@@ -22,7 +22,7 @@ returns-clause-replied c =
     let items : c.push.new.self.items ≡ b.entries.items ++ e ∷ [] = search rules in
     (items, refl)
 
--- where there is a reply nothing was refused: said by name, so that a body that refuses here is told at once
+-- where there is a reply nothing was refused: said by name, so that a body that refuses here is refused at once
 pub returns-clause-refused : goal.returns-clause-refused
 returns-clause-refused c = tt
 
