@@ -59,17 +59,21 @@ line_flag = flag (codes "line")
 abbrev pub resume_flag : Rule
 resume_flag = flag (codes "resume")
 
+-- a subcommand of this name, with the option `--start` and the flag `--resume`
+abbrev pub opener : Text → App
+opener name = with_rule (with_rule (new_app name) open_start_option) resume_flag
+
 -- the subcommand `run`, with its option and its flag
 abbrev pub run_subcommand : App
-run_subcommand = with_rule (with_rule (new_app (codes "run")) open_start_option) resume_flag
+run_subcommand = opener (codes "run")
 
 -- the subcommand `live`, with its option and its flag
 abbrev pub live_subcommand : App
-live_subcommand = with_rule (with_rule (new_app (codes "live")) open_start_option) resume_flag
+live_subcommand = opener (codes "live")
 
 -- the subcommand `check`, with its option and its two flags
 abbrev pub check_subcommand : App
-check_subcommand = with_rule (with_rule (with_rule (new_app (codes "check")) open_start_option) resume_flag) line_flag
+check_subcommand = with_rule (opener (codes "check")) line_flag
 
 -- the subcommand `drill`, with its three options
 abbrev pub drill_subcommand : App

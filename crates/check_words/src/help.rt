@@ -1,7 +1,17 @@
 //! The texts of the help. They are broken by hand, for 80 columns.
 
-/// What the help says of the program.
-pub(crate) const ABOUT: &str = "\
+/// What the help says of the program, or of a subcommand.
+#[derive(Clone, Copy)]
+pub(crate) struct Help {
+    /// What it does.
+    pub(crate) about: &'static str,
+    /// What stands at the end of its own help.
+    pub(crate) notes: &'static str,
+}
+
+/// The help of the program.
+pub(crate) const HELP: Help = Help {
+    about: "\
 Schedules the active checks of hosts and services by the rules of Nagios Core 4,
 with the differences that docs/NAGIOS.md lists: it decides whose check is due,
 and what a result does to state, attempt and next time. It runs no plugins:
@@ -11,48 +21,8 @@ A setup and a script come from standard input. `run` makes the script's calls
 one after another, and answers each by a line. `live` answers each line as soon
 as it arrives. `check` prints what is in a setup, or why it is refused. `drill`
 has workers in threads share one scheduler, and writes the history that they
-made. Without a command it does `run --start 0`.";
-
-/// What the help says of the subcommand `run`.
-pub(crate) const ABOUT_RUN: &str = "Makes the calls of a script on one scheduler";
-
-/// What the help says of the subcommand `live`.
-pub(crate) const ABOUT_LIVE: &str =
-    "Answers each line as soon as it arrives, and waits for the next";
-
-/// What the help says of the subcommand `check`.
-pub(crate) const ABOUT_CHECK: &str = "Prints what is in a setup, or why it is refused";
-
-/// What the help says of the subcommand `drill`.
-pub(crate) const ABOUT_DRILL: &str = "Has workers share one scheduler, with scripted plugins";
-
-/// What the help says of the subcommand `schema`.
-pub(crate) const ABOUT_SCHEMA: &str = "Writes the JSON schema of a setup";
-
-/// What the help of `drill` says of the option `--start`.
-pub(crate) const ABOUT_START: &str = "Moment of the start, in ms, from 0 to 2^60";
-
-/// What the help of `run`, `live` and `check` says of the option `--start`.
-pub(crate) const ABOUT_OPEN_START: &str =
-    "Start in ms, 0 to 2^60 [default: 0, with --resume the saved]";
-
-/// What the help of `run` and `live` says of the flag `--resume`.
-pub(crate) const ABOUT_RESUME: &str = "Goes on from a saved state, which is line 2";
-
-/// What the help of `check` says of the flag `--resume`.
-pub(crate) const ABOUT_CHECK_RESUME: &str = "Checks a saved state too, which is line 2";
-
-/// What the help says of the flag `--line`.
-pub(crate) const ABOUT_LINE: &str = "Writes the setup as one line, for `run` and `live`";
-
-/// What the help says of the option `--workers`.
-pub(crate) const ABOUT_WORKERS: &str = "Workers, 1 to 64; N take N - 1 threads";
-
-/// What the help says of the option `--room`.
-pub(crate) const ABOUT_ROOM: &str = "Calls to make room for, from 0 to 1000000";
-
-/// What stands at the end of the program's help.
-pub(crate) const NOTES: &str = "\
+made. Without a command it does `run --start 0`.",
+    notes: "\
 Input:
   Line 1 is the setup, a JSON object with options, hosts and services. Each
   later line is a JSON array: `nagsched run --help` and `nagsched drill --help`
@@ -68,10 +38,13 @@ Exit status:
 
 Example:
   printf '%s\\n' '{\"hosts\":[{\"name\":\"gateway\",\"max_check_attempts\":3}]}' \\
-    '[\"take\",0]' '[\"report\",\"gateway\",1,2]' | nagsched run";
+    '[\"take\",0]' '[\"report\",\"gateway\",1,2]' | nagsched run",
+};
 
-/// What stands at the end of the help of `run`.
-pub(crate) const RUN_NOTES: &str = "\
+/// The help of the subcommand `run`.
+pub(crate) const HELP_RUN: Help = Help {
+    about: "Makes the calls of a script on one scheduler",
+    notes: "\
 Input, behind the setup, a call a line; moments and times in milliseconds:
   [\"take\",now]                    asks what is due, and takes it
   [\"report\",name,run,code]        the return code of a check, 0 to 3
@@ -95,10 +68,13 @@ Exit status:
 
 Example:
   printf '%s\\n' '{\"hosts\":[{\"name\":\"gateway\",\"max_check_attempts\":3}]}' \\
-    '[\"take\",0]' '[\"report\",\"gateway\",1,2]' | nagsched run --start 0";
+    '[\"take\",0]' '[\"report\",\"gateway\",1,2]' | nagsched run --start 0",
+};
 
-/// What stands at the end of the help of `live`.
-pub(crate) const LIVE_NOTES: &str = "\
+/// The help of the subcommand `live`.
+pub(crate) const HELP_LIVE: Help = Help {
+    about: "Answers each line as soon as it arrives, and waits for the next",
+    notes: "\
 Input and output are those of `run`, but each line is answered as soon as it
 arrives, before more is read, and there is no limit on the whole.
   A line that is no command is answered by `refused CODE WHY LINE`, and changes
@@ -116,10 +92,13 @@ Exit status:
 
 Example, whose second answer comes two seconds after the first:
   (printf '%s\\n' '{\"hosts\":[{\"name\":\"gateway\",\"max_check_attempts\":3}]}' \\
-    '[\"take\",0]'; sleep 2; echo '[\"report\",\"gateway\",1,2]') | nagsched live";
+    '[\"take\",0]'; sleep 2; echo '[\"report\",\"gateway\",1,2]') | nagsched live",
+};
 
-/// What stands at the end of the help of `check`.
-pub(crate) const CHECK_NOTES: &str = "\
+/// The help of the subcommand `check`.
+pub(crate) const HELP_CHECK: Help = Help {
+    about: "Prints what is in a setup, or why it is refused",
+    notes: "\
 Input is one setup, over as many lines as it likes. No check is scheduled.
 
 Output, a word and its value a line:
@@ -153,10 +132,13 @@ Exit status:
 
 Example:
   echo '{\"hosts\":[{\"name\":\"gateway\",\"max_check_attempts\":3}]}' |
-    nagsched check";
+    nagsched check",
+};
 
-/// What stands at the end of the help of `drill`.
-pub(crate) const DRILL_NOTES: &str = "\
+/// The help of the subcommand `drill`.
+pub(crate) const HELP_DRILL: Help = Help {
+    about: "Has workers share one scheduler, with scripted plugins",
+    notes: "\
 Input, behind the setup, in any order:
   [\"plugin\",name,code,..]  the return codes of an object's plugin, by the run's
                            number, over and over; without such a line it is 0
@@ -173,10 +155,13 @@ Exit status:
 
 Example:
   printf '%s\\n' '{\"hosts\":[{\"name\":\"gateway\",\"max_check_attempts\":3}]}' \\
-    '[\"plugin\",\"gateway\",2]' '[\"moment\",0]' | nagsched drill --workers 1";
+    '[\"plugin\",\"gateway\",2]' '[\"moment\",0]' | nagsched drill --workers 1",
+};
 
-/// What stands at the end of the help of `schema`.
-pub(crate) const SCHEMA_NOTES: &str = "\
+/// The help of the subcommand `schema`.
+pub(crate) const HELP_SCHEMA: Help = Help {
+    about: "Writes the JSON schema of a setup",
+    notes: "\
 No input is read. Output is a JSON schema of draft 2020-12, which says of each
 member its name, its kind, its limits and its default.
 
@@ -186,4 +171,27 @@ Exit status:
   0 written   2 words refused   3 device failed   4 out of memory
 
 Example:
-  nagsched schema";
+  nagsched schema",
+};
+
+/// What the help of `drill` says of the option `--start`.
+pub(crate) const ABOUT_START: &str = "Moment of the start, in ms, from 0 to 2^60";
+
+/// What the help of `run`, `live` and `check` says of the option `--start`.
+pub(crate) const ABOUT_OPEN_START: &str =
+    "Start in ms, 0 to 2^60 [default: 0, with --resume the saved]";
+
+/// What the help of `run` and `live` says of the flag `--resume`.
+pub(crate) const ABOUT_RESUME: &str = "Goes on from a saved state, which is line 2";
+
+/// What the help of `check` says of the flag `--resume`.
+pub(crate) const ABOUT_CHECK_RESUME: &str = "Checks a saved state too, which is line 2";
+
+/// What the help says of the flag `--line`.
+pub(crate) const ABOUT_LINE: &str = "Writes the setup as one line, for `run` and `live`";
+
+/// What the help says of the option `--workers`.
+pub(crate) const ABOUT_WORKERS: &str = "Workers, 1 to 64; N take N - 1 threads";
+
+/// What the help says of the option `--room`.
+pub(crate) const ABOUT_ROOM: &str = "Calls to make room for, from 0 to 1000000";

@@ -1,20 +1,19 @@
 //! What the program's words ask for, as `clap` reads them. What the program then does is no
 //! matter of this crate.
-ghost use Rattle.std.specs.Prelude.{◌≡◌, ◌≤◌, ◌^◌, Some, [], false, option_map, IfOk, OnOk, IfErr, IfSome, string_bytes};
+ghost use Rattle.std.specs.Prelude.{◌≡◌, ◌≤◌, ◌^◌, if◌then◌else◌, Some, [], false, option_map, IfOk, OnOk, IfErr, IfSome, string_bytes};
 ghost use Rattle.clap.specs.declared.builder.command.Command.TheViews.{out-Command};
-ghost use Rattle.clap.specs.Words.{app_of, fault_of, kind_of, rows_of, rule_of, found_of, subcommand_rows_of};
+ghost use Rattle.clap.specs.Words.{app_of, fault_of, kind_of, new_app, rows_of, rule_of, found_of, subcommand_rows_of};
 ghost use Rattle.clap.specs.Walk.{texts};
 ghost use Rattle.check_words.specs.Words.{program, run_subcommand, live_subcommand, check_subcommand, drill_subcommand, schema_subcommand};
-ghost use Rattle.check_words.specs.Words.{number_option, open_start_option};
+ghost use Rattle.check_words.specs.Words.{number_option, open_start_option, opener};
 ghost use Rattle.check_words.specs.Words.{flag, flag_of, resume_of};
 ghost use Rattle.check_words.specs.Words.{check_from, live_from, open_start_of, run_from, start_by};
 ghost use Rattle.check_words.specs.Words.{job_asked, job_of, run_of, live_of, check_of, drill_of, start_of, workers_of, room_of};
 ghost use Rattle.check_words.specs.Words.{number_of, number_between, Explains, IsWithinLimits, Reads, Tells, version_line};
 
 use crate::help::{
-    ABOUT, ABOUT_CHECK, ABOUT_CHECK_RESUME, ABOUT_DRILL, ABOUT_LINE, ABOUT_LIVE, ABOUT_OPEN_START,
-    ABOUT_RESUME, ABOUT_ROOM, ABOUT_RUN, ABOUT_SCHEMA, ABOUT_START, ABOUT_WORKERS, CHECK_NOTES,
-    DRILL_NOTES, LIVE_NOTES, NOTES, RUN_NOTES, SCHEMA_NOTES,
+    ABOUT_CHECK_RESUME, ABOUT_LINE, ABOUT_OPEN_START, ABOUT_RESUME, ABOUT_ROOM, ABOUT_START,
+    ABOUT_WORKERS, HELP, HELP_CHECK, HELP_DRILL, HELP_LIVE, HELP_RUN, HELP_SCHEMA, Help,
 };
 use crate::words::{Job, VERSION, WordsError};
 use clap::error::ErrorKind;
@@ -54,10 +53,8 @@ pub fn job(alloc: Global, words: &[&str]) -> Result<Job, WordsError>
 fn build_program<'a>(alloc: Global) -> Result<Command<'a>, AllocError>
     ensures { IfOk result (λ c. app_of c ≡ program) }
 {
-    Command::new(alloc, "nagsched")
+    begin(alloc, "nagsched", HELP)
         .version(VERSION)
-        .about(ABOUT)
-        .after_help(NOTES)
         .subcommand(build_run(alloc)?)?
         .subcommand(build_live(alloc)?)?
         .subcommand(build_check(alloc)?)?
@@ -70,11 +67,7 @@ fn build_run<'a>(alloc: Global) -> Result<Command<'a>, AllocError>
     ensures { IfOk result (λ c.
         (app_of c ≡ run_subcommand) × ((out-Command c).has_globals ≡ false)) }
 {
-    Command::new(alloc, "run")
-        .about(ABOUT_RUN)
-        .after_help(RUN_NOTES)
-        .arg(open_start_option(alloc))?
-        .arg(flag(alloc, "resume", ABOUT_RESUME))
+    build_opener(alloc, "run", HELP_RUN, ABOUT_RESUME)
 }
 
 /// The subcommand `live`.
@@ -82,11 +75,7 @@ fn build_live<'a>(alloc: Global) -> Result<Command<'a>, AllocError>
     ensures { IfOk result (λ c.
         (app_of c ≡ live_subcommand) × ((out-Command c).has_globals ≡ false)) }
 {
-    Command::new(alloc, "live")
-        .about(ABOUT_LIVE)
-        .after_help(LIVE_NOTES)
-        .arg(open_start_option(alloc))?
-        .arg(flag(alloc, "resume", ABOUT_RESUME))
+    build_opener(alloc, "live", HELP_LIVE, ABOUT_RESUME)
 }
 
 /// The subcommand `check`.
@@ -94,12 +83,25 @@ fn build_check<'a>(alloc: Global) -> Result<Command<'a>, AllocError>
     ensures { IfOk result (λ c.
         (app_of c ≡ check_subcommand) × ((out-Command c).has_globals ≡ false)) }
 {
-    Command::new(alloc, "check")
-        .about(ABOUT_CHECK)
-        .after_help(CHECK_NOTES)
+    build_opener(alloc, "check", HELP_CHECK, ABOUT_CHECK_RESUME)?.arg(flag(
+        alloc, "line", ABOUT_LINE,
+    ))
+}
+
+/// A subcommand of this name, with the option `--start` and the flag `--resume`, of which the help says
+/// this.
+fn build_opener<'a>(
+    alloc: Global,
+    name: &'a str,
+    help: Help,
+    about_resume: &'a str,
+) -> Result<Command<'a>, AllocError>
+    ensures { IfOk result (λ c.
+        (app_of c ≡ opener name.now) × ((out-Command c).has_globals ≡ false)) }
+{
+    begin(alloc, name, help)
         .arg(open_start_option(alloc))?
-        .arg(flag(alloc, "resume", ABOUT_CHECK_RESUME))?
-        .arg(flag(alloc, "line", ABOUT_LINE))
+        .arg(flag(alloc, "resume", about_resume))
 }
 
 /// The subcommand `drill`.
@@ -107,9 +109,7 @@ fn build_drill<'a>(alloc: Global) -> Result<Command<'a>, AllocError>
     ensures { IfOk result (λ c.
         (app_of c ≡ drill_subcommand) × ((out-Command c).has_globals ≡ false)) }
 {
-    Command::new(alloc, "drill")
-        .about(ABOUT_DRILL)
-        .after_help(DRILL_NOTES)
+    begin(alloc, "drill", HELP_DRILL)
         .arg(number_option(alloc, "start", "0", ABOUT_START))?
         .arg(number_option(alloc, "workers", "2", ABOUT_WORKERS))?
         .arg(number_option(alloc, "room", "1000", ABOUT_ROOM))
@@ -120,9 +120,17 @@ fn build_schema<'a>(alloc: Global) -> Command<'a>
     ensures app { app_of result ≡ schema_subcommand }
     ensures local { (out-Command result).has_globals ≡ false }
 {
-    Command::new(alloc, "schema")
-        .about(ABOUT_SCHEMA)
-        .after_help(SCHEMA_NOTES)
+    begin(alloc, "schema", HELP_SCHEMA)
+}
+
+/// The program or a subcommand, by its name and its help, with no words of its own.
+fn begin<'a>(alloc: Global, name: &'a str, help: Help) -> Command<'a>
+    ensures app { app_of result ≡ new_app name.now }
+    ensures local { (out-Command result).has_globals ≡ false }
+{
+    Command::new(alloc, name)
+        .about(help.about)
+        .after_help(help.notes)
 }
 
 /// The option `--start N` of `run`, `live` and `check`.
@@ -167,8 +175,8 @@ fn read_job(matches: &ArgMatches<'_>) -> Result<Job, WordsError>
 {
     match matches.subcommand() {
         None => Ok(Job::Run { start: 0 }),
-        Some(("run", options)) => read_run(options).ok_or(WordsError::Refused),
-        Some(("live", options)) => read_live(options).ok_or(WordsError::Refused),
+        Some(("run", options)) => read_opener(options, false).ok_or(WordsError::Refused),
+        Some(("live", options)) => read_opener(options, true).ok_or(WordsError::Refused),
         Some(("check", options)) => read_check(options).ok_or(WordsError::Refused),
         Some(("drill", options)) => read_drill(options).ok_or(WordsError::Refused),
         Some(("schema", _)) => Ok(Job::Schema),
@@ -176,47 +184,26 @@ fn read_job(matches: &ArgMatches<'_>) -> Result<Job, WordsError>
     }
 }
 
-/// The job of `run` with these options.
-fn read_run(options: &ArgMatches<'_>) -> Option<Job>
-    ensures asked { result ≡ run_of (rows_of (found_of options.now)) }
+/// The job of `run` with these options, or that of `live`.
+fn read_opener(options: &ArgMatches<'_>, live: bool) -> Option<Job>
+    ensures asked { result ≡ (if live then live_of (rows_of (found_of options.now))
+        else run_of (rows_of (found_of options.now))) }
     ensures limits { IfSome result IsWithinLimits }
 {
     let start = read_open_start(options)?;
-    Some(run_from(is_resumed(options), start))
+    Some(opener_from(live, is_resumed(options), start))
 }
 
-/// The job of `run` with this start.
-fn run_from(resumes: bool, start: Option<u64>) -> Job
-    ensures { result ≡ run_from resumes start }
+/// The job of `run` with this start, or that of `live`.
+fn opener_from(live: bool, resumes: bool, start: Option<u64>) -> Job
+    ensures { result ≡ (if live then live_from resumes start else run_from resumes start) }
 {
-    if resumes {
-        Job::RunResumed { start }
-    } else {
-        Job::Run {
-            start: start.unwrap_or(0),
-        }
-    }
-}
-
-/// The job of `live` with these options.
-fn read_live(options: &ArgMatches<'_>) -> Option<Job>
-    ensures asked { result ≡ live_of (rows_of (found_of options.now)) }
-    ensures limits { IfSome result IsWithinLimits }
-{
-    let start = read_open_start(options)?;
-    Some(live_from(is_resumed(options), start))
-}
-
-/// The job of `live` with this start.
-fn live_from(resumes: bool, start: Option<u64>) -> Job
-    ensures { result ≡ live_from resumes start }
-{
-    if resumes {
-        Job::LiveResumed { start }
-    } else {
-        Job::Live {
-            start: start.unwrap_or(0),
-        }
+    let anew = start.unwrap_or(0);
+    match (live, resumes) {
+        (false, false) => Job::Run { start: anew },
+        (false, true) => Job::RunResumed { start },
+        (true, false) => Job::Live { start: anew },
+        (true, true) => Job::LiveResumed { start },
     }
 }
 

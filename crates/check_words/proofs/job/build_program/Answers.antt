@@ -8,9 +8,8 @@ use Rattle.check_words.proofs.job.build_program.Goals as goal
 
 pub returns : goal.returns
 returns c =
-    let top : app_of c.after_help.result ≡ with_version (new_app (codes "nagsched")) =
-    ap app_of_fields c.after_help.ensures
-    ∙ ap app_of_fields c.about.ensures ∙ ap app_of_fields c.version.ensures ∙ ap with_version c.new.ensures.app in
+    let top : app_of c.version.result ≡ with_version (new_app (codes "nagsched")) =
+    ap app_of_fields c.version.ensures ∙ ap with_version c.begin.ensures.app in
     let with_run = c.in_ok-subcommand.ensures.shape c.in_ok-build_run.ensures.1
     ∙ ap₂ with_subcommand top (ap (λ (a : App). a.top) c.in_ok-build_run.ensures.0) in
     let with_live = c.in_ok-subcommand-2.ensures.shape c.in_ok-build_live.ensures.1
