@@ -245,11 +245,26 @@ soon_yet most given free few =
     record { at_the_bound = omega (arith, few); at_the_feed = omega (arith, first) }
 
 -- what is so of what was given and of what one more read gave, behind what had no line feed
-pub given_more : (had mid left : Option (List ℕ)) (most : ℕ) (given part : List ℕ) (took after : List ℕ → Type 0) → Consumes had mid given → Consumes mid left part
-    → has_feed given ≡ false → length given < most → length part ≤ ASKED_BYTES → took (given ++ part) → after (given ++ part)
-    → (all : List ℕ) × Consumes had left all × took all × StopsSoon most all × after all
-given_more had mid left most given part took after before now free few size t a =
-    (given ++ part, Consumes-then had mid left given part before now, t, stops_soon most given part free few size, a)
+pub given_more : {most reads : ℕ} {had mid : Option (List ℕ)} {line : LineFront} {rest : List ℕ} (s : FirstBegun most had mid line rest reads)
+    (left : Option (List ℕ)) (part : List ℕ) (took after : List ℕ → Type 0) → Consumes mid left part → length part ≤ ASKED_BYTES
+    → took (s.given ++ part) → after (s.given ++ part) → (all : List ℕ) × Consumes had left all × took all × StopsSoon most all × after all
+given_more {most} {reads} {had} {mid} s left part took after now size t a =
+    (s.given ++ part, Consumes-then had mid left s.given part s.consumed now, t, stops_soon most s.given part s.begun.feedless s.few size, a)
+
+-- the line behind what one more read gave, of which as much was taken as stands before a line feed
+pub took_more : {most reads : ℕ} {had mid : Option (List ℕ)} {line : LineFront} {before : List ℕ} (s : FirstBegun most had mid line before reads)
+    (part hand rest : List ℕ) (new : LineFront) (whole : Bool) (end : Type 0) → hand ≡ part → whole ≡ has_feed hand → rest ≡ behind_line hand
+    → ((b : List ℕ) → line ≡ front_of line.most b → new ≡ front_of line.most (b ++ first_line_of hand)) → (whole ≡ false → end)
+    → TookLine most (s.given ++ part) new rest end whole
+took_more s part hand rest new whole end = took_on _ s.given part hand rest _ new whole end s.begun.feedless s.begun.kept
+
+-- that line, where it isn't whole
+pub begun_more : {most reads : ℕ} {had mid : Option (List ℕ)} {line : LineFront} {before : List ℕ} (s : FirstBegun most had mid line before reads)
+    (part hand rest : List ℕ) (new : LineFront) (whole : Bool) → hand ≡ part → whole ≡ has_feed hand → rest ≡ behind_line hand
+    → ((b : List ℕ) → line ≡ front_of line.most b → new ≡ front_of line.most (b ++ first_line_of hand)) → whole ≡ false
+    → Begun most (s.given ++ part) new rest
+begun_more s part hand rest new whole same w r n none =
+    not_yet _ (s.given ++ part) rest new (Unit {0}) whole (took_more s part hand rest new whole (Unit {0}) same w r n (λ _. tt)) none
 
 -- as many bytes are kept as may be exactly where as many have come
 pub full_is : (most : ℕ) (bytes : List ℕ) (line : LineFront) → line ≡ front_of most bytes → (length line.bytes == line.most) ≡ true → most ≤ length bytes
@@ -270,6 +285,21 @@ more_reads reads given part hand many same some =
     let all = length-append given part in
     let sizes = ap length same in
     omega (arith, all, sizes, many, some)
+
+-- and so it goes on, where the line isn't whole and not as many bytes are kept as may be
+pub first_goes_on : {most reads : ℕ} {had mid : Option (List ℕ)} {line : LineFront} {before : List ℕ} (s : FirstBegun most had mid line before reads)
+    (left : Option (List ℕ)) (part hand rest : List ℕ) (new : LineFront) (whole : Bool) → hand ≡ part → whole ≡ has_feed hand → rest ≡ behind_line hand
+    → ((b : List ℕ) → line ≡ front_of line.most b → new ≡ front_of line.most (b ++ first_line_of hand)) → whole ≡ false
+    → Consumes mid left part → (length new.bytes == new.most) ≡ false → 0 < length hand → FirstBegun most had left new rest (reads + 1)
+first_goes_on {most} {reads} {had} {mid} s left part hand rest new whole same w r n none now short some =
+    let begun = begun_more s part hand rest new whole same w r n none in
+    record {
+      given = s.given ++ part;
+      consumed = Consumes-then had mid left s.given part s.consumed now;
+      begun = begun;
+      few = not_full most (s.given ++ part) new begun.kept short;
+      many = more_reads reads s.given part hand s.many same some;
+    }
 
 -- ---- errors
 

@@ -2,7 +2,7 @@ use Rattle.std.proofs.Common.{arith, ◌∙◌, sym, inl, inr, ◌++◌, refl, [
 use Rattle.std.specs.Prelude.{IfErr}
 use Rattle.std.proofs.lemmas.Result.{err_from_is_err_and}
 use Rattle.check_script.specs.LiveError.{AfterReads}
-use Rattle.check_script.proofs.LiveInputLemmas.{after_input, more_reads, Consumes-none, Consumes-then, full_is, given_more, if_ok_never, soon_yet, not_full, not_yet, took_all, took_on}
+use Rattle.check_script.proofs.LiveInputLemmas.{after_input, begun_more, Consumes-none, first_goes_on, full_is, given_more, if_ok_never, soon_yet, took_all, took_more}
 use Rattle.check_script.proofs.live_input.take_first_line.Goals as goal
 
 pub loop-reads-init : goal.loop-reads-init
@@ -25,7 +25,7 @@ returns-in_err-read_more g c =
     let after : IfErr c.from_residual.result (AfterReads (s.given ++ r.0)) =
     rw (p.1, p.2) (after_input (s.given ++ r.0) _ c.in_err-read_more.ensures.errors) in
     record {
-      took = given_more _ _ _ _ s.given r.0 _ _ s.consumed r.1 s.begun.feedless s.few r.3
+      took = given_more s _ r.0 _ _ r.1 r.3
           (if_ok_never _ _ c.from_residual.ensures.0) after;
     }
 
@@ -35,7 +35,7 @@ returns-then-not-branch g c =
     let r = c.in_ok-read_more.ensures.given in
     let end = c.in_ok-read_more.ensures.end c.if-not-branch.true in
     record {
-      took = given_more _ _ _ _ s.given r.0 _ _ s.consumed r.1 s.begun.feedless s.few r.3
+      took = given_more s _ r.0 _ _ r.1 r.3
           (took_all _ s.given r.0 _ _ _ s.begun.feedless s.begun.kept r.2 end.0 (inl end.1)) tt;
     }
 
@@ -46,7 +46,7 @@ returns-in_err-take_line g c =
     let p = err_from_is_err_and c.from_residual-in_err-take_line.result c.from_residual-in_err-take_line.ensures.1 in
     let after : IfErr c.from_residual-in_err-take_line.result (AfterReads (s.given ++ r.0)) = rw (p.1, p.2) tt in
     record {
-      took = given_more _ _ _ _ s.given r.0 _ _ s.consumed r.1 s.begun.feedless s.few r.3
+      took = given_more s _ r.0 _ _ r.1 r.3
           (if_ok_never _ _ c.from_residual-in_err-take_line.ensures.0) after;
     }
 
@@ -56,8 +56,8 @@ returns-then-branch g c =
     let r = c.in_ok-read_more.ensures.given in
     let t = c.in_ok-take_line.ensures in
     record {
-      took = given_more _ _ _ _ s.given r.0 _ _ s.consumed r.1 s.begun.feedless s.few r.3
-          (took_on _ s.given r.0 _ _ _ _ _ _ s.begun.feedless s.begun.kept r.2 (sym c.if-branch.true ∙ t.whole) t.rest t.line (λ e. cc)) tt;
+      took = given_more s _ r.0 _ _ r.1 r.3
+          (took_more s r.0 _ _ _ _ _ r.2 (sym c.if-branch.true ∙ t.whole) t.rest t.line (λ e. cc)) tt;
     }
 
 pub returns-then-is_full : goal.returns-then-is_full
@@ -65,26 +65,19 @@ returns-then-is_full g c =
     let s = c.loop-reads.invariant in
     let r = c.in_ok-read_more.ensures.given in
     let t = c.in_ok-take_line.ensures in
-    let begun = not_yet _ _ _ _ _ _ (took_on _ s.given r.0 _ _ _ _ _ (Unit {0}) s.begun.feedless s.begun.kept r.2 t.whole t.rest t.line (λ e. tt)) c.if-branch.false in
+    let begun = begun_more s r.0 _ _ _ _ r.2 t.whole t.rest t.line c.if-branch.false in
     record {
-      took = given_more _ _ _ _ s.given r.0 _ _ s.consumed r.1 s.begun.feedless s.few r.3
-          (took_on _ s.given r.0 _ _ _ _ _ _ s.begun.feedless s.begun.kept r.2 (sym c.if-branch.false ∙ t.whole) t.rest t.line
+      took = given_more s _ r.0 _ _ r.1 r.3
+          (took_more s r.0 _ _ _ _ _ r.2 (sym c.if-branch.false ∙ t.whole) t.rest t.line
           (λ e. inr (full_is _ _ _ begun.kept (sym c.is_full.ensures ∙ c.if-is_full.true)))) tt;
     }
 
 pub loop-reads-preserved : goal.loop-reads-preserved
 loop-reads-preserved g c =
-    let s = c.loop-reads.invariant in
     let r = c.in_ok-read_more.ensures.given in
     let t = c.in_ok-take_line.ensures in
-    let begun = not_yet _ _ _ _ _ _ (took_on _ s.given r.0 _ _ _ _ _ (Unit {0}) s.begun.feedless s.begun.kept r.2 t.whole t.rest t.line (λ e. tt)) c.if-branch.false in
-    record {
-      given = s.given ++ r.0;
-      consumed = Consumes-then _ _ _ s.given r.0 s.consumed r.1;
-      begun = begun;
-      few = not_full _ _ _ begun.kept (sym c.is_full.ensures ∙ c.if-is_full.false);
-      many = more_reads _ s.given r.0 _ s.many r.2 (c.in_ok-read_more.ensures.more c.if-not-branch.false);
-    }
+    first_goes_on c.loop-reads.invariant _ r.0 _ _ _ _ r.2 t.whole t.rest t.line c.if-branch.false r.1 (sym c.is_full.ensures ∙ c.if-is_full.false)
+    (c.in_ok-read_more.ensures.more c.if-not-branch.false)
 
 pub returns : goal.returns
 returns g c =
