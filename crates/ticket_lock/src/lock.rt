@@ -404,20 +404,11 @@ impl<K: Kept> TicketLock<K> {
         ensures word { result.1 ≡ slice_index
             (board_after K.Kept (start_of self.now).book (seat_of result.0).seen) place }
     {
-        let Seat {
-            mut table_seat,
-            counts,
-            parts,
-        } = seat;
+        let mut seat = seat;
         let word = self
             .table
             .shared
-            .load::<Glances<K>>(&mut table_seat, board_word(place));
-        let seat = Seat {
-            table_seat,
-            counts,
-            parts,
-        };
+            .load::<Glances<K>>(&mut seat.table_seat, board_word(place));
         (seat, word)
     }
 
