@@ -299,21 +299,12 @@ impl<K: Kept> TicketLock<K> {
         ensures { HasPosted self.now hold book.now result }
     {
         let word = book.word(place);
-        let Hold {
-            mut table_seat,
-            counts,
-            ticket,
-            posted: _,
-        } = hold;
+        let mut hold = hold;
         self.table
             .shared
-            .store::<Posts<K, A>>(&mut table_seat, board_word(place), word);
-        Hold {
-            table_seat,
-            counts,
-            ticket,
-            posted: true,
-        }
+            .store::<Posts<K, A>>(&mut hold.table_seat, board_word(place), word);
+        hold.posted = true;
+        hold
     }
 
     /// Puts the book back and ends the turn. Where the hold has posted, the book must be the one that
