@@ -76,13 +76,15 @@ module _ {A : Type 0} (shape : Data → Option A) (place : ℕ → Place) where
   list_read whole None xs e i x there = let none : None ≡ Some x = ap (λ ys. slice_get ys i) (ok_is {E = LoadError} [] xs e) ∙ there in cc
   list_read whole (Some v) xs e i x there = array_read whole v xs e i x there
 
--- what the first parts of drafts were read from
-record AreReadFrom (d : Data) (ds : Drafts) : Type 0 where
-  options : options_of (get members.options.name d) ≡ Some ds.options
-  hosts : list_of host_draft the_hosts host_at (get members.hosts.name d) ≡ Ok ds.hosts
-  services : list_of service_draft the_services service_at (get members.services.name d) ≡ Ok ds.services
+-- what drafts were read from
+pub record AreReadFrom (d : Data) (ds : Drafts) : Type 0 where
+  pub options : options_of (get members.options.name d) ≡ Some ds.options
+  pub hosts : list_of host_draft the_hosts host_at (get members.hosts.name d) ≡ Ok ds.hosts
+  pub services : list_of service_draft the_services service_at (get members.services.name d) ≡ Ok ds.services
+  pub service_dependencies : dependencies_in part.ServiceDependencies service_letters (get members.service_dependencies.name d) ≡ Ok ds.service_dependencies
+  pub host_dependencies : dependencies_in part.HostDependencies host_letters (get members.host_dependencies.name d) ≡ Ok ds.host_dependencies
 
-drafts_read : (d : Data) (ds : Drafts) → drafts_of d ≡ Ok ds → AreReadFrom d ds
+pub drafts_read : (d : Data) (ds : Drafts) → drafts_of d ≡ Ok ds → AreReadFrom d ds
 unfolding drafts_of
 drafts_read d ds e =
     let P = AreReadFrom d ds in
@@ -97,6 +99,8 @@ drafts_read d ds e =
       options = from_ok_or _ _ options ho ∙ ap (λ (x : Drafts). Some x.options) is;
       hosts = hh ∙ ap (λ (x : Drafts). Ok x.hosts) is;
       services = hs ∙ ap (λ (x : Drafts). Ok x.services) is;
+      service_dependencies = hb ∙ ap (λ (x : Drafts). Ok x.service_dependencies) is;
+      host_dependencies = ha ∙ ap (λ (x : Drafts). Ok x.host_dependencies) is;
     }) rb) rs) rh) ro) members_e) e
 
 -- ---- what else is refused

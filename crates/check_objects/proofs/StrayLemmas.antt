@@ -18,7 +18,8 @@ use Rattle.check_drafts.specs.Member.{Row, is_within_limits, limits_of}
 use Rattle.check_drafts.specs.Members as members
 use Rattle.check_drafts.proofs.RefusalLemmas.{twice_not}
 use Rattle.check_documents.specs.Faults.{are_crossed, crossed_thresholds, first_of, is_above, is_beyond, is_stray, wrong_number}
-use Rattle.check_documents.specs.Reading.{check_draft, delay_in, delay_method, factor_in, host_draft, host_members, interleave_factor, option_members, options_but_thresholds, options_of, service_draft, service_members, with_thresholds}
+use Rattle.check_documents.specs.Reading.{by_text, check_draft, delay_in, delay_method, factor_in, host_draft, host_members, interleave_factor, lettered_method}
+use Rattle.check_documents.specs.Reading.{option_members, options_but_thresholds, options_of, service_draft, service_members, with_thresholds}
 use Rattle.check_documents.specs.Tree.{has_only, number_in, read_by, switch_in, texts_in, whole_number, ◌>=>◌}
 use Rattle.check_documents.proofs.ReadLemmas.{guarded, linked, some_is}
 use Rattle.check_documents.proofs.ReadingLaws.{and_true, no_find, none_mapped, none_of_first}
@@ -50,39 +51,41 @@ lettered_within m false true c x e = ap (is_delay_in_range m) (some_is method.Du
 lettered_within m false false true x e = ap (is_delay_in_range m) (some_is method.Smart x e)
 lettered_within m false false false x e = cc
 
-delay_there : (m : Row) (x : DelayMethod) (v : Data) → delay_method v ≡ Some x → not (is_stray m (whole_number v)) ≡ is_delay_in_range m x
-delay_there m x null e = cc
-delay_there m x (boolean b) e = cc
-delay_there m x (number (unsigned n)) e = twice_not (is_within_limits m n) ∙ ap (is_delay_in_range m) (some_is (method.Fixed n) x e)
-delay_there m x (number (negative z)) e = cc
-delay_there m x (number (float y)) e = cc
-delay_there m x (string s) e = lettered_within m (bytes_eq s (codes "n")) (bytes_eq s (codes "d")) (bytes_eq s (codes "s")) x e
-delay_there m x (array ds) e = cc
-delay_there m x (object inside) e = cc
-
-delay_stray : (m : Row) (x : DelayMethod) (o : Option Data) → read_by delay_method (Some method.Smart) o ≡ Some x
-    → not (is_stray m (o >=> whole_number)) ≡ is_delay_in_range m x
-delay_stray m x None e = ap (is_delay_in_range m) (some_is method.Smart x e)
-delay_stray m x (Some v) e = delay_there m x v e
-
 smart_within : (m : Row) (a : Bool) (x : InterleaveFactor) → cond a (Some factor.Smart) None ≡ Some x → true ≡ is_factor_in_range m x
 smart_within m true x e = ap (is_factor_in_range m) (some_is factor.Smart x e)
 smart_within m false x e = cc
 
-factor_there : (m : Row) (x : InterleaveFactor) (v : Data) → interleave_factor v ≡ Some x → not (is_stray m (whole_number v)) ≡ is_factor_in_range m x
-factor_there m x null e = cc
-factor_there m x (boolean b) e = cc
-factor_there m x (number (unsigned n)) e = twice_not (is_within_limits m n) ∙ ap (is_factor_in_range m) (some_is (factor.Fixed n) x e)
-factor_there m x (number (negative z)) e = cc
-factor_there m x (number (float y)) e = cc
-factor_there m x (string s) e = smart_within m (bytes_eq s (codes "s")) x e
-factor_there m x (array ds) e = cc
-factor_there m x (object inside) e = cc
+-- a member that is a number or a text
+module _ {A : Type 0} (lettered : List ℕ → Option A) (fixed : ℕ → A) (in_range : A → Bool) (m : Row)
+    (of_number : (n : ℕ) → is_within_limits m n ≡ in_range (fixed n)) (of_text : (s : List ℕ) (x : A) → lettered s ≡ Some x → true ≡ in_range x) where
+  value_there : (x : A) (v : Data) → by_text lettered (whole_number v >=> λ n. Some (fixed n)) (as_str v) ≡ Some x
+      → not (is_stray m (whole_number v)) ≡ in_range x
+  value_there x null e = cc
+  value_there x (boolean b) e = cc
+  value_there x (number (unsigned n)) e = twice_not (is_within_limits m n) ∙ of_number n ∙ ap in_range (some_is (fixed n) x e)
+  value_there x (number (negative z)) e = cc
+  value_there x (number (float y)) e = cc
+  value_there x (string s) e = of_text s x e
+  value_there x (array ds) e = cc
+  value_there x (object inside) e = cc
+
+  value_stray : (default x : A) (o : Option Data) → true ≡ in_range default
+      → read_by (λ v. by_text lettered (whole_number v >=> λ n. Some (fixed n)) (as_str v)) (Some default) o ≡ Some x
+      → not (is_stray m (o >=> whole_number)) ≡ in_range x
+  value_stray default x None h e = h ∙ ap in_range (some_is default x e)
+  value_stray default x (Some v) h e = value_there x v e
+
+delay_stray : (m : Row) (x : DelayMethod) (o : Option Data) → read_by delay_method (Some method.Smart) o ≡ Some x
+    → not (is_stray m (o >=> whole_number)) ≡ is_delay_in_range m x
+delay_stray m x o e =
+    value_stray lettered_method method.Fixed (is_delay_in_range m) m (λ n. refl)
+    (λ s. lettered_within m (bytes_eq s (codes "n")) (bytes_eq s (codes "d")) (bytes_eq s (codes "s"))) method.Smart x o refl e
 
 factor_stray : (m : Row) (x : InterleaveFactor) (o : Option Data) → read_by interleave_factor (Some factor.Smart) o ≡ Some x
     → not (is_stray m (o >=> whole_number)) ≡ is_factor_in_range m x
-factor_stray m x None e = ap (is_factor_in_range m) (some_is factor.Smart x e)
-factor_stray m x (Some v) e = factor_there m x v e
+factor_stray m x o e =
+    value_stray (λ s. cond (bytes_eq s (codes "s")) (Some factor.Smart) None) factor.Fixed (is_factor_in_range m) m (λ n. refl)
+    (λ s. smart_within m (bytes_eq s (codes "s"))) factor.Smart x o refl e
 
 -- ---- hosts and services
 

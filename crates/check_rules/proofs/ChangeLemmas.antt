@@ -139,54 +139,46 @@ first_lost : (b : Bool) (weight more all : ℕ) → weight ≡ 57 → all ≡ co
 first_lost true weight more all e h = omega (arith, e, h)
 first_lost false weight more all e h = omega (arith, h)
 
-one_later_short : (results : List State) (found : State) → length results ≤ 20 → IsOneLater results found
-one_later_short results found few =
-    let g = grows results found few in
-    let none : flag (loses_change results) ≡ 0 = ap flag (none_lost results few) in
-    let kept = short_kept results found few in
+-- one more result, where these stay of the results before it: all of them, or all but the oldest
+one_later_where : (results newer : List State) (found : State) → length newer ≤ 20 → kept_after results found ≡ newer ++ found ∷ []
+    → changes_in results ≡ flag (loses_change results) + changes_in newer → weight_to 95 results ≡ 57 * flag (loses_change results) + weight_to 95 newer
+    → is_change results found ≡ is_change newer found → IsOneLater results found
+one_later_where results newer found few kept counted weighed same =
+    let g = grows newer found few in
     let weight = ap (weight_to 95) kept in
     let count = ap changes_in kept in
+    let new = ap flag same in
+    let small = few_counted (loses_change results) 0 0 (omega arith) in
     let g0 = g.0 in
     let g1 = g.1 in
     let g2 = g.2 in
     let g3 = g.3 in
     let g4 = g.4 in
     record {
-      there = omega (arith, none);
-      few = omega (arith, g3);
-      heavy = omega (arith, none, g2);
-      light = omega (arith, g4);
-      weight = omega (arith, none, weight, g0);
-      count = omega (arith, none, count, g1);
+      there = omega (arith, counted);
+      few = omega (arith, counted, small, g3);
+      heavy = omega (arith, counted, weighed, g2);
+      light = omega (arith, weighed, small, g4);
+      weight = omega (arith, counted, weighed, weight, new, g0);
+      count = omega (arith, counted, count, new, g1);
     }
+
+one_later_short : (results : List State) (found : State) → length results ≤ 20 → IsOneLater results found
+one_later_short results found few =
+    let none : flag (loses_change results) ≡ 0 = ap flag (none_lost results few) in
+    one_later_where results results found few (short_kept results found few) (omega (arith, none)) (omega (arith, none)) refl
 
 one_later_full : (oldest second : State) (rest : List State) (found : State) → length rest ≡ 19 → (length rest == 19) ≡ true
     → IsOneLater (oldest ∷ second ∷ rest) found
 one_later_full oldest second rest found e full =
     let newer = second ∷ rest in
-    let g = grows newer found (omega (arith, e)) in
     let b = is_another_state second oldest in
     let lost : flag (loses_change (oldest ∷ newer)) ≡ flag b = rw full refl in
-    let kept = full_kept oldest newer found (omega (arith, e)) in
-    let weight = ap (weight_to 95) kept in
-    let count = ap changes_in kept in
     let next : weight_after second rest (95 + 2 - 2 * length newer + 2) ≡ weight_to 95 newer = ap (λ w. weight_after second rest w) (omega (arith, e)) in
     let all = first_lost b (95 + 2 - 2 * length newer) (weight_after second rest (95 + 2 - 2 * length newer + 2)) (weight_to 95 (oldest ∷ newer))
     (omega (arith, e)) refl in
-    let small = few_counted b 0 0 (omega arith) in
-    let g0 = g.0 in
-    let g1 = g.1 in
-    let g2 = g.2 in
-    let g3 = g.3 in
-    let g4 = g.4 in
-    record {
-      there = omega (arith, lost);
-      few = omega (arith, small, g3);
-      heavy = omega (arith, lost, all, next, g2);
-      light = omega (arith, all, next, small, g4);
-      weight = omega (arith, lost, weight, all, next, g0);
-      count = omega (arith, lost, count, g1);
-    }
+    one_later_where (oldest ∷ newer) newer found (omega (arith, e)) (full_kept oldest newer found (omega (arith, e))) (omega (arith, lost))
+    (omega (arith, lost, all, next)) refl
 
 one_later_by : (full : Bool) (oldest second : State) (rest : List State) (found : State) → (length rest == 19) ≡ full → length rest ≤ 19
     → IsOneLater (oldest ∷ second ∷ rest) found

@@ -5,7 +5,7 @@
 //! have smaller remainders, and how many of the same remainder came before.
 
 ghost use Rattle.std.specs.Prelude.{◌≡◌, ◌<◌, ◌≤◌, IfOk, length, sum};
-ghost use Rattle.check_spread.specs.Visits.{has_less_remainder, has_remainder, sums_before, HasCounts};
+ghost use Rattle.check_spread.specs.Visits.{has_less_remainder, sums_before, HasCounts};
 
 use crate::spread::is_scheduled;
 use check_objects::{MAX_OBJECTS, Object};
@@ -22,28 +22,14 @@ pub(crate) fn first_ranks(
     ensures { IfOk result (λ ranks.
         HasCounts (has_less_remainder factor) factor objects.now ranks.items) }
 {
-    let counts = counts_by_remainder(alloc, objects, factor)?;
-    sums_before(alloc, &counts)
-}
-
-/// For each remainder by the factor how many scheduled objects have it.
-fn counts_by_remainder(
-    alloc: Global,
-    objects: &[Object],
-    factor: usize,
-) -> Result<Vec<u64>, AllocError>
-    requires few { length objects.now ≤ MAX_OBJECTS }
-    requires steps { 0 < factor }
-    ensures { IfOk result (λ counts.
-        HasCounts (has_remainder factor) factor objects.now counts.items) }
-{
+    // how many scheduled objects have each remainder
     let mut counts = vec![in alloc; 0; factor]?;
     for (position, object) in objects.iter().enumerate() {
         if is_scheduled(object) {
             counts[position % factor] += 1;
         }
     }
-    Ok(counts)
+    sums_before(alloc, &counts)
 }
 
 /// For each place the sum of the counts before it.

@@ -2,7 +2,7 @@
 
 ghost use Rattle.std.specs.Prelude.{◌≡◌, count_by};
 ghost use Rattle.check_spread.specs.Spread.{is_scheduled};
-ghost use Rattle.check_summary.specs.Summary.{dependency_count, parent_count, links_in, reasons_among, is_disabled, lacks_interval};
+ghost use Rattle.check_summary.specs.Summary.{links_in, reasons_among, is_disabled, lacks_interval};
 
 use check_objects::{Object, Setup};
 
@@ -30,32 +30,16 @@ pub struct Reasons {
 pub(crate) fn count_links(setup: &Setup) -> Links
     ensures { result ≡ links_in setup.now }
 {
+    let mut dependencies = 0;
+    let mut parents = 0;
+    for number in 0..setup.len() {
+        dependencies += setup.dependencies(number as u32).len();
+        parents += setup.parents(number as u32).len();
+    }
     Links {
-        dependencies: count_dependencies(setup),
-        parents: count_parents(setup),
+        dependencies,
+        parents,
     }
-}
-
-/// How many dependencies there are.
-fn count_dependencies(setup: &Setup) -> usize
-    ensures { result ≡ dependency_count setup.now }
-{
-    let mut count = 0;
-    for number in 0..setup.len() {
-        count += setup.dependencies(number as u32).len();
-    }
-    count
-}
-
-/// How many links from a host to a parent there are.
-fn count_parents(setup: &Setup) -> usize
-    ensures { result ≡ parent_count setup.now }
-{
-    let mut count = 0;
-    for number in 0..setup.len() {
-        count += setup.parents(number as u32).len();
-    }
-    count
 }
 
 /// How many objects are scheduled, and why the others aren't.

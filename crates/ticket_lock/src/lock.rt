@@ -299,21 +299,12 @@ impl<K: Kept> TicketLock<K> {
         ensures { HasPosted self.now hold book.now result }
     {
         let word = book.word(place);
-        let Hold {
-            mut table_seat,
-            counts,
-            ticket,
-            posted: _,
-        } = hold;
+        let mut hold = hold;
         self.table
             .shared
-            .store::<Posts<K, A>>(&mut table_seat, board_word(place), word);
-        Hold {
-            table_seat,
-            counts,
-            ticket,
-            posted: true,
-        }
+            .store::<Posts<K, A>>(&mut hold.table_seat, board_word(place), word);
+        hold.posted = true;
+        hold
     }
 
     /// Puts the book back and ends the turn. Where the hold has posted, the book must be the one that
@@ -404,20 +395,11 @@ impl<K: Kept> TicketLock<K> {
         ensures word { result.1 ≡ slice_index
             (board_after K.Kept (start_of self.now).book (seat_of result.0).seen) place }
     {
-        let Seat {
-            mut table_seat,
-            counts,
-            parts,
-        } = seat;
+        let mut seat = seat;
         let word = self
             .table
             .shared
-            .load::<Glances<K>>(&mut table_seat, board_word(place));
-        let seat = Seat {
-            table_seat,
-            counts,
-            parts,
-        };
+            .load::<Glances<K>>(&mut seat.table_seat, board_word(place));
         (seat, word)
     }
 

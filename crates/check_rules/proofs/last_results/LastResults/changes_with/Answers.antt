@@ -32,27 +32,26 @@ after-requires-clause-heavy c =
 pub after-requires-clause-light : goal.after-requires-clause-light
 after-requires-clause-light c = rw (c.self.invariant.weighed) (later c.self.inside c.args.found c.self.invariant).light
 
-pub returns-clause-weight : goal.returns-clause-weight
-returns-clause-weight c =
+-- the changes that were computed are those of the results with one more, as they are packed
+computed : (c : goal.After-after) → (c.after.result.weight ≡ weight_to 95 (kept_after (results_of c.self.inside) c.args.found))
+    × (c.after.result.count ≡ changes_in (kept_after (results_of c.self.inside) c.args.found))
+computed c =
     let r = c.self.inside in
     let goes : flag c.loses_change.result ≡ flag (loses_change (results_of r)) = ap flag (c.loses_change.ensures ∙ ap loses_change (sym c.self.view_is)) in
     let comes : flag c.is_change.result ≡ flag (is_change (results_of r) c.args.found) =
     ap flag (c.is_change.ensures ∙ ap (λ results. is_change results c.args.found) (sym c.self.view_is)) in
     let counted = c.self.invariant.counted in
     let weighed = c.self.invariant.weighed in
-    let made = c.after.ensures.weight in
-    let wanted = (later r c.args.found c.self.invariant).weight in
-    let same : c.after.result.weight ≡ weight_to 95 (kept_after (results_of r) c.args.found) = omega (arith, goes, comes, counted, weighed, made, wanted) in
-    same ∙ ap (λ results. weight_to 95 (kept_after results c.args.found)) c.self.view_is
+    let made = c.after.ensures in
+    let made_weight = made.weight in
+    let made_count = made.count in
+    let wanted = later r c.args.found c.self.invariant in
+    let wanted_weight = wanted.weight in
+    let wanted_count = wanted.count in
+    (omega (arith, goes, comes, counted, weighed, made_weight, wanted_weight), omega (arith, goes, comes, counted, made_count, wanted_count))
+
+pub returns-clause-weight : goal.returns-clause-weight
+returns-clause-weight c = (computed c).0 ∙ ap (λ results. weight_to 95 (kept_after results c.args.found)) c.self.view_is
 
 pub returns-clause-count : goal.returns-clause-count
-returns-clause-count c =
-    let r = c.self.inside in
-    let goes : flag c.loses_change.result ≡ flag (loses_change (results_of r)) = ap flag (c.loses_change.ensures ∙ ap loses_change (sym c.self.view_is)) in
-    let comes : flag c.is_change.result ≡ flag (is_change (results_of r) c.args.found) =
-    ap flag (c.is_change.ensures ∙ ap (λ results. is_change results c.args.found) (sym c.self.view_is)) in
-    let counted = c.self.invariant.counted in
-    let made = c.after.ensures.count in
-    let wanted = (later r c.args.found c.self.invariant).count in
-    let same : c.after.result.count ≡ changes_in (kept_after (results_of r) c.args.found) = omega (arith, goes, comes, counted, made, wanted) in
-    same ∙ ap (λ results. changes_in (kept_after results c.args.found)) c.self.view_is
+returns-clause-count c = (computed c).1 ∙ ap (λ results. changes_in (kept_after results c.args.found)) c.self.view_is

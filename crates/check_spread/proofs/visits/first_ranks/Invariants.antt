@@ -1,5 +1,5 @@
 use Rattle.check_spread.specs.Visits.{HasCounts, has_remainder_before}
-use Rattle.check_spread.proofs.visits.counts_by_remainder.Given as goal
+use Rattle.check_spread.proofs.visits.first_ranks.Given as goal
 
 abbrev pub invariant-loop-position : goal.invariant-loop-position
 invariant-loop-position l = HasCounts (has_remainder_before l.factor l.position) l.factor l.objects l.counts.items

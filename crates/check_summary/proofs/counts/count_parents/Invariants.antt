@@ -1,6 +1,0 @@
-use Rattle.std.proofs.Common.{◌≡◌, length, take}
-use Rattle.std.specs.Prelude.{sum_by}
-use Rattle.check_summary.proofs.counts.count_parents.Given as goal
-
-abbrev pub invariant-loop-number : goal.invariant-loop-number
-invariant-loop-number l = l.count ≡ sum_by (λ h. length h.parents) (take l.number l.setup.hosts)
