@@ -1,12 +1,12 @@
 //! The last results of each object, by which it is known whether it flaps.
 
-ghost use Rattle.std.specs.Prelude.{◌≡◌, ◌<◌, ◌≤◌, List, [], IfOk, length, replicate, true};
+ghost use Rattle.std.specs.Prelude.{◌≡◌, ◌<◌, List, [], IfOk, length, replicate, true};
 ghost use Rattle.check_rules.specs.declared.state.State.{State};
 ghost use Rattle.check_rules.specs.Flapping.{is_flapping, kept_after};
 ghost use Rattle.check_sched.specs.State.{results_at};
 ghost use Rattle.check_sched.specs.Step.{update_at};
 
-use check_rules::{KEPT_RESULTS, LastResults, State, flaps_at};
+use check_rules::{LastResults, State, flaps_at};
 use std::alloc::{AllocError, Global};
 use std::marker::Model;
 
@@ -14,14 +14,14 @@ use std::marker::Model;
 /// results for each object by number, the oldest first.
 #[derive(Drop)]
 pub(crate) struct Results {
-    /// A ring for each object.
-    rings: Vec<Ring>,
+    /// Those of each object by its number.
+    by_number: Vec<LastResults>,
 }
 
 impl Model for Results {
     ghost Value = { List (List State) };
 
-    ghost view = { λ results. results.rings.items };
+    ghost view = { λ results. results.by_number.items };
 }
 
 impl Results {
@@ -31,18 +31,18 @@ impl Results {
     pub(crate) fn none(alloc: Global, count: usize) -> Result<Results, AllocError>
         ensures { IfOk result (λ results. results ≡ replicate count []) }
     {
-        let mut rings = Vec::with_capacity(alloc, count)?;
+        let mut by_number = Vec::with_capacity(alloc, count)?;
         for _number in 0..count {
-            rings.push(Ring::empty(alloc)?)?;
+            by_number.push(LastResults::none())?;
         }
-        Ok(Results { rings })
+        Ok(Results { by_number })
     }
 
     /// Results that were kept before: of each object by number a list, the oldest first.
-    pub(crate) fn of(rings: Vec<Ring>) -> Results
-        ensures { result ≡ rings.items }
+    pub(crate) fn of(by_number: Vec<LastResults>) -> Results
+        ensures { result ≡ by_number.items }
     {
-        Results { rings }
+        Results { by_number }
     }
 
     /// A copy of the results of the object with this number, the oldest first. An Err means out of
@@ -51,7 +51,7 @@ impl Results {
         requires { number < length self.now }
         ensures { IfOk result (λ copy. copy.items ≡ results_at self.now number) }
     {
-        self.rings[number as usize].copy(alloc)
+        self.by_number[number as usize].to_vec(alloc)
     }
 
     /// Keeps one more result of the object with this number, and returns whether the object flaps with
@@ -62,7 +62,8 @@ impl Results {
         ensures kept { self.new ≡ update_at number (λ results. kept_after results found) self.old }
         ensures flaps { result ≡ is_flapping (kept_after (results_at self.old number) found) was thresholds.0 thresholds.1 }
     {
-        self.rings[number as usize].add(found, was, thresholds)
+        let percent = self.by_number[number as usize].push(found);
+        flaps_at(percent, was, thresholds.0, thresholds.1)
     }
 
     /// Whether the object with this number has as many results as are kept, and all are this state, so
@@ -71,66 +72,6 @@ impl Results {
         requires { number < length self.now }
         ensures { result ≡ true → kept_after (results_at self.now number) state ≡ results_at self.now number }
     {
-        self.rings[number as usize].are_all(state)
-    }
-}
-
-/// The last results of one object. Contracts see them as a list, the oldest first.
-#[derive(Drop)]
-pub(crate) struct Ring {
-    results: LastResults,
-}
-
-impl Model for Ring {
-    ghost use Rattle.std.specs.Prelude.{List};
-    ghost use Rattle.check_rules.specs.declared.state.State.{State};
-
-    ghost Value = { List State };
-
-    ghost view = { λ ring. ring.results };
-}
-
-impl Ring {
-    /// No results. There is room for all that will be kept, so that this is never an Err.
-    pub(crate) fn empty(_alloc: Global) -> Result<Ring, AllocError>
-        ensures { IfOk result (λ ring. ring ≡ []) }
-    {
-        Ok(Ring {
-            results: LastResults::none(),
-        })
-    }
-
-    /// These results, the oldest first. There is room for all that will be kept, so that this is never
-    /// an Err.
-    pub(crate) fn of(_alloc: Global, kept: &[State]) -> Result<Ring, AllocError>
-        requires { length kept.now ≤ KEPT_RESULTS }
-        ensures { IfOk result (λ ring. ring ≡ kept.now) }
-    {
-        Ok(Ring {
-            results: LastResults::of(kept),
-        })
-    }
-
-    /// A copy of the results, the oldest first. An Err means out of memory.
-    fn copy(&self, alloc: Global) -> Result<Vec<State>, AllocError>
-        ensures { IfOk result (λ copy. copy.items ≡ self.now) }
-    {
-        self.results.to_vec(alloc)
-    }
-
-    /// Whether there are as many results as are kept, and all are this state.
-    fn are_all(&self, state: State) -> bool
-        ensures { result ≡ true → kept_after self.now state ≡ self.now }
-    {
-        self.results.are_all(state)
-    }
-
-    /// Keeps one more result, and returns whether the object flaps with it, as [`Results::add`] does.
-    fn add(&mut self, found: State, was: bool, thresholds: (u8, u8)) -> bool
-        ensures kept { self.new ≡ kept_after self.old found }
-        ensures flaps { result ≡ is_flapping (kept_after self.old found) was thresholds.0 thresholds.1 }
-    {
-        let percent = self.results.push(found);
-        flaps_at(percent, was, thresholds.0, thresholds.1)
+        self.by_number[number as usize].are_all(state)
     }
 }

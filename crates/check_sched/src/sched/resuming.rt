@@ -12,11 +12,11 @@ use super::Sched;
 use crate::intervals::{Intervals, intervals_by_number};
 use crate::object_state::ObjectState;
 use crate::places::{kept, places};
-use crate::results::{Results, Ring};
+use crate::results::Results;
 use crate::resumed::{scheduling, standing};
 use crate::roster::{Roster, running_from};
 use check_objects::Setup;
-use check_rules::{KEPT_RESULTS, Standing};
+use check_rules::{KEPT_RESULTS, LastResults, Standing};
 use check_saved::{Saved, SavedObject};
 use check_spread::{LAST_MOMENT, initial_times};
 use std::alloc::{AllocError, Global};
@@ -211,21 +211,21 @@ fn resumed_results(
     ensures { IfOk result (λ results. results ≡ results_resumed setup.now saved.now) }
 {
     let count = setup.len();
-    let mut rings = Vec::with_capacity(alloc, count)?;
+    let mut by_number = Vec::with_capacity(alloc, count)?;
     for number in 0..count {
         let kept = kept(saved, places, number as u32);
-        rings.push(resumed_ring(alloc, kept)?)?;
+        by_number.push(last_results(kept))?;
     }
-    Ok(Results::of(rings))
+    Ok(Results::of(by_number))
 }
 
 /// The results that are kept of an object: those that were saved, or none of a new one.
-fn resumed_ring(alloc: Global, kept: Option<&SavedObject>) -> Result<Ring, AllocError>
+fn last_results(kept: Option<&SavedObject>) -> LastResults
     requires { IfSome (option_map (λ o. o.now) kept) (λ o. length o.results ≤ KEPT_RESULTS) }
-    ensures { IfOk result (λ ring. ring ≡ results_of (option_map (λ o. o.now) kept.entry)) }
+    ensures { result ≡ results_of (option_map (λ o. o.now) kept.entry) }
 {
     match kept {
-        Some(saved) => Ring::of(alloc, &saved.results),
-        None => Ring::empty(alloc),
+        Some(saved) => LastResults::of(&saved.results),
+        None => LastResults::none(),
     }
 }

@@ -7,8 +7,8 @@ use Rattle.check_sched.proofs.EachLaws.{one_each, results_seen}
 use Rattle.check_sched.proofs.ResumedLaws.{if_saved, length-made}
 use Rattle.check_sched.proofs.sched.resuming.resumed_results.Goals as goal
 
-pub resumed_ring-requires : goal.resumed_ring-requires
-resumed_ring-requires c =
+pub last_results-requires : goal.last_results-requires
+last_results-requires c =
     let setup = c.args.setup.now in
     let saved = c.args.saved.now in
     let n = c.loop-number.number in
@@ -21,9 +21,9 @@ loop-number-preserved c =
     let setup = c.args.setup.now in
     let n = c.loop-number.number in
     let there : n < object_count setup = omega arith in
-    one_each setup (λ p. results_of (saved_named c.args.saved.now p.1.name)) n c.loop-number.rings.items _
+    one_each setup (λ p. results_of (saved_named c.args.saved.now p.1.name)) n c.loop-number.by_number.items _
     _ there c.in_ok-push.ensures.items c.loop-number.invariant
-    (λ o e. results_seen setup c.args.saved.now n o _ _ e (c.kept-kept.ensures setup c.requires.places there) c.in_ok-resumed_ring.ensures)
+    (λ o e. results_seen setup c.args.saved.now n o _ _ e (c.kept-kept.ensures setup c.requires.places there) c.last_results.ensures)
 
 pub returns : goal.returns
 returns c =
