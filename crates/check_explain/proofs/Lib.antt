@@ -11,3 +11,5 @@ pub mod LineLemmas
 pub mod NumberLemmas
 pub mod OnwardLemmas
 pub mod WalkLemmas
+pub mod PlaceLemmas
+pub mod LinkLemmas

@@ -1,7 +1,7 @@
 -- Links and cycles of the code are those of the document.
 use Rattle.std.proofs.Common.{◌≡◌, ◌≢◌, ℕ, zero, suc, ◌<◌, ◌==◌, ◌&&◌, ◌||◌, Bool, true, false, List, [], ◌∷◌, ◌++◌, get_or, length, map, Option, Some, None, refl, sym, ap, ◌∙◌}
-use Rattle.std.proofs.Common.{inl, inr, ◌⊎◌}
-use Rattle.std.specs.Prelude.{All, IfOk, IfSome, MatchOption, Result, Ok, Err, codes, option_and_then, slice_get}
+use Rattle.std.proofs.Common.{inl, inr}
+use Rattle.std.specs.Prelude.{All, IfOk, MatchOption, Result, Ok, Err, codes, option_and_then, slice_get}
 use Rattle.std.proofs.lemmas.Bool.{and_parts, cases_lt, eqb-true}
 use Rattle.std.proofs.lemmas.List.Elements.{All-head, All-push, All-tail}
 use Rattle.std.proofs.lemmas.Option.{slice_get-get_or, slice_get-map, slice_get_past}
@@ -18,8 +18,9 @@ use Rattle.check_drafts.specs.declared.place.Place.{Place}
 use Rattle.check_documents.specs.Places.{or_no_items}
 use Rattle.check_explain.specs.Explanation.{any_item, is_text, place_of, text_in}
 use Rattle.check_explain.specs.Feeds.{has_feed}
+use Rattle.check_explain.specs.Links.{HasEach}
 use Rattle.check_explain.specs.Onward.{AreWithin}
-use Rattle.check_explain.specs.Rounds.{has, has_master, has_parent, is_called, is_dependency, is_link, is_named, round_text, IsRound, OfWhole, TellsRound}
+use Rattle.check_explain.specs.Rounds.{has, has_master, has_parent, is_called, is_dependency, is_link, is_named, round_text, AreDistinct, HasNoRound, IsRound, OfWhole, TellsRound}
 
 -- ---- links
 
@@ -36,7 +37,7 @@ pub passed_by : (a b : Bool) → b ≡ true → (a || b) ≡ true
 passed_by true b e = refl
 passed_by false b e = e
 
-here : (a b : Bool) → a ≡ true → (a || b) ≡ true
+pub here : (a b : Bool) → a ≡ true → (a || b) ≡ true
 here true b e = refl
 here false b e = cc
 
@@ -110,16 +111,26 @@ tells_round what p objects seen linked cycle old new same round none is = record
   is = is ∙ (λ i. none i ++ round_text what p (same i) cycle);
 }
 
--- what is so of a cycle where one was found
-pub found_weaker : {A E : Type 0} (N : Type 0) (P Q : A → Type 0) (r : Result (Option A) E) → ((a : A) → P a → Q a) → IfOk r (λ found. MatchOption found N P)
-    → IfOk r (λ found. IfSome found Q)
-found_weaker N P Q (Ok None) f h = tt
-found_weaker N P Q (Ok (Some a)) f h = f a h
-found_weaker N P Q (Err e) f h = tt
+-- a cycle of the document is one of the links of the code, where these are all
+links_round : (linked : ℕ → ℕ → Bool) (links : List (ℕ × ℕ)) (cycle : List ℕ) → ((from to : ℕ) → linked from to ≡ true → is_link links from to ≡ true)
+    → IsRound linked cycle → IsRound (is_link links) cycle
+links_round linked links cycle all r = record { some = r.some; each = λ place h. all _ _ (r.each place h) }
+
+-- a cycle is found of these links, or there is none where no two items have one name
+abbrev pub Finds : {A E : Type 0} → (A → List ℕ) → Part → List Data → (ℕ → ℕ → Bool) → Result (Option A) E → Type 0
+Finds items p objects linked r = IfOk r (λ found. MatchOption found (AreDistinct p objects → HasNoRound linked) (λ cycle. IsRound linked (items cycle)))
+
+-- what is found of the links of the code is found of those of the document
+pub found_as : {A E : Type 0} (items : A → List ℕ) (p : Part) (objects : List Data) (linked : ℕ → ℕ → Bool) (links : List (ℕ × ℕ)) (r : Result (Option A) E)
+    → AllLinked linked links → HasEach p objects linked links
+    → IfOk r (λ found. MatchOption found (HasNoRound (is_link links)) (λ cycle. IsRound (is_link links) (items cycle))) → Finds items p objects linked r
+found_as items p objects linked links (Ok None) all each none = λ apart cycle r. none cycle (links_round linked links cycle (each apart) r)
+found_as items p objects linked links (Ok (Some cycle)) all each found = round_by linked links (items cycle) all found
+found_as items p objects linked links (Err e) all each found = tt
 
 -- ---- links begin at objects
 
-within_of : (test : Data → Bool) (objects : List Data) (index : ℕ) → has test (slice_get objects index) ≡ true → index < length objects
+pub within_of : (test : Data → Bool) (objects : List Data) (index : ℕ) → has test (slice_get objects index) ≡ true → index < length objects
 within_of test objects index e = elim (cases_lt index (length objects)) [
   | inl h ↦ h
   | inr h ↦ absurd (let none : has test (slice_get objects index) ≡ false = ap (has test) (slice_get_past objects index h) in cc)

@@ -1,15 +1,14 @@
 -- A walk by links that can be gone on from without an end comes round, and what it comes by is a cycle.
-use Rattle.std.proofs.Common.{◌≡◌, ℕ, zero, suc, ◌+◌, ◌-◌, ◌<◌, ◌≤◌, ◌==◌, Bool, true, false, cond, not, List, [], ◌∷◌, ◌++◌, get_or, length, min, Option, Some, None, refl, sym, ap, ◌∙◌, subst}
+use Rattle.std.proofs.Common.{◌≡◌, ℕ, zero, suc, ◌+◌, ◌-◌, ◌<◌, ◌≤◌, ◌==◌, Bool, true, false, cond, List, [], ◌∷◌, ◌++◌, get_or, length, min, Option, Some, None, refl, sym, ap, ◌∙◌, subst}
 use Rattle.std.proofs.Common.{arith, inl, inr, ◌⊎◌}
-use Rattle.std.specs.Prelude.{is_some, nat_lt, position}
-use Rattle.std.specs.List.{position_or_len}
-use Rattle.std.proofs.lemmas.Bool.Decides.{nat_tests}
+use Rattle.std.specs.Prelude.{is_some, position}
 use Rattle.std.proofs.lemmas.Bool.{cases_eq, cases_lt, eqb-true, eqb-false}
 use Rattle.std.proofs.lemmas.List.{get_or_append_left, get_or-append_right, get_or_past, length_push}
 use Rattle.std.proofs.lemmas.List.Quantifiers.{position-Some}
 use Rattle.std.proofs.lemmas.Option.{slice_get-get_or, slice_get_past}
-use Rattle.check_explain.specs.Onward.{is_on, step_from, steps_from, GoesBack, HasNoRound, IsEndless, IsTrip, Reaches}
-use Rattle.check_explain.specs.Rounds.{behind, is_link, IsRound}
+use Rattle.check_explain.specs.Onward.{is_on, step_from, steps_from, GoesBack, IsEndless, IsTrip, Reaches}
+use Rattle.check_explain.specs.Rounds.{behind, has, is_link, HasNoRound, IsRound}
+use Rattle.check_explain.proofs.PlaceLemmas.{none_at}
 
 -- ---- steps
 
@@ -221,26 +220,11 @@ trip_ends onward object turn at cycle trip b end = trip.not_back b.steps b.some 
 
 -- ---- where none can be gone on from
 
-missed : (b : Bool) (place : ℕ) → cond b (Some place) None ≡ None → b ≡ false
-missed true place none = cc
-missed false place none = refl
-
-at_end : (place n : ℕ) → nat_lt place n ≡ false → n ≤ place
-at_end place n h = grind (arith, nat_tests, h)
-
-off_first : (b : Bool) (n place : ℕ) → suc n ≤ cond (not b) (1 + place) 0 → (b ≡ false) × (n ≤ place)
-off_first true n place past = absurd (omega (arith, past))
-off_first false n place past = (refl, omega (arith, past))
-
-all_off : (onward : List (Option ℕ)) (object : ℕ) → length onward ≤ position_or_len is_some onward → is_on onward object ≡ true → ⊥
-all_off [] zero past on = cc
-all_off [] (suc object) past on = cc
-all_off (next ∷ onward) zero past on = let off = (off_first (is_some next) (length onward) (position_or_len is_some onward) past).0 in cc
-all_off (next ∷ onward) (suc object) past on = all_off onward object (off_first (is_some next) (length onward) (position_or_len is_some onward) past).1 on
-
 -- the objects of a cycle can be gone on from, so that there is none where no object can
 pub no_round : (count : ℕ) (links : List (ℕ × ℕ)) (onward : List (Option ℕ)) → IsEndless count links onward → position is_some onward ≡ None → HasNoRound (is_link links)
 no_round count links onward endless none cycle r =
-    let first = position_or_len is_some onward in
-    let past = at_end first (length onward) (missed (nat_lt first (length onward)) first none) in
-    all_off onward (get_or cycle 0 0) past (endless.rounds cycle r 0 r.some)
+    let first = get_or cycle 0 0 in
+    let on = endless.rounds cycle r 0 r.some in
+    let off : is_some (get_or onward first None) ≡ false = ap (has is_some) (sym (slice_get-get_or onward first None (on_below onward first on)))
+    ∙ none_at is_some onward none first in
+    cc

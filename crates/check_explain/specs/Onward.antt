@@ -59,8 +59,3 @@ pub record IsTrip (onward : List (Option ℕ)) (object : ℕ) (cycle : List ℕ)
   pub some : 0 < length cycle
   pub each : (place : ℕ) → place < length cycle → get_or cycle place 0 ≡ steps_from onward object place
   pub back : steps_from onward object (length cycle) ≡ object
-
--- ---- that there is none
-
-abbrev pub HasNoRound : (ℕ → ℕ → Bool) → Type 0
-HasNoRound linked = (cycle : List ℕ) → IsRound linked cycle → ⊥

@@ -7,9 +7,9 @@ ghost use Rattle.check_drafts.specs.declared.place.Part.TheVariants as part;
 ghost use Rattle.check_documents.specs.Places.{items_at};
 ghost use Rattle.check_explain.specs.Explanation.{items_list};
 ghost use Rattle.check_explain.specs.Feeds.{has_feed};
-ghost use Rattle.check_explain.specs.Onward.{is_on, noted, noted_all, step_from, steps_from, AreWithin, GoesBack, HasNoRound, IsEndless, IsTrip, Reaches};
+ghost use Rattle.check_explain.specs.Onward.{is_on, noted, noted_all, step_from, steps_from, AreWithin, GoesBack, IsEndless, IsTrip, Reaches};
 ghost use Rattle.check_explain.specs.Rounds.{has_master, has_parent, is_link, left_out_text, more_text, no_fault_text, object_text, objects_text, round_text};
-ghost use Rattle.check_explain.specs.Rounds.{IsRound, OfWhole, TellsMasters};
+ghost use Rattle.check_explain.specs.Rounds.{HasNoMastersRound, HasNoParentsRound, HasNoRound, IsRound, OfWhole, TellsMasters};
 
 use crate::line::Line;
 use crate::links::{Link, dependency_links, parent_links};
@@ -46,9 +46,10 @@ pub(crate) fn push_parent_cycle(
     }
 }
 
-/// Hosts each of which has the next one for a parent, and the last the first.
+/// Hosts each of which has the next one for a parent, and the last the first. None exactly where no hosts
+/// are such, if no two have one name.
 fn parent_cycle(alloc: Global, tree: &Value) -> Result<Option<Vec<usize>>, AllocError>
-    ensures { IfOk result (λ found. IfSome found (λ cycle.
+    ensures { IfOk result (λ found. MatchOption found (HasNoParentsRound (view tree.now)) (λ cycle.
         IsRound (has_parent (items_list (items_at (view tree.now) part.Hosts))) cycle.items)) }
 {
     let hosts = items(tree, Part::Hosts);
@@ -86,6 +87,8 @@ fn push_masters(
     ensures said { IfOk result (λ there. there ≡ true → line.old ≡ []
         → TellsMasters (view tree.now) part dependencies line.new) }
     ensures none { IfOk result (λ there. there ≡ false → line.new ≡ line.old) }
+    ensures missing { IfOk result (λ there. there ≡ false
+        → HasNoMastersRound (view tree.now) part dependencies) }
 {
     match master_cycle(alloc, tree, part, dependencies)? {
         Some(cycle) => {
@@ -96,14 +99,15 @@ fn push_masters(
     }
 }
 
-/// Items of a list each of which depends on the next one, and the last on the first.
+/// Items of a list each of which depends on the next one, and the last on the first. None exactly where
+/// no items are such, if no two have one name.
 fn master_cycle(
     alloc: Global,
     tree: &Value,
     part: Part,
     dependencies: Part,
 ) -> Result<Option<Vec<usize>>, AllocError>
-    ensures { IfOk result (λ found. IfSome found (λ cycle.
+    ensures { IfOk result (λ found. MatchOption found (HasNoMastersRound (view tree.now) part dependencies) (λ cycle.
         IsRound (has_master part (items_list (items_at (view tree.now) part))
         (items_at (view tree.now) dependencies)) cycle.items)) }
 {
