@@ -112,12 +112,7 @@ texts_counted (item d ds) ts e =
     omega (arith, fewer, size)) rt) e
 
 array_texts : (v : Data) (ts : List (List ℕ)) → (as_array v >=> texts_of) ≡ Some ts → length ts ≡ item_count (or_no_items (as_array v))
-array_texts null ts e = cc
-array_texts (boolean b) ts e = cc
-array_texts (number n) ts e = cc
-array_texts (string t) ts e = cc
-array_texts (array ds) ts e = texts_counted ds ts e
-array_texts (object inside) ts e = cc
+array_texts v ts e = linked (as_array v) texts_of ts (length ts ≡ item_count (or_no_items (as_array v))) (λ ds is all. rw is (texts_counted ds ts all)) e
 
 member_texts : (o : Option Data) (ts : List (List ℕ)) → texts_in o ≡ Some ts → length ts ≡ items_in o
 member_texts None ts e = ap length (sym (some_is [] ts e))

@@ -9,3 +9,7 @@ pub mod RoundLemmas
 pub mod KeyLemmas
 pub mod LineLemmas
 pub mod NumberLemmas
+pub mod OnwardLemmas
+pub mod WalkLemmas
+pub mod PlaceLemmas
+pub mod LinkLemmas

@@ -2,7 +2,7 @@
 use Rattle.std.proofs.Common.{◌≡◌, ◌≢◌, ℕ, ◌+◌, Bool, true, false, not, cond, ◌||◌, List, [], ◌∷◌, map, drop, Option, Some, None, refl, sym, ap, ◌∙◌}
 use Rattle.std.specs.Prelude.{codes, option_and_then}
 use Rattle.std.specs.List.{list_any, position}
-use Rattle.serde_json.specs.Data.{Data, Items}
+use Rattle.serde_json.specs.Data.{Data, Items, no_items, item}
 use Rattle.serde_json.specs.Find.{as_str}
 use Rattle.serde_json.specs.View.{items_view, view}
 use Rattle.serde_json.specs.declared.value.Value.{Value}
@@ -20,6 +20,15 @@ list_seen (v ∷ vs) = ap (λ ds. view v ∷ ds) (list_seen vs)
 pub any_seen : (test : Data → Bool) (vs : List Value) → list_any (λ v. test (view v)) vs ≡ any_item test (items_view vs)
 any_seen test [] = refl
 any_seen test (v ∷ vs) = ap (λ b. test (view v) || b) (any_seen test vs)
+
+none_passes : (ds : Items) → any_item (λ d. false) ds ≡ false
+none_passes no_items = refl
+none_passes (item d ds) = none_passes ds
+
+-- a test that is made only where something else holds
+pub any_if : (b : Bool) (test : Data → Bool) (ds : Items) → any_item (λ d. cond b (test d) false) ds ≡ cond b (any_item test ds) false
+any_if true test ds = refl
+any_if false test ds = none_passes ds
 
 -- the place of the first item of the code's that passes a test is that of the tree's
 pub place_seen : (test : Data → Bool) (vs : List Value) → position (λ v. test (view v)) vs ≡ position test (items_list (items_view vs))

@@ -1,10 +1,11 @@
 -- Links and cycles of the code are those of the document.
 use Rattle.std.proofs.Common.{◌≡◌, ◌≢◌, ℕ, zero, suc, ◌<◌, ◌==◌, ◌&&◌, ◌||◌, Bool, true, false, List, [], ◌∷◌, ◌++◌, get_or, length, map, Option, Some, None, refl, sym, ap, ◌∙◌}
-use Rattle.std.specs.Prelude.{All, IfOk, IfSome, Result, Ok, Err, codes, option_and_then, slice_get}
-use Rattle.std.proofs.lemmas.Bool.{and_parts, eqb-true}
+use Rattle.std.proofs.Common.{inl, inr}
+use Rattle.std.specs.Prelude.{All, IfOk, MatchOption, Result, Ok, Err, codes, option_and_then, slice_get}
+use Rattle.std.proofs.lemmas.Bool.{and_parts, cases_lt, eqb-true}
 use Rattle.std.proofs.lemmas.List.Elements.{All-head, All-push, All-tail}
-use Rattle.std.proofs.lemmas.Option.{slice_get-get_or, slice_get-map}
-use Rattle.serde_json.specs.Data.{Data}
+use Rattle.std.proofs.lemmas.Option.{slice_get-get_or, slice_get-map, slice_get_past}
+use Rattle.serde_json.specs.Data.{Data, Items, no_items, item}
 use Rattle.serde_json.specs.Find.{as_array, as_str, get}
 use Rattle.serde_json.specs.View.{items_view, view}
 use Rattle.serde_json.specs.declared.value.Value.{Value}
@@ -17,7 +18,9 @@ use Rattle.check_drafts.specs.declared.place.Place.{Place}
 use Rattle.check_documents.specs.Places.{or_no_items}
 use Rattle.check_explain.specs.Explanation.{any_item, is_text, place_of, text_in}
 use Rattle.check_explain.specs.Feeds.{has_feed}
-use Rattle.check_explain.specs.Rounds.{has_master, has_parent, is_called, is_dependency, is_link, is_named, round_text, IsRound, OfWhole, TellsRound}
+use Rattle.check_explain.specs.Links.{HasEach}
+use Rattle.check_explain.specs.Onward.{AreWithin}
+use Rattle.check_explain.specs.Rounds.{has, has_master, has_parent, is_called, is_dependency, is_link, is_named, round_text, AreDistinct, HasNoRound, IsRound, OfWhole, TellsRound}
 
 -- ---- links
 
@@ -30,11 +33,11 @@ called_by_name part.Services name d other = absurd (other refl)
 called_by_name part.ServiceDependencies name d other = refl
 called_by_name part.HostDependencies name d other = refl
 
-passed_by : (a b : Bool) → b ≡ true → (a || b) ≡ true
+pub passed_by : (a b : Bool) → b ≡ true → (a || b) ≡ true
 passed_by true b e = refl
 passed_by false b e = e
 
-here : (a b : Bool) → a ≡ true → (a || b) ≡ true
+pub here : (a b : Bool) → a ≡ true → (a || b) ≡ true
 here true b e = refl
 here false b e = cc
 
@@ -108,12 +111,63 @@ tells_round what p objects seen linked cycle old new same round none is = record
   is = is ∙ (λ i. none i ++ round_text what p (same i) cycle);
 }
 
--- what is so of a cycle where one was found
-pub found_weaker : {A E : Type 0} (P Q : A → Type 0) (r : Result (Option A) E) → ((a : A) → P a → Q a) → IfOk r (λ found. IfSome found P)
-    → IfOk r (λ found. IfSome found Q)
-found_weaker P Q (Ok None) f h = tt
-found_weaker P Q (Ok (Some a)) f h = f a h
-found_weaker P Q (Err e) f h = tt
+-- a cycle of the document is one of the links of the code, where these are all
+links_round : (linked : ℕ → ℕ → Bool) (links : List (ℕ × ℕ)) (cycle : List ℕ) → ((from to : ℕ) → linked from to ≡ true → is_link links from to ≡ true)
+    → IsRound linked cycle → IsRound (is_link links) cycle
+links_round linked links cycle all r = record { some = r.some; each = λ place h. all _ _ (r.each place h) }
+
+-- a cycle is found of these links, or there is none where no two items have one name
+abbrev pub Finds : {A E : Type 0} → (A → List ℕ) → Part → List Data → (ℕ → ℕ → Bool) → Result (Option A) E → Type 0
+Finds items p objects linked r = IfOk r (λ found. MatchOption found (AreDistinct p objects → HasNoRound linked) (λ cycle. IsRound linked (items cycle)))
+
+-- what is found of the links of the code is found of those of the document
+pub found_as : {A E : Type 0} (items : A → List ℕ) (p : Part) (objects : List Data) (linked : ℕ → ℕ → Bool) (links : List (ℕ × ℕ)) (r : Result (Option A) E)
+    → AllLinked linked links → HasEach p objects linked links
+    → IfOk r (λ found. MatchOption found (HasNoRound (is_link links)) (λ cycle. IsRound (is_link links) (items cycle))) → Finds items p objects linked r
+found_as items p objects linked links (Ok None) all each none = λ apart cycle r. none cycle (links_round linked links cycle (each apart) r)
+found_as items p objects linked links (Ok (Some cycle)) all each found = round_by linked links (items cycle) all found
+found_as items p objects linked links (Err e) all each found = tt
+
+-- ---- links begin at objects
+
+pub within_of : (test : Data → Bool) (objects : List Data) (index : ℕ) → has test (slice_get objects index) ≡ true → index < length objects
+within_of test objects index e = elim (cases_lt index (length objects)) [
+  | inl h ↦ h
+  | inr h ↦ absurd (let none : has test (slice_get objects index) ≡ false = ap (has test) (slice_get_past objects index h) in cc)
+]
+
+named_within : (p : Part) (objects : List Data) (name : Option (List ℕ)) (index : ℕ) → is_named p objects name index ≡ true → index < length objects
+named_within p objects None index e = cc
+named_within p objects (Some text) index e = within_of (is_called p text) objects index e
+
+-- an item that passes
+abbrev AnItem : (Data → Bool) → Type 0
+AnItem test = (d : Data) × (test d ≡ true)
+
+item_by : (test : Data → Bool) (d : Data) (b : Bool) (rest : Bool) → test d ≡ b → (b || rest) ≡ true → (rest ≡ true → AnItem test) → AnItem test
+item_by test d true rest e h later = (d, e)
+item_by test d false rest e h later = later h
+
+-- where one of them passes
+passing : (test : Data → Bool) (ds : Items) → any_item test ds ≡ true → AnItem test
+passing test no_items h = cc
+passing test (item d ds) h = item_by test d (test d) (any_item test ds) refl h (passing test ds)
+
+-- the links of a list that are links between objects begin at objects
+pub links_within : (linked : ℕ → ℕ → Bool) (count : ℕ) (links : List (ℕ × ℕ)) → ((from to : ℕ) → linked from to ≡ true → from < count) → AllLinked linked links
+    → AreWithin count links
+links_within linked count links within all from to is = within from to (linked_by linked links all from to is)
+
+pub parents_within : (objects : List Data) (n : ℕ) (links : List (ℕ × ℕ)) → length objects ≡ n → AllLinked (has_parent objects) links → AreWithin n links
+parents_within objects n links size all =
+    links_within (has_parent objects) n links (λ child parent e. rw (← size) (within_of _ objects child e)) all
+
+pub masters_within : (p : Part) (objects : List Data) (n : ℕ) (ds : Items) (links : List (ℕ × ℕ)) → length objects ≡ n → AllLinked (has_master p objects ds) links
+    → AreWithin n links
+masters_within p objects n ds links size all =
+    links_within (has_master p objects ds) n links (λ dependent master e.
+    let d = passing (is_dependency p objects dependent master) ds e in
+    rw (← size) (named_within p objects (text_in (codes "dependent") d.0) dependent (and_parts _ _ d.1).0)) all
 
 -- ---- faults
 

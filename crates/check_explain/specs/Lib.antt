@@ -3,6 +3,8 @@ pub mod Shown
 pub mod Explanation
 pub mod Counts
 pub mod Rounds
+pub mod Links
+pub mod Onward
 pub mod Ranges
 pub mod DocumentLine
 pub mod Numbers

@@ -46,6 +46,10 @@ is_dependency p objects dependent master d =
 abbrev pub has_master : Part → List Data → Items → ℕ → ℕ → Bool
 has_master p objects dependencies dependent master = any_item (is_dependency p objects dependent master) dependencies
 
+-- no two items have one full name
+abbrev pub AreDistinct : Part → List Data → Type 0
+AreDistinct p objects = (name : List ℕ) (i j : ℕ) → has (is_called p name) (slice_get objects i) ≡ true → has (is_called p name) (slice_get objects j) ≡ true → i ≡ j
+
 -- ---- cycles
 
 -- whether this is among the links
@@ -60,6 +64,10 @@ behind cycle place = unwrap_or (slice_get cycle (place + 1)) (get_or cycle 0 0)
 pub record IsRound (linked : ℕ → ℕ → Bool) (cycle : List ℕ) : Type 0 where
   pub some : 0 < length cycle
   pub each : (place : ℕ) → place < length cycle → linked (get_or cycle place 0) (behind cycle place) ≡ true
+
+-- no objects are linked round
+abbrev pub HasNoRound : (ℕ → ℕ → Bool) → Type 0
+HasNoRound linked = (cycle : List ℕ) → IsRound linked cycle → ⊥
 
 -- ---- how a cycle is said
 
@@ -101,14 +109,36 @@ abbrev pub TellsMasters : Data → Part → Part → List ℕ → Type 0
 TellsMasters tree p dependencies text =
     TellsRound (part_name dependencies) p (items_list (items_at tree p)) (has_master p (items_list (items_at tree p)) (items_at tree dependencies)) text
 
+-- ---- that there is no cycle
+
+-- where no two hosts have one name, there is no cycle of parents
+abbrev pub HasNoParentsRound : Data → Type 0
+HasNoParentsRound tree = AreDistinct part.Hosts (items_list (items_at tree part.Hosts)) → HasNoRound (has_parent (items_list (items_at tree part.Hosts)))
+
+-- where no two items of a list have one name, there is no cycle of dependencies among them
+abbrev pub HasNoMastersRound : Data → Part → Part → Type 0
+HasNoMastersRound tree p dependencies =
+    AreDistinct p (items_list (items_at tree p)) → HasNoRound (has_master p (items_list (items_at tree p)) (items_at tree dependencies))
+
+-- it is said that there is no such fault, and there is no cycle of parents
+pub record TellsNoParents (tree : Data) (text : List ℕ) : Type 0 where
+  pub is : text ≡ no_fault_text
+  pub none : HasNoParentsRound tree
+
+-- it is said that there is no such fault, and there is no cycle of dependencies
+pub record TellsNoMasters (tree : Data) (text : List ℕ) : Type 0 where
+  pub is : text ≡ no_fault_text
+  pub services : HasNoMastersRound tree part.Services part.ServiceDependencies
+  pub hosts : HasNoMastersRound tree part.Hosts part.HostDependencies
+
 -- ---- faults of a whole document
 
--- what is said of a fault that has no place: a count, or the objects of a cycle where one is found
+-- what is said of a fault that has no place: a count, or the objects of a cycle, or that there is none
 abbrev pub OfWhole : Data → Fault → List ℕ → Type 0
 OfWhole tree (fault.too_many c) text = text ≡ count_text tree c
-OfWhole tree fault.parent_cycle text = TellsParents tree text ⊎ (text ≡ no_fault_text)
+OfWhole tree fault.parent_cycle text = TellsParents tree text ⊎ TellsNoParents tree text
 OfWhole tree fault.dependency_cycle text =
-    TellsMasters tree part.Services part.ServiceDependencies text ⊎ (TellsMasters tree part.Hosts part.HostDependencies text ⊎ (text ≡ no_fault_text))
+    TellsMasters tree part.Services part.ServiceDependencies text ⊎ (TellsMasters tree part.Hosts part.HostDependencies text ⊎ TellsNoMasters tree text)
 OfWhole tree other text = Unit {0}
 
 -- the explanation of a fault of a document

@@ -1,13 +1,15 @@
 //! Cycles: objects that lead back to themselves, through one link or more.
-ghost use Rattle.std.specs.Prelude.{◌≡◌, ◌⊎◌, ◌<◌, ◌++◌, [], IfOk, IfSome, OnOk, false, length, map, take, true};
+ghost use Rattle.std.specs.Prelude.{◌≡◌, ◌⊎◌, ◌<◌, ◌++◌, [], IfOk, IfSome, MatchOption, None, OnOk, false, get_or, is_some, length, map, position, replicate, take, true};
+ghost use Rattle.std.specs.List.{filter};
 ghost use Rattle.serde_json.specs.View.{view};
 ghost use Rattle.check_drafts.specs.Fault as fault;
 ghost use Rattle.check_drafts.specs.declared.place.Part.TheVariants as part;
 ghost use Rattle.check_documents.specs.Places.{items_at};
 ghost use Rattle.check_explain.specs.Explanation.{items_list};
 ghost use Rattle.check_explain.specs.Feeds.{has_feed};
-ghost use Rattle.check_explain.specs.Rounds.{behind, has_master, has_parent, is_link, left_out_text, more_text, no_fault_text, object_text, objects_text, round_text};
-ghost use Rattle.check_explain.specs.Rounds.{IsRound, OfWhole, TellsMasters};
+ghost use Rattle.check_explain.specs.Onward.{is_on, noted, noted_all, step_from, steps_from, AreWithin, GoesBack, IsEndless, IsTrip, Reaches};
+ghost use Rattle.check_explain.specs.Rounds.{has_master, has_parent, is_link, left_out_text, more_text, no_fault_text, object_text, objects_text, round_text};
+ghost use Rattle.check_explain.specs.Rounds.{HasNoMastersRound, HasNoParentsRound, HasNoRound, IsRound, OfWhole, TellsMasters};
 
 use crate::line::Line;
 use crate::links::{Link, dependency_links, parent_links};
@@ -44,9 +46,10 @@ pub(crate) fn push_parent_cycle(
     }
 }
 
-/// Hosts each of which has the next one for a parent, and the last the first.
+/// Hosts each of which has the next one for a parent, and the last the first. None exactly where no hosts
+/// are such, if no two have one name.
 fn parent_cycle(alloc: Global, tree: &Value) -> Result<Option<Vec<usize>>, AllocError>
-    ensures { IfOk result (λ found. IfSome found (λ cycle.
+    ensures { IfOk result (λ found. MatchOption found (HasNoParentsRound (view tree.now)) (λ cycle.
         IsRound (has_parent (items_list (items_at (view tree.now) part.Hosts))) cycle.items)) }
 {
     let hosts = items(tree, Part::Hosts);
@@ -84,6 +87,8 @@ fn push_masters(
     ensures said { IfOk result (λ there. there ≡ true → line.old ≡ []
         → TellsMasters (view tree.now) part dependencies line.new) }
     ensures none { IfOk result (λ there. there ≡ false → line.new ≡ line.old) }
+    ensures missing { IfOk result (λ there. there ≡ false
+        → HasNoMastersRound (view tree.now) part dependencies) }
 {
     match master_cycle(alloc, tree, part, dependencies)? {
         Some(cycle) => {
@@ -94,14 +99,15 @@ fn push_masters(
     }
 }
 
-/// Items of a list each of which depends on the next one, and the last on the first.
+/// Items of a list each of which depends on the next one, and the last on the first. None exactly where
+/// no items are such, if no two have one name.
 fn master_cycle(
     alloc: Global,
     tree: &Value,
     part: Part,
     dependencies: Part,
 ) -> Result<Option<Vec<usize>>, AllocError>
-    ensures { IfOk result (λ found. IfSome found (λ cycle.
+    ensures { IfOk result (λ found. MatchOption found (HasNoMastersRound (view tree.now) part dependencies) (λ cycle.
         IsRound (has_master part (items_list (items_at (view tree.now) part))
         (items_at (view tree.now) dependencies)) cycle.items)) }
 {
@@ -196,70 +202,34 @@ fn push_object(
 // ---- how a cycle is found
 
 /// Objects that lead back to themselves, each linked to the next one and the last to the first; they
-/// begin with the first in the document. None where there are none among so many objects with these
-/// links.
+/// begin with the first in the document. None exactly where there are none among so many objects with
+/// these links.
 fn cycle_in(alloc: Global, count: usize, links: &[Link]) -> Result<Option<Vec<usize>>, AllocError>
-    ensures { IfOk result (λ found.
-        IfSome found (λ cycle. IsRound (is_link links.now) cycle.items)) }
+    requires { AreWithin count links.now }
+    ensures { IfOk result (λ found. MatchOption found (HasNoRound (is_link links.now))
+        (λ cycle. IsRound (is_link links.now) cycle.items)) }
 {
     let onward = endless_links(alloc, count, links)?;
-    match onward.iter().position(|next| next.is_some()) {
+    match first_on(&onward) {
         Some(object) => {
             let first = first_from(&onward, walk(&onward, object));
-            Ok(checked(links, round(alloc, &onward, first)?))
+            Ok(Some(round(alloc, &onward, first)?))
         }
         None => Ok(None),
     }
 }
 
-/// The objects, where they are a cycle of these links.
-fn checked(links: &[Link], cycle: Vec<usize>) -> Option<Vec<usize>>
-    ensures { IfSome result (λ cycle. IsRound (is_link links.now) cycle.items) }
-{
-    if is_round(links, cycle.as_slice()) {
-        Some(cycle)
-    } else {
-        None
-    }
-}
-
-/// Whether each of these objects is linked to the next one, and the last to the first.
-fn is_round(links: &[Link], cycle: &[usize]) -> bool
-    ensures { result ≡ true → IsRound (is_link links.now) cycle.now }
-{
-    for place in 0..cycle.len() {
-        if !is_link(links, cycle[place], object_behind(cycle, place)) {
-            return false;
-        }
-    }
-    !cycle.is_empty()
-}
-
-/// The object behind the one at a place of a cycle.
-fn object_behind(cycle: &[usize], place: usize) -> usize
-    requires { place < length cycle.now }
-    ensures { result ≡ behind cycle.now place }
-{
-    match cycle.get(place + 1) {
-        Some(next) => *next,
-        None => cycle[0],
-    }
-}
-
-fn is_link(links: &[Link], from: usize, to: usize) -> bool
-    ensures { result ≡ is_link links.now from to }
-{
-    links.iter().any(|link| link.0 == from && link.1 == to)
-}
-
 /// Of each object a link that can be gone on from without an end, where it has one. In each turn
 /// those lose theirs from which no more can be gone on, until none does.
-fn endless_links(alloc: Global, count: usize, links: &[Link]) -> Result<Onward, AllocError> {
+fn endless_links(alloc: Global, count: usize, links: &[Link]) -> Result<Onward, AllocError>
+    requires { AreWithin count links.now }
+    ensures { IfOk result (λ onward. IsEndless count links.now onward.items) }
+{
     let mut onward = filled(alloc, count, Some(0))?;
     let mut left = count;
-    for _ in 0..count {
+    for _turn in 0..count {
         onward = links_on(alloc, links, &onward)?;
-        let now = onward.iter().filter(|next| next.is_some()).count();
+        let now = count_on(&onward);
         if now == left {
             return Ok(onward);
         }
@@ -269,62 +239,109 @@ fn endless_links(alloc: Global, count: usize, links: &[Link]) -> Result<Onward, 
 }
 
 /// Of each object a link to one that can be gone on from, where it has one.
-fn links_on(alloc: Global, links: &[Link], before: &[Option<usize>]) -> Result<Onward, AllocError> {
+fn links_on(alloc: Global, links: &[Link], before: &[Option<usize>]) -> Result<Onward, AllocError>
+    ensures { IfOk result (λ onward. onward.items
+        ≡ noted_all before.now links.now (replicate (length before.now) None)) }
+{
     let mut onward = filled(alloc, before.len(), None)?;
-    for (from, to) in links {
-        if next(before, *to).is_some()
-            && let Some(place) = onward.get_mut(*from)
-        {
-            *place = Some(*to);
-        }
+    for link in links {
+        note_link(&mut onward, before, *link);
     }
     Ok(onward)
 }
 
+/// Notes a link, where it leads to an object that can be gone on from.
+fn note_link(onward: &mut [Option<usize>], before: &[Option<usize>], link: Link)
+    ensures { onward.new ≡ noted before.now link onward.old }
+{
+    if is_on(before, link.1) && link.0 < onward.len() {
+        onward[link.0] = Some(link.1);
+    }
+}
+
 /// So many of one value.
-fn filled(alloc: Global, count: usize, value: Option<usize>) -> Result<Onward, AllocError> {
+fn filled(alloc: Global, count: usize, value: Option<usize>) -> Result<Onward, AllocError>
+    ensures { IfOk result (λ onward. onward.items ≡ replicate count value) }
+{
     let mut onward = Vec::with_capacity(alloc, count)?;
-    for _ in 0..count {
+    for _made in 0..count {
         onward.push(value)?;
     }
     Ok(onward)
 }
 
+/// How many objects can be gone on from.
+fn count_on(onward: &[Option<usize>]) -> usize
+    ensures { result ≡ length (filter is_some onward.now) }
+{
+    onward.iter().filter(|next| next.is_some()).count()
+}
+
+/// The first object that can be gone on from.
+fn first_on(onward: &[Option<usize>]) -> Option<usize>
+    ensures { result ≡ position is_some onward.now }
+{
+    onward.iter().position(|next| next.is_some())
+}
+
+/// Whether an object can be gone on from.
+fn is_on(onward: &[Option<usize>], object: usize) -> bool
+    ensures { result ≡ is_on onward.now object }
+{
+    next(onward, object).is_some()
+}
+
 /// The object that is gone on to from this one.
-fn next(onward: &[Option<usize>], object: usize) -> Option<usize> {
+fn next(onward: &[Option<usize>], object: usize) -> Option<usize>
+    ensures { result ≡ get_or onward.now object None }
+{
     match onward.get(object) {
         Some(next) => *next,
         None => None,
     }
 }
 
+/// The object that is gone on to from this one; where there is none, this one.
+fn step_from(onward: &[Option<usize>], object: usize) -> usize
+    ensures { result ≡ step_from onward.now object }
+{
+    next(onward, object).unwrap_or(object)
+}
+
 /// Where a walk from an object is after as many steps as there are objects: on a cycle.
-fn walk(onward: &[Option<usize>], object: usize) -> usize {
+fn walk(onward: &[Option<usize>], object: usize) -> usize
+    ensures { result ≡ steps_from onward.now object (length onward.now) }
+{
     let mut at = object;
-    for _ in 0..onward.len() {
-        at = next(onward, at).unwrap_or(at);
+    for _step in 0..onward.len() {
+        at = step_from(onward, at);
     }
     at
 }
 
 /// The first in the document of the objects of a cycle that this one is on.
-fn first_from(onward: &[Option<usize>], object: usize) -> usize {
+fn first_from(onward: &[Option<usize>], object: usize) -> usize
+    ensures { Reaches onward.now object result }
+{
     let mut at = object;
     let mut first = object;
-    for _ in 0..onward.len() {
-        at = next(onward, at).unwrap_or(at);
+    for _step in 0..onward.len() {
+        at = step_from(onward, at);
         first = first.min(at);
     }
     first
 }
 
 /// The objects that a walk from this one comes by until it is back.
-fn round(alloc: Global, onward: &[Option<usize>], object: usize) -> Result<Vec<usize>, AllocError> {
+fn round(alloc: Global, onward: &[Option<usize>], object: usize) -> Result<Vec<usize>, AllocError>
+    requires { GoesBack onward.now object }
+    ensures { IfOk result (λ cycle. IsTrip onward.now object cycle.items) }
+{
     let mut cycle = Vec::new(alloc);
     let mut at = object;
-    for _ in 0..onward.len() {
+    for _step in 0..onward.len() {
         cycle.push(at)?;
-        at = next(onward, at).unwrap_or(object);
+        at = step_from(onward, at);
         if at == object {
             return Ok(cycle);
         }

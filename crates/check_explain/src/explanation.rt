@@ -29,9 +29,10 @@ use std::alloc::{AllocError, Global};
 /// The fault is the one that `Setup::examine` gave for the document; except for a cycle nothing is looked
 /// for again. The line begins with the fault's place, and names its member (`begins`). Of a fault that
 /// has no place the whole line is known (`whole`): how much there is and how much there can be, or the
-/// objects of a cycle, each linked to the next one and the last to the first; where no cycle is found, it
-/// says that the document has no such fault. Texts of the document stand there as JSON strings, of which
-/// at most 80 characters are shown. The one error is that memory ran out.
+/// objects of a cycle, each linked to the next one and the last to the first. That the document has no
+/// such fault is said only where it has no cycle, if no two of its items have one name. Texts of the
+/// document stand there as JSON strings, of which at most 80 characters are shown. The one error is that
+/// memory ran out.
 pub fn explain(alloc: Global, document: &[u8], fault: Fault) -> Result<String, AllocError>
     ensures line { IfOk result (λ text. HasNoFeed (string_bytes text)) }
     ensures begins { IfOk result (λ text.

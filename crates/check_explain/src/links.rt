@@ -1,6 +1,8 @@
 //! The links between the items of one list of a document, by their indexes.
-ghost use Rattle.std.specs.Prelude.{◌≡◌, ◌<◌, All, IfOk, IfSome, OnOk, length, map, option_map, slice_get, true};
+ghost use Rattle.std.specs.Prelude.{◌≡◌, ◌<◌, All, IfOk, MatchOption, OnOk, length, map, option_map, position, slice_get, true};
 ghost use Rattle.serde_json.specs.View.{items_view, view};
+ghost use Rattle.check_drafts.specs.declared.place.Part.TheVariants as part;
+ghost use Rattle.check_explain.specs.Links.{HasAll, HasEach, HasParentsOf, IsOfNone, IsPlace};
 ghost use Rattle.check_explain.specs.Rounds.{has, has_master, has_parent, is_called, is_dependency, is_named};
 
 use crate::names::{is_called, parents_of};
@@ -20,8 +22,10 @@ type Key<'v> = (&'v str, &'v str);
 
 /// The links from hosts to their parents.
 pub(crate) fn parent_links(alloc: Global, hosts: &[Value]) -> Result<Vec<Link>, AllocError>
-    ensures { IfOk result (λ links.
+    ensures kept { IfOk result (λ links.
         All (λ link. has_parent (map view hosts.now) link.0 link.1 ≡ true) links.items) }
+    ensures whole { IfOk result (λ links.
+        HasEach part.Hosts (map view hosts.now) (has_parent (map view hosts.now)) links.items) }
 {
     let keys = keys_of(alloc, hosts, Part::Hosts)?;
     let mut links = Vec::new(alloc);
@@ -40,7 +44,9 @@ fn add_parents(
 ) -> Result<(), AllocError>
     requires within { child < length hosts.now }
     requires links { All (λ link. has_parent (map view hosts.now) link.0 link.1 ≡ true) links.old.items }
-    ensures { All (λ link. has_parent (map view hosts.now) link.0 link.1 ≡ true) links.new.items }
+    ensures kept { All (λ link. has_parent (map view hosts.now) link.0 link.1 ≡ true) links.new.items }
+    ensures stay { OnOk result (HasAll links.old.items links.new.items) }
+    ensures whole { OnOk result (HasParentsOf (map view hosts.now) child links.new.items) }
 {
     for parent in parents_of(&hosts[child]) {
         if let Some(place) = index_of(keys, hosts, Part::Hosts, parent.as_str()) {
@@ -57,9 +63,11 @@ pub(crate) fn dependency_links(
     part: Part,
     dependencies: &[Value],
 ) -> Result<Vec<Link>, AllocError>
-    ensures { IfOk result (λ links.
+    ensures kept { IfOk result (λ links.
         All (λ link. has_master part (map view objects.now) (items_view dependencies.now)
         link.0 link.1 ≡ true) links.items) }
+    ensures whole { IfOk result (λ links. HasEach part (map view objects.now)
+        (has_master part (map view objects.now) (items_view dependencies.now)) links.items) }
 {
     let keys = keys_of(alloc, objects, part)?;
     let mut links = Vec::new(alloc);
@@ -78,8 +86,9 @@ fn link_of(
     part: Part,
     dependency: &Value,
 ) -> Option<Link>
-    ensures { IfSome result (λ link.
-        is_dependency part (map view objects.now) link.0 link.1 (view dependency.now) ≡ true) }
+    ensures { MatchOption result
+        (IsOfNone (λ from to. is_dependency part (map view objects.now) from to (view dependency.now)))
+        (λ link. is_dependency part (map view objects.now) link.0 link.1 (view dependency.now) ≡ true) }
 {
     let dependent = index_of(keys, objects, part, text_of(dependency, "dependent"))?;
     let master = index_of(keys, objects, part, text_of(dependency, "master"))?;
@@ -106,15 +115,14 @@ fn key_of(item: &Value, part: Part) -> Key<'_> {
     }
 }
 
-/// The index of the item with this full name.
+/// The index of an item with this full name, or None where there is none.
 fn index_of(
     keys: &IndexSet<Key<'_>>,
     objects: &[Value],
     part: Part,
     name: Option<&str>,
 ) -> Option<usize>
-    ensures { IfSome result (λ index. is_named part (map view objects.now)
-        (option_map (λ name. name.now) name.entry) index ≡ true) }
+    ensures { IsPlace (is_named part (map view objects.now) (option_map (λ name. name.now) name.entry)) result }
 {
     match name {
         Some(name) => index_by(keys, objects, part, name),
@@ -122,15 +130,15 @@ fn index_of(
     }
 }
 
+/// It stands where the keys have it. Where items have no name or that of another, their keys aren't as
+/// many as the items, and it is looked for.
 fn index_by(keys: &IndexSet<Key<'_>>, objects: &[Value], part: Part, name: &str) -> Option<usize>
-    ensures { IfSome result (λ index. has (is_called part name.now)
-        (slice_get (map view objects.now) index) ≡ true) }
+    ensures { IsPlace (λ index. has (is_called part name.now)
+        (slice_get (map view objects.now) index)) result }
 {
-    let index = index_in(keys, part, name)?;
-    if is_at(objects, index, part, name) {
-        Some(index)
-    } else {
-        None
+    match index_in(keys, part, name) {
+        Some(index) if is_at(objects, index, part, name) => Some(index),
+        _ => first_called(objects, part, name),
     }
 }
 
@@ -143,6 +151,15 @@ fn is_at(objects: &[Value], index: usize, part: Part, name: &str) -> bool
         Some(object) => is_called(object, part, name),
         None => false,
     }
+}
+
+/// The index of the first item with this full name.
+fn first_called(objects: &[Value], part: Part, name: &str) -> Option<usize>
+    ensures { result ≡ position (λ object. is_called part name.now (view object)) objects.now }
+{
+    objects
+        .iter()
+        .position(|object| is_called(object, part, name))
 }
 
 /// Where the keys have a full name.

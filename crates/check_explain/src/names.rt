@@ -294,21 +294,14 @@ fn has_text(item: &Value, member: &str, text: &str) -> bool
 fn is_service(tree: &Value, name: &str) -> bool
     ensures { result ≡ is_service (view tree.now) name.now }
 {
-    match name.split_once(';') {
-        Some((host, description)) => { have_pair(items(tree, Part::Services), host, description) }
-        None => false,
-    }
+    has_called(items(tree, Part::Services), Part::Services, name)
 }
 
-/// Whether one of these services has this host and description.
-fn have_pair(services: &[Value], host: &str, description: &str) -> bool
-    ensures { result ≡ list_any
-        (λ service. are_texts (host.now, description.now) (service_pair (view service)))
-        services.now }
+/// Whether one of these items has this full name.
+fn has_called(objects: &[Value], part: Part, name: &str) -> bool
+    ensures { result ≡ list_any (λ object. is_called part name.now (view object)) objects.now }
 {
-    services
-        .iter()
-        .any(|service| is_pair(service, host, description))
+    objects.iter().any(|object| is_called(object, part, name))
 }
 
 /// Whether this is the full name of a host or a service.

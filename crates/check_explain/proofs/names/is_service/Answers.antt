@@ -1,30 +1,20 @@
-use Rattle.std.proofs.Common.{◌≡◌, ◌∙◌, true, false, length, refl, ap, arith}
+use Rattle.std.proofs.Common.{◌∙◌, ap, length}
 use Rattle.std.specs.Prelude.{nat_lt}
-use Rattle.std.specs.List.{position_or_len}
-use Rattle.std.proofs.lemmas.Bool.Decides.{nat_tests}
-use Rattle.std.proofs.lemmas.Str.Pattern.{split_once_first}
+use Rattle.std.specs.List.{after_first, before_first, position_or_len}
 use Rattle.serde_json.specs.Data.{Data}
 use Rattle.serde_json.specs.View.{view}
 use Rattle.check_drafts.specs.declared.place.Part.TheVariants as part
 use Rattle.check_documents.specs.Places.{items_at}
 use Rattle.check_explain.specs.Explanation.{any_item, are_texts, is_semicolon, service_pair}
-use Rattle.check_explain.proofs.NameLemmas.{any_seen}
+use Rattle.check_explain.specs.Rounds.{is_called}
+use Rattle.check_explain.proofs.NameLemmas.{any_if, any_seen}
 use Rattle.check_explain.proofs.names.is_service.Goals as goal
 
-pub returns-in-Some : goal.returns-in-Some
-returns-in-Some c =
+pub returns : goal.returns
+returns c =
     let name = c.args.name.now in
-    let parts = rw c.in-Some.is at (split_once_first 59 name c.split_once.result c.split_once.ensures.cases (omega arith)) in
-    let inside = parts.0 in
-    let there : nat_lt (position_or_len is_semicolon name) (length name) ≡ true = grind (arith, nat_tests, inside) in
-    let like = λ (service : Data). are_texts (c.in-Some.host.now, c.in-Some.description.now) (service_pair service) in
-    rw there
-    (c.have_pair.ensures ∙ any_seen like c.items.result.now ∙ ap (any_item like) c.items.ensures
-    ∙ ap (λ pair. any_item (λ (service : Data). are_texts pair (service_pair service)) (items_at (view c.args.tree.now) part.Services)) (λ i. (parts.1 i, parts.2 i)))
-
-pub returns-in-None : goal.returns-in-None
-returns-in-None c =
-    let name = c.args.name.now in
-    let none = rw c.in-None.is at (split_once_first 59 name c.split_once.result c.split_once.ensures.cases (omega arith)) in
-    let out : nat_lt (position_or_len is_semicolon name) (length name) ≡ false = grind (arith, nat_tests, none) in
-    rw out refl
+    let like = is_called part.Services name in
+    c.has_called.ensures ∙ any_seen like c.items.result.now ∙ ap (any_item like) c.items.ensures
+    ∙ any_if (nat_lt (position_or_len is_semicolon name) (length name))
+    (λ (service : Data). are_texts (before_first is_semicolon name, after_first is_semicolon name) (service_pair service))
+    (items_at (view c.args.tree.now) part.Services)
