@@ -16,7 +16,6 @@ use Rattle.check_drafts.specs.Agreement.{◌>>=◌, refused_at}
 use Rattle.check_drafts.specs.Draft.{DependencyDraft, Drafts, HostDraft}
 use Rattle.check_drafts.specs.Ends.{full_names, known_ends}
 use Rattle.check_drafts.specs.Fault as fault
-use Rattle.check_drafts.specs.Fault.{Fault}
 use Rattle.check_drafts.specs.Keys.{first_repeat, names_of}
 use Rattle.check_drafts.specs.Members as members
 use Rattle.check_drafts.specs.Place.{host_at, item_of_part, list_of_part, service_at, the_document, the_hosts, the_options, the_services}
@@ -25,13 +24,14 @@ use Rattle.check_documents.specs.Places.{or_no_items}
 use Rattle.check_documents.specs.Reading.{check_draft, dependencies_in, dependency_draft, document_members, drafts_of, host_draft, host_letters, host_members, items_from, list_of, options_of}
 use Rattle.check_documents.specs.Reading.{service_draft, service_letters}
 use Rattle.check_documents.specs.Tree.{has_only, texts_in, texts_of, tree_of, ◌>=>◌}
-use Rattle.check_documents.proofs.ReadLemmas.{from_ok_or, guarded, guarded_ok, linked, next, ok_is, some_is}
+use Rattle.check_documents.proofs.ReadLemmas.{from_ok_or, guarded, linked, next, ok_is, some_is}
 use Rattle.check_documents.proofs.ShapeLaws.{refused_in}
 use Rattle.check_faults.specs.Verification.{are_options_in_range, few_items, good_host_names, good_host_ranges, good_names, good_options, good_ranges, has_few_parents, host_names, is_faultless}
 use Rattle.check_faults.specs.Verification.{known_hosts, known_links, known_parents, no_repeated_services}
 use Rattle.check_numbers.specs.Configuration.{Configuration}
 use Rattle.check_numbers.specs.Numbering.{configuration}
 use Rattle.check_objects.specs.Setup.{examined, or_fault, setup_of_drafts, setup_of_tree, without_cycles, without_dependency_cycle, without_parent_cycle}
+use Rattle.check_objects.proofs.RangeLemmas.{drafts_read}
 use Rattle.check_explain.specs.Counts.{amount_of, limit_of}
 
 -- ---- what isn't refused for too much
@@ -161,25 +161,17 @@ record AreCounted (d : Data) (ds : Drafts) : Type 0 where
   dependencies : length ds.service_dependencies + length ds.host_dependencies ≡ amount_of d count.Dependencies
 
 drafts_counted : (d : Data) (ds : Drafts) → drafts_of d ≡ Ok ds → AreCounted d ds
-unfolding drafts_of
 drafts_counted d ds e =
-    let P = AreCounted d ds in
-    guarded_ok (has_only document_members d) _ _ ds P (λ only members_e.
-    next (ok_or (options_of (get members.options.name d)) (errors.Shape the_options)) _ ds P (λ options ho ro.
-    next (list_of host_draft the_hosts host_at (get members.hosts.name d)) _ ds P (λ hosts hh rh.
-    next (list_of service_draft the_services service_at (get members.services.name d)) _ ds P (λ services hs rs.
-    next (dependencies_in part.ServiceDependencies service_letters (get members.service_dependencies.name d)) _ ds P (λ between hb rb.
-    next (dependencies_in part.HostDependencies host_letters (get members.host_dependencies.name d)) _ ds P (λ among ha ra.
-    let is = ok_is {E = LoadError} _ ds ra in
-    let hosts_are = list_counted host_draft host_at the_hosts (get members.hosts.name d) hosts hh in
-    let services_are = list_counted service_draft service_at the_services (get members.services.name d) services hs in
-    let between_are = sort_counted part.ServiceDependencies service_letters (get members.service_dependencies.name d) between hb in
-    let among_are = sort_counted part.HostDependencies host_letters (get members.host_dependencies.name d) among ha in
+    let from = drafts_read d ds e in
+    let hosts_are = list_counted host_draft host_at the_hosts (get members.hosts.name d) ds.hosts from.hosts in
+    let services_are = list_counted service_draft service_at the_services (get members.services.name d) ds.services from.services in
+    let between_are = sort_counted part.ServiceDependencies service_letters (get members.service_dependencies.name d) ds.service_dependencies from.service_dependencies in
+    let among_are = sort_counted part.HostDependencies host_letters (get members.host_dependencies.name d) ds.host_dependencies from.host_dependencies in
     record {
-      objects = ap (λ (x : Drafts). length x.hosts + length x.services) (sym is) ∙ (λ i. hosts_are i + services_are i);
-      parents = ap (λ (x : Drafts). sum_by parents_of x.hosts) (sym is) ∙ host_list_counted (get members.hosts.name d) hosts hh;
-      dependencies = ap (λ (x : Drafts). length x.service_dependencies + length x.host_dependencies) (sym is) ∙ (λ i. between_are i + among_are i);
-    }) rb) rs) rh) ro) members_e) e
+      objects = (λ i. hosts_are i + services_are i);
+      parents = host_list_counted (get members.hosts.name d) ds.hosts from.hosts;
+      dependencies = (λ i. between_are i + among_are i);
+    }
 
 drafts_good : (d : Data) → NoCount (drafts_of d)
 unfolding drafts_of

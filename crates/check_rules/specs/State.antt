@@ -1,5 +1,5 @@
 -- Return codes and states.
-use Rattle.std.specs.Prelude.{ℕ, Bool, true, false, not, ◌==◌, if◌then◌else◌}
+use Rattle.std.specs.Prelude.{Bool, true, false, not, ◌==◌, if◌then◌else◌}
 use Rattle.check_rules.specs.declared.state.Code.{Code}
 use Rattle.check_rules.specs.declared.state.Code.TheVariants as code
 use Rattle.check_rules.specs.declared.state.State.{State}

@@ -1,6 +1,6 @@
 -- The text of what is saved is read as what is saved.
 use Rattle.std.proofs.Common.{◌≡◌, ℕ, suc, ◌^◌, ◌<◌, ◌≤◌, Bool, true, false, List, [], ◌∷◌, length, Option, Some, None, option_map, IsUtf8, Ok, refl, arith}
-use Rattle.std.specs.Prelude.{codes, nat_lt, slice_get}
+use Rattle.std.specs.Prelude.{codes, slice_get}
 use Rattle.std.specs.List.{list_all}
 use Rattle.std.proofs.lemmas.Bool.{and_parts, leb-true}
 use Rattle.std.proofs.lemmas.Bool.Decides.{nat_tests}
@@ -14,7 +14,7 @@ use Rattle.check_saved.specs.Saved.{IsSaved, IsSavedObject, Saved, SavedObject}
 use Rattle.check_saved.specs.Scheduling.{OpenRun, is_moment, is_time}
 use Rattle.check_saved.specs.Text.{saved_of_text, saved_text}
 use Rattle.check_saved.specs.Tree.{object_tree, objects_tree, run_tree, saved_tree, time_tree}
-use Rattle.check_rules.specs.Words.{kind_word, state_letter, state_word}
+use Rattle.check_rules.specs.Words.{kind_word, state_word}
 use Rattle.check_saved.specs.Words.{flapping_word, letters_of}
 use Rattle.check_saved.specs.Written.{IsWritable, IsWritableObject}
 use Rattle.check_saved.proofs.PlainLemmas.{ArePlain, IsPlain, read_compact, text_is_utf8}

@@ -1,10 +1,10 @@
 -- The first times of every setup are below 2^61.
-use Rattle.std.proofs.Common.{◌≡◌, ℕ, ◌+◌, ◌*◌, ◌/◌, ◌%◌, ◌&&◌, ◌<◌, ◌≤◌, ◌^◌, Bool, true, false, cond, List, length, map, Option, Some, None, get_or, ◌∙◌, arith, IfSome, refl}
-use Rattle.std.specs.Prelude.{All, nat_le, count_by}
+use Rattle.std.proofs.Common.{◌≡◌, ℕ, ◌+◌, ◌*◌, ◌/◌, ◌%◌, ◌&&◌, ◌<◌, ◌≤◌, ◌^◌, Bool, true, false, cond, List, length, Some, None, get_or, ◌∙◌, arith, IfSome, refl}
+use Rattle.std.specs.Prelude.{All, nat_le}
 use Rattle.std.specs.List.{enumerate_from}
 use Rattle.std.proofs.Math.Nat.{div-le_self, mul-le-mul}
 use Rattle.std.proofs.lemmas.Bool.Decides.{nat_tests}
-use Rattle.std.proofs.lemmas.List.{length-append, length-map}
+use Rattle.std.proofs.lemmas.List.{length-map}
 use Rattle.std.proofs.lemmas.List.Elements.{All-append, All-map}
 use Rattle.std.proofs.lemmas.List.FromFn.{length-enumerate_from}
 use Rattle.std.proofs.lemmas.List.Sums.{count_by-le-length}
@@ -13,7 +13,7 @@ use Rattle.check_drafts.specs.declared.options.DelayMethod.{DelayMethod}
 use Rattle.check_drafts.specs.declared.options.DelayMethod.TheVariants as method
 use Rattle.check_objects.specs.Configuration.{Configuration, IsDelayInRange, IsSetup}
 use Rattle.check_spread.specs.Spread.{delay_by, first_time, first_times, host_objects, host_spread, initial_times, is_scheduled, is_visited_before, minutes, rank}
-use Rattle.check_spread.specs.Spread.{scheduled_among, service_objects, service_spread, smart_delay, spread_by, time_at}
+use Rattle.check_spread.specs.Spread.{scheduled_among, service_objects, service_spread, time_at}
 use Rattle.check_spread.specs.declared.spread.Scheduled.{Scheduled}
 use Rattle.check_spread.specs.declared.spread.Spread.{Spread}
 

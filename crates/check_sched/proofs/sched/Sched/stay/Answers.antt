@@ -1,4 +1,4 @@
-use Rattle.std.proofs.Common.{◌≡◌, ℕ, ◌<◌, ◌∙◌, get_or, length, ap, arith, false, Option, subst, sym}
+use Rattle.std.proofs.Common.{◌≡◌, ℕ, ◌<◌, ◌∙◌, get_or, ap, arith, false, Option, subst, sym}
 use Rattle.std.specs.Option.{option_or}
 use Rattle.check_objects.specs.Configuration.{object_count}
 use Rattle.check_rules.specs.declared.state.Code.TheVariants as code
