@@ -15,6 +15,7 @@ use Rattle.check_objects.specs.Setup.{examined, or_refusal, setup_of}
 use Rattle.check_objects.proofs.ExaminedLemmas.{refused_alike}
 use Rattle.check_numbers.specs.Configuration.{Configuration}
 use Rattle.check_explain.specs.Explanation.{place_of, IsOfFault}
+use Rattle.check_explain.specs.Rounds.{IsOfWhole, OfWhole}
 use Rattle.check_explain.proofs.HeadLemmas.{of_nowhere}
 use Rattle.check_explain.specs.DocumentLine.{IsFault, OfTree}
 use Rattle.serde_json.specs.Written.{compact_text}
@@ -40,9 +41,11 @@ examined_long : (bs : List ℕ) → 16777216 < length bs → examined bs ≡ Err
 unfolding examined
 examined_long bs h = let a : nat_lt 16777216 (length bs) ≡ true = grind (arith, nat_tests, h) in rw a refl
 
-explained_long : (document : List ℕ) (f : Fault) (words : List ℕ) → examined document ≡ Err fault.too_long → examined document ≡ Err f → IsOfFault document f words
+explained_long : (document : List ℕ) (f : Fault) (words : List ℕ) → examined document ≡ Err fault.too_long → examined document ≡ Err f
+    → IsOfFault document f words × IsOfWhole document f words
 explained_long document f words long is =
-    let same : f ≡ fault.too_long = cc (long, is) in of_nowhere document f words (ap place_of same)
+    let same : f ≡ fault.too_long = cc (long, is) in
+    (of_nowhere document f words (ap place_of same), λ tree there. subst (λ g. OfWhole tree g words) (sym same) tt)
 
 refused_long : (one other text : List ℕ) (told : Outcome) → examined other ≡ Err fault.too_long
     → IsRefusalTold one load.TooLong text told → IsRefusalTold other load.TooLong text told

@@ -13,6 +13,7 @@ use Rattle.check_script.specs.declared.refusal.InputRefusal.TheVariants as refus
 use Rattle.check_script.specs.Input.{without_last_feed}
 use Rattle.check_explain.specs.DocumentLine.{OfTree}
 use Rattle.check_explain.specs.Explanation.{IsOfFault}
+use Rattle.check_explain.specs.Rounds.{IsOfWhole}
 use Rattle.check_summary.specs.Summary.{summary_of}
 use Rattle.check_summary.specs.Text.{summary_text}
 use Rattle.check_explain.specs.Feeds.{HasNoFeed}
@@ -28,9 +29,10 @@ use Rattle.check_drive.specs.Drive.{IsInput}
 abbrev pub IsSummaryTold : ℕ → Configuration → List ℕ → Outcome → Type 0
 IsSummaryTold start c text told = (text ≡ summary_text (summary_of c start)) × (told ≡ outcome.Ran)
 
--- words in one line that explain the document's fault: they begin with its place, and name the member or the name at fault
+-- Words in one line that explain the document's fault: they begin with its place, and name the member or the name at fault. Of a fault
+-- that has no place all of them are known: how much there is of what, or the objects of a cycle.
 abbrev pub IsExplained : List ℕ → List ℕ → Type 0
-IsExplained document words = HasNoFeed words × ((f : Fault) → examined document ≡ Err f → IsOfFault document f words)
+IsExplained document words = HasNoFeed words × ((f : Fault) → examined document ≡ Err f → IsOfFault document f words × IsOfWhole document f words)
 
 -- a document with a fault has this one
 abbrev pub HasOnly : List ℕ → Fault → Type 0
