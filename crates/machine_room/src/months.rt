@@ -23,6 +23,9 @@ use std::sync::Wait;
 /// Watches until the program is to end, and gives the book as it stands then; the text of its state
 /// is what was kept last. To take over another setup is to begin again as after a restart: from the
 /// state that was kept, over the setup as it is then.
+///
+/// A generation has half as many rounds as its book has room for entries: with a room of 0 or 1
+/// it has none, and nothing is ever taken.
 pub(crate) fn watch_months<O: Outside, F: Files>(
     rt: &impl Wait,
     alloc: Global,
@@ -117,7 +120,8 @@ pub(crate) fn watch<O: Outside>(
 {
     let mut pass = pass;
     for _round in 0..rounds {
-        pass = match round(rt, desk, pass, outside, runs) {
+        let now = outside.now();
+        pass = match round(rt, desk, pass, outside, runs, now) {
             Ok(pass) => pass,
             Err(ended) => return ended,
         };

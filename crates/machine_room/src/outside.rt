@@ -40,11 +40,12 @@ pub(crate) trait Outside {
     /// Starts the plugin of a check that was taken. False where it can't be started.
     fn begin(&mut self, object: u32, run: u64, now: u64) -> bool;
 
-    /// What has come in since it was asked last, one by one.
+    /// What has come in, one by one. A call stays until it was answered: it is given again where
+    /// there was no memory for it.
     fn came_in(&mut self) -> Option<News>;
 
-    /// Is handed the reply to a call that came in: how an object stands after a report, or why the
-    /// call was refused.
+    /// Is handed the reply to the call that `came_in` gave last, which is done with: how an object
+    /// stands after a report, or why the call was refused.
     fn answered(&mut self, call: Call, reply: Reply);
 
     /// Sleeps until this moment, or until something comes in. It may end earlier.

@@ -2,13 +2,13 @@
 //! what is due, and sleeps.
 
 ghost use Rattle.std.specs.Prelude.{◌≡◌, ℕ, ◌<◌, ◌≤◌, ◌∷◌, ◌++◌, []};
-ghost use Rattle.std.specs.Prelude.{IfOk, OnOk, vec_capacity, vec_len};
+ghost use Rattle.std.specs.Prelude.{IfOk, OnErr, OnOk, vec_capacity, vec_len};
 ghost use Rattle.std.specs.List.{All};
 ghost use Rattle.check_desk.specs.Desks.{HasRecorded, IsPassOf};
 ghost use Rattle.check_desk.specs.Passes.{pass_of};
 ghost use Rattle.check_sched.specs.declared.call.Call.TheVariants as call;
 ghost use Rattle.check_sched.specs.declared.call.Reply.{Reply as ReplyOf};
-ghost use Rattle.machine_room.specs.Loop.{IsBack, IsBackWith, IsBegun, run_of};
+ghost use Rattle.machine_room.specs.Loop.{HasCalled, HasGivenUp, HasTaken, IsBack, IsBackWith, IsBegun, run_of};
 
 use crate::outside::{End, News, Outside};
 use crate::runs::{Run, forget, limit_of, overdue, wake};
@@ -26,18 +26,22 @@ pub(crate) struct Ended {
     pub(crate) end: End,
 }
 
-/// One round. Where a check was taken or put off the next round comes at once; else it sleeps.
+/// One round, at this moment. Where a check was taken or put off the next round comes at once;
+/// else it sleeps.
 pub(crate) fn round<O: Outside>(
     rt: &impl Wait,
     desk: &Desk,
     pass: Pass,
     outside: &mut O,
     runs: &mut Vec<Run>,
+    now: u64,
 ) -> Result<Pass, Ended>
-    requires { IsPassOf desk.now pass }
-    ensures { IsBack desk.now result }
+    requires desk { IsPassOf desk.now pass }
+    requires moment { now ≤ LAST_MOMENT }
+    ensures desk { IsBack desk.now result }
+    ensures taken { IfOk result (λ back.
+        HasTaken now runs.new.items (pass_of pass) (pass_of back)) }
 {
-    let now = outside.now();
     let pass = make_calls(rt, desk, pass, outside, runs)?;
     let pass = give_up_overdue(rt, desk, pass, runs, now)?;
     let (pass, reply) = take(rt, desk, pass, outside, runs, now)?;
@@ -57,21 +61,41 @@ fn make_calls<O: Outside>(
     runs: &mut Vec<Run>,
 ) -> Result<Pass, Ended>
     requires { IsPassOf desk.now pass }
-    ensures { IsBack desk.now result }
+    ensures desk { IsBack desk.now result }
+    ensures made { IfOk result (λ back. HasCalled (pass_of pass) (pass_of back)) }
 {
     let mut pass = pass;
     for _call in 0..CALLS_AT_ONCE {
         match outside.came_in() {
             Some(News::Call(call)) => {
-                let (back, reply) = ask(rt, desk, pass, call)?;
-                pass = back;
-                forget(runs, call);
-                outside.answered(call, reply);
+                pass = make_call(rt, desk, pass, outside, runs, call)?;
             }
             Some(News::Ends(end)) => return Err(Ended { pass, end }),
             None => return Ok(pass),
         }
     }
+    Ok(pass)
+}
+
+/// Makes a call that came in. One that can't be made isn't answered, so that it stays outside.
+fn make_call<O: Outside>(
+    rt: &impl Wait,
+    desk: &Desk,
+    pass: Pass,
+    outside: &mut O,
+    runs: &mut Vec<Run>,
+    call: Call,
+) -> Result<Pass, Ended>
+    requires { IsPassOf desk.now pass }
+    ensures desk { IsBack desk.now result }
+    ensures made { IfOk result (λ back. (reply : ReplyOf)
+        × HasRecorded call reply (pass_of pass) (pass_of back)) }
+    ensures stays { OnErr result ((outside.new ≡ outside.old)
+        × (runs.new.items ≡ runs.old.items)) }
+{
+    let (pass, reply) = ask(rt, desk, pass, call)?;
+    forget(runs, call);
+    outside.answered(call, reply);
     Ok(pass)
 }
 
@@ -85,6 +109,7 @@ fn give_up_overdue(
 ) -> Result<Pass, Ended>
     requires { IsPassOf desk.now pass }
     ensures desk { IsBack desk.now result }
+    ensures given_up { IfOk result (λ back. HasGivenUp now (pass_of pass) (pass_of back)) }
     ensures none_left { OnOk result (All (λ run. now < run.limit) runs.new.items) }
 {
     let mut pass = pass;

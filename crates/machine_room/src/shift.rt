@@ -40,7 +40,6 @@ impl Outside for Shift {
 
     fn came_in(&mut self) -> Option<News> {
         if let Some(report) = self.report {
-            self.report = None;
             return Some(News::Call(report));
         }
         if self.next > self.end {
@@ -49,7 +48,9 @@ impl Outside for Shift {
         None
     }
 
-    fn answered(&mut self, _call: Call, _reply: Reply) {}
+    fn answered(&mut self, _call: Call, _reply: Reply) {
+        self.report = None;
+    }
 
     /// The clock goes on by itself.
     fn sleep(&mut self, _until: u64) {}

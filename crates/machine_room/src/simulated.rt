@@ -47,11 +47,10 @@ impl Days {
     }
 
     /// The next report that is there.
-    fn report(&mut self) -> Option<Call> {
+    fn report(&self) -> Option<Call> {
         for object in 0..OBJECTS {
             if let Some(Pending { time, call }) = self.pending[object] {
                 if time <= self.now {
-                    self.pending[object] = None;
                     return Some(call);
                 }
             }
@@ -107,7 +106,6 @@ impl Outside for Days {
         }
         if self.now >= self.noon {
             let time = self.noon.saturating_add(HOUR);
-            self.noon = next_noon(self.noon);
             return Some(News::Call(Call::Reschedule {
                 object: GATEWAY,
                 time,
@@ -124,7 +122,16 @@ impl Outside for Days {
         }
     }
 
-    fn answered(&mut self, _call: Call, _reply: Reply) {}
+    fn answered(&mut self, call: Call, _reply: Reply) {
+        match call {
+            Call::Report { object, .. } => {
+                if let Some(place) = self.pending.get_mut(object as usize) {
+                    *place = None;
+                }
+            }
+            _ => self.noon = next_noon(self.noon),
+        }
+    }
 
     fn sleep(&mut self, until: u64) {
         self.now = self.now.max(until.min(self.next()));
