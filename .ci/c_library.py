@@ -46,7 +46,7 @@ ENUMERATIONS = {
     "nagsched_state": ("State", "NAGSCHED_STATE_", "state_number"),
     "nagsched_kind": ("Kind", "NAGSCHED_", "kind_number"),
     "nagsched_call_kind": ("CallKind", "NAGSCHED_CALL_", "plain_call"),
-    "nagsched_reply_kind": ("ReplyKind", "NAGSCHED_REPLY_", "plain_reply", "refusal_number"),
+    "nagsched_reply_kind": ("ReplyKind", "NAGSCHED_REPLY_", "plain_reply"),
     "nagsched_refusal_kind": ("RefusalKind", "NAGSCHED_REFUSAL_", "plain_refusal", "plain_fault"),
     "nagsched_part": ("Part", "NAGSCHED_PART_", "part_number"),
 }
@@ -54,7 +54,7 @@ ENUMERATIONS = {
 PREFIXES = {"plain_fault": "SAVED_"}
 # A number that the definition has no name for, and names that have no number of their own in C.
 NUMBERED_APART = {"nagsched_part": {"NONE": 0}}
-UNNUMBERED = {"REFUSED", "MEMORY"}
+UNNUMBERED = {"MEMORY"}
 
 
 def ran(*words, given=None, **how):
@@ -96,7 +96,7 @@ def defined_numbers():
     """The numbers that the definition gives, by the function that gives them, with the names of C."""
     text = "\n".join(definition.read_text(encoding="utf-8") for definition in DEFINITIONS)
     found = collections.defaultdict(dict)
-    for function, name, number in re.findall(r"^(\w+) \(?(?:\w+)\.(\w+)\b[^=\n]*\)? = (?:\w*(?:_struct|_nowhere|_at) |record \{ kind = )?(\d+)", text, re.M):
+    for function, name, number in re.findall(r"^(\w+) \(?(?:reply\.Refused )?\w+\.(\w+)\b[^=\n]*\)? = (?:\w*(?:_struct|_nowhere|_at) |record \{ kind = )?(\d+)", text, re.M):
         found[function][re.sub(r"(?<!^)(?=[A-Z])", "_", name).upper()] = int(number)
     return found
 

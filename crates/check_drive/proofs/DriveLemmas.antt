@@ -34,8 +34,8 @@ use Rattle.check_drive.specs.declared.beginning.Beginning.{Beginning}
 use Rattle.check_drive.specs.declared.beginning.Beginning.TheVariants as beginning
 use Rattle.check_drive.specs.declared.drive.Outcome.{Outcome}
 use Rattle.check_drive.specs.Beginning.{begun_by, begun_text}
-use Rattle.check_drive.specs.Written.{LeftOfText}
-use Rattle.check_drive.proofs.WrittenLemmas.{Keeps-same, text_clauses}
+use Rattle.check_text.specs.Written.{LeftOfText}
+use Rattle.check_text.proofs.WrittenLemmas.{Keeps-same, text_clauses}
 use Rattle.check_drive.specs.Drive.{AfterFaultOf, Drove, HasRead, IsInput, outcome_by, outcome_of, resumed_outcome_of, run_outcome, run_text}
 
 -- what says the same of all that is longer than `most` says of a longer prefix what it says of the whole

@@ -6,4 +6,3 @@ pub mod LiveLemmas
 pub mod LiveLinesLemmas
 pub mod WentOnLemmas
 pub mod CutLaws
-pub mod WrittenLemmas

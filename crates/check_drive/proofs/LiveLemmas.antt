@@ -31,11 +31,10 @@ use Rattle.check_text.proofs.LiveLaws.{line_first, lines_by}
 use Rattle.check_script.proofs.KeptLemmas.{setup_stays, too_long}
 use Rattle.check_text.specs.LiveText.{answer_to, answers_from, said, state_after}
 use Rattle.check_text.specs.Text.{answer_line, input_refusal_text, refused_text, saved_line}
-use Rattle.check_text.specs.Output.{WroteFront}
 use Rattle.check_text.proofs.OutputLemmas.{Appends-Keeps, Appends-none, Appends-trans, front_none}
 use Rattle.check_drive.specs.declared.drive.Outcome.{Outcome}
 use Rattle.check_drive.specs.Drive.{IsInput}
-use Rattle.check_drive.specs.Written.{IsLineWritten}
+use Rattle.check_text.specs.Written.{IsLineWritten, LeftOfLine}
 use Rattle.check_drive.specs.Live.{AfterAll, AfterLines, AnsweredLines, AreWholeLines, Conversed, IsLiveOf, LeavesText, TalkEnded}
 
 -- ---- what is read
@@ -133,20 +132,17 @@ leaves_before e held mid holds text k f = leaves_on e held mid holds [] text tex
 pub leaves_kept : (e : DriveError) (held holds : Option (List ℕ)) (text : List ℕ) → Keeps held holds → LeavesText e held holds text
 leaves_kept e held holds text k = leaves_before e held holds holds text k (leaves_none e holds text)
 
--- a prefix of a text, and nothing where there was no memory
-pub leaves_by : (e : DriveError) (held holds : Option (List ℕ)) (text : List ℕ) → WroteFront held holds text → (e ≡ errors.Memory → Keeps held holds)
-    → LeavesText e held holds text
-leaves_by errors.Read held holds text f none = f
-leaves_by errors.Write held holds text f none = f
-leaves_by errors.Memory held holds text f none = leaves_kept errors.Memory held holds text (none refl)
+-- what is left of a line
+pub leaves_left : (e : DriveError) (held holds : Option (List ℕ)) (line : List ℕ) → LeftOfLine e held holds line → LeavesText e held holds line
+leaves_left errors.Read held holds line h = absurd h
+leaves_left errors.Write held holds line h = h
+leaves_left errors.Memory held holds line h = leaves_kept errors.Memory held holds line h
 
 -- of a line of which another fault is reported
 pub leaves_line : {T : Type 0} (r : Result T DriveError) (held holds : Option (List ℕ)) (line other : List ℕ) → line ≡ other
     → IsLineWritten r held holds line → IfErr r (λ e. LeavesText e held holds other)
 leaves_line (Ok x) held holds line other same h = tt
-leaves_line (Err errors.Read) held holds line other same h = absurd h
-leaves_line (Err errors.Write) held holds line other same h = subst (WroteFront held holds) same h
-leaves_line (Err errors.Memory) held holds line other same h = leaves_kept errors.Memory held holds other h
+leaves_line (Err e) held holds line other same h = leaves_left e held holds other (subst (LeftOfLine e held holds) same h)
 
 -- all of it, where the flush failed
 pub leaves_all : (held mid holds : Option (List ℕ)) (text : List ℕ) → Appends held mid text → Keeps mid holds → LeavesText errors.Write held holds text

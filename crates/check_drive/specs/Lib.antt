@@ -2,4 +2,3 @@ pub mod Beginning
 pub mod Cut
 pub mod Drive
 pub mod Live
-pub mod Written

@@ -1,13 +1,11 @@
 //! A run: reads an input, carries out its commands on one scheduler, and writes the lines of the answers.
-ghost use Rattle.std.specs.Prelude.{◌≡◌, ◌≤◌, IfOk, IfErr, OnOk, OnErr, ◌≢◌, string_capacity};
-ghost use Rattle.std.specs.Io.KnownBytes.{Appends, Keeps};
+ghost use Rattle.std.specs.Prelude.{◌≡◌, ◌≢◌, ◌≤◌, IfOk, IfErr, string_capacity};
 ghost use Rattle.check_sched.specs.Step.{step};
 ghost use Rattle.check_script.specs.Agreement.{Gives};
-ghost use Rattle.check_text.specs.Output.{WroteFront};
 ghost use Rattle.check_text.specs.Text.{answer_line, line_from, state_by, text, text_from};
+ghost use Rattle.check_text.specs.Written.{IsLineWritten, IsTextWritten};
 ghost use Rattle.check_drive.specs.Beginning.{CanBegin, begun_by, begun_text};
 ghost use Rattle.check_drive.specs.Drive.{Drove, outcome_by, outcome_of, run_outcome, run_text};
-ghost use Rattle.check_drive.specs.Written.{IsLineWritten, IsTextWritten};
 
 use crate::beginning::{Beginning, open, resume};
 use check_sched::{Call, LAST_MOMENT, Sched};
@@ -167,13 +165,8 @@ pub fn make_call<W: Write>(
 ) -> Result<(), DriveError>
     ensures state { sched.new ≡ (step sched.old call).0 }
     ensures setup { sched.new.setup ≡ sched.old.setup }
-    ensures written { OnOk result
-        (Appends (W.contents writer.old) (W.contents writer.new) (line_from sched.old call)) }
-    ensures fault { OnErr result
-        (WroteFront (W.contents writer.old) (W.contents writer.new) (line_from sched.old call)) }
-    ensures kind { IfErr result (λ e. e ≢ DriveError.Read) }
-    ensures memory { IfErr result (λ e. e ≡ DriveError.Memory
-        → Keeps (W.contents writer.old) (W.contents writer.new)) }
+    ensures wrote { IsLineWritten result (W.contents writer.old) (W.contents writer.new)
+        (line_from sched.old call) }
     ensures room { string_capacity line.old ≤ string_capacity line.new }
     ensures ample { REPLY_BYTES ≤ string_capacity line.old
         → IfErr result (λ e. e ≢ DriveError.Memory) }

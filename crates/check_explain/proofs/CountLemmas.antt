@@ -1,5 +1,5 @@
 -- A document that is refused for too much of something has more of it than there can be.
-use Rattle.std.proofs.Common.{◌≡◌, ℕ, suc, ◌+◌, ◌<◌, ◌||◌, not, Bool, true, false, cond, List, [], ◌∷◌, length, Option, Some, None, Result, Ok, Err, refl, sym, ap, ◌∙◌, arith, bytes_eq, subst}
+use Rattle.std.proofs.Common.{◌≡◌, ℕ, suc, ◌+◌, ◌<◌, ◌||◌, not, Bool, true, false, cond, List, [], ◌∷◌, length, Option, Some, None, Result, Ok, Err, refl, sym, ap, ◌∙◌, arith, subst}
 use Rattle.std.specs.Prelude.{nat_le, nat_lt, ok_or, option_and_then, sum_by}
 use Rattle.std.proofs.lemmas.Bool.Decides.{nat_tests}
 use Rattle.std.proofs.lemmas.List.Sums.{sum_by-cons}
@@ -12,62 +12,30 @@ use Rattle.check_drafts.specs.declared.fault.Count.TheVariants as count
 use Rattle.check_drafts.specs.declared.place.Part.{Part}
 use Rattle.check_drafts.specs.declared.place.Part.TheVariants as part
 use Rattle.check_drafts.specs.declared.place.Place.{Place}
-use Rattle.check_drafts.specs.Agreement.{◌>>=◌, refused_at}
+use Rattle.check_drafts.specs.Agreement.{◌>>=◌}
 use Rattle.check_drafts.specs.Draft.{DependencyDraft, Drafts, HostDraft}
-use Rattle.check_drafts.specs.Ends.{full_names, known_ends}
 use Rattle.check_drafts.specs.Fault as fault
-use Rattle.check_drafts.specs.Keys.{first_repeat, names_of}
 use Rattle.check_drafts.specs.Members as members
-use Rattle.check_drafts.specs.Place.{host_at, item_of_part, list_of_part, service_at, the_document, the_hosts, the_options, the_services}
+use Rattle.check_drafts.specs.Place.{host_at, item_of_part, list_of_part, service_at, the_hosts, the_services}
 use Rattle.check_documents.specs.Faults.{count_past, fault_of, item_count, items_in, parent_count}
 use Rattle.check_documents.specs.Places.{or_no_items}
-use Rattle.check_documents.specs.Reading.{check_draft, dependencies_in, dependency_draft, document_members, drafts_of, host_draft, host_letters, host_members, items_from, list_of, options_of}
+use Rattle.check_documents.specs.Reading.{check_draft, dependencies_in, dependency_draft, drafts_of, host_draft, host_letters, host_members, items_from, list_of}
 use Rattle.check_documents.specs.Reading.{service_draft, service_letters}
 use Rattle.check_documents.specs.Tree.{has_only, texts_in, texts_of, tree_of, ◌>=>◌}
 use Rattle.check_documents.proofs.ReadLemmas.{from_ok_or, guarded, linked, next, ok_is, some_is}
 use Rattle.check_documents.proofs.ShapeLaws.{refused_in}
-use Rattle.check_faults.specs.Verification.{are_options_in_range, few_items, good_host_names, good_host_ranges, good_names, good_options, good_ranges, has_few_parents, host_names, is_faultless}
-use Rattle.check_faults.specs.Verification.{known_hosts, known_links, known_parents, no_repeated_services}
+use Rattle.check_faults.specs.Verification.{few_items, has_few_parents, is_faultless}
 use Rattle.check_numbers.specs.Configuration.{Configuration}
 use Rattle.check_numbers.specs.Numbering.{configuration}
 use Rattle.check_objects.specs.Setup.{examined, or_fault, setup_of_drafts, setup_of_tree, without_cycles, without_dependency_cycle, without_parent_cycle}
 use Rattle.check_objects.proofs.RangeLemmas.{drafts_read}
 use Rattle.check_explain.specs.Counts.{amount_of, limit_of}
+use Rattle.check_explain.specs.Rounds.{IsRefusedFor}
+use Rattle.check_explain.proofs.RefusalLemmas.{after, behind_counts, drafts_good, tests_good, Spares}
 
--- ---- what isn't refused for too much
-
-abbrev NoCount : {A : Type 0} → Result A LoadError → Type 0
-NoCount r = r ≡ Err errors.TooMany → false ≡ true
-
-after : {A B : Type 0} (r : Result A LoadError) (f : A → Result B LoadError) → NoCount r → ((x : A) → NoCount (f x)) → NoCount (r >>= f)
-after r f here later e = refused_in r f errors.TooMany (false ≡ true) here later e
-
-good : {A : Type 0} (x : A) → NoCount (Ok x)
-good x e = cc
-
-shape : {A : Type 0} (o : Option A) (p : Place) → NoCount (ok_or o (errors.Shape p))
-shape None p e = cc
-shape (Some x) p e = cc
-
-tested : {A : Type 0} (b : Bool) (r : Result A LoadError) (x : LoadError) → NoCount r → NoCount {A = A} (Err x) → NoCount (cond b r (Err x))
-tested true r x here other e = here e
-tested false r x here other e = other e
-
-refused : (fault : ℕ → LoadError) (o : Option ℕ) → ((i : ℕ) → fault i ≡ errors.TooMany → false ≡ true) → NoCount (refused_at fault o)
-refused fault None other e = cc
-refused fault (Some i) other e = other i (let same : fault i ≡ errors.TooMany = cc in same)
+-- ---- how many were read
 
 module _ {A : Type 0} (read : Data → Option A) (place : ℕ → Place) where
-  items_good : (k : ℕ) (ds : Items) → NoCount (items_from read place k ds)
-  items_good k no_items = good []
-  items_good k (item d ds) =
-      after (ok_or (read d) (errors.Shape (place k))) _ (shape (read d) (place k)) (λ x.
-      after (items_from read place (k + 1) ds) (λ xs. Ok (x ∷ xs)) (items_good (k + 1) ds) (λ xs. good (x ∷ xs)))
-
-  list_good : (whole : Place) (o : Option Data) → NoCount (list_of read whole place o)
-  list_good whole None = good []
-  list_good whole (Some v) = after (ok_or (as_array v) (errors.Shape whole)) _ (shape (as_array v) whole) (λ items. items_good 0 items)
-
   -- a list has as many as there are items
   items_counted : (k : ℕ) (ds : Items) (xs : List A) → items_from read place k ds ≡ Ok xs → length xs ≡ item_count ds
   items_counted k no_items xs e = ap length (sym (ok_is {E = LoadError} [] xs e))
@@ -91,9 +59,6 @@ module _ {A : Type 0} (read : Data → Option A) (place : ℕ → Place) where
   list_counted : (whole : Place) (o : Option Data) (xs : List A) → list_of read whole place o ≡ Ok xs → length xs ≡ item_count (or_no_items (o >=> as_array))
   list_counted whole None xs e = ap length (sym (ok_is {E = LoadError} [] xs e))
   list_counted whole (Some v) xs e = array_counted whole v xs e
-
-sort_good : (p : Part) (letters : List (List ℕ)) (o : Option Data) → NoCount (dependencies_in p letters o)
-sort_good p letters o = list_good (dependency_draft letters) (item_of_part p) (list_of_part p) o
 
 sort_counted : (p : Part) (letters : List (List ℕ)) (o : Option Data) (xs : List DependencyDraft) → dependencies_in p letters o ≡ Ok xs
     → length xs ≡ item_count (or_no_items (o >=> as_array))
@@ -173,17 +138,6 @@ drafts_counted d ds e =
       dependencies = (λ i. between_are i + among_are i);
     }
 
-drafts_good : (d : Data) → NoCount (drafts_of d)
-unfolding drafts_of
-drafts_good d =
-    tested (has_only document_members d) _ (errors.Shape the_document)
-    (after (ok_or (options_of (get members.options.name d)) (errors.Shape the_options)) _ (shape (options_of (get members.options.name d)) the_options) (λ options.
-    after (list_of host_draft the_hosts host_at (get members.hosts.name d)) _ (list_good host_draft host_at the_hosts (get members.hosts.name d)) (λ hosts.
-    after (list_of service_draft the_services service_at (get members.services.name d)) _ (list_good service_draft service_at the_services (get members.services.name d)) (λ services.
-    after (dependencies_in part.ServiceDependencies service_letters (get members.service_dependencies.name d)) _ (sort_good part.ServiceDependencies service_letters _) (λ between.
-    after (dependencies_in part.HostDependencies host_letters (get members.host_dependencies.name d)) _ (sort_good part.HostDependencies host_letters _) (λ among.
-    good _)))))) (λ e. cc)
-
 -- ---- what was refused
 
 few_by : (a b c : Bool) → (cond (a || not b) (Err errors.TooMany) (Ok (tt {0})) >>= λ u. cond c (Err errors.TooMany) (Ok (tt {0}))) ≡ Err errors.TooMany → a ≡ false → b ≡ true
@@ -199,65 +153,22 @@ not_full ds e first second =
     few_by (nat_lt 4096 (length ds.hosts + length ds.services)) (has_few_parents ds.hosts)
     (nat_lt 16384 (length ds.service_dependencies + length ds.host_dependencies)) e first second
 
-bad_name : (place : ℕ → Place) (o : Option ℕ) → NoCount (refused_at (λ i. errors.BadName (place i)) o)
-bad_name place o = refused (λ i. errors.BadName (place i)) o (λ i e. cc)
-
-repeated : (place : ℕ → Place) (o : Option ℕ) → NoCount (refused_at (λ i. errors.Duplicate (place i)) o)
-repeated place o = refused (λ i. errors.Duplicate (place i)) o (λ i e. cc)
-
-no_host : (place : ℕ → Place) (o : Option ℕ) → NoCount (refused_at (λ i. errors.UnknownHost (place i)) o)
-no_host place o = refused (λ i. errors.UnknownHost (place i)) o (λ i e. cc)
-
-no_end : (place : ℕ → Place) (o : Option ℕ) → NoCount (refused_at (λ i. errors.UnknownMaster (place i)) o)
-no_end place o = refused (λ i. errors.UnknownMaster (place i)) o (λ i e. cc)
-
-range : (place : ℕ → Place) (o : Option ℕ) → NoCount (refused_at (λ i. errors.Range (place i)) o)
-range place o = refused (λ i. errors.Range (place i)) o (λ i e. cc)
-
-names_good : (ds : Drafts) → NoCount (good_names ds.hosts ds.services)
-names_good ds = after (good_host_names ds.hosts) _ (bad_name host_at _) (λ u. bad_name service_at _)
-
-host_names_good : (ds : Drafts) → NoCount (host_names ds.hosts)
-host_names_good ds =
-    after (refused_at (λ i. errors.Duplicate (host_at i)) (first_repeat bytes_eq (names_of ds.hosts))) _ (repeated host_at _) (λ u. good (names_of ds.hosts))
-
-links_good : (names : List (List ℕ)) (ds : Drafts) → NoCount (known_links names ds)
-links_good names ds =
-    after (known_parents names ds.hosts) _ (no_host host_at _) (λ u.
-    after (known_hosts names ds.services) _ (no_host service_at _) (λ u2.
-    after (known_ends part.ServiceDependencies (full_names ds.services) ds.service_dependencies) _ (no_end (item_of_part part.ServiceDependencies) _)
-    (λ u3. no_end (item_of_part part.HostDependencies) _)))
-
-options_good : (b : Bool) → NoCount (cond b (Ok (tt {0})) (Err (errors.Range the_options)))
-options_good true e = cc
-options_good false e = cc
-
-ranges_good : (ds : Drafts) → NoCount (good_ranges ds.options ds.hosts ds.services)
-ranges_good ds =
-    after (good_options ds.options) _ (options_good (are_options_in_range ds.options)) (λ u.
-    after (good_host_ranges ds.hosts) _ (range host_at _) (λ u2. range service_at _))
-
 few_refused : (ds : Drafts) → is_faultless ds ≡ Err errors.TooMany → few_items ds ≡ Err errors.TooMany
 unfolding is_faultless
 few_refused ds e =
-    let Goal = few_items ds ≡ Err errors.TooMany in
-    let z = errors.TooMany in
-    refused_in (few_items ds) _ z Goal (λ h. h) (λ u h. let never : false ≡ true =
-    after (good_names ds.hosts ds.services) _ (names_good ds) (λ u1.
-    after (host_names ds.hosts) _ (host_names_good ds) (λ names.
-    after (no_repeated_services ds.services) _ (repeated service_at _) (λ u3.
-    after (known_links names ds) _ (links_good names ds) (λ u4. ranges_good ds)))) h in cc) e
+    refused_in (few_items ds) (λ _. behind_counts ds) errors.TooMany (few_items ds ≡ Err errors.TooMany) (λ h. h)
+    (λ u h. let never : false ≡ true = tests_good errors.TooMany refl ds h in cc) e
 
-dependencies_good : (b : Bool) (c : Configuration) → NoCount (cond b (Err errors.DependencyCycle) (Ok c))
+dependencies_good : (b : Bool) (c : Configuration) → Spares errors.TooMany (cond b (Err errors.DependencyCycle) (Ok c))
 dependencies_good true c e = cc
 dependencies_good false c e = cc
 
-parents_good : (b : Bool) (c : Configuration) → NoCount (cond b (Err errors.ParentCycle) (Ok c))
+parents_good : (b : Bool) (c : Configuration) → Spares errors.TooMany (cond b (Err errors.ParentCycle) (Ok c))
 parents_good true c e = cc
 parents_good false c e = cc
 
-cycles_good : (c : Configuration) → NoCount (without_cycles c)
-cycles_good c = after (without_dependency_cycle c) without_parent_cycle (dependencies_good _ c) (λ x. parents_good _ x)
+cycles_good : (c : Configuration) → Spares errors.TooMany (without_cycles c)
+cycles_good c = after errors.TooMany (without_dependency_cycle c) without_parent_cycle (dependencies_good _ c) (λ x. parents_good _ x)
 
 abbrev IsPast : Data → Count → Type 0
 IsPast d c = limit_of c < amount_of d c
@@ -284,7 +195,7 @@ dependencies_past d ds are e first second =
 drafts_past : (d : Data) (r : Result Drafts LoadError) → drafts_of d ≡ r → (r >>= setup_of_drafts) ≡ Err errors.TooMany → IsPast d (count_past d)
 drafts_past d (Err x) is e =
     let same : x ≡ errors.TooMany = cc in
-    let never : false ≡ true = drafts_good d (is ∙ ap Err same) in
+    let never : false ≡ true = drafts_good errors.TooMany refl d (is ∙ ap Err same) in
     cc
 drafts_past d (Ok ds) is e =
     refused_in (is_faultless ds) (λ u. without_cycles (configuration ds)) errors.TooMany (IsPast d (count_past d)) (λ h.
@@ -323,7 +234,6 @@ read_past false None d c is e = cc
 read_past false (Some t) d c is e = let same : t ≡ d = some_is t d is in setup_past d c (setup_of_tree d) refl (subst (λ x. or_fault (fault_of x) (setup_of_tree x) ≡ Err (fault.too_many c)) same e)
 
 -- what a document is refused for having too much of is past its limit
-pub count_is_past : (document : List ℕ) (tree : Data) (c : Count) → tree_of document ≡ Some tree → examined document ≡ Err (fault.too_many c)
-    → limit_of c < amount_of tree c
+pub count_is_past : (document : List ℕ) (tree : Data) (c : Count) → IsRefusedFor document tree (fault.too_many c) → limit_of c < amount_of tree c
 unfolding examined
-count_is_past document tree c is e = read_past (nat_lt 16777216 (length document)) (tree_of document) tree c is e
+count_is_past document tree c is = read_past (nat_lt 16777216 (length document)) (tree_of document) tree c is.read is.refused

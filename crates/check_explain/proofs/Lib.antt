@@ -2,6 +2,7 @@ pub mod FeedLemmas
 pub mod ShownLemmas
 pub mod HeadLemmas
 pub mod NameLemmas
+pub mod RefusalLemmas
 pub mod CountLemmas
 pub mod WordLemmas
 pub mod PieceLemmas
@@ -13,3 +14,7 @@ pub mod OnwardLemmas
 pub mod WalkLemmas
 pub mod PlaceLemmas
 pub mod LinkLemmas
+pub mod DraftLemmas
+pub mod DistinctLemmas
+pub mod CyclicLemmas
+pub mod MasterLemmas

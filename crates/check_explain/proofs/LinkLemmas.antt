@@ -1,7 +1,8 @@
 -- The links of the code are all that the document has, where no two of its items have one name.
-use Rattle.std.proofs.Common.{◌≡◌, ℕ, zero, suc, ◌+◌, ◌≤◌, ◌<◌, ◌==◌, ◌&&◌, ◌||◌, Bool, true, false, List, [], ◌∷◌, ◌++◌, length, map, Option, Some, None, refl, sym, ap, ◌∙◌, arith, inl, inr}
+use Rattle.std.proofs.Common.{◌≡◌, ℕ, zero, suc, ◌+◌, ◌≤◌, ◌<◌, ◌==◌, ◌&&◌, ◌||◌, Bool, true, false, List, [], ◌∷◌, ◌++◌, length, map, Option, Some, None, refl, sym, ap, ◌∙◌, arith, inl, inr, ◌⊎◌}
 use Rattle.std.specs.Prelude.{codes, option_and_then, slice_get}
-use Rattle.std.proofs.lemmas.Bool.{and_parts, cases_lt, eqb-true, or_cases}
+use Rattle.std.proofs.lemmas.Bool.{and_parts, and_right, cases_lt, eqb-true, or_cases, or_left, or_right}
+use Rattle.std.proofs.Math.Bool.{or-false}
 use Rattle.std.proofs.lemmas.List.Folds.{list_any-append}
 use Rattle.std.proofs.lemmas.Option.{slice_get_within, slice_get-map}
 use Rattle.serde_json.specs.Data.{Data, Items, no_items, item}
@@ -14,13 +15,13 @@ use Rattle.check_documents.specs.Places.{or_no_items}
 use Rattle.check_explain.specs.Explanation.{any_item, text_in}
 use Rattle.check_explain.specs.Links.{HasAll, HasEach, HasParentsOf, IsOfNone}
 use Rattle.check_explain.specs.Rounds.{has_master, has_parent, is_dependency, is_link, is_named, AreDistinct}
-use Rattle.check_explain.proofs.RoundLemmas.{here, passed_by, within_of}
+use Rattle.check_explain.proofs.RoundLemmas.{within_of}
 
 -- ---- one link more
 
 pub pushed_all : (old new : List (ℕ × ℕ)) (link : ℕ × ℕ) → new ≡ old ++ link ∷ [] → HasAll old new
 pushed_all old new link is from to e =
-    ap (λ links. is_link links from to) is ∙ (list_any-append (λ l. l.0 == from && l.1 == to) old (link ∷ []) ∙ here (is_link old from to) _ e)
+    ap (λ links. is_link links from to) is ∙ (list_any-append (λ l. l.0 == from && l.1 == to) old (link ∷ []) ∙ or_left (is_link old from to) _ e)
 
 same_link : (a b : ℕ) → (a == a && b == b) ≡ true
 same_link a b = grind arith
@@ -28,7 +29,20 @@ same_link a b = grind arith
 pub pushed_one : (old new : List (ℕ × ℕ)) (link : ℕ × ℕ) → new ≡ old ++ link ∷ [] → is_link new link.0 link.1 ≡ true
 pushed_one old new link is =
     ap (λ links. is_link links link.0 link.1) is ∙ (list_any-append (λ l. l.0 == link.0 && l.1 == link.1) old (link ∷ [])
-    ∙ passed_by (is_link old link.0 link.1) _ (here (link.0 == link.0 && link.1 == link.1) false (same_link link.0 link.1)))
+    ∙ or_right (is_link old link.0 link.1) _ (or_left (link.0 == link.0 && link.1 == link.1) false (same_link link.0 link.1)))
+
+-- a link of them all is an earlier one, or it is the last
+pub pushed_parts : (old new : List (ℕ × ℕ)) (link : ℕ × ℕ) → new ≡ old ++ link ∷ [] → (from to : ℕ) → is_link new from to ≡ true
+    → (is_link old from to ≡ true) ⊎ ((link.0 ≡ from) × (link.1 ≡ to))
+pushed_parts old new link is from to e =
+    let test = λ (l : ℕ × ℕ). l.0 == from && l.1 == to in
+    let one = sym (ap (λ links. is_link links from to) is ∙ list_any-append test old (link ∷ [])) ∙ e in
+    elim (or_cases (is_link old from to) (test link || false) one) [
+      | inl early ↦ inl early
+      | inr last ↦
+          let both = and_parts (link.0 == from) (link.1 == to) (sym (or-false (test link)) ∙ last) in
+          inr (eqb-true link.0 from both.0, eqb-true link.1 to both.1)
+    ]
 
 -- ---- names
 
@@ -119,12 +133,8 @@ all_masters p objects ds i links end all apart from to e = linked_last (dependen
 abbrev pub parent_by : List Data → ℕ → Data → ℕ → ℕ → Bool
 parent_by hosts child d from to = from == child && is_named part.Hosts hosts (as_str d) to
 
-and_none : (a b : Bool) → b ≡ false → (a && b) ≡ false
-and_none true b e = e
-and_none false b e = refl
-
 pub no_parent : (hosts : List Data) (child : ℕ) (d : Data) → ((index : ℕ) → is_named part.Hosts hosts (as_str d) index ≡ false) → IsOfNone (parent_by hosts child d)
-no_parent hosts child d none from to = and_none (from == child) (is_named part.Hosts hosts (as_str d) to) (none to)
+no_parent hosts child d none from to = and_right (from == child) (is_named part.Hosts hosts (as_str d) to) (none to)
 
 pub one_parent : (hosts : List Data) (child place : ℕ) (d : Data) → AreDistinct part.Hosts hosts → is_named part.Hosts hosts (as_str d) place ≡ true
     → (from to : ℕ) → parent_by hosts child d from to ≡ true → (child ≡ from) × (place ≡ to)
@@ -138,8 +148,8 @@ own_child child b e = grind (arith, e)
 any_weaker : (p q : Data → Bool) → ((d : Data) → p d ≡ true → q d ≡ true) → (ds : Items) → any_item p ds ≡ true → any_item q ds ≡ true
 any_weaker p q f no_items e = cc
 any_weaker p q f (item d ds) e = elim (or_cases (p d) (any_item p ds) e) [
-  | inl h ↦ here (q d) (any_item q ds) (f d h)
-  | inr h ↦ passed_by (q d) (any_item q ds) (any_weaker p q f ds h)
+  | inl h ↦ or_left (q d) (any_item q ds) (f d h)
+  | inr h ↦ or_right (q d) (any_item q ds) (any_weaker p q f ds h)
 ]
 
 -- behind the last parent of a host each is linked

@@ -2,7 +2,7 @@
 use Rattle.std.proofs.Common.{◌≡◌, ◌≢◌, ℕ, zero, suc, ◌<◌, ◌==◌, ◌&&◌, ◌||◌, Bool, true, false, List, [], ◌∷◌, ◌++◌, get_or, length, map, Option, Some, None, refl, sym, ap, ◌∙◌}
 use Rattle.std.proofs.Common.{inl, inr}
 use Rattle.std.specs.Prelude.{All, IfOk, MatchOption, Result, Ok, Err, codes, option_and_then, slice_get}
-use Rattle.std.proofs.lemmas.Bool.{and_parts, cases_lt, eqb-true}
+use Rattle.std.proofs.lemmas.Bool.{and_parts, cases_lt, eqb-true, or_left, or_right}
 use Rattle.std.proofs.lemmas.List.Elements.{All-head, All-push, All-tail}
 use Rattle.std.proofs.lemmas.Option.{slice_get-get_or, slice_get-map, slice_get_past}
 use Rattle.serde_json.specs.Data.{Data, Items, no_items, item}
@@ -26,27 +26,15 @@ use Rattle.check_explain.specs.Rounds.{has, has_master, has_parent, is_called, i
 
 -- what is no service is called by its name
 pub called_by_name : (p : Part) (name : List ℕ) (d : Data) → p ≢ part.Services → is_called p name d ≡ is_text name (text_in (codes "name") d)
-called_by_name part.Document name d other = refl
-called_by_name part.Options name d other = refl
-called_by_name part.Hosts name d other = refl
 called_by_name part.Services name d other = absurd (other refl)
-called_by_name part.ServiceDependencies name d other = refl
-called_by_name part.HostDependencies name d other = refl
-
-pub passed_by : (a b : Bool) → b ≡ true → (a || b) ≡ true
-passed_by true b e = refl
-passed_by false b e = e
-
-pub here : (a b : Bool) → a ≡ true → (a || b) ≡ true
-here true b e = refl
-here false b e = cc
+called_by_name p name d other = refl
 
 -- an item at which the code is passes, so that one of the tree does
 any_at : (test : Data → Bool) (vs : List Value) (i : ℕ) (v : Value) → slice_get vs i ≡ Some v → test (view v) ≡ true → any_item test (items_view vs) ≡ true
 any_at test [] zero v at e = cc
 any_at test [] (suc i) v at e = cc
-any_at test (w ∷ vs) zero v at e = let same : w ≡ v = cc in here (test (view w)) _ (ap (λ x. test (view x)) same ∙ e)
-any_at test (w ∷ vs) (suc i) v at e = passed_by (test (view w)) _ (any_at test vs i v at e)
+any_at test (w ∷ vs) zero v at e = let same : w ≡ v = cc in or_left (test (view w)) _ (ap (λ x. test (view x)) same ∙ e)
+any_at test (w ∷ vs) (suc i) v at e = or_right (test (view w)) _ (any_at test vs i v at e)
 
 -- the item at an index, as it shows in goals
 pub there : (vs : List Value) (i : ℕ) (v : Value) → i < length vs → v ≡ get_or vs i v → slice_get vs i ≡ Some v
@@ -94,13 +82,10 @@ linked_by linked (link ∷ links) all from to e =
 pub round_by : (linked : ℕ → ℕ → Bool) (links : List (ℕ × ℕ)) (cycle : List ℕ) → AllLinked linked links → IsRound (is_link links) cycle → IsRound linked cycle
 round_by linked links cycle all r = record { some = r.some; each = λ place h. linked_by linked links all _ _ (r.each place h) }
 
+-- no name of a part has a line feed in it
 pub name_flat : (p : Part) → has_feed (part_name p) ≡ false
 name_flat part.Document = refl
-name_flat part.Options = refl
-name_flat part.Hosts = refl
-name_flat part.Services = refl
-name_flat part.ServiceDependencies = refl
-name_flat part.HostDependencies = refl
+name_flat p = refl
 
 -- what was appended to no byte tells of a cycle
 pub tells_round : (what : List ℕ) (p : Part) (objects seen : List Data) (linked : ℕ → ℕ → Bool) (cycle old new : List ℕ) → objects ≡ seen → IsRound linked cycle
@@ -173,15 +158,7 @@ masters_within p objects n ds links size all =
 
 -- nothing is said here of a fault that has a place
 pub of_place : (tree : Data) (f : Fault) (place : Place) (text : List ℕ) → place_of f ≡ Some place → OfWhole tree f text
-of_place tree fault.too_long place text e = tt
-of_place tree fault.not_json place text e = tt
-of_place tree (fault.shape p w) place text e = tt
 of_place tree (fault.too_many c) place text e = cc
-of_place tree (fault.bad_name p) place text e = tt
-of_place tree (fault.duplicate p) place text e = tt
-of_place tree (fault.unknown_host p) place text e = tt
-of_place tree (fault.unknown_master p) place text e = tt
-of_place tree (fault.range p w) place text e = tt
 of_place tree fault.dependency_cycle place text e = cc
 of_place tree fault.parent_cycle place text e = cc
-of_place tree fault.memory place text e = tt
+of_place tree f place text e = tt

@@ -3,11 +3,12 @@ use Rattle.std.proofs.Common.{◌≡◌, ℕ, zero, suc, ◌+◌, ◌-◌, ◌<�
 use Rattle.std.proofs.Common.{arith, inl, inr, ◌⊎◌}
 use Rattle.std.specs.Prelude.{is_some, position}
 use Rattle.std.proofs.lemmas.Bool.{cases_eq, cases_lt, eqb-true, eqb-false}
-use Rattle.std.proofs.lemmas.List.{get_or_append_left, get_or-append_right, get_or_past, length_push}
+use Rattle.std.proofs.lemmas.List.{get_or_append_left, get_or-append_right, length_push}
 use Rattle.std.proofs.lemmas.List.Quantifiers.{position-Some}
 use Rattle.std.proofs.lemmas.Option.{slice_get-get_or, slice_get_past}
 use Rattle.check_explain.specs.Onward.{is_on, step_from, steps_from, GoesBack, IsEndless, IsTrip, Reaches}
 use Rattle.check_explain.specs.Rounds.{behind, has, is_link, HasNoRound, IsRound}
+use Rattle.check_explain.proofs.OnwardLemmas.{on_below}
 use Rattle.check_explain.proofs.PlaceLemmas.{none_at}
 
 -- ---- steps
@@ -22,12 +23,6 @@ steps_on : (onward : List (Option ℕ)) → ((o : ℕ) → is_on onward o ≡ tr
     → (k : ℕ) → is_on onward (steps_from onward object k) ≡ true
 steps_on onward goes object on zero = on
 steps_on onward goes object on (suc k) = goes (steps_from onward object k) (steps_on onward goes object on k)
-
-on_below : (onward : List (Option ℕ)) (object : ℕ) → is_on onward object ≡ true → object < length onward
-on_below onward object on = elim (cases_lt object (length onward)) [
-  | inl h ↦ h
-  | inr h ↦ absurd (let no = get_or_past onward object None h in cc)
-]
 
 -- ---- more places than numbers
 

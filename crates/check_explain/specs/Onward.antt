@@ -1,5 +1,5 @@
 -- The search for a cycle of links: of each object a link that can be gone on from without an end, where it has one.
-use Rattle.std.specs.Prelude.{◌≡◌, ℕ, zero, suc, ◌<◌, ◌≤◌, ◌&&◌, Bool, true, List, [], ◌∷◌, Option, Some, None, get_or, is_some, length, nat_lt, set, unwrap_or, if◌then◌else◌}
+use Rattle.std.specs.Prelude.{◌≡◌, ℕ, zero, suc, ◌<◌, ◌≤◌, Bool, true, List, Option, None, get_or, is_some, length, unwrap_or}
 use Rattle.check_explain.specs.Rounds.{is_link, IsRound}
 
 -- ---- links that are gone on by
@@ -17,15 +17,14 @@ abbrev pub steps_from : List (Option ℕ) → ℕ → ℕ → ℕ
 steps_from onward object zero = object
 steps_from onward object (suc k) = step_from onward (steps_from onward object k)
 
--- a link is noted, where it leads to an object that could be gone on from before
-abbrev pub noted : List (Option ℕ) → ℕ × ℕ → List (Option ℕ) → List (Option ℕ)
-noted before link onward = if is_on before link.1 && nat_lt link.0 (length onward) then set onward link.0 (Some link.1) else onward
-
-abbrev pub noted_all : List (Option ℕ) → List (ℕ × ℕ) → List (Option ℕ) → List (Option ℕ)
-noted_all before [] onward = onward
-noted_all before (link ∷ links) onward = noted_all before links (noted before link onward)
-
 -- ---- what the search finds
+
+-- what one turn leaves: of each object within the list a link to one that could be gone on from before, exactly where it has one
+pub record IsOnBy (before : List (Option ℕ)) (links : List (ℕ × ℕ)) (onward : List (Option ℕ)) : Type 0 where
+  pub size : length onward ≡ length before
+  pub linked : (object : ℕ) → is_on onward object ≡ true → is_link links object (step_from onward object) ≡ true
+  pub goes_on : (object : ℕ) → is_on onward object ≡ true → is_on before (step_from onward object) ≡ true
+  pub kept : (from to : ℕ) → from < length before → is_link links from to ≡ true → is_on before to ≡ true → is_on onward from ≡ true
 
 -- each link begins at an object
 abbrev pub AreWithin : ℕ → List (ℕ × ℕ) → Type 0

@@ -1,6 +1,6 @@
 -- A cycle of a document: hosts or services, each linked to the next one and the last to the first; and how it is said.
 use Rattle.std.specs.Prelude.{◌≡◌, ◌⊎◌, ℕ, ◌+◌, ◌-◌, ◌<◌, ◌==◌, ◌&&◌, Bool, true, false, List, [], ◌∷◌, ◌++◌, Option, Some, None, codes, decimal, get_or, length, nat_lt}
-use Rattle.std.specs.Prelude.{option_and_then, slice_get, take, unwrap_or, if◌then◌else◌}
+use Rattle.std.specs.Prelude.{Err, option_and_then, slice_get, take, unwrap_or, if◌then◌else◌}
 use Rattle.std.specs.List.{after_first, before_first, list_any, position_or_len}
 use Rattle.serde_json.specs.Data.{Data, Items}
 use Rattle.serde_json.specs.Find.{as_array, as_str, get}
@@ -11,6 +11,7 @@ use Rattle.check_drafts.specs.Fault.{Fault}
 use Rattle.check_drafts.specs.Members.{part_name}
 use Rattle.check_documents.specs.Places.{items_at, or_no_items}
 use Rattle.check_documents.specs.Tree.{tree_of}
+use Rattle.check_objects.specs.Setup.{examined}
 use Rattle.check_explain.specs.Counts.{count_text}
 use Rattle.check_explain.specs.Explanation.{after_space, any_item, are_texts, is_semicolon, is_text, items_list, name_shown, service_pair, text_in}
 
@@ -49,6 +50,11 @@ has_master p objects dependencies dependent master = any_item (is_dependency p o
 -- no two items have one full name
 abbrev pub AreDistinct : Part → List Data → Type 0
 AreDistinct p objects = (name : List ℕ) (i j : ℕ) → has (is_called p name) (slice_get objects i) ≡ true → has (is_called p name) (slice_get objects j) ≡ true → i ≡ j
+
+-- no two hosts of a document have one name, and no two services one full name
+pub record HasDistinctNames (tree : Data) : Type 0 where
+  pub hosts : AreDistinct part.Hosts (items_list (items_at tree part.Hosts))
+  pub services : AreDistinct part.Services (items_list (items_at tree part.Services))
 
 -- ---- cycles
 
@@ -109,7 +115,23 @@ abbrev pub TellsMasters : Data → Part → Part → List ℕ → Type 0
 TellsMasters tree p dependencies text =
     TellsRound (part_name dependencies) p (items_list (items_at tree p)) (has_master p (items_list (items_at tree p)) (items_at tree dependencies)) text
 
--- ---- that there is no cycle
+-- a cycle of dependencies of the document, of services or of hosts
+abbrev pub TellsDependencies : Data → List ℕ → Type 0
+TellsDependencies tree text = TellsMasters tree part.Services part.ServiceDependencies text ⊎ TellsMasters tree part.Hosts part.HostDependencies text
+
+-- ---- whether there is a cycle
+
+-- some hosts are each a parent of the one before, and the first of the last
+abbrev pub HasParentsRound : Data → Type 0
+HasParentsRound tree = (cycle : List ℕ) × IsRound (has_parent (items_list (items_at tree part.Hosts))) cycle
+
+-- some items of a list are each a dependent of the next one, by the dependencies of another list, and the last of the first
+abbrev pub HasMastersRound : Data → Part → Part → Type 0
+HasMastersRound tree p dependencies = (cycle : List ℕ) × IsRound (has_master p (items_list (items_at tree p)) (items_at tree dependencies)) cycle
+
+-- there is a cycle of dependencies, of services or of hosts
+abbrev pub HasDependenciesRound : Data → Type 0
+HasDependenciesRound tree = HasMastersRound tree part.Services part.ServiceDependencies ⊎ HasMastersRound tree part.Hosts part.HostDependencies
 
 -- where no two hosts have one name, there is no cycle of parents
 abbrev pub HasNoParentsRound : Data → Type 0
@@ -132,6 +154,11 @@ pub record TellsNoMasters (tree : Data) (text : List ℕ) : Type 0 where
   pub hosts : HasNoMastersRound tree part.Hosts part.HostDependencies
 
 -- ---- faults of a whole document
+
+-- a document with this tree is refused for this fault, its first
+pub record IsRefusedFor (document : List ℕ) (tree : Data) (f : Fault) : Type 0 where
+  pub read : tree_of document ≡ Some tree
+  pub refused : examined document ≡ Err f
 
 -- what is said of a fault that has no place: a count, or the objects of a cycle, or that there is none
 abbrev pub OfWhole : Data → Fault → List ℕ → Type 0

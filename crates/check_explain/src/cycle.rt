@@ -1,5 +1,5 @@
 //! Cycles: objects that lead back to themselves, through one link or more.
-ghost use Rattle.std.specs.Prelude.{◌≡◌, ◌⊎◌, ◌<◌, ◌++◌, [], IfOk, IfSome, MatchOption, None, OnOk, false, get_or, is_some, length, map, position, replicate, take, true};
+ghost use Rattle.std.specs.Prelude.{◌≡◌, ◌⊎◌, ◌<◌, ◌++◌, [], IfOk, IfSome, MatchOption, None, OnOk, Some, false, get_or, is_some, length, map, position, replicate, set, take, true};
 ghost use Rattle.std.specs.List.{filter};
 ghost use Rattle.serde_json.specs.View.{view};
 ghost use Rattle.check_drafts.specs.Fault as fault;
@@ -7,7 +7,7 @@ ghost use Rattle.check_drafts.specs.declared.place.Part.TheVariants as part;
 ghost use Rattle.check_documents.specs.Places.{items_at};
 ghost use Rattle.check_explain.specs.Explanation.{items_list};
 ghost use Rattle.check_explain.specs.Feeds.{has_feed};
-ghost use Rattle.check_explain.specs.Onward.{is_on, noted, noted_all, step_from, steps_from, AreWithin, GoesBack, IsEndless, IsTrip, Reaches};
+ghost use Rattle.check_explain.specs.Onward.{is_on, step_from, steps_from, AreWithin, GoesBack, IsEndless, IsOnBy, IsTrip, Reaches};
 ghost use Rattle.check_explain.specs.Rounds.{has_master, has_parent, is_link, left_out_text, more_text, no_fault_text, object_text, objects_text, round_text};
 ghost use Rattle.check_explain.specs.Rounds.{HasNoMastersRound, HasNoParentsRound, HasNoRound, IsRound, OfWhole, TellsMasters};
 
@@ -238,10 +238,9 @@ fn endless_links(alloc: Global, count: usize, links: &[Link]) -> Result<Onward, 
     Ok(onward)
 }
 
-/// Of each object a link to one that can be gone on from, where it has one.
+/// Of each object a link to one that could be gone on from before, where it has one.
 fn links_on(alloc: Global, links: &[Link], before: &[Option<usize>]) -> Result<Onward, AllocError>
-    ensures { IfOk result (λ onward. onward.items
-        ≡ noted_all before.now links.now (replicate (length before.now) None)) }
+    ensures { IfOk result (λ onward. IsOnBy before.now links.now onward.items) }
 {
     let mut onward = filled(alloc, before.len(), None)?;
     for link in links {
@@ -252,7 +251,9 @@ fn links_on(alloc: Global, links: &[Link], before: &[Option<usize>]) -> Result<O
 
 /// Notes a link, where it leads to an object that can be gone on from.
 fn note_link(onward: &mut [Option<usize>], before: &[Option<usize>], link: Link)
-    ensures { onward.new ≡ noted before.now link onward.old }
+    ensures noted { is_on before.now link.1 ≡ true → onward.new
+        ≡ set onward.old link.0 (Some link.1) }
+    ensures passed { is_on before.now link.1 ≡ false → onward.new ≡ onward.old }
 {
     if is_on(before, link.1) && link.0 < onward.len() {
         onward[link.0] = Some(link.1);

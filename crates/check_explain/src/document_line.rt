@@ -1,13 +1,13 @@
 //! The line of a setup document: the text of its tree.
 
 ghost use Rattle.std.specs.Prelude.{◌≡◌, ◌≤◌, ◌<◌, IfOk, IfErr, IsOk, length};
-ghost use Rattle.check_documents.specs.Feeds.{HasNoFeed};
-ghost use Rattle.check_drafts.specs.Fault.{seen};
-ghost use Rattle.check_objects.specs.Setup.{examined, setup_of};
-ghost use Rattle.check_explain.specs.DocumentLine.{IsFault, OfTree};
 ghost use Rattle.json.specs.Lex.{tokens};
 ghost use Rattle.json.specs.Print.{print};
 ghost use Rattle.serde_json.specs.Written.{compact_text};
+ghost use Rattle.check_drafts.specs.Fault.{seen};
+ghost use Rattle.check_documents.specs.Feeds.{HasNoFeed};
+ghost use Rattle.check_objects.specs.Setup.{examined, setup_of};
+ghost use Rattle.check_explain.specs.DocumentLine.{IsFault, OfTree};
 
 use check_documents::read_tree;
 use check_objects::{Fault, MAX_DOCUMENT_BYTES, Setup};

@@ -1,3 +1,4 @@
+pub mod Walks
 pub mod Unboxing
 pub mod Raws
 pub mod Options

@@ -13,24 +13,24 @@ use Rattle.check_handles.specs.declared.lodged.Ledger.{Ledger}
 use Rattle.check_handles.specs.declared.lodged.Lodged.{Lodged}
 use Rattle.check_handles.specs.declared.lodged.Lodged.TheVariants as lodged
 use Rattle.check_handles.specs.declared.lodged.Prepared.{Prepared}
+use Rattle.check_handles.specs.declared.opening.Terms.{Terms}
 use Rattle.check_handles.specs.declared.shared.Shared.{Shared}
 use Rattle.check_handles.specs.declared.stage.Stage.{Stage}
 use Rattle.check_handles.specs.declared.stage.Stage.TheVariants as stage
 use Rattle.check_handles.specs.Desks.{desk_of}
 use Rattle.check_handles.specs.Handles.{contents_of}
 
--- a desk can be opened on it, at this start and with this room: on a setup, or on a book without entries and refusals, whose start and
--- room are its own
-abbrev pub IsSource : ℕ → ℕ → Lodged → Type 0
-IsSource start room (lodged.Setup prepared) = start ≤ 2 ^ 60
-IsSource start room (lodged.Book ledger) = (start ≡ 0) × (room ≡ 0) × (entries_of ledger.book ≡ []) × (refused_of ledger.book ≡ 0)
-IsSource start room other = ⊥
+-- a desk can be opened on it, on these terms: on a setup, or on a book without entries and refusals, whose start and room are its own
+abbrev pub IsSource : Terms → Lodged → Type 0
+IsSource terms (lodged.Setup prepared) = terms.start ≤ 2 ^ 60
+IsSource terms (lodged.Book ledger) = (terms.start ≡ 0) × (terms.room ≡ 0) × (entries_of ledger.book ≡ []) × (refused_of ledger.book ≡ 0)
+IsSource terms other = ⊥
 
 -- the state with which a desk on it opens
-abbrev pub opens_with : ℕ → ℕ → Lodged → Option BookState
-opens_with start room (lodged.Setup prepared) = Some (book_opening prepared.setup start room)
-opens_with start room (lodged.Book ledger) = Some (opening_of ledger.book)
-opens_with start room other = None
+abbrev pub opens_with : Terms → Lodged → Option BookState
+opens_with terms (lodged.Setup prepared) = Some (book_opening prepared.setup terms.start terms.room)
+opens_with terms (lodged.Book ledger) = Some (opening_of ledger.book)
+opens_with terms other = None
 
 -- a pass at rest that has made no call
 abbrev pub IsNewAtRest : ℕ → ℕ → Stage → Type 0
@@ -54,19 +54,19 @@ abbrev pub ArePassesFrom : ℕ → Shared → ℕ → List Handle → Type 0
 ArePassesFrom calls desk number [] = ⊤
 ArePassesFrom calls desk number (handle ∷ handles) = IsNewPass calls desk number (contents_of handle) × ArePassesFrom calls desk (number + 1) handles
 
--- the passes of a desk that opened with this state, each with so many calls; the desk has this mark
-pub record IsOpenedWith (mark calls : ℕ) (opening : BookState) (handles : List Handle) : Type 0 where
+-- the passes of a desk that opened with this state: the desk has the mark of the terms, and each pass so many calls as they give
+pub record IsOpenedWith (terms : Terms) (opening : BookState) (handles : List Handle) : Type 0 where
   pub shared : Shared
-  pub marked : shared.mark ≡ mark
+  pub marked : shared.mark ≡ terms.mark
   pub opened : opened_with shared.desk ≡ opening
   pub all : passes_of shared.desk ≡ length handles
-  pub new : ArePassesFrom calls shared 0 handles
+  pub new : ArePassesFrom terms.calls shared 0 handles
 
--- a desk was opened on it
-pub record IsOpenedBy (start room mark calls : ℕ) (source : Lodged) (handles : List Handle) : Type 0 where
+-- a desk was opened on it, on these terms
+pub record IsOpenedBy (terms : Terms) (source : Lodged) (handles : List Handle) : Type 0 where
   pub opening : BookState
-  pub from : opens_with start room source ≡ Some opening
-  pub opened : IsOpenedWith mark calls opening handles
+  pub from : opens_with terms source ≡ Some opening
+  pub opened : IsOpenedWith terms opening handles
 
 -- a pass that rests, answers for all of its desk's passes, has made no call and seen nothing
 abbrev pub IsWholeAtRest : Desk → Stage → Type 0
@@ -87,16 +87,16 @@ IsBackOf opening other = ⊥
 abbrev pub IsBookBack : Ledger → Lodged → Type 0
 IsBookBack ledger back = IsBackOf (opening_of ledger.book) back
 
-abbrev pub IsSetupBack : ℕ → ℕ → Prepared → Lodged → Type 0
-IsSetupBack start room prepared (lodged.Setup back) = back.setup ≡ prepared.setup
-IsSetupBack start room prepared (lodged.Pass pass) = IsOnlyPassOf (book_opening prepared.setup start room) pass
-IsSetupBack start room prepared other = ⊥
+abbrev pub IsSetupBack : Terms → Prepared → Lodged → Type 0
+IsSetupBack terms prepared (lodged.Setup back) = back.setup ≡ prepared.setup
+IsSetupBack terms prepared (lodged.Pass pass) = IsOnlyPassOf (book_opening prepared.setup terms.start terms.room) pass
+IsSetupBack terms prepared other = ⊥
 
 -- what was handed back of it, where memory was refused
-abbrev pub IsBack : ℕ → ℕ → Lodged → Lodged → Type 0
-IsBack start room (lodged.Setup prepared) back = IsSetupBack start room prepared back
-IsBack start room (lodged.Book ledger) back = IsBookBack ledger back
-IsBack start room other back = ⊥
+abbrev pub IsBack : Terms → Lodged → Lodged → Type 0
+IsBack terms (lodged.Setup prepared) back = IsSetupBack terms prepared back
+IsBack terms (lodged.Book ledger) back = IsBookBack ledger back
+IsBack terms other back = ⊥
 
 -- a book among what was handed back has no entries
 abbrev pub IsEmptyBack : Lodged → Type 0

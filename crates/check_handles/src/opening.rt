@@ -25,15 +25,28 @@ use std::alloc::{AllocError, Global};
 use std::sync::Arc;
 use ticket_steps::Kept;
 
-/// Whether a desk can be opened on this, at this start and with this room.
-pub fn is_source(lodged: &Lodged, start: u64, room: usize) -> bool
-    ensures { (result ≡ true) ↔ IsSource start room lodged.now }
+/// On what terms a desk opens.
+#[derive(Clone, Copy)]
+pub struct Terms {
+    /// The moment at which scheduling starts, in milliseconds, at most 2^60; 0 for a book, which has its own.
+    pub start: u64,
+    /// For how many entries the history has memory at once; 0 for a book, which has its own.
+    pub room: usize,
+    /// The desk's mark: a number that no other desk of the process has.
+    pub mark: u64,
+    /// How many calls each pass has, at least 1.
+    pub calls: u32,
+}
+
+/// Whether a desk can be opened on this, on these terms.
+pub fn is_source(lodged: &Lodged, terms: Terms) -> bool
+    ensures { (result ≡ true) ↔ IsSource terms lodged.now }
 {
     match lodged {
-        Lodged::Setup(_) => start <= LAST_MOMENT,
+        Lodged::Setup(_) => terms.start <= LAST_MOMENT,
         Lodged::Book(ledger) => {
-            start == 0
-                && room == 0
+            terms.start == 0
+                && terms.room == 0
                 && ledger.book.entries().is_empty()
                 && ledger.book.refused() == 0
         }
@@ -41,25 +54,23 @@ pub fn is_source(lodged: &Lodged, start: u64, room: usize) -> bool
     }
 }
 
-/// Opens a desk on a setup or a book, or hands it back. The desk's mark is one that no other desk has.
+/// Opens a desk on a setup or a book, with a pass for each handle. Where memory is refused it is handed
+/// back, and the handles are as they were.
 pub fn open_source(
     alloc: Global,
     source: Lodged,
-    start: u64,
-    room: usize,
-    mark: u64,
-    calls: u32,
+    terms: Terms,
     handles: &mut [Handle],
 ) -> Result<(), Lodged>
-    requires source { IsSource start room source }
-    requires calls { 0 < calls }
+    requires source { IsSource terms source }
+    requires calls { 0 < terms.calls }
     requires some { (0 < length handles.old) × (length handles.old ≤ 1024) }
-    ensures ok { OnOk result (IsOpenedBy start room mark calls source handles.new) }
-    ensures err { IfErr result (λ back. IsBack start room source back × (handles.new ≡ handles.old)) }
+    ensures ok { OnOk result (IsOpenedBy terms source handles.new) }
+    ensures err { IfErr result (λ back. IsBack terms source back × (handles.new ≡ handles.old)) }
 {
     match source {
-        Lodged::Setup(prepared) => open_setup(alloc, prepared, start, room, mark, calls, handles),
-        Lodged::Book(ledger) => open_ledger(alloc, ledger, mark, calls, handles),
+        Lodged::Setup(prepared) => open_setup(alloc, prepared, terms, handles),
+        Lodged::Book(ledger) => open_ledger(alloc, ledger, terms, handles),
         other => Err(other),
     }
 }
@@ -68,21 +79,18 @@ pub fn open_source(
 fn open_setup(
     alloc: Global,
     prepared: Prepared,
-    start: u64,
-    room: usize,
-    mark: u64,
-    calls: u32,
+    terms: Terms,
     handles: &mut [Handle],
 ) -> Result<(), Lodged>
-    requires start { start ≤ LAST_MOMENT }
-    requires calls { 0 < calls }
+    requires start { terms.start ≤ LAST_MOMENT }
+    requires calls { 0 < terms.calls }
     requires some { (0 < length handles.old) × (length handles.old ≤ 1024) }
-    ensures ok { OnOk result (IsOpenedWith mark calls (book_opening prepared.setup start room) handles.new) }
-    ensures err { IfErr result (λ back. IsSetupBack start room prepared back × (handles.new ≡ handles.old)) }
+    ensures ok { OnOk result (IsOpenedWith terms (book_opening prepared.setup terms.start terms.room) handles.new) }
+    ensures err { IfErr result (λ back. IsSetupBack terms prepared back × (handles.new ≡ handles.old)) }
 {
     let Prepared { setup, names } = prepared;
-    match Book::open(alloc, setup, start, room) {
-        Ok(book) => match open_ledger(alloc, Ledger { book, names }, mark, calls, handles) {
+    match Book::open(alloc, setup, terms.start, terms.room) {
+        Ok(book) => match open_ledger(alloc, Ledger { book, names }, terms, handles) {
             Ok(()) => Ok(()),
             Err(back) => Err(as_setup(back)),
         },
@@ -111,14 +119,13 @@ fn as_setup(back: Lodged) -> Lodged
 fn open_ledger(
     alloc: Global,
     ledger: Ledger,
-    mark: u64,
-    calls: u32,
+    terms: Terms,
     handles: &mut [Handle],
 ) -> Result<(), Lodged>
     requires empty { (entries_of ledger.book ≡ []) × (refused_of ledger.book ≡ 0) }
-    requires calls { 0 < calls }
+    requires calls { 0 < terms.calls }
     requires some { (0 < length handles.old) × (length handles.old ≤ 1024) }
-    ensures ok { OnOk result (IsOpenedWith mark calls (opening_of ledger.book) handles.new) }
+    ensures ok { OnOk result (IsOpenedWith terms (opening_of ledger.book) handles.new) }
     ensures err { IfErr result (λ back. IsBookBack ledger back × (handles.new ≡ handles.old)) }
 {
     let count = handles.len();
@@ -126,8 +133,8 @@ fn open_ledger(
     let Ok(seats) = prepare_seats(alloc, &names, count) else {
         return Err(Lodged::Book(Ledger { book, names }));
     };
-    match Desk::open_with(alloc, book, count as u32, calls) {
-        Ok((desk, passes)) => seat_all(alloc, desk, mark, calls, passes, names, seats, handles),
+    match Desk::open_with(alloc, book, count as u32, terms.calls) {
+        Ok((desk, passes)) => seat_all(alloc, desk, terms, passes, names, seats, handles),
         Err(book) => Err(Lodged::Book(Ledger { book, names })),
     }
 }
@@ -165,22 +172,21 @@ fn prepare_seats(
     })
 }
 
-/// Gives each handle a pass of the desk, or hands the book back. Each pass has so many calls.
+/// Gives each handle a pass of the desk, or hands the book back.
 fn seat_all(
     alloc: Global,
     desk: Desk,
-    mark: u64,
-    calls: u32,
+    terms: Terms,
     passes: Vec<Pass>,
     names: Arc<Setup, Global>,
     seats: Seats,
     handles: &mut [Handle],
 ) -> Result<(), Lodged>
     requires names { arc_value names ≡ (opened_with desk).sched.setup }
-    requires new { AreNewPassesWith calls desk 0 passes.items }
+    requires new { AreNewPassesWith terms.calls desk 0 passes.items }
     requires count { (length passes.items ≡ passes_of desk) × (length handles.old ≡ passes_of desk) × (0 < passes_of desk) × (length passes.items ≤ 1024) }
     requires seats { AreSeats (arc_value names) (passes_of desk) seats }
-    ensures ok { OnOk result (IsOpenedWith mark calls (opened_with desk) handles.new) }
+    ensures ok { OnOk result (IsOpenedWith terms (opened_with desk) handles.new) }
     ensures err { IfErr result (λ back. IsBackOf (opened_with desk) back × (handles.new ≡ handles.old)) }
 {
     let count = passes.len();
@@ -189,11 +195,14 @@ fn seat_all(
         names: all,
         desks,
     } = seats;
-    let shared = Shared { desk, mark };
+    let shared = Shared {
+        desk,
+        mark: terms.mark,
+    };
     match Arc::new(alloc, shared) {
         Ok(shared) => match share(&shared, desks, count) {
             Ok(desks) => {
-                hand_out(&shared, calls, passes, places, all, desks, handles);
+                hand_out(&shared, terms.calls, passes, places, all, desks, handles);
                 Ok(())
             }
             Err(_) => Err(unshared(shared, passes, names)),

@@ -163,7 +163,11 @@ few_attempts reply.AtLimit few = omega arith
 few_attempts (reply.Standing standing changed next) few = few
 few_attempts (reply.Freed next) few = omega arith
 few_attempts reply.Done few = omega arith
-few_attempts (reply.Refused why) few = omega arith
+few_attempts (reply.Refused refused.UnknownObject) few = omega arith
+few_attempts (reply.Refused refused.TimeRange) few = omega arith
+few_attempts (reply.Refused refused.NotRunning) few = omega arith
+few_attempts (reply.Refused refused.WrongRun) few = omega arith
+few_attempts (reply.Refused refused.RunsSpent) few = omega arith
 
 pub no_reply_past : (plain : PlainReply) → 2 ^ 8 ≤ plain.standing.attempt → IsNoReply plain
 no_reply_past plain past r few has = absurd (omega (arith, past, few_attempts r few, ap (λ (p : PlainReply). p.standing.attempt) has))

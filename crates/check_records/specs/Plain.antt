@@ -19,7 +19,6 @@ use Rattle.check_sched.specs.declared.call.Call.{Call}
 use Rattle.check_sched.specs.declared.call.Call.TheVariants as call
 use Rattle.check_sched.specs.declared.call.Reply.{Reply}
 use Rattle.check_sched.specs.declared.call.Reply.TheVariants as reply
-use Rattle.check_sched.specs.declared.call.Refusal.{Refusal}
 use Rattle.check_sched.specs.declared.call.Refusal.TheVariants as refused
 use Rattle.check_records.specs.declared.plain.PlainStanding.{PlainStanding}
 use Rattle.check_records.specs.declared.plain.PlainCall.{PlainCall}
@@ -32,21 +31,9 @@ abbrev pub flag : Bool → ℕ
 flag true = 1
 flag false = 0
 
--- the code of this number, 0 to 3
-abbrev pub code_of : ℕ → Option Code
-code_of n = numbered_code n
-
 -- yes or no of this number, 1 or 0
 abbrev pub flag_of : ℕ → Option Bool
 flag_of n = cond (n == 0) (Some false) (cond (n == 1) (Some true) None)
-
--- why a call was refused, among the kinds of a reply
-abbrev pub refusal_number : Refusal → ℕ
-refusal_number refused.UnknownObject = 7
-refusal_number refused.TimeRange = 8
-refusal_number refused.NotRunning = 9
-refusal_number refused.WrongRun = 10
-refusal_number refused.RunsSpent = 11
 
 abbrev pub plain_standing : Standing → PlainStanding
 plain_standing s = record { checked = flag s.checked; state = state_number s.state; kind = kind_number s.kind; attempt = s.attempt; last_hard = state_number s.last_hard; flapping = flag s.flapping }
@@ -90,7 +77,11 @@ plain_reply reply.AtLimit = reply_struct 3 0 0 None
 plain_reply (reply.Standing standing changed next) = record { kind = 4; object = 0; run = 0; time = time_or_0 next; has_time = has_time next; changed = flag changed; standing = plain_standing standing }
 plain_reply (reply.Freed next) = reply_struct 5 0 0 (Some next)
 plain_reply reply.Done = reply_struct 6 0 0 None
-plain_reply (reply.Refused why) = reply_struct (refusal_number why) 0 0 None
+plain_reply (reply.Refused refused.UnknownObject) = reply_struct 7 0 0 None
+plain_reply (reply.Refused refused.TimeRange) = reply_struct 8 0 0 None
+plain_reply (reply.Refused refused.NotRunning) = reply_struct 9 0 0 None
+plain_reply (reply.Refused refused.WrongRun) = reply_struct 10 0 0 None
+plain_reply (reply.Refused refused.RunsSpent) = reply_struct 11 0 0 None
 
 abbrev pub plain_entry : Entry Call Reply → PlainEntry
 plain_entry e = record { pass = e.pass; call = plain_call e.call; reply = plain_reply e.reply }

@@ -5,8 +5,8 @@
 //! here, and are read back from them. Nothing in them is a handle, a text or a status.
 //!
 //! The modules: `plain` has the structs and which of them stands for a value, `numbers` the numbers of
-//! switches, parts and refusals, `reading` reads structs back; `saved_faults` does both for the refusals of
-//! a saved state; `laws` says that nothing is lost on the way.
+//! switches, and what has a number; `reading` reads structs back; `saved_faults` does both for the refusals
+//! of a saved state; `laws` says that nothing is lost on the way.
 
 pub mod laws;
 mod numbers;
@@ -14,7 +14,7 @@ mod plain;
 mod reading;
 mod saved_faults;
 
-pub use numbers::{code_of, flag_of};
+pub use numbers::flag_of;
 pub use plain::{
     PlainCall, PlainEntry, PlainRefusal, PlainReply, PlainStanding, plain_call, plain_entry,
     plain_refusal, plain_reply, plain_standing, tell_reply,

@@ -1,26 +1,18 @@
-//! The numbers of switches and refusals of calls, and what has each number. Parts have theirs in
-//! check_drafts; codes, states and kinds in check_rules.
+//! The numbers of switches, and what has each number. Parts have theirs in check_drafts; codes, states and
+//! kinds in check_rules.
 
 ghost use Rattle.std.specs.Prelude.{◌≡◌};
-ghost use Rattle.check_records.specs.Plain.{code_of, flag, flag_of, refusal_number};
+ghost use Rattle.check_records.specs.Plain.{flag, flag_of};
 ghost use Rattle.check_records.specs.Plain.{code_back, kind_back, part_back, state_back};
 
 use check_drafts::Part;
 use check_rules::{Code, Kind, State};
-use check_sched::Refusal;
 
 /// Yes as 1, no as 0.
 pub(crate) fn flag(yes: bool) -> u32
     ensures { result ≡ flag yes }
 {
     if yes { 1 } else { 0 }
-}
-
-/// What a check returned, where the number is one of those.
-pub fn code_of(number: u32) -> Option<Code>
-    ensures { result ≡ code_of number }
-{
-    Code::numbered(u64::from(number))
 }
 
 /// Yes or no, where the number is 1 or 0.
@@ -31,19 +23,6 @@ pub fn flag_of(number: u32) -> Option<bool>
         0 => Some(false),
         1 => Some(true),
         _ => None,
-    }
-}
-
-/// Why a call was refused, among the kinds of a reply.
-pub(crate) fn refusal_number(refusal: Refusal) -> u32
-    ensures { result ≡ refusal_number refusal }
-{
-    match refusal {
-        Refusal::UnknownObject => 7,
-        Refusal::TimeRange => 8,
-        Refusal::NotRunning => 9,
-        Refusal::WrongRun => 10,
-        Refusal::RunsSpent => 11,
     }
 }
 

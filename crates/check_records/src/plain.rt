@@ -7,10 +7,10 @@ ghost use Rattle.std.specs.Prelude.{◌≡◌};
 ghost use Rattle.check_records.specs.Plain.{has_time, time_or_0};
 ghost use Rattle.check_records.specs.Plain.{plain_call, plain_entry, plain_refusal, plain_reply, plain_standing, refusal_at, refusal_nowhere, with_time};
 
-use crate::numbers::{flag, refusal_number};
+use crate::numbers::flag;
 use check_drafts::{LoadError, Place};
 use check_rules::Standing;
-use check_sched::{Call, Reply};
+use check_sched::{Call, Refusal, Reply};
 use ticket_steps::Entry;
 
 /// What is known of an object.
@@ -251,7 +251,11 @@ pub fn tell_reply(reply: Reply, told: &mut PlainReply)
             tell_time(Some(next), told);
         }
         Reply::Done => told.kind = 6,
-        Reply::Refused(refusal) => told.kind = refusal_number(refusal),
+        Reply::Refused(Refusal::UnknownObject) => told.kind = 7,
+        Reply::Refused(Refusal::TimeRange) => told.kind = 8,
+        Reply::Refused(Refusal::NotRunning) => told.kind = 9,
+        Reply::Refused(Refusal::WrongRun) => told.kind = 10,
+        Reply::Refused(Refusal::RunsSpent) => told.kind = 11,
     }
 }
 

@@ -6,7 +6,7 @@ ghost use Rattle.check_script.specs.Agreement.{refusal};
 use crate::drive_error::DriveError;
 use check_objects::LoadError;
 use check_saved::SavedFault;
-use std::alloc::{AllocError, AllocFailed};
+use std::alloc::AllocError;
 
 /// What is wrong with a line of a script, in the order in which a line is tested.
 #[derive(Clone, Copy, Debug, PartialEq, Eq)]
@@ -61,14 +61,6 @@ impl From<AllocError> for ScriptError {
     ghost from_gives = { λ _ e. e ≡ Memory };
 
     fn from(_refused: AllocError) -> ScriptError {
-        ScriptError::Memory
-    }
-}
-
-impl<T: Drop> From<AllocFailed<T>> for ScriptError {
-    ghost from_gives = { λ _ e. e ≡ Memory };
-
-    fn from(_refused: AllocFailed<T>) -> ScriptError {
         ScriptError::Memory
     }
 }

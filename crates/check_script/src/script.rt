@@ -83,7 +83,10 @@ pub(crate) fn read_commands<C: Command>(
     let mut number = first;
     for line in lines {
         if !is_blank(line) {
-            commands.push(read_command(alloc, setup, line, number)?)?;
+            let command = read_command(alloc, setup, line, number)?;
+            let Ok(()) = commands.push(command) else {
+                return Err(ScriptError::Memory);
+            };
         }
         number += 1;
     }

@@ -29,7 +29,7 @@ use Rattle.check_session.specs.Check.{HasOnly, IsCheckOf, IsLineTold, IsRefusalT
 use Rattle.check_session.specs.Reading.{read_of}
 use Rattle.check_session.proofs.ReadingLemmas.{cut_length, read_all, read_long}
 use Rattle.check_drive.proofs.DriveLemmas.{input_of, input_of-is}
-use Rattle.check_drive.proofs.WrittenLemmas.{Keeps-same}
+use Rattle.check_text.proofs.WrittenLemmas.{Keeps-same}
 
 -- ---- an input of which a prefix was read
 

@@ -1,6 +1,6 @@
 -- A whole drill, and what its faults leave.
 use Rattle.std.proofs.Common.{◌≡◌, ◌≢◌, ℕ, List, [], take, Option, Some, None, Result, Ok, Err, refl, ap, ◌∙◌, inl, inr, ◌⊎◌}
-use Rattle.std.specs.Prelude.{IfSome, OnErr}
+use Rattle.std.specs.Prelude.{IfSome}
 use Rattle.std.specs.Io.KnownBytes.{Keeps, Consumes}
 use Rattle.ticket_steps.specs.declared.kept.Entry.{Entry}
 use Rattle.check_sched.specs.declared.call.Call.{Call}
@@ -9,13 +9,14 @@ use Rattle.check_script.specs.declared.input.TheConstants.{MAX_READ_BYTES}
 use Rattle.check_script.specs.declared.drive_error.DriveError.{DriveError}
 use Rattle.check_script.specs.declared.drive_error.DriveError.TheVariants as errors
 use Rattle.check_drive.specs.declared.drive.Outcome.{Outcome}
-use Rattle.check_session.specs.Drill.{AfterDrillFault, IsDrill, IsDrillOnInput, IsTextOf, WroteDrill, WroteDrillFront, WroteDrillShort, drill_outcome}
+use Rattle.check_session.specs.Drill.{AfterDrillFault, IsDrill, IsDrillOnInput, IsDrillWritten, IsTextOf, WroteDrill, WroteDrillFront, WroteDrillShort, drill_outcome}
 use Rattle.check_script.specs.DrillScript.{DrillScript, drill_script_of}
+use Rattle.check_script.specs.declared.refusal.InputRefusal.{InputRefusal}
 use Rattle.check_drive.specs.Drive.{HasRead, outcome_by}
-use Rattle.check_text.specs.Output.{WroteFront, WroteShort}
-use Rattle.check_text.specs.Text.{drill_text}
+use Rattle.check_text.specs.Text.{drill_text, refusal_line}
+use Rattle.check_text.specs.Written.{IsTextWritten}
 use Rattle.check_drive.proofs.DriveLemmas.{drill_script_take, has_read, input_of, input_of-is}
-use Rattle.check_drive.proofs.WrittenLemmas.{Keeps-same}
+use Rattle.check_text.proofs.WrittenLemmas.{Keeps-same}
 use Rattle.check_text.proofs.OutputLemmas.{Appends-Keeps, front_all}
 
 -- the text of a history of the input's script
@@ -23,27 +24,33 @@ pub text_of_drill : (start workers room : ℕ) (input : List ℕ) (s : DrillScri
     → IsDrill s start workers room history refused → IsTextOf start workers room input (drill_text s.setup history refused)
 text_of_drill start workers room input s history refused e d = rw e (record { history = history; refused = refused; drill = d; text_is = refl })
 
--- a prefix of it was written
-pub front_of_drill : (r : Result Outcome DriveError) (start workers room : ℕ) (input : List ℕ) (s : DrillScript) (history : List (Entry Call Reply))
-    (refused : ℕ) (held holds : Option (List ℕ))
-    → drill_script_of input ≡ Ok s → IsDrill s start workers room history refused → OnErr r (WroteFront held holds (drill_text s.setup history refused))
-    → OnErr r (Keeps held holds ⊎ WroteDrillFront start workers room input held holds)
-front_of_drill (Ok x) start workers room input s history refused held holds e d f = tt
-front_of_drill (Err x) start workers room input s history refused held holds e d f =
-    inr (record { text = drill_text s.setup history refused; is_text = text_of_drill start workers room input s history refused e d; written = f })
+-- the line of the input's refusal
+pub refusal_of_drill : (start workers room : ℕ) (input : List ℕ) (r : InputRefusal) → drill_script_of input ≡ Err r
+    → IsTextOf start workers room input (refusal_line r)
+refusal_of_drill start workers room input r e = rw e refl
 
--- not all of it was written
-pub short_of_drill : (start workers room : ℕ) (input : List ℕ) (s : DrillScript) (history : List (Entry Call Reply)) (refused : ℕ) (held holds : Option (List ℕ))
-    → drill_script_of input ≡ Ok s → IsDrill s start workers room history refused → WroteShort held holds (drill_text s.setup history refused)
-    → WroteDrillShort start workers room input held holds
-short_of_drill start workers room input s history refused held holds e d (inl k) = inl k
-short_of_drill start workers room input s history refused held holds e d (inr w) = inr (record {
-  text = drill_text s.setup history refused;
-  is_text = text_of_drill start workers room input s history refused e d;
-  rest = w.0;
-  is_missing = w.1;
-  written = w.2;
-})
+-- such a text was written, or an error left this of it
+pub wrote_drill : (r : Result Outcome DriveError) (start workers room : ℕ) (input text : List ℕ) (held holds : Option (List ℕ))
+    → IsTextOf start workers room input text → IsTextWritten r held holds text → IsDrillWritten start workers room input r held holds
+wrote_drill (Ok x) start workers room input text held holds is h =
+    record { written = record { text = text; is_text = is; written = h }; front = tt; kind = tt; short = tt }
+wrote_drill (Err errors.Read) start workers room input text held holds is h = absurd h
+wrote_drill (Err errors.Write) start workers room input text held holds is h =
+    record { written = tt; front = inr (record { text = text; is_text = is; written = h }); kind = λ q. cc; short = λ q. cc }
+wrote_drill (Err errors.Memory) start workers room input text held holds is (inl kept) =
+    record { written = tt; front = inl kept; kind = λ q. cc; short = λ q. inl kept }
+wrote_drill (Err errors.Memory) start workers room input text held holds is (inr w) = record {
+  written = tt;
+  front = inr (record { text = text; is_text = is; written = (w.0, w.2) });
+  kind = λ q. cc;
+  short = λ q. inr (record { text = text; is_text = is; rest = w.0; is_missing = w.1; written = w.2 });
+}
+
+-- out of memory before anything was written
+pub wrote_none : (e : DriveError) (start workers room : ℕ) (input : List ℕ) (held : Option (List ℕ)) → e ≡ errors.Memory
+    → IsDrillWritten start workers room input (Err e) held held
+wrote_none e start workers room input held is =
+    rw is (record { written = tt; front = inl (Keeps-same held); kind = λ q. cc; short = λ q. inl (Keeps-same held) })
 
 -- ---- what was read is the input, or its prefix that is too long
 

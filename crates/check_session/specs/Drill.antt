@@ -1,5 +1,5 @@
 -- What the workers of a drill leave in the history, and what a drill writes.
-use Rattle.std.specs.Prelude.{◌≡◌, ◌≢◌, ◌⊎◌, ℕ, ◌+◌, ◌<◌, ◌≤◌, ⊤, List, [], ◌∷◌, filter_map, length, Option, Some, None, Result, Ok, Err, IfOk, OnErr, OnOk}
+use Rattle.std.specs.Prelude.{◌≡◌, ◌≢◌, ◌⊎◌, ℕ, ◌+◌, ◌<◌, ◌≤◌, ⊤, List, [], ◌∷◌, filter_map, length, Option, Some, None, Result, Ok, Err, IfErr, IfOk, OnErr, OnOk}
 use Rattle.std.specs.Io.KnownBytes.{Appends, Keeps}
 use Rattle.ticket_steps.specs.declared.kept.Entry.{Entry}
 use Rattle.ticket_steps.specs.History.{of, IsLegal}
@@ -98,6 +98,14 @@ pub record WroteDrillPart (start workers room : ℕ) (input : List ℕ) (held ho
 -- nothing was written, or a prefix of such a text that isn't all of it
 abbrev pub WroteDrillShort : ℕ → ℕ → ℕ → List ℕ → Option (List ℕ) → Option (List ℕ) → Type 0
 WroteDrillShort start workers room input held holds = Keeps held holds ⊎ WroteDrillPart start workers room input held holds
+
+-- What a drill on an input that was read has written when it ended so: such a text, or after an error nothing or a prefix of one, which isn't
+-- all of it where memory ran out. It is no fault of a reader.
+pub record IsDrillWritten (start workers room : ℕ) (input : List ℕ) (ended : Result Outcome DriveError) (held holds : Option (List ℕ)) : Type 0 where
+  pub written : OnOk ended (WroteDrill start workers room input held holds)
+  pub front : OnErr ended (Keeps held holds ⊎ WroteDrillFront start workers room input held holds)
+  pub kind : IfErr ended (λ e. e ≢ errors.Read)
+  pub short : IfErr ended (λ e. e ≡ errors.Memory → WroteDrillShort start workers room input held holds)
 
 -- What an error of a drill leaves, as `AfterFault` says it of a run: after a fault of the reader nothing was written. After
 -- any other error nothing was, or the input was read and a prefix of a text that a drill can write on it was written.

@@ -1,15 +1,14 @@
 //! A drill: reads a setup, return codes and moments, lets many workers work on one scheduler, and
 //! writes the history that they made.
-ghost use Rattle.std.specs.Prelude.{◌≡◌, ◌≢◌, ◌<◌, ◌≤◌, ◌⊎◌, OnOk, OnErr, IfOk, IfErr, IfSome, length};
-ghost use Rattle.std.specs.Io.KnownBytes.{Appends, Keeps};
+ghost use Rattle.std.specs.Prelude.{◌≡◌, ◌<◌, ◌≤◌, OnOk, IfOk, IfErr, IfSome, length};
 ghost use Rattle.check_book.specs.Books.{entries_of, refused_of, sched_of};
-ghost use Rattle.check_session.specs.Drill.{AfterDrillFault, IsDrill, IsDrillOnInput};
-ghost use Rattle.check_session.specs.Drill.{WroteDrill, WroteDrillFront, WroteDrillShort, drill_outcome};
+ghost use Rattle.check_session.specs.Drill.{AfterDrillFault, IsDrill, IsDrillOnInput, IsDrillWritten};
+ghost use Rattle.check_session.specs.Drill.{WroteDrill, WroteDrillShort, drill_outcome};
 ghost use Rattle.check_script.specs.DrillScript.{drill_script_of};
 ghost use Rattle.check_script.specs.DrillScripted.{drill_script};
 ghost use Rattle.check_drive.specs.Drive.{HasRead};
-ghost use Rattle.check_text.specs.Output.{WroteFront, WroteShort};
 ghost use Rattle.check_text.specs.Text.{drill_text, entry_line, total_line};
+ghost use Rattle.check_text.specs.Written.{IsLineWritten, IsTextWritten};
 
 use crate::scripted::Scripted;
 use check_book::Book;
@@ -83,16 +82,9 @@ fn answer<H: Threads + Wait + Sync, W: Write>(
 ) -> Result<Outcome, DriveError>
     requires start { start ≤ LAST_MOMENT }
     requires workers { (0 < workers) × (workers ≤ 64) }
-    ensures written { OnOk result (WroteDrill start workers room input.now
-        (W.contents writer.old) (W.contents writer.new)) }
+    ensures wrote { IsDrillWritten start workers room input.now result
+        (W.contents writer.old) (W.contents writer.new) }
     ensures outcome { IfOk result (λ outcome. outcome ≡ drill_outcome input.now) }
-    ensures fault { OnErr result (Keeps (W.contents writer.old) (W.contents writer.new)
-        ⊎ WroteDrillFront start workers room input.now
-        (W.contents writer.old) (W.contents writer.new)) }
-    ensures kind { IfErr result (λ e. e ≢ DriveError.Read) }
-    ensures memory { IfErr result (λ e. e ≡ DriveError.Memory
-        → WroteDrillShort start workers room input.now
-        (W.contents writer.old) (W.contents writer.new)) }
 {
     match DrillScript::read(alloc, input) {
         Ok(script) => {
@@ -142,15 +134,9 @@ fn work_all<H: Threads + Wait + Sync>(
 
 /// Writes the history of a book, and its total.
 fn write_book<W: Write>(alloc: Global, book: &Book, writer: &mut W) -> Result<Outcome, DriveError>
-    ensures written { OnOk result (Appends (W.contents writer.old) (W.contents writer.new)
-        (drill_text (sched_of book.now).setup (entries_of book.now) (refused_of book.now))) }
+    ensures wrote { IsTextWritten result (W.contents writer.old) (W.contents writer.new)
+        (drill_text (sched_of book.now).setup (entries_of book.now) (refused_of book.now)) }
     ensures outcome { IfOk result (λ outcome. outcome ≡ Outcome.Ran) }
-    ensures fault { OnErr result (WroteFront (W.contents writer.old) (W.contents writer.new)
-        (drill_text (sched_of book.now).setup (entries_of book.now) (refused_of book.now))) }
-    ensures kind { IfErr result (λ e. e ≢ DriveError.Read) }
-    ensures memory { IfErr result (λ e. e ≡ DriveError.Memory
-        → WroteShort (W.contents writer.old) (W.contents writer.new)
-        (drill_text (sched_of book.now).setup (entries_of book.now) (refused_of book.now))) }
 {
     write_history(
         alloc,
@@ -175,14 +161,8 @@ pub fn write_history<W: Write>(
     refused: u64,
     writer: &mut W,
 ) -> Result<(), DriveError>
-    ensures written { OnOk result (Appends (W.contents writer.old) (W.contents writer.new)
-        (drill_text setup.now entries.now refused)) }
-    ensures fault { OnErr result (WroteFront (W.contents writer.old) (W.contents writer.new)
-        (drill_text setup.now entries.now refused)) }
-    ensures kind { IfErr result (λ e. e ≢ DriveError.Read) }
-    ensures memory { IfErr result (λ e. e ≡ DriveError.Memory
-        → WroteShort (W.contents writer.old) (W.contents writer.new)
-        (drill_text setup.now entries.now refused)) }
+    ensures { IsTextWritten result (W.contents writer.old) (W.contents writer.new)
+        (drill_text setup.now entries.now refused) }
 {
     let mut line = String::new(alloc);
     for entry in entries {
@@ -192,19 +172,15 @@ pub fn write_history<W: Write>(
 }
 
 /// Writes the line of an entry by way of the buffer `line`.
+#[tactic(auto, using(check_text::proofs::WrittenLemmas::line_written, check_text::proofs::WrittenLemmas::line_unwritten))]
 fn write_entry<W: Write>(
     setup: &Setup,
     entry: &Entry<Call, Reply>,
     line: &mut String,
     writer: &mut W,
 ) -> Result<(), DriveError>
-    ensures written { OnOk result (Appends (W.contents writer.old) (W.contents writer.new)
-        (entry_line setup.now entry.now)) }
-    ensures fault { OnErr result (WroteFront (W.contents writer.old) (W.contents writer.new)
-        (entry_line setup.now entry.now)) }
-    ensures kind { IfErr result (λ e. e ≢ DriveError.Read) }
-    ensures memory { IfErr result (λ e. e ≡ DriveError.Memory
-        → Keeps (W.contents writer.old) (W.contents writer.new)) }
+    ensures { IsLineWritten result (W.contents writer.old) (W.contents writer.new)
+        (entry_line setup.now entry.now) }
 {
     line.clear();
     push_entry(line, setup, entry)?;
@@ -212,19 +188,15 @@ fn write_entry<W: Write>(
 }
 
 /// Writes the total by way of the buffer `line`.
+#[tactic(auto, using(check_text::proofs::WrittenLemmas::line_written, check_text::proofs::WrittenLemmas::line_unwritten))]
 fn write_total<W: Write>(
     entries: usize,
     refused: u64,
     line: &mut String,
     writer: &mut W,
 ) -> Result<(), DriveError>
-    ensures written { OnOk result (Appends (W.contents writer.old) (W.contents writer.new)
-        (total_line entries refused)) }
-    ensures fault { OnErr result (WroteFront (W.contents writer.old) (W.contents writer.new)
-        (total_line entries refused)) }
-    ensures kind { IfErr result (λ e. e ≢ DriveError.Read) }
-    ensures memory { IfErr result (λ e. e ≡ DriveError.Memory
-        → Keeps (W.contents writer.old) (W.contents writer.new)) }
+    ensures { IsLineWritten result (W.contents writer.old) (W.contents writer.new)
+        (total_line entries refused) }
 {
     line.clear();
     push_total(line, entries, refused)?;

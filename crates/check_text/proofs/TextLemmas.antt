@@ -1,6 +1,6 @@
 -- The text of a run, call by call, and of a history, entry by entry.
 use Rattle.std.proofs.Common.{◌≡◌, ◌≢◌, ℕ, List, [], ◌∷◌, ◌++◌, refl, ap, ◌∙◌, append_assoc, append-nil, sym, arith, drop, length, ◌+◌, ◌≤◌, ◌<◌, get_or}
-use Rattle.std.specs.Prelude.{codes, flat_map}
+use Rattle.std.specs.Prelude.{codes, decimal, flat_map}
 use Rattle.check_saved.specs.Text.{saved_text}
 use Rattle.check_sched.specs.Saved.{saved_of}
 use Rattle.std.proofs.lemmas.Grind.{common_steps}
@@ -58,10 +58,11 @@ unfolding saved_line
 answer_line_some s (command.Call call) = line_from_some s call
 answer_line_some s command.Save = line_of_some (codes "saved " ++ saved_text (saved_of s))
 
--- before the total there is the total at least
-pub history_some : (c : Configuration) (es : List (Entry Call Reply)) (entries refused : ℕ) → flat_map (entry_line c) es ++ total_line entries refused ≢ []
-history_some c es entries refused =
-    append_some (flat_map (entry_line c) es) (total_line entries refused) (line_of_some (total_text entries refused))
+pub entry_line_some : (c : Configuration) (e : Entry Call Reply) → entry_line c e ≢ []
+entry_line_some c e = append_some (decimal e.pass) _ (append_some (codes " ") _ (line_of_some (reply_text c e.call e.reply)))
+
+pub total_line_some : (entries refused : ℕ) → total_line entries refused ≢ []
+total_line_some entries refused = line_of_some (total_text entries refused)
 
 -- ---- texts in parts
 

@@ -1,9 +1,10 @@
 //! Bytes to a writer: a text, the line of a refusal or of what is saved, and the flush at the end. The lines that are
 //! written are made in `text`.
-ghost use Rattle.std.specs.Prelude.{OnOk, OnErr, IfErr, IsOkUnless, ◌≡◌, ◌≢◌};
+ghost use Rattle.std.specs.Prelude.{OnOk, OnErr, IsOkUnless};
 ghost use Rattle.std.specs.Io.KnownBytes.{Appends, Keeps};
 ghost use Rattle.check_text.specs.Output.{WroteFront};
 ghost use Rattle.check_text.specs.Text.{refusal_line, saved_line};
+ghost use Rattle.check_text.specs.Written.{IsLineWritten};
 
 use crate::text::{push_refusal, saved_line};
 use check_sched::Sched;
@@ -36,18 +37,14 @@ pub fn write_text<W: Write>(writer: &mut W, text: &[u8]) -> Result<(), DriveErro
 
 /// Writes the line of a refusal. An Err is `Write`, and a prefix of the line was written then, or
 /// `Memory`, and nothing was. Nothing is flushed.
+#[tactic(auto, using(crate::proofs::WrittenLemmas::line_written, crate::proofs::WrittenLemmas::line_unwritten))]
 pub fn write_refusal<W: Write>(
     alloc: Global,
     refusal: InputRefusal,
     writer: &mut W,
 ) -> Result<(), DriveError>
-    ensures written { OnOk result
-        (Appends (W.contents writer.old) (W.contents writer.new) (refusal_line refusal)) }
-    ensures fault { OnErr result
-        (WroteFront (W.contents writer.old) (W.contents writer.new) (refusal_line refusal)) }
-    ensures kind { IfErr result (λ e. e ≢ DriveError.Read) }
-    ensures memory { IfErr result (λ e. e ≡ DriveError.Memory
-        → Keeps (W.contents writer.old) (W.contents writer.new)) }
+    ensures { IsLineWritten result (W.contents writer.old) (W.contents writer.new)
+        (refusal_line refusal) }
 {
     let mut line = String::new(alloc);
     push_refusal(&mut line, refusal)?;
@@ -56,14 +53,10 @@ pub fn write_refusal<W: Write>(
 
 /// Writes the line of what is saved of a scheduler, which stays as it is. An Err is `Write`, and a
 /// prefix of the line was written then, or `Memory`, and nothing was. Nothing is flushed.
+#[tactic(auto, using(crate::proofs::WrittenLemmas::line_written, crate::proofs::WrittenLemmas::line_unwritten))]
 pub fn write_saved<W: Write>(alloc: Global, sched: &Sched, writer: &mut W) -> Result<(), DriveError>
-    ensures written { OnOk result
-        (Appends (W.contents writer.old) (W.contents writer.new) (saved_line sched.now)) }
-    ensures fault { OnErr result
-        (WroteFront (W.contents writer.old) (W.contents writer.new) (saved_line sched.now)) }
-    ensures kind { IfErr result (λ e. e ≢ DriveError.Read) }
-    ensures memory { IfErr result (λ e. e ≡ DriveError.Memory
-        → Keeps (W.contents writer.old) (W.contents writer.new)) }
+    ensures { IsLineWritten result (W.contents writer.old) (W.contents writer.new)
+        (saved_line sched.now) }
 {
     let line = saved_line(alloc, sched)?;
     write_text(writer, &line)

@@ -4,14 +4,16 @@
 //! has. So no pass holds the book between two calls of C.
 
 ghost use Rattle.std.specs.Prelude.{◌≡◌, Option, Some, None};
+ghost use Rattle.check_rules.specs.Numbers.{numbered_code};
 ghost use Rattle.check_sched.specs.declared.call.Call.TheVariants as call;
 ghost use Rattle.check_handles.specs.Handles.{contents_of};
-ghost use Rattle.check_records.specs.Plain.{code_of, flag_of};
+ghost use Rattle.check_records.specs.Plain.{flag_of};
 ghost use Rattle.nagsched_c.specs.Tries.{reply_after, status_of, HasTried, HasTriedIf};
 
 use crate::status::{NO_MEMORY, OK, SPENT, WAIT, WRONG};
 use check_handles::{Handle, Lodged, Step};
-use check_records::{PlainReply, code_of, flag_of, tell_reply};
+use check_records::{PlainReply, flag_of, tell_reply};
+use check_rules::Code;
 use check_sched::Call;
 use std::alloc::Global;
 
@@ -46,10 +48,10 @@ pub extern "C" fn nagsched_try_report(
     code: u32,
     reply: &mut PlainReply,
 ) -> u32
-    ensures { HasTriedIf (code_of code) (λ known. call.Report object run known)
+    ensures { HasTriedIf (numbered_code code) (λ known. call.Report object run known)
         (contents_of pass.old) reply.old result (contents_of pass.new) reply.new }
 {
-    match code_of(code) {
+    match Code::numbered(u64::from(code)) {
         Some(code) => try_call(alloc, pass, Call::Report { object, run, code }, reply),
         None => WRONG,
     }

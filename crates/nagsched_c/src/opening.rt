@@ -2,10 +2,10 @@
 
 ghost use Rattle.std.specs.Prelude.{◌≡◌, ◌↔◌, ◌<◌, true};
 ghost use Rattle.check_handles.specs.Handles.{contents_of};
-ghost use Rattle.nagsched_c.specs.Opening.{are_empty, ArePlaces, HasOpened, MayOpen};
+ghost use Rattle.nagsched_c.specs.Opening.{are_empty, terms_of, ArePlaces, HasOpened, MayOpen};
 
 use crate::status::{NO_MEMORY, OK, WRONG};
-use check_handles::opening::{is_source, open_source};
+use check_handles::opening::{Terms, is_source, open_source};
 use check_handles::{Handle, Lodged};
 use std::alloc::Global;
 use std::mem::replace;
@@ -22,12 +22,18 @@ pub extern "C" fn nagsched_open(
     mark: u64,
     passes: &mut [Handle],
 ) -> u32
-    ensures opened { HasOpened mark 4294967295 start room (contents_of source.old) passes.old result
-        (contents_of source.new) passes.new }
+    ensures opened { HasOpened (terms_of start room mark 4294967295) (contents_of source.old)
+        passes.old result (contents_of source.new) passes.new }
     ensures wrong { (result ≡ 6)
-        ↔ (MayOpen 4294967295 start room (contents_of source.old) passes.old → ⊥) }
+        ↔ (MayOpen (terms_of start room mark 4294967295) (contents_of source.old) passes.old → ⊥) }
 {
-    open_desk(alloc, source, start, room, mark, DRAWS, passes)
+    let terms = Terms {
+        start,
+        room,
+        mark,
+        calls: DRAWS,
+    };
+    open_desk(alloc, source, terms, passes)
 }
 
 /// Opens a desk, with a pass for each of the handles, 1 to 1,024 empty ones. Each has so many calls, 1
@@ -52,32 +58,29 @@ pub extern "C" fn nagsched_open_with(
     calls: u64,
     passes: &mut [Handle],
 ) -> u32
-    ensures opened { HasOpened mark calls start room (contents_of source.old) passes.old result
-        (contents_of source.new) passes.new }
+    ensures opened { HasOpened (terms_of start room mark calls) (contents_of source.old) passes.old
+        result (contents_of source.new) passes.new }
     ensures wrong { (result ≡ 6)
-        ↔ (MayOpen calls start room (contents_of source.old) passes.old → ⊥) }
+        ↔ (MayOpen (terms_of start room mark calls) (contents_of source.old) passes.old → ⊥) }
 {
     if calls == 0 || (DRAWS as u64) < calls {
         return WRONG;
     }
-    open_desk(alloc, source, start, room, mark, calls as u32, passes)
+    let terms = Terms {
+        start,
+        room,
+        mark,
+        calls: calls as u32,
+    };
+    open_desk(alloc, source, terms, passes)
 }
 
-/// Opens a desk whose passes have so many calls.
-fn open_desk(
-    alloc: Global,
-    source: &mut Handle,
-    start: u64,
-    room: usize,
-    mark: u64,
-    calls: u32,
-    passes: &mut [Handle],
-) -> u32
-    requires { 0 < calls }
-    ensures opened { HasOpened mark calls start room (contents_of source.old) passes.old result
+/// Opens a desk on these terms.
+fn open_desk(alloc: Global, source: &mut Handle, terms: Terms, passes: &mut [Handle]) -> u32
+    requires { 0 < terms.calls }
+    ensures opened { HasOpened terms (contents_of source.old) passes.old result
         (contents_of source.new) passes.new }
-    ensures wrong { (result ≡ 6)
-        ↔ (MayOpen calls start room (contents_of source.old) passes.old → ⊥) }
+    ensures wrong { (result ≡ 6) ↔ (MayOpen terms (contents_of source.old) passes.old → ⊥) }
 {
     if !are_places(passes) {
         return WRONG;
@@ -85,19 +88,12 @@ fn open_desk(
     let Some(mut lodged) = source.take(alloc) else {
         return WRONG;
     };
-    if !is_source(&lodged, start, room) {
+    if !is_source(&lodged, terms) {
         *source = Handle::of(lodged);
         return WRONG;
     }
-    match open_source(
-        alloc,
-        replace(&mut *lodged, Lodged::Nothing),
-        start,
-        room,
-        mark,
-        calls,
-        passes,
-    ) {
+    let taken = replace(&mut *lodged, Lodged::Nothing);
+    match open_source(alloc, taken, terms, passes) {
         Ok(()) => OK,
         Err(back) => {
             *lodged = back;

@@ -1,6 +1,6 @@
 use Rattle.std.proofs.lemmas.Result.{err_from_is_err_and}
 use Rattle.check_drive.proofs.DriveLemmas.{met_refusal, no_refusal}
-use Rattle.check_drive.proofs.WrittenLemmas.{left_by, line_none, text_line}
+use Rattle.check_text.proofs.WrittenLemmas.{line_none, text_line}
 use Rattle.check_drive.proofs.drive.answer.Goals as goal
 
 pub returns-in-Ok-clause-wrote : goal.returns-in-Ok-clause-wrote
@@ -14,5 +14,4 @@ returns-in_err-refusal-in-Err-clause-wrote g c =
 pub returns-in_err-write_refusal-in-Err-clause-wrote : goal.returns-in_err-write_refusal-in-Err-clause-wrote
 returns-in_err-write_refusal-in-Err-clause-wrote g c =
     let p = err_from_is_err_and c.from_residual-in_err-write_refusal-in-Err.result c.from_residual-in_err-write_refusal-in-Err.ensures.1 in
-    let w = c.in_err-write_refusal-in-Err.ensures in
-    rw (p.1, p.2, met_refusal _ _ _ c.in_ok-refusal-in-Err.ensures c.in-Err.ensures) (text_line _ _ _ _ (left_by _ _ _ _ w.fault w.kind w.memory))
+    rw (p.1, p.2, met_refusal _ _ _ c.in_ok-refusal-in-Err.ensures c.in-Err.ensures) (text_line _ _ _ _ c.in_err-write_refusal-in-Err.ensures)

@@ -4,7 +4,7 @@ use Rattle.check_sched.specs.declared.call.Call.TheVariants as call
 use Rattle.check_script.specs.declared.command.RunCommand.TheVariants as command
 use Rattle.check_text.proofs.OutputLemmas.{WroteUpTo-next, WroteUpTo-whole}
 use Rattle.check_text.proofs.TextLemmas.{text_next, text_end, answer_line_some}
-use Rattle.check_drive.proofs.WrittenLemmas.{text_cut}
+use Rattle.check_text.proofs.WrittenLemmas.{text_cut}
 use Rattle.check_drive.proofs.drive.carry_out.Goals as goal
 
 pub loop-command-preserved : goal.loop-command-preserved

@@ -4,7 +4,7 @@ use Rattle.check_drive.specs.declared.drive.Outcome.TheVariants as outcome
 use Rattle.check_drive.specs.Live.{saved_in}
 use Rattle.check_script.proofs.LiveInputLemmas.{Consumes-none}
 use Rattle.check_drive.proofs.LiveLemmas.{gives_refused}
-use Rattle.check_drive.proofs.WrittenLemmas.{Keeps-same}
+use Rattle.check_text.proofs.WrittenLemmas.{Keeps-same}
 use Rattle.check_drive.proofs.WentOnLemmas.{answered_later, gone_answered, gone_opened, gone_refused, gone_unwritten, memory_later, opened_later}
 use Rattle.check_drive.proofs.live.go_on.Goals as goal
 

@@ -1,9 +1,10 @@
 use Rattle.std.proofs.Common.{sym, ◌∙◌, arith, ap, length, map, [], ◌∷◌}
 use Rattle.std.proofs.lemmas.List.{map-append}
 use Rattle.check_script.specs.Input.{lines_of}
+use Rattle.check_script.specs.Script.{commands_behind}
 use Rattle.check_script.proofs.ScriptLemmas.{blank_passed, command_read, commands_by_number, commands_from, with_front-nothing}
 use Rattle.check_script.proofs.script.read_commands.Goals as goal
-use Rattle.check_script.proofs.script.read_commands.Goals.{then-not-is_blank+in_ok-read_command+in_ok-push, else-not-is_blank}
+use Rattle.check_script.proofs.script.read_commands.Goals.{then-not-is_blank+in_ok-command+in-Ok, else-not-is_blank}
 
 pub loop-line-init : goal.loop-line-init
 loop-line-init g c =
@@ -30,15 +31,16 @@ loop-line-preserved g c =
     let line = c.in-Some.line.now in
     let fewer = ap length lines in
     let few = before.1 in
+    let all = commands_behind c.args.first meaning (lines_of c.args.lines.rest.now) in
     elim c.if-not-is_blank.branch [
-      | then-not-is_blank+in_ok-read_command+in_ok-push w ↦ (
-        rw (w.commands-is, w.in_ok-push.ensures.items, map-append g.C.Command.seen c.loop-line.commands.items (w.in_ok-read_command.field-0 ∷ []))
-            (command_read meaning number _ seen come line rest (g.C.Command.seen w.in_ok-read_command.field-0) before.0 lines
-            (sym (w.if-not-is_blank.ensures)) w.in_ok-read_command.ensures),
+      | then-not-is_blank+in_ok-command+in-Ok w ↦ (
+        rw (w.commands-is, w.in-Ok.ensures.items, map-append g.C.Command.seen c.loop-line.commands.items (w.in_ok-command.command ∷ []))
+            (command_read meaning number all seen come line rest (g.C.Command.seen w.in_ok-command.command) before.0 lines
+            (sym (w.if-not-is_blank.ensures)) w.in_ok-command.ensures),
         omega (arith, few, fewer),
       )
       | else-not-is_blank w ↦ (
-        rw (w.commands-is) (blank_passed meaning number _ seen come line rest before.0 lines (sym (w.if-not-is_blank.ensures))),
+        rw (w.commands-is) (blank_passed meaning number all seen come line rest before.0 lines (sym (w.if-not-is_blank.ensures))),
         omega (arith, few, fewer),
       )
     ]

@@ -2,7 +2,6 @@ use Rattle.std.proofs.Common.{◌≡◌, ◌∙◌, sym, ap, Some, Ok, Err}
 use Rattle.check_text.specs.LiveText.{answer_to, said}
 use Rattle.check_text.specs.Text.{answer_line}
 use Rattle.check_drive.proofs.LiveLemmas.{leaves_line}
-use Rattle.check_drive.proofs.WrittenLemmas.{line_by}
 use Rattle.check_drive.proofs.live.Talk.answer.Goals as goal
 
 pub returns-in-Ok-Some-clause-fault : goal.returns-in-Ok-Some-clause-fault
@@ -14,6 +13,4 @@ returns-in-Ok-Some-clause-fault g c text kept =
 pub returns-in-Err-Refused-clause-fault : goal.returns-in-Err-Refused-clause-fault
 returns-in-Err-Refused-clause-fault g c text kept =
     let e : said c.args.self.now.sched c.args.number text ≡ Err c.in-Err-Refused.refusal = rw (c.setup.ensures, c.in-Err-Refused.field-0-is) at (c.in-Err-Refused.ensures text kept) in
-    let w = c.write_refusal.ensures in
-    leaves_line c.write_refusal.result _ _ _ _ (ap (answer_to c.args.self.now.sched) (sym e))
-    (line_by c.write_refusal.result _ _ _ w.written w.fault w.kind w.memory)
+    leaves_line c.write_refusal.result _ _ _ _ (ap (answer_to c.args.self.now.sched) (sym e)) c.write_refusal.ensures

@@ -1,16 +1,14 @@
 -- What an address owns goes to the parts of the box.
-use Rattle.std.proofs.Common.{◌≡◌, List, [], ◌∷◌, ◌++◌, refl, sym, ap, ◌∙◌, subst}
+use Rattle.std.proofs.Common.{◌≡◌, [], ◌∷◌, ◌++◌, refl, ap, ◌∙◌}
 use Rattle.std.specs.Prelude.{Option, Some}
 use mir.Raw.{raw as bare}
 use mir.Val.{Val}
-use base.Logic.{SProp, ent, emp, id⊢, never, fst∗}
+use base.Logic.{emp, never, fst∗}
 use base.Fml.{ftrue}
-use prog.Wp.{WpFn}
 use contract.Monad.{fact, fact_i}
-use contract.Running.{tables}
 use types.Logic.{sem}
-use types.Kit.{‵, raw, ◌⊛◌, ◌$◌, ◌∵◌, !, qed, by, move, keep, drop, split, fsplit, fjoin, suffices, rewrite, use0}
-use types.Run.{stop, fld, of_opd, and_then, no_more, returns, enter}
+use types.Kit.{‵, raw, ◌⊛◌, ◌$◌, ◌∵◌, !, qed, by, move, keep, drop, split, fsplit, fjoin, rewrite, use0}
+use types.Run.{stop, fld, of_opd, and_then, no_more, returns}
 use types.ByLocal.{alloc_all, pass_all, free_all, look_at, get, get_in, sets}
 use types.Part.{agg, sub, whole}
 use denote.Exit.{yes}
@@ -19,12 +17,13 @@ use denote.RattleType.{owns}
 use denote.Signature.{types_at, plain}
 use denote.RawPtr.{Ptr, block_ptr, null_ptr, in_a_block}
 use denote.Steps.{nothing, heard}
-use denote.Triple.Walked.{Stays, stay_dropped, walk_of}
+use denote.Triple.Walked.{Stays, stay_dropped}
 use Rattle.core.proofs.alloc.Calls.{Goes-blank, handle_tells}
 use Rattle.std.proofs.raw_atomic.Walks.{proved_at, leaves}
 use Rattle.std.specs.Box.Ownership.{box_owns}
 use Rattle.std.specs.contracts.alloc.Global.{the_row as global_row}
 use Rattle.std.specs.contracts.impls.GlobalAllocator.TheImpl.{ghosts}
+use Rattle.check_handles.proofs.Walks.{enters}
 use Rattle.check_handles.specs.declared.lodged.Lodged.{Lodged}
 use Rattle.check_handles.specs.Held.{heap, held}
 use Rattle.check_handles.specs.contracts.lodged.Lodged.{the_row as lodged_row}
@@ -36,10 +35,10 @@ use Rattle.check_handles.proofs.raw.Raw.into_unboxed.Code as code
 
 pub into_unboxed_spec : {M : Type 1} → statement M
 into_unboxed_spec 𝓤 𝓛 𝓜 𝓡 wired =
-    let H = 𝓛.H in let 𝓣 = tables 𝓤 H 𝓜 𝓡 𝓡.env in let c = f.clauses 𝓛 𝓜.mem 𝓡.returns in
+    let c = f.clauses 𝓛 𝓜.mem 𝓡.returns in
     let hs : Stays f.ended.signature.params f.ended.kept = (stay_dropped (plain (λ _. Raw)) yes, (stay_dropped (plain (λ _. global_row)) yes, tt)) in
-    proved_at 𝓛 f.ended hs c 𝓜 𝓡 (Goes-blank 𝓛 0 (plain (λ _. Raw)) yes (λ κs x l. tt), (Goes-blank 𝓛 0 (plain (λ _. global_row)) yes (λ κs x l. tt), tt)) #self code.function (code.unfolded 𝓤 H 𝓜 𝓡 wired) (λ z are.
-    let v = z.0.3.0 in let a = z.0.3.1.0 in let Post : Val → SProp 𝓤 = (walk_of 𝓛 f.ended hs c).post z in let Run : List Val → SProp 𝓤 = λ ws. WpFn 𝓤 H 𝓣.C 𝓣.Λ code.function ws Post in
+    proved_at 𝓛 f.ended hs c 𝓜 𝓡 (Goes-blank 𝓛 0 (plain (λ _. Raw)) yes (λ κs x l. tt), (Goes-blank 𝓛 0 (plain (λ _. global_row)) yes (λ κs x l. tt), tt)) #self code.function (code.unfolded 𝓤 𝓛.H 𝓜 𝓡 wired) (λ z are.
+    let v = z.0.3.0 in let a = z.0.3.1.0 in
     let Full : Type 0 = (x : Lodged) × (v.value ≡ Some x) in
     qed 𝓛 ((‵ ftrue ⊛ ‵ (owns (types_at f.ended.signature.params z.0.0) z.0.3 z.0.4)) ∷ raw (fact 𝓤 Full) ∷ []) ∵ move ! (1 ∷ []) $ heard ! Full (λ full. let x : Lodged = full.0 in
     split ! $ drop ! $ fsplit ! $ raw_out ! v z.0.4.0 (λ ws. rewrite ! 0 (λ (y : Option Lodged). ‵ (held lodged_row v.at y)) full.1 refl $
@@ -48,8 +47,7 @@ into_unboxed_spec 𝓤 𝓛 𝓜 𝓡 wired =
     -- [the box; the allocator; nothing]
     let w : Val = address (block_ptr b o) in let both_are : z.0.4.0 ++ (z.0.4.1.0 ++ []) ≡ w ∷ h ∷ [] = λ i. (ws ∙ ap (λ (p : Ptr). address p ∷ []) e) i ++ (eh i ++ []) in
     let new = is_typed b o h fits in
-    suffices ! (Run (w ∷ h ∷ [])) (subst (λ (us : List Val). ent 𝓤 (Run (w ∷ h ∷ [])) (Run us)) (sym both_are) (id⊢ 𝓤 (Run (w ∷ h ∷ [])))) $
-    enter ! 𝓣.C 𝓣.Λ code.function (w ∷ h ∷ []) Post $ alloc_all ! (λ l. pass_all ! refl ((tt, (tt, tt)), (fits, tt)) $
+    enters 𝓛 𝓜 𝓡 f.ended hs c code.function z ! (w ∷ h ∷ []) both_are $ alloc_all ! (λ l. pass_all ! refl ((tt, (tt, tt)), (fits, tt)) $
     sets ! (of_opd ! (get_in ! (fld ! refl (stop !)) (sub ! 0 refl (whole !)))) refl (tt, tt) $ sets ! (of_opd ! (get ! refl)) refl (tt, tt) $
     sets ! (agg ! (and_then ! (get ! refl) (and_then ! (get ! refl) (no_more !)))) refl new $
     apart_in ! b o h a x $

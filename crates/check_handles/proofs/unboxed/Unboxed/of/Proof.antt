@@ -1,36 +1,31 @@
 -- A box is taken apart by `into_raw_with_allocator`; the parts own what it owned.
-use Rattle.std.proofs.Common.{◌≡◌, List, [], ◌∷◌, ◌++◌, refl, sym, ap, ◌∙◌, subst}
-use mir.Syntax.{a_type, dcons, dnil}
+use Rattle.std.proofs.Common.{◌≡◌, [], ◌∷◌, ◌++◌, refl, ap, ◌∙◌}
 use mir.Raw.{raw as bare}
 use mir.Val.{Val, vstruct, of_list}
 use mir.MapTy.{inst_fn}
-use base.Logic.{SProp, ent, emp, never, id⊢, fst∗}
-use base.Fml.{ftrue, flft}
-use prog.Wp.{WpFn}
+use base.Logic.{emp, never, id⊢, fst∗}
 use types.Logic.{sem}
-use types.Kit.{Item, ‵, raw, ◌⊛◌, ◌$◌, ◌∵◌, !, qed, by, move, keep, drop, split, split3, join, fsplit, fjoin, fpick, pick, suffices, use0, use1, await, rewrite, feq_l}
-use types.Run.{stop, fld, of_opd, no_more, and_then, returns, enter}
+use types.Kit.{‵, raw, ◌⊛◌, ◌$◌, ◌∵◌, !, qed, by, move, keep, drop, split, split3, join, fsplit, fjoin, fpick, pick, use0, use1, await, rewrite, feq_l}
+use types.Run.{stop, fld, of_opd, no_more, and_then, returns}
 use types.ByLocal.{alloc_all, pass_all, free_all, look_at, get, get_in, sets, lands_as}
 use types.Part.{agg, sub, whole}
 use contract.Monad.{fact, fact_i}
-use contract.BorrowLft.{◌⊑◌}
-use contract.Running.{tables}
 use denote.Exit.{no}
 use denote.RattleType.{owns}
 use denote.Signature.{types_at, plain}
 use denote.RawPtr.{Ptr, block_ptr, null_ptr, ptr_val, in_a_block}
 use denote.Steps.{nothing, only, heard}
-use denote.Param.{bounded}
 use denote.Triple.Call.{calls_at}
-use denote.Triple.Walked.{Stays, stay_dropped, walk_of}
+use denote.Triple.Walked.{Stays}
 use Rattle.core.proofs.alloc.Calls.{token, Goes-blank, handle_tells}
 use Rattle.core.proofs.atomic.Steps.{fm}
 use Rattle.std_alloc.specs.Box.Ownership.{box_owns}
-use Rattle.std_alloc.proofs.BoxSteps.Form.{Bx, D, τ, R, B, word, box_typed}
+use Rattle.std_alloc.proofs.BoxSteps.Form.{D, τ, R, B, word, box_typed}
 use Rattle.std_alloc.proofs.BoxSteps.Steps.{box_out, box_in}
 use Rattle.std.proofs.raw_atomic.Walks.{proved_at, leaves}
 use Rattle.std_alloc.proofs.boxed.Box.into_raw_with_allocator.Met.{met}
-use Rattle.check_handles.proofs.Unboxing.{Apart, parts, Opens, Opened}
+use Rattle.check_handles.proofs.Walks.{enters}
+use Rattle.check_handles.proofs.Unboxing.{Apart, alive, box_at, passed, tokens, used_up, parts, Opens, Opened}
 use Rattle.check_handles.specs.contracts.unboxed.Unboxed.of.{ended, clauses}
 use Rattle.check_handles.specs.contracts.unboxed.Unboxed.of.Key.{name as #self}
 use Rattle.check_handles.proofs.unboxed.Unboxed.of.Statement.{statement}
@@ -38,24 +33,17 @@ use Rattle.check_handles.proofs.unboxed.Unboxed.of.Code as code
 
 pub of_spec : {M : Type 1} → statement M
 of_spec 𝓤 𝓛 𝓜 𝓡 wired T A LT LA g d dt da allocator drops frees =
-    let H = 𝓛.H in let 𝓣 = tables 𝓤 H 𝓜 𝓡 𝓡.env in
-    let E : Bx = record { row = T; laws = LT; al = record { row = A; laws = LA; g = g; d = d; drops = da } } in
-    let params = bounded (a_type ∷ a_type ∷ []) (T, (A, tt)) (dcons d (dcons dt (dcons da dnil))) in let fn = inst_fn params code.function in
-    let En = ended T A g d dt da in let c = clauses T A g d dt da 𝓛 𝓜.mem 𝓡.returns in
-    let hs : Stays En.signature.params En.kept = (stay_dropped (plain (λ _. B E)) no, tt) in
-    proved_at 𝓛 En hs c 𝓜 𝓡 (Goes-blank 𝓛 2 (plain (λ _. B E)) no (λ κs x f. tt), tt) (#self params) fn (code.unfolded 𝓤 H 𝓜 𝓡 wired (T, (A, tt)) d dt da) (λ z are.
+    let E = box_at T A LT LA g d da in let fn = inst_fn (passed E dt) code.function in
+    let En = ended T A g d dt da in let c = clauses T A g d dt da 𝓛 𝓜.mem 𝓡.returns in let hs : Stays En.signature.params En.kept = used_up (B E) in
+    proved_at 𝓛 En hs c 𝓜 𝓡 (Goes-blank 𝓛 2 (plain (λ _. B E)) no (λ κs x f. tt), tt) (#self (passed E dt)) fn (code.unfolded 𝓤 𝓛.H 𝓜 𝓡 wired (T, (A, tt)) d dt da) (λ z are.
     let κs = z.0.0 in let qs = z.0.1 in let v = z.0.3.0 in
-    let Post : Val → SProp 𝓤 = (walk_of 𝓛 En hs c).post z in let Run : List Val → SProp 𝓤 = λ ws. WpFn 𝓤 H 𝓣.C 𝓣.Λ fn ws Post in
-    let tokens : Item 𝓤 = ‵ (flft κs.0 qs.0) ⊛ ‵ (flft κs.1.0 qs.1.0) ⊛ ‵ ftrue in
-    let alive : Item 𝓤 = raw (fact 𝓤 (κs.0 ⊑ T.lives)) ⊛ raw (fact 𝓤 (κs.1.0 ⊑ A.lives)) ⊛ ‵ ftrue in
-    qed 𝓛 ((tokens ⊛ ‵ (owns (types_at En.signature.params κs) z.0.3 z.0.4)) ∷ alive ∷ []) ∵ split ! $ move ! (1 ∷ []) $ fsplit ! $
+    qed 𝓛 ((tokens E κs qs ⊛ ‵ (owns (types_at En.signature.params κs) z.0.3 z.0.4)) ∷ alive E κs ∷ []) ∵ split ! $ move ! (1 ∷ []) $ fsplit ! $
     box_out E ! v z.0.4.0 (λ b o h e ws fits. box_in E ! v b o v.value e refl $
     let w = word E h b o in let O = Opens E 𝓛 𝓜.mem 𝓡.returns dt in let y : O.Ghost = ((κs, qs, tt, (v, tt), (w ∷ [], tt)), tt) in
     fjoin ! $ move ! (1 ∷ 0 ∷ []) $ join ! $ join ! $ use1 𝓛 (raw (O.pre y)) (id⊢ 𝓤 _) $
-    suffices ! (Run (w ∷ [])) (subst (λ (us : List Val). ent 𝓤 (Run (w ∷ [])) (Run us)) (sym (λ i. ws i ++ [])) (id⊢ 𝓤 (Run (w ∷ [])))) $
-    enter ! 𝓣.C 𝓣.Λ fn (w ∷ []) Post $ alloc_all ! (λ l. pass_all ! refl (box_typed E h b o fits, tt) $ sets ! (of_opd ! (get ! refl)) refl (box_typed E h b o fits) $
+    enters 𝓛 𝓜 𝓡 En hs c fn z ! (w ∷ []) (λ i. ws i ++ []) $ alloc_all ! (λ l. pass_all ! refl (box_typed E h b o fits, tt) $ sets ! (of_opd ! (get ! refl)) refl (box_typed E h b o fits) $
     calls_at ! (fm 𝓛 𝓜 𝓡) O (met 𝓤 𝓛 𝓜 𝓡 (code.calls-std_alloc::boxed::Box::into_raw_with_allocator 𝓡.env wired) T A LT LA g d da dt allocator frees drops) y (and_then ! (get ! refl) (no_more !)) (λ u.
-    use1 𝓛 (Opened E tokens v.alloc v.value u) (id⊢ 𝓤 (O.post y u)) $ await ! tt $ pick ! (λ r. split ! $ move ! (1 ∷ []) $ pick ! (λ _. split3 ! $ drop ! $ heard ! (r.1 ≡ v.alloc) (λ same.
+    use1 𝓛 (Opened E κs qs v.alloc v.value u) (id⊢ 𝓤 (O.post y u)) $ await ! tt $ pick ! (λ r. split ! $ move ! (1 ∷ []) $ pick ! (λ _. split3 ! $ drop ! $ heard ! (r.1 ≡ v.alloc) (λ same.
     in_a_block ! r.0 (λ p. box_owns (token E.al v.alloc) (R E) p v.value) (fst∗ 𝓤 (never 𝓤) (sem 𝓛 (token E.al v.alloc (bare (τ E)) null_ptr))) (λ b' o' e'.
     -- [what the box owned; the tokens with the pair of address and allocator]
     move ! (1 ∷ []) $ split ! $ move ! (1 ∷ []) $ fpick ! (λ vss. fsplit ! $ feq_l ! (λ pair. fsplit ! $ feq_l ! (λ address. fsplit ! $

@@ -1,12 +1,12 @@
 -- How the writing of a line or of a text ended.
-use Rattle.std.proofs.Common.{◌≡◌, ◌≢◌, ℕ, List, [], ◌++◌, Option, Some, None, Result, Ok, Err, refl, inl, inr}
-use Rattle.std.specs.Prelude.{IfErr, OnErr, OnOk}
+use Rattle.std.proofs.Common.{◌≡◌, ◌≢◌, ℕ, List, [], ◌++◌, Option, Some, None, Result, Ok, Err, refl, subst, inl, inr}
+use Rattle.std.specs.Prelude.{IsErrAnd, IsOkUnless, OnErr, OnOk}
 use Rattle.std.specs.Io.KnownBytes.{Appends, Keeps}
 use Rattle.check_script.specs.declared.drive_error.DriveError.{DriveError}
 use Rattle.check_script.specs.declared.drive_error.DriveError.TheVariants as errors
 use Rattle.check_text.specs.Output.{WroteFront, WroteShort, WroteUpTo}
-use Rattle.check_text.proofs.OutputLemmas.{Appends-Keeps, Appends-none, WroteShort-next, WroteUpTo-cut}
-use Rattle.check_drive.specs.Written.{IsLineWritten, LeftOfLine, LeftOfText}
+use Rattle.check_text.proofs.OutputLemmas.{Appends-Keeps, Appends-none, WroteShort-next, WroteUpTo-all, WroteUpTo-cut, WroteUpTo-next}
+use Rattle.check_text.specs.Written.{IsLineWritten, IsTextWritten, LeftOfLine, LeftOfText}
 
 pub Keeps-same : (known : Option (List ℕ)) → Keeps known known
 Keeps-same None = tt
@@ -18,31 +18,27 @@ kept_front old new text kept = (text, record { front = []; parts = refl; appende
 
 -- ---- a line
 
--- what is left of it, clause by clause
-pub left_by : (e : DriveError) (old new : Option (List ℕ)) (line : List ℕ) → WroteFront old new line → e ≢ errors.Read → (e ≡ errors.Memory → Keeps old new)
-    → LeftOfLine e old new line
-left_by errors.Read old new line front kind none = absurd (kind refl)
-left_by errors.Write old new line front kind none = front
-left_by errors.Memory old new line front kind none = none refl
-
+-- what it says clause by clause
 pub left_clauses : (e : DriveError) (old new : Option (List ℕ)) (line : List ℕ) → LeftOfLine e old new line
     → WroteFront old new line × (e ≢ errors.Read) × (e ≡ errors.Memory → Keeps old new)
 left_clauses errors.Read old new line h = absurd h
 left_clauses errors.Write old new line h = (h, (λ q. cc), (λ q. cc))
 left_clauses errors.Memory old new line h = (kept_front old new line h, (λ q. cc), (λ q. h))
 
--- how its writing ended, clause by clause
-pub line_by : {T : Type 0} (r : Result T DriveError) (old new : Option (List ℕ)) (line : List ℕ) → OnOk r (Appends old new line)
-    → OnErr r (WroteFront old new line) → IfErr r (λ e. e ≢ errors.Read) → IfErr r (λ e. e ≡ errors.Memory → Keeps old new) → IsLineWritten r old new line
-line_by (Ok x) old new line wrote front kind none = wrote
-line_by (Err e) old new line wrote front kind none = left_by e old new line front kind none
+-- how the writing of a line ended, where it is the text that was written
+pub line_written : {T : Type 0} (r : Result T DriveError) (old new : Option (List ℕ)) (text line : List ℕ) → text ≡ line → OnOk r (Appends old new text)
+    → OnErr r (WroteFront old new text) → IsOkUnless r errors.Write → IsLineWritten r old new line
+line_written (Ok x) old new text line same all front only = subst (Appends old new) same all
+line_written (Err errors.Read) old new text line same all front only = absurd (let no : errors.Read ≢ errors.Write = λ q. cc in no only)
+line_written (Err errors.Write) old new text line same all front only = subst (WroteFront old new) same front
+line_written (Err errors.Memory) old new text line same all front only = absurd (let no : errors.Memory ≢ errors.Write = λ q. cc in no only)
 
-pub line_clauses : {T : Type 0} (r : Result T DriveError) (old new : Option (List ℕ)) (line : List ℕ) → IsLineWritten r old new line
-    → OnOk r (Appends old new line) × OnErr r (WroteFront old new line) × IfErr r (λ e. e ≢ errors.Read) × IfErr r (λ e. e ≡ errors.Memory → Keeps old new)
-line_clauses (Ok x) old new line h = (h, tt, tt, tt)
-line_clauses (Err e) old new line h = let w = left_clauses e old new line h in (tt, w.0, w.1, w.2)
+-- out of memory before anything of it was written
+pub line_unwritten : {T : Type 0} (r : Result T DriveError) (held : Option (List ℕ)) (line : List ℕ) → IsErrAnd r (λ e. e ≡ errors.Memory)
+    → IsLineWritten r held held line
+line_unwritten (Ok x) held line is = absurd is
+line_unwritten (Err e) held line is = rw is (Keeps-same held)
 
--- out of memory before anything was written
 pub line_none : (e : DriveError) (held : Option (List ℕ)) (line : List ℕ) → e ≡ errors.Memory → LeftOfLine e held held line
 line_none e held line is = rw is (Keeps-same held)
 
@@ -54,6 +50,12 @@ pub text_cut : (e : DriveError) (old mid new : Option (List ℕ)) (text left lin
 text_cut errors.Read old mid new text left line rest w next some h = h
 text_cut errors.Write old mid new text left line rest w next some h = WroteUpTo-cut old mid new text left line rest w next h
 text_cut errors.Memory old mid new text left line rest w next some h = WroteShort-next old mid new text left line rest w next some h
+
+-- of which only this line was missing
+pub text_ended : {T : Type 0} (r : Result T DriveError) (old mid new : Option (List ℕ)) (text left line : List ℕ) → WroteUpTo old mid text left → left ≡ line ++ []
+    → line ≢ [] → IsLineWritten r mid new line → IsTextWritten r old new text
+text_ended (Ok x) old mid new text left line w next some h = WroteUpTo-all old new text (WroteUpTo-next old mid new text left line [] w next h)
+text_ended (Err e) old mid new text left line w next some h = text_cut e old mid new text left line [] w next some h
 
 -- that is no more than the line
 pub text_line : (e : DriveError) (old new : Option (List ℕ)) (line : List ℕ) → LeftOfLine e old new line → LeftOfText e old new line

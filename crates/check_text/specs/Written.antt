@@ -1,4 +1,4 @@
--- How the writing of a text ended: of one line, and of the lines of a whole text.
+-- How the writing of a line ended, or of the lines of a whole text.
 use Rattle.std.specs.Prelude.{ℕ, List, Option, Result, Ok, Err}
 use Rattle.std.specs.Io.KnownBytes.{Appends, Keeps}
 use Rattle.check_script.specs.declared.drive_error.DriveError.{DriveError}
