@@ -3,10 +3,10 @@ import pathlib
 import signal
 import subprocess
 import sys
-import time
 from typing import Any, Dict, List, Optional
 
 from .simulated import PROGRAM, SiteTest
+from .waiting import comes
 
 MONITOR = pathlib.Path(__file__).resolve().parent.parent / "nagsched-monitor"
 
@@ -28,13 +28,25 @@ class ProcessTest(SiteTest):
         return output
 
     def await_socket(self, running: "subprocess.Popen[str]") -> None:
-        for _ in range(400):
-            if self.ask("status", "no such object").returncode == 0 or running.poll() is not None:
-                return
-            time.sleep(0.02)
+        self.assertTrue(comes(lambda: self.ask("status", "no such object").returncode == 0 or running.poll() is not None))
 
     def ask(self, *words: str) -> "subprocess.CompletedProcess[str]":
         return subprocess.run([sys.executable, str(MONITOR), str(self.folder), *words], capture_output=True, text=True, check=False)
+
+    def states(self) -> List[str]:
+        """The lines of `status`, without the word of those whose check is running."""
+        return [line.replace(" out ", " ", 1) for line in self.ask("status").stdout.splitlines()]
+
+    def await_states(self, wanted: List[str]) -> None:
+        """Waits until each object stands like this. That a check of it is running doesn't matter: the next one may have begun."""
+        came: List[str] = []
+
+        def stand() -> bool:
+            came[:] = self.states()
+            return came == wanted
+
+        comes(stand)
+        self.assertEqual(came, wanted)
 
     def children_of(self, process: int) -> List[int]:
         told = subprocess.run(["ps", "-o", "pid=", "--ppid", str(process)], stdout=subprocess.PIPE, text=True, check=False).stdout

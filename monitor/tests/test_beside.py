@@ -6,8 +6,7 @@ import pathlib
 import signal
 import subprocess
 import sys
-import time
-from typing import List, Tuple
+from typing import Any, List, Tuple
 
 from nagsched_monitor import control
 from nagsched_monitor.beside import LONGEST_PAUSE, Beside
@@ -15,6 +14,7 @@ from nagsched_monitor.faults import MonitorFault
 from nagsched_monitor.places import is_own, place_of
 
 from .simulated import PROGRAM, SiteTest
+from .waiting import comes
 
 MONITOR = pathlib.Path(__file__).resolve().parent.parent / "nagsched-monitor"
 
@@ -52,13 +52,11 @@ class PageProcess(SiteTest):
 
     def await_page(self, count: int) -> int:
         """The port of the page when it was started so often."""
-        lines: List[str] = []
-        for _ in range(600):
-            lines = [line for line in self.log.read_text().splitlines() if line.startswith("the page is at http://127.0.0.1:")]
-            if len(lines) == count:
-                return int(lines[-1].rstrip("/").rpartition(":")[2])
-            time.sleep(0.05)
-        self.fail(f"the page wasn't started {count} times: {self.log.read_text()}")
+        self.assertTrue(comes(lambda: len(self.starts_of_page()) == count), self.log.read_text())
+        return int(self.starts_of_page()[-1].rstrip("/").rpartition(":")[2])
+
+    def starts_of_page(self) -> List[str]:
+        return [line for line in self.log.read_text().splitlines() if line.startswith("the page is at http://127.0.0.1:")]
 
     def get(self, port: int, path: str) -> Tuple[int, str]:
         connection = http.client.HTTPConnection("127.0.0.1", port, timeout=30)
@@ -73,11 +71,7 @@ class PageProcess(SiteTest):
         return found
 
     def await_end(self, process: int) -> None:
-        for _ in range(200):
-            if not pathlib.Path(f"/proc/{process}").exists():
-                return
-            time.sleep(0.05)
-        self.fail("the page goes on")
+        self.assertTrue(comes(lambda: not pathlib.Path(f"/proc/{process}").exists()))
 
     def test_killed_and_started_anew(self) -> None:
         """It shows what the monitor counts; killed, it is started anew; it ends with the monitor."""
@@ -102,24 +96,28 @@ class PageProcess(SiteTest):
 
     def await_results(self, port: int, count: int) -> None:
         """Waits until so many hosts were found up."""
-        up = 0.0
-        for _ in range(60):
+        def came() -> bool:
             status, text = self.get(port, "/metrics")
             self.assertEqual(status, 200, text)
-            up = float(text.partition('nagsched_checks_total{result="UP"} ')[2].partition("\n")[0])
-            if up >= count:
-                return
-            time.sleep(0.5)
-        self.fail(f"{up:g} results")
+            return float(text.partition('nagsched_checks_total{result="UP"} ')[2].partition("\n")[0]) >= count
+
+        self.assertTrue(comes(came))
 
     def compare(self, port: int) -> None:
-        """The page shows each object as the monitor says that it stands, a second or two later."""
-        answer = control.ask(self.folder, b'{"do":"status"}')
-        time.sleep(2)
-        wanted = [(it["name"], it["state"], it["kind"], it["attempt"], it["output"]) for it in json.loads(answer)["objects"]]
-        came = [(it["name"], it["state"], it["kind"], it["attempt"], it["words"]) for it in json.loads(self.get(port, "/status.json")[1])["objects"]]
-        self.assertEqual(came, wanted)
-        self.assertEqual([state for _, state, *_ in came], ["UP", "UP", "DOWN"])
+        """The page comes to show each object as the monitor says that it stands."""
+        wanted = [("h0", "UP", "HARD", 1, "number 0"), ("h1", "UP", "HARD", 1, "number 1"), ("h2", "DOWN", "HARD", 2, "number 2")]
+
+        def said() -> List[Tuple[Any, ...]]:
+            objects = json.loads(control.ask(self.folder, b'{"do":"status"}'))["objects"]
+            return [(it["name"], it["state"], it["kind"], it["attempt"], it["output"]) for it in objects]
+
+        def shown() -> List[Tuple[Any, ...]]:
+            objects = json.loads(self.get(port, "/status.json")[1])["objects"]
+            return [(it["name"], it["state"], it["kind"], it["attempt"], it["words"]) for it in objects]
+
+        for answer in (said, shown):
+            comes(lambda: answer() == wanted)
+            self.assertEqual(answer(), wanted)
 
     def test_a_monitor_that_is_killed(self) -> None:
         running = self.started("--page", "127.0.0.1:0")
@@ -130,10 +128,7 @@ class PageProcess(SiteTest):
 
     def test_an_address_of_others(self) -> None:
         self.started("--page", "0.0.0.0:0")
-        for _ in range(200):
-            if "the page is at http://0.0.0.0:" in self.log.read_text():
-                break
-            time.sleep(0.05)
+        comes(lambda: "the page is at http://0.0.0.0:" in self.log.read_text())
         lines = self.log.read_text()
         self.assertIn("the page on 0.0.0.0:0 is shown to everybody who reaches this address\n", lines)
         self.assertIn("the page is at http://0.0.0.0:", lines)
@@ -150,11 +145,8 @@ class PageProcess(SiteTest):
         self.assertFalse([each for each in children_of(running.pid) if is_page(each)])
 
     def await_any(self, running: "subprocess.Popen[bytes]") -> None:
-        for _ in range(200):
-            if subprocess.run([sys.executable, str(MONITOR), str(self.folder), "status"], capture_output=True, check=False).returncode == 0:
-                return
-            time.sleep(0.05)
-        self.fail("the monitor doesn't answer")
+        words = [sys.executable, str(MONITOR), str(self.folder), "status"]
+        self.assertTrue(comes(lambda: subprocess.run(words, capture_output=True, check=False).returncode == 0))
 
 
 class Pauses(SiteTest):

@@ -12,6 +12,7 @@ from nagsched_monitor.rows import KeptChange
 from nagsched_monitor.store import KeepChange, Store
 
 from .simulated import SiteTest
+from .waiting import LONG, comes
 
 
 def standing(state: str, kind: str = "HARD", attempt: int = 1, flapping: bool = False) -> Standing:
@@ -54,7 +55,7 @@ class Command(SiteTest):
             change = KeptChange(number, float(number), f"h{number}", "DOWN", "HARD", 3, False, 'a "word"')
             self.store.write(KeepChange(change, document_of(change, None)))
 
-    def worked(self, command: Optional[str], seconds: float = 5) -> None:
+    def worked(self, command: Optional[str], seconds: float = LONG) -> None:
         """Works until nothing waits, on a clock that goes on by itself between two tries."""
         notifier = Notifier(command, self.store, self.lines.append, lambda: time.monotonic() + self.passed)
         end = time.monotonic() + seconds
@@ -79,7 +80,7 @@ class Command(SiteTest):
 
     def test_one_that_always_fails_is_given_up_by_name(self) -> None:
         self.keep(1)
-        self.worked("exit 3", 20)
+        self.worked("exit 3")
         self.assertEqual(len(self.lines), TRIES)
         self.assertIn("h1", self.lines[-1])
         self.assertEqual(self.store.outbox(), [])
@@ -88,10 +89,16 @@ class Command(SiteTest):
         """The command isn't run again for it, and one line says why it waits."""
         self.keep(1)
         notifier = Notifier(f"cat >> {self.folder}/taken", self.store, self.lines.append, lambda: time.monotonic() + self.passed)
+
+        def is_said() -> bool:
+            notifier.work()
+            self.passed += 0 if notifier.is_busy() else 10
+            return bool(self.lines)
+
         with mock.patch.object(self.store, "write", side_effect=NotStored("the disk is full")):
-            for _ in range(200):
-                notifier.work()
-                self.passed += 0 if notifier.is_busy() else 10
+            self.assertTrue(comes(is_said))
+            for _ in range(100):
+                is_said()
                 time.sleep(0.005)
         self.assertEqual(len((self.folder / "taken").read_text().splitlines()), 1)
         self.assertEqual((self.lines, len(self.store.outbox())), (["the disk is full"], 1))

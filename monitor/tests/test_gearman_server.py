@@ -1,14 +1,11 @@
 """Queues over a real server: gearmand and libgearman, where they are here."""
 import os
 import sys
-import time
 import unittest
 
 from .gearman_trial import GearmanTrial, HandedJobs, missing
 from .running import ProcessTest
-
-# How long something may take at most on a machine with much else to do, in seconds.
-LONG = 90.0
+from .waiting import LONG, comes
 
 
 @unittest.skipIf(missing() is not None, f"{missing()} isn't here")
@@ -51,9 +48,7 @@ class OverAServer(unittest.TestCase):
         self.assertEqual([answers[0]["end"] for number, answers in sorted(jobs.answers.items()) if number > before], ["lost"] * 20 + ["exited"] * 20)
         before = jobs.sent
         jobs.hand(3, "nobody", ["true"])
-        end = time.monotonic() + LONG
-        while len(jobs.answers) < before + 2 and time.monotonic() < end:
-            time.sleep(0.05)
+        comes(lambda: len(jobs.answers) >= before + 2)
         self.assertEqual([answers[0]["code"] for number, answers in sorted(jobs.answers.items()) if number > before], [3, 3])
         self.trial.begin_worker("nobody")
         self.assertTrue(jobs.wait_until_one_is_made("nobody", LONG))
@@ -101,10 +96,8 @@ class ASite(ProcessTest):
         state, _, rest = self.ask("status", name).stdout.strip().partition(" ")
         return f"{state} {rest.partition(': ')[2]}"
 
-    def await_words(self, name: str, wanted: str, seconds: float = LONG) -> None:
-        end = time.monotonic() + seconds
-        while self.words_of(name) != wanted and time.monotonic() < end:
-            time.sleep(0.2)
+    def await_words(self, name: str, wanted: str) -> None:
+        comes(lambda: self.words_of(name) == wanted)
         self.assertEqual(self.words_of(name), wanted)
 
     def test_a_worker_that_comes_and_goes(self) -> None:

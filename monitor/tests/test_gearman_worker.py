@@ -10,6 +10,8 @@ from nagsched_monitor.gearman import ServerFault
 from nagsched_monitor.gearman_queue import result_of
 from nagsched_monitor.gearman_worker import Worker
 
+from .waiting import comes
+
 
 class StandInConnection:
     """A connection to no server: it has the jobs made that are handed to it, and is lost when a test says so."""
@@ -54,10 +56,8 @@ class Working(unittest.TestCase):
     def job(self, words: Any, limit: Any = 10.0) -> None:
         self.jobs.append(json.dumps({"job": f"mark-{len(self.jobs)}", "words": words, "limit": limit}).encode())
 
-    def came(self, count: int, seconds: float = 90) -> List[Dict[str, Any]]:
-        end = time.monotonic() + seconds
-        while len(self.answers) < count and time.monotonic() < end:
-            time.sleep(0.01)
+    def came(self, count: int) -> List[Dict[str, Any]]:
+        comes(lambda: len(self.answers) >= count)
         return sorted((json.loads(answer) for answer in self.answers), key=lambda answer: str(answer.get("job")))
 
     def test_results(self) -> None:

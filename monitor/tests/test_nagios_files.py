@@ -6,7 +6,7 @@ import signal
 import subprocess
 import sys
 import time
-from typing import Any, Dict, List, Mapping, Tuple
+from typing import Callable, Dict, List, Mapping, Tuple
 
 from nagsched_monitor.nagios_blocks import HOST_STATES, SERVICE_STATES, Program, Settings, status_file
 from nagsched_monitor.nagios_files import NagiosFiles, services_of
@@ -16,6 +16,7 @@ from nagsched_monitor.rows import KeptStanding
 
 from .running import ProcessTest
 from .simulated import BEGIN, SiteTest
+from .waiting import comes
 
 Block = Dict[str, str]
 TOP = pathlib.Path(__file__).resolve().parent.parent
@@ -172,11 +173,8 @@ class Process(ProcessTest):
         path = self.folder / f"{name}.runs"
         return path.read_text().count("run") if path.exists() else 0
 
-    def wait(self, what: Any, seconds: float = 20) -> None:
-        end = time.monotonic() + seconds
-        while not what():
-            self.assertLess(time.monotonic(), end)
-            time.sleep(0.05)
+    def wait(self, what: Callable[[], bool]) -> None:
+        self.assertTrue(comes(what))
 
     def helper_of(self, running: "subprocess.Popen[str]") -> int:
         words = subprocess.run(["ps", "-o", "pid=,args=", "--ppid", str(running.pid)], stdout=subprocess.PIPE, text=True, check=False).stdout

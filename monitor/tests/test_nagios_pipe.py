@@ -1,13 +1,13 @@
 """The lines of Nagios's pipe: each that has a meaning here is obeyed, every other one is named; bursts, long lines and many writers."""
 import os
 import threading
-import time
 from typing import Any, Dict, List, Tuple
 
 from nagsched_monitor.faults import MonitorFault, RequestFault
 from nagsched_monitor.nagios_pipe import LONGEST_LINE, NAME, Pipe, requests_of
 
 from .simulated import SiteTest
+from .waiting import comes
 
 
 class Lines(SiteTest):
@@ -68,13 +68,15 @@ class Fifo(SiteTest):
         self.addCleanup(lambda: os.close(pipe.file))
         return pipe
 
-    def read(self, pipe: Pipe, count: int, seconds: float = 20) -> List[bytes]:
+    def read(self, pipe: Pipe, count: int) -> List[bytes]:
         """So many lines."""
         lines: List[bytes] = []
-        end = time.monotonic() + seconds
-        while len(lines) < count and time.monotonic() < end:
-            lines += pipe.read()
-            time.sleep(0.001)
+
+        def came() -> bool:
+            lines.extend(pipe.read())
+            return len(lines) >= count
+
+        comes(came)
         return lines
 
     def test_parts_of_lines(self) -> None:

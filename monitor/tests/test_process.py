@@ -13,6 +13,7 @@ from typing import List
 
 from .running import MONITOR, ProcessTest
 from .simulated import PROGRAM
+from .waiting import comes
 
 KILLS = 10
 
@@ -20,6 +21,11 @@ KILLS = 10
 class Running(ProcessTest):
     def calls(self, database: sqlite3.Connection) -> List[str]:
         return [line for (line,) in database.execute("SELECT line FROM calls ORDER BY id")]
+
+    def count_of_calls(self) -> int:
+        """How many were kept since the last save, while the monitor runs."""
+        with sqlite3.connect(self.folder / "monitor.db") as database:
+            return len(self.calls(database))
 
     def answers(self, calls: List[str]) -> List[str]:
         """What one run answers to the calls that were kept, from the state that was saved before them."""
@@ -46,7 +52,7 @@ class Running(ProcessTest):
             time.sleep(0.2)
             self.end(running, signal.SIGKILL)
         running = self.begin()
-        time.sleep(1.5)
+        self.assertTrue(comes(lambda: self.count_of_calls() > 200))
         told = self.ask("status").stdout.splitlines()
         self.end(running, signal.SIGKILL)
         with sqlite3.connect(self.folder / "monitor.db") as database:
@@ -69,7 +75,7 @@ class Running(ProcessTest):
         subprocess.run([compiler, "-shared", "-fPIC", "-o", str(shim), str(pathlib.Path(__file__).parent / "slow_sync.c"), "-ldl"], check=True)
         self.write_site(self.objects(50), [])
         running = self.begin(environment={**os.environ, "LD_PRELOAD": str(shim)})
-        time.sleep(4)
+        self.assertTrue(comes(lambda: self.count_of_calls() > 400))
         self.end(running, signal.SIGKILL)
         with sqlite3.connect(self.folder / "monitor.db") as database:
             answers = self.answers(self.calls(database))
@@ -81,8 +87,7 @@ class Running(ProcessTest):
         self.write_site(self.objects(1), [])
         self.write("commands.json", {"h00": {"line": "echo fine; sleep 20 & exit 0", "shell": True}})
         running = self.begin()
-        time.sleep(1.5)
-        self.assertEqual(self.ask("status").stdout, "UP HARD 1 h00: fine\n")
+        self.await_states(["UP HARD 1 h00: fine"])
         self.end(running)
 
     def test_words(self) -> None:
@@ -95,8 +100,8 @@ class Running(ProcessTest):
         self.assertEqual(self.ask("disable", "h01").stdout, "disable: h01\n")
         wrong = self.ask("enable", "h02")
         self.assertEqual((wrong.returncode, wrong.stderr), (1, "nagsched-monitor: there is no object 'h02'\n"))
-        time.sleep(0.5)
-        self.assertIn("CRITICAL HARD 1 off h00;trap: door open", self.ask("status", "*trap").stdout)
+        self.await_states(["UP HARD 1 h00: up", "CRITICAL HARD 1 off h00;trap: door open", "UP HARD 1 off h01: up"])
+        self.assertTrue(comes(lambda: (self.folder / "changes").exists() and (self.folder / "changes").read_text().endswith("\n")))
         second = subprocess.run([sys.executable, str(MONITOR), "--program", PROGRAM, str(self.folder)], capture_output=True, text=True, check=False)
         self.assertEqual(second.returncode, 1)
         self.assertIn("another monitor", second.stderr)
@@ -120,8 +125,7 @@ class Running(ProcessTest):
         self.assertIn("commands.json: h00: its line can't be split", refused.stderr)
         self.write("commands.json", {f"h{number:02}": {"line": "echo quick"} for number in range(10)})
         self.assertEqual(self.ask("reload").stdout, "reload: done\n")
-        time.sleep(3)
-        self.assertEqual(self.ask("status").stdout.splitlines(), [f"UP HARD 1 h{number:02}: quick" for number in range(10)])
+        self.await_states([f"UP HARD 1 h{number:02}: quick" for number in range(10)])
         running.send_signal(signal.SIGHUP)
         output = self.end(running)
         self.assertNotIn("too late", output)
@@ -131,41 +135,33 @@ class Running(ProcessTest):
         self.write_site([*self.objects(2), {"name": "gone", "check_interval": 1, "max_check_attempts": 3}], [])
         self.write("commands.json", {name: {"line": f"echo {name}; exit 2", "shell": True} for name in ("h00", "h01", "gone")})
         running = self.begin()
-        time.sleep(3.5)
-        self.assertIn("DOWN HARD 2 h00: h00", self.ask("status").stdout.replace(" out", ""))
+        self.await_states(["DOWN HARD 3 gone: gone", "DOWN HARD 2 h00: h00", "DOWN HARD 2 h01: h01"])
         hosts = [{**self.objects(1)[0], "check_interval": 100, "retry_interval": 100, "max_check_attempts": 4}, self.objects(2)[1]]
         self.write_site([*hosts, {"name": "new", "check_interval": 100, "max_check_attempts": 1}], [])
         self.write("commands.json", {name: {"line": f"echo {name}; exit 2", "shell": True} for name in ("h00", "h01", "new")})
         told = self.ask("reload").stdout.splitlines()
         self.assertEqual(told, ["reload: done", "new: new", "dropped: gone", "changed attempts h00", "changed interval h00"])
-        time.sleep(1.5)
-        states = self.ask("status").stdout.splitlines()
-        self.assertEqual([state.replace(" out", "") for state in states], ["DOWN HARD 4 h00: h00", "DOWN HARD 2 h01: h01", "DOWN HARD 1 new: new"])
+        self.await_states(["DOWN HARD 4 h00: h00", "DOWN HARD 2 h01: h01", "DOWN HARD 1 new: new"])
         output = self.end(running)
         self.assertNotIn("h00 is UP", output)
         with sqlite3.connect(self.folder / "monitor.db") as database:
             (runs,) = database.execute("SELECT saved FROM generations").fetchone()
-        self.assertGreater(json.loads(runs)["runs"], 10)
+        self.assertGreater(json.loads(runs)["runs"], 7)
 
     def test_a_saved_state(self) -> None:
         """Calls before it are let go; a monitor that is killed goes on from it, and from the calls since."""
         self.write_site(self.objects(3), [])
         self.write("commands.json", {name: {"line": f"echo {name}; exit 2", "shell": True} for name in ("h00", "h01", "h02")})
         running = self.begin()
-        for _ in range(100):
-            before = self.ask("status").stdout
-            if before.count("DOWN HARD 2") == 3:
-                break
-            time.sleep(0.1)
+        down = [f"DOWN HARD 2 h0{number}: h0{number}" for number in range(3)]
+        self.await_states(down)
         self.assertEqual(self.ask("save").stdout, "save: done\n")
         with sqlite3.connect(self.folder / "monitor.db") as database:
             self.assertLess(len(self.calls(database)), 20)
         self.ask("disable", "h02")
         self.end(running, signal.SIGKILL)
         running = self.begin()
-        after = self.ask("status").stdout
-        self.assertEqual([line.split(":")[0].replace(" off", "").replace(" out", "") for line in after.splitlines()], [f"DOWN HARD 2 h0{n}" for n in range(3)])
-        self.assertIn("off h02", after)
+        self.await_states([*down[:2], down[2].replace("h02", "off h02", 1)])
         self.end(running)
 
     def test_a_signal_to_all_of_its_processes(self) -> None:
