@@ -69,7 +69,6 @@ IN_THE_GATE = {
     "monitor/nagsched-monitor": ".ci/monitor.py",
     "monitor/nagsched-monitor office": ".ci/monitor.py",
     "monitor/nagsched-monitor --page 127.0.0.1:8080 office": ".ci/monitor.py",
-    "monitor/nagsched-monitor --nagios-files /var/lib/nagsched/office/nagios office": ".ci/monitor.py",
     'monitor/nagsched-monitor --on-change "examples/mail_change.py monitor@example.org oncall@example.org" office': ".ci/monitor.py",
     'monitor/nagsched-monitor --on-change "examples/alert_change.py http://localhost:9093" office': ".ci/monitor.py",
     "monitor/nagsched-gearman-worker --slots 32 --only /usr/lib/nagios/plugins 10.0.0.1:4730 dmz": ".ci/monitor.py",

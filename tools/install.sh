@@ -68,7 +68,7 @@ for example in embed.py loop.py monitor.py mail_change.py alert_change.py; do
 done
 # The loop in Rattle is a part of machine_room: its file and, in a folder, the modules that it names.
 place 644 "$top/crates/machine_room/src/months.rt" share/doc/nagsched/examples/loop.rt
-for module in outside restart round runs; do
+for module in fault outside restart round runs; do
     place 644 "$top/crates/machine_room/src/$module.rt" "share/doc/nagsched/examples/loop/$module.rt"
 done
 [ -n "$library" ] || exit 0

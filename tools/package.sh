@@ -62,6 +62,6 @@ package libnagsched-dev amd64 libdevel "libnagsched$surface (= $version)" "sched
 package python3-nagsched all python "python3 (>= 3.9), libnagsched$surface (= $version)" "scheduler of active checks, for Python" \
     lib/python3/dist-packages/nagsched
 package nagsched-monitor "$monitor" net "python3 (>= 3.9), nagsched (= $version)$needs" "monitor of a site's hosts and services" \
-    bin/nagsched-monitor bin/nagsched-from-nagios lib/nagsched lib/systemd share/man/man1/nagsched-monitor.1 share/man/man1/nagsched-from-nagios.1 \
+    bin/nagsched-monitor bin/nagsched-gearman-worker bin/nagsched-from-nagios lib/nagsched lib/systemd share/man/man1/nagsched-monitor.1 share/man/man1/nagsched-from-nagios.1 \
     share/bash-completion/completions/nagsched-monitor share/doc/nagsched/MONITOR.md
 package nagsched amd64 net "libc6 (>= $glibc)" "scheduler of active checks, the program" bin/nagsched share
