@@ -36,8 +36,8 @@ use Rattle.check_objects.specs.Setup.{without_cycles, without_parent_cycle}
 use Rattle.check_objects.proofs.LinkLemmas.{parents_together}
 use Rattle.check_objects.proofs.RangeLemmas.{drafts_read}
 use Rattle.check_objects.proofs.SetupLemmas.{hosts_are_linked, parents_within}
-use Rattle.check_explain.specs.Explanation.{any_item, is_text, items_list}
-use Rattle.check_explain.specs.Rounds.{has, has_parent, is_called, is_named, HasParentsRound, IsRound, OfWhole, TellsParents}
+use Rattle.check_explain.specs.Explanation.{any_item, is_called, is_text, items_list}
+use Rattle.check_explain.specs.Rounds.{has, has_parent, is_named, HasParentsRound, IsRound, OfWhole, TellsParents}
 use Rattle.check_explain.proofs.DistinctLemmas.{distinct_by, one_place, IsVerified}
 use Rattle.check_explain.proofs.DraftLemmas.{host_of, list_as, member_texts, read_from}
 

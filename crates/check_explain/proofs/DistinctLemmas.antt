@@ -30,8 +30,8 @@ use Rattle.check_numbers.proofs.NameLemmas.{same_text}
 use Rattle.check_objects.specs.Setup.{or_refusal, setup_of, setup_of_drafts, setup_of_tree, without_cycles}
 use Rattle.check_objects.proofs.ExaminedLemmas.{refused_alike}
 use Rattle.check_objects.proofs.RangeLemmas.{drafts_read}
-use Rattle.check_explain.specs.Explanation.{are_texts, is_semicolon, items_list, service_pair, text_in}
-use Rattle.check_explain.specs.Rounds.{has, is_called, HasDistinctNames, IsRefusedFor}
+use Rattle.check_explain.specs.Explanation.{are_texts, is_called, is_semicolon, items_list, service_pair, text_in}
+use Rattle.check_explain.specs.Rounds.{has, HasDistinctNames, IsRefusedFor}
 use Rattle.check_explain.proofs.DraftLemmas.{host_of, list_as, read_as, service_of}
 use Rattle.check_explain.proofs.PlaceLemmas.{none_at}
 use Rattle.check_explain.proofs.RefusalLemmas.{after, behind_counts, drafts_good, is_of_whole, tests_good, Spares}

@@ -1,6 +1,6 @@
 -- The setup of a text is that of its tree.
 use Rattle.std.proofs.Common.{◌≡◌, ℕ, ◌≤◌, ◌<◌, ◌⊎◌, inl, inr, true, false, cond, Bool, List, length, Option, Some, None, Ok, Err, refl, ap, ◌∙◌, arith}
-use Rattle.std.specs.Prelude.{nat_lt, ok_or, IsOk, Result}
+use Rattle.std.specs.Prelude.{nat_lt, ok_or, IsOk}
 use Rattle.std.proofs.lemmas.Bool.{cases_lt}
 use Rattle.std.proofs.lemmas.Bool.Decides.{nat_tests}
 use Rattle.serde_json.specs.Data.{Data, depth}
@@ -11,7 +11,6 @@ use Rattle.check_drafts.specs.Fault.{Fault, but_memory}
 use Rattle.check_drafts.specs.declared.error.LoadError.TheVariants as errors
 use Rattle.check_drafts.specs.Agreement.{Fails}
 use Rattle.check_documents.specs.Tree.{tree_of}
-use Rattle.check_explain.specs.DocumentLine.{IsTold}
 use Rattle.check_numbers.specs.Configuration.{Configuration}
 use Rattle.check_objects.specs.Setup.{examined, or_refusal, setup_of, setup_of_tree}
 use Rattle.check_objects.proofs.ExaminedLemmas.{refused_alike}
@@ -45,11 +44,6 @@ unfolding tree_of
 shallow_tree bytes d e = depth-read bytes d (read_by (is_utf8 bytes) (read bytes) d e)
 
 -- ---- why there is no line
-
--- of a document that is refused the fault is returned
-pub refused_is_told : (r : Option Fault) (setup : Result Configuration Fault) → Fails r setup → IsTold r setup
-refused_is_told None setup h = tt
-refused_is_told (Some e) setup h = rw h refl
 
 -- what a document is examined as, it is read as
 pub good_document : (document : List ℕ) (c : Configuration) → examined document ≡ Ok c → setup_of document ≡ Ok c

@@ -79,9 +79,6 @@ abbrev pub Linked : (Data → ℕ → ℕ → Bool) → List Value → ℕ → L
 Linked links_by vs i links =
     (k : ℕ) (v : Value) → k < i → slice_get vs k ≡ Some v → (from to : ℕ) → links_by (view v) from to ≡ true → is_link links from to ≡ true
 
-pub linked_first : (links_by : Data → ℕ → ℕ → Bool) (vs : List Value) (links : List (ℕ × ℕ)) → Linked links_by vs 0 links
-linked_first links_by vs links k v h = absurd (omega (arith, h))
-
 -- a value that links no two
 pub linked_none : (links_by : Data → ℕ → ℕ → Bool) (vs : List Value) (i : ℕ) (v : Value) (links : List (ℕ × ℕ)) → slice_get vs i ≡ Some v
     → IsOfNone (links_by (view v)) → Linked links_by vs i links → Linked links_by vs (i + 1) links
@@ -167,19 +164,6 @@ parents_of_child hosts child host vs i links at are end all apart parent e =
 abbrev pub ParentsBefore : List Data → ℕ → List (ℕ × ℕ) → Type 0
 ParentsBefore hosts child links =
     AreDistinct part.Hosts hosts → (from to : ℕ) → from < child → has_parent hosts from to ≡ true → is_link links from to ≡ true
-
-pub parents_first : (hosts : List Data) (links : List (ℕ × ℕ)) → ParentsBefore hosts 0 links
-parents_first hosts links apart from to h = absurd (omega (arith, h))
-
-pub parents_next : (hosts : List Data) (child : ℕ) (old new : List (ℕ × ℕ)) → HasAll old new → HasParentsOf hosts child new → ParentsBefore hosts child old
-    → ParentsBefore hosts (child + 1) new
-parents_next hosts child old new stay more before apart from to h e = elim (cases_lt from child) [
-  | inl early ↦ stay from to (before apart from to early e)
-  | inr late ↦
-      let same : from ≡ child = omega (arith, h, late) in
-      let new_one : is_link new child to ≡ true = more apart to (ap (λ c. has_parent hosts c to) (sym same) ∙ e) in
-      ap (λ c. is_link new c to) same ∙ new_one
-]
 
 pub parents_all : (hosts : List Data) (n : ℕ) (links : List (ℕ × ℕ)) → length hosts ≤ n → ParentsBefore hosts n links
     → HasEach part.Hosts hosts (has_parent hosts) links

@@ -40,8 +40,8 @@ use Rattle.check_objects.specs.Setup.{without_parent_cycle}
 use Rattle.check_objects.proofs.LinkLemmas.{dependencies_by_name}
 use Rattle.check_objects.proofs.RangeLemmas.{drafts_read, AreReadFrom}
 use Rattle.check_objects.proofs.SetupLemmas.{has_lists, parted_from}
-use Rattle.check_explain.specs.Explanation.{are_texts, is_semicolon, items_list, service_pair}
-use Rattle.check_explain.specs.Rounds.{has, has_master, is_called, is_dependency, is_named, HasDependenciesRound, IsRound, OfWhole, TellsDependencies}
+use Rattle.check_explain.specs.Explanation.{are_texts, is_called, is_semicolon, items_list, service_pair}
+use Rattle.check_explain.specs.Rounds.{has, has_master, is_dependency, is_named, HasDependenciesRound, IsRound, OfWhole, TellsDependencies}
 use Rattle.check_explain.proofs.CyclicLemmas.{any_listed, made_at, named_at, path_round, text_back, walked}
 use Rattle.check_explain.proofs.DistinctLemmas.{distinct_by, text_is, IsVerified}
 use Rattle.check_explain.proofs.DraftLemmas.{dependency_of, list_as, read_from, service_of, sort_as}

@@ -1,9 +1,8 @@
 -- Names that hosts have, and the first that none has.
-use Rattle.std.proofs.Common.{◌≡◌, ◌≢◌, ℕ, ◌+◌, Bool, true, false, not, cond, ◌||◌, List, [], ◌∷◌, map, drop, Option, Some, None, refl, sym, ap, ◌∙◌}
+use Rattle.std.proofs.Common.{◌≡◌, ◌≢◌, ℕ, Bool, true, false, not, cond, ◌||◌, List, [], ◌∷◌, map, Option, Some, None, refl, sym, ap, ◌∙◌}
 use Rattle.std.specs.Prelude.{codes, option_and_then}
 use Rattle.std.specs.List.{list_any, position}
-use Rattle.serde_json.specs.Data.{Data, Items, no_items, item}
-use Rattle.serde_json.specs.Find.{as_str}
+use Rattle.serde_json.specs.Data.{Data, Items}
 use Rattle.serde_json.specs.View.{items_view, view}
 use Rattle.serde_json.specs.declared.value.Value.{Value}
 use Rattle.check_drafts.specs.declared.place.Part.{Part}
@@ -20,15 +19,6 @@ list_seen (v ∷ vs) = ap (λ ds. view v ∷ ds) (list_seen vs)
 pub any_seen : (test : Data → Bool) (vs : List Value) → list_any (λ v. test (view v)) vs ≡ any_item test (items_view vs)
 any_seen test [] = refl
 any_seen test (v ∷ vs) = ap (λ b. test (view v) || b) (any_seen test vs)
-
-none_passes : (ds : Items) → any_item (λ d. false) ds ≡ false
-none_passes no_items = refl
-none_passes (item d ds) = none_passes ds
-
--- a test that is made only where something else holds
-pub any_if : (b : Bool) (test : Data → Bool) (ds : Items) → any_item (λ d. cond b (test d) false) ds ≡ cond b (any_item test ds) false
-any_if true test ds = refl
-any_if false test ds = none_passes ds
 
 -- the place of the first item of the code's that passes a test is that of the tree's
 pub place_seen : (test : Data → Bool) (vs : List Value) → position (λ v. test (view v)) vs ≡ position test (items_list (items_view vs))
@@ -70,17 +60,3 @@ found_by : (tree : Data) (text : Option (List ℕ)) (rest : List (List ℕ)) (na
     → first_unknown tree (text_before text rest) ≡ Some name
 found_by tree None rest name found = cc
 found_by tree (Some text) rest name found = taken (is_host tree text) text name (first_unknown tree rest) found
-
--- the names go on behind one that a host has
-pub unknown_next : (tree : Data) (vs : List Value) (i : ℕ) (v : Value) (unknown : Option (List ℕ)) → drop i vs ≡ v ∷ drop (i + 1) vs
-    → unknown ≡ first_unknown tree (text_before (as_str (view v)) []) → unknown ≡ None → unknown_among tree vs ≡ unknown_among tree (drop i vs)
-    → unknown_among tree vs ≡ unknown_among tree (drop (i + 1) vs)
-unknown_next tree vs i v unknown at is none before =
-    before ∙ (ap (unknown_among tree) at ∙ next_by tree (as_str (view v)) (texts_among (items_view (drop (i + 1) vs))) (sym is ∙ none))
-
--- the first name that no host has
-pub unknown_here : (tree : Data) (vs : List Value) (i : ℕ) (v : Value) (unknown : Option (List ℕ)) (name : List ℕ) → drop i vs ≡ v ∷ drop (i + 1) vs
-    → unknown ≡ first_unknown tree (text_before (as_str (view v)) []) → unknown ≡ Some name → unknown_among tree vs ≡ unknown_among tree (drop i vs)
-    → unknown ≡ unknown_among tree vs
-unknown_here tree vs i v unknown name at is found before =
-    found ∙ sym (before ∙ (ap (unknown_among tree) at ∙ found_by tree (as_str (view v)) (texts_among (items_view (drop (i + 1) vs))) name (sym is ∙ found)))

@@ -9,18 +9,15 @@ use Rattle.serde_json.specs.Data.{Data, Items, no_items, item}
 use Rattle.serde_json.specs.Find.{as_array, as_str, get}
 use Rattle.serde_json.specs.View.{items_view, view}
 use Rattle.serde_json.specs.declared.value.Value.{Value}
-use Rattle.check_drafts.specs.Fault as fault
-use Rattle.check_drafts.specs.Fault.{Fault}
 use Rattle.check_drafts.specs.Members.{part_name}
 use Rattle.check_drafts.specs.declared.place.Part.{Part}
 use Rattle.check_drafts.specs.declared.place.Part.TheVariants as part
-use Rattle.check_drafts.specs.declared.place.Place.{Place}
 use Rattle.check_documents.specs.Places.{or_no_items}
-use Rattle.check_explain.specs.Explanation.{any_item, is_text, place_of, text_in}
+use Rattle.check_explain.specs.Explanation.{any_item, is_called, is_text, text_in}
 use Rattle.check_explain.specs.Feeds.{has_feed}
 use Rattle.check_explain.specs.Links.{HasEach}
 use Rattle.check_explain.specs.Onward.{AreWithin}
-use Rattle.check_explain.specs.Rounds.{has, has_master, has_parent, is_called, is_dependency, is_link, is_named, round_text, AreDistinct, HasNoRound, IsRound, OfWhole, TellsRound}
+use Rattle.check_explain.specs.Rounds.{has, has_master, has_parent, is_dependency, is_link, is_named, round_text, AreDistinct, HasNoRound, IsRound, TellsRound}
 
 -- ---- links
 
@@ -155,10 +152,3 @@ masters_within p objects n ds links size all =
     rw (← size) (named_within p objects (text_in (codes "dependent") d.0) dependent (and_parts _ _ d.1).0)) all
 
 -- ---- faults
-
--- nothing is said here of a fault that has a place
-pub of_place : (tree : Data) (f : Fault) (place : Place) (text : List ℕ) → place_of f ≡ Some place → OfWhole tree f text
-of_place tree (fault.too_many c) place text e = cc
-of_place tree fault.dependency_cycle place text e = cc
-of_place tree fault.parent_cycle place text e = cc
-of_place tree f place text e = tt

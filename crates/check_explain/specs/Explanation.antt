@@ -90,7 +90,7 @@ abbrev pub misnamed_member : Part → List ℕ
 misnamed_member part.Services = members.description.name
 misnamed_member p = members.host_name.name
 
--- ---- the name that isn't there
+-- ---- items by their names
 
 abbrev pub any_item : (Data → Bool) → Items → Bool
 any_item test no_items = false
@@ -101,9 +101,34 @@ abbrev pub is_text : List ℕ → Option (List ℕ) → Bool
 is_text name None = false
 is_text name (Some text) = bytes_eq text name
 
+-- whether there are two texts, and they are these
+abbrev pub are_texts : List ℕ × List ℕ → Option (List ℕ × List ℕ) → Bool
+are_texts pair None = false
+are_texts pair (Some found) = bytes_eq found.0 pair.0 && bytes_eq found.1 pair.1
+
+-- the host and the description of a service
+abbrev pub service_pair : Data → Option (List ℕ × List ℕ)
+service_pair d = texts_in (codes "host") (codes "description") d
+
+abbrev pub is_semicolon : ℕ → Bool
+is_semicolon b = b == 59
+
+-- whether an item has this full name, which in a service's the first semicolon parts
+abbrev pub is_called : Part → List ℕ → Data → Bool
+is_called part.Services name d = if nat_lt (position_or_len is_semicolon name) (length name)
+    then are_texts (before_first is_semicolon name, after_first is_semicolon name) (service_pair d)
+    else false
+is_called p name d = is_text name (text_in (codes "name") d)
+
 -- whether a host has this name
 abbrev pub is_host : Data → List ℕ → Bool
-is_host tree name = any_item (λ host. is_text name (text_in (codes "name") host)) (items_at tree part.Hosts)
+is_host tree name = any_item (is_called part.Hosts name) (items_at tree part.Hosts)
+
+-- whether a service has this full name
+abbrev pub is_service : Data → List ℕ → Bool
+is_service tree name = any_item (is_called part.Services name) (items_at tree part.Services)
+
+-- ---- the name that isn't there
 
 abbrev pub text_before : Option (List ℕ) → List (List ℕ) → List (List ℕ)
 text_before None texts = texts
@@ -135,15 +160,6 @@ abbrev pub items_list : Items → List Data
 items_list no_items = []
 items_list (item d ds) = d ∷ items_list ds
 
--- whether there are two texts, and they are these
-abbrev pub are_texts : List ℕ × List ℕ → Option (List ℕ × List ℕ) → Bool
-are_texts pair None = false
-are_texts pair (Some found) = bytes_eq found.0 pair.0 && bytes_eq found.1 pair.1
-
--- the host and the description of a service
-abbrev pub service_pair : Data → Option (List ℕ × List ℕ)
-service_pair d = texts_in (codes "host") (codes "description") d
-
 -- the index of the first service that has the host and the description of this one, or of the first host that has the name of this one
 abbrev pub first_like : Data → Part → Data → Option ℕ
 first_like tree part.Services d = option_and_then (λ pair. position (λ other. are_texts pair (service_pair other)) (items_list (items_at tree part.Services))) (service_pair d)
@@ -155,15 +171,6 @@ like_text p None = []
 like_text p (Some index) = part_text p (Some index)
 
 -- ---- the end that isn't there
-
-abbrev pub is_semicolon : ℕ → Bool
-is_semicolon b = b == 59
-
--- whether a service has this full name, which the first semicolon in it parts
-abbrev pub is_service : Data → List ℕ → Bool
-is_service tree name = if nat_lt (position_or_len is_semicolon name) (length name)
-    then any_item (λ service. are_texts (before_first is_semicolon name, after_first is_semicolon name) (service_pair service)) (items_at tree part.Services)
-    else false
 
 -- whether a dependency of this part can have an object of this name at an end
 abbrev pub is_end : Data → Part → List ℕ → Bool

@@ -1,7 +1,7 @@
 -- A cycle of a document: hosts or services, each linked to the next one and the last to the first; and how it is said.
 use Rattle.std.specs.Prelude.{◌≡◌, ◌⊎◌, ℕ, ◌+◌, ◌-◌, ◌<◌, ◌==◌, ◌&&◌, Bool, true, false, List, [], ◌∷◌, ◌++◌, Option, Some, None, codes, decimal, get_or, length, nat_lt}
 use Rattle.std.specs.Prelude.{Err, option_and_then, slice_get, take, unwrap_or, if◌then◌else◌}
-use Rattle.std.specs.List.{after_first, before_first, list_any, position_or_len}
+use Rattle.std.specs.List.{list_any}
 use Rattle.serde_json.specs.Data.{Data, Items}
 use Rattle.serde_json.specs.Find.{as_array, as_str, get}
 use Rattle.check_drafts.specs.declared.place.Part.{Part}
@@ -9,11 +9,12 @@ use Rattle.check_drafts.specs.declared.place.Part.TheVariants as part
 use Rattle.check_drafts.specs.Fault as fault
 use Rattle.check_drafts.specs.Fault.{Fault}
 use Rattle.check_drafts.specs.Members.{part_name}
-use Rattle.check_documents.specs.Places.{items_at, or_no_items}
+use Rattle.check_documents.specs.Places.{items_at, or_no_items, value_at}
 use Rattle.check_documents.specs.Tree.{tree_of}
 use Rattle.check_objects.specs.Setup.{examined}
 use Rattle.check_explain.specs.Counts.{count_text}
-use Rattle.check_explain.specs.Explanation.{after_space, any_item, are_texts, is_semicolon, is_text, items_list, name_shown, service_pair, text_in}
+use Rattle.check_explain.specs.Explanation.{after_space, any_item, head_of, is_called, items_list, name_shown, text_in}
+use Rattle.check_explain.specs.Ranges.{no_fault_text, range_at}
 
 -- ---- links
 
@@ -21,13 +22,6 @@ use Rattle.check_explain.specs.Explanation.{after_space, any_item, are_texts, is
 abbrev pub has : {A : Type 0} → (A → Bool) → Option A → Bool
 has test None = false
 has test (Some x) = test x
-
--- whether an item has this full name, which in a service's the first semicolon parts
-abbrev pub is_called : Part → List ℕ → Data → Bool
-is_called part.Services name d = if nat_lt (position_or_len is_semicolon name) (length name)
-    then are_texts (before_first is_semicolon name, after_first is_semicolon name) (service_pair d)
-    else false
-is_called p name d = is_text name (text_in (codes "name") d)
 
 -- whether there is a name, and the item at an index has it for its full name
 abbrev pub is_named : Part → List Data → Option (List ℕ) → ℕ → Bool
@@ -103,9 +97,6 @@ pub record TellsRound (what : List ℕ) (p : Part) (objects : List Data) (linked
   pub round : IsRound linked cycle
   pub is : text ≡ round_text what p objects cycle
 
-abbrev pub no_fault_text : List ℕ
-no_fault_text = codes "the document has no such fault"
-
 -- a cycle of parents of the document
 abbrev pub TellsParents : Data → List ℕ → Type 0
 TellsParents tree text = TellsRound (codes "parents") part.Hosts (items_list (items_at tree part.Hosts)) (has_parent (items_list (items_at tree part.Hosts))) text
@@ -160,8 +151,9 @@ pub record IsRefusedFor (document : List ℕ) (tree : Data) (f : Fault) : Type 0
   pub read : tree_of document ≡ Some tree
   pub refused : examined document ≡ Err f
 
--- what is said of a fault that has no place: a count, or the objects of a cycle, or that there is none
+-- the whole of what is said of a count, of a cycle (its objects, or that there is none), and of a number that is out of its limits
 abbrev pub OfWhole : Data → Fault → List ℕ → Type 0
+OfWhole tree (fault.range p w) text = text ≡ head_of tree (fault.range p w) ++ range_at w (value_at tree p)
 OfWhole tree (fault.too_many c) text = text ≡ count_text tree c
 OfWhole tree fault.parent_cycle text = TellsParents tree text ⊎ TellsNoParents tree text
 OfWhole tree fault.dependency_cycle text =

@@ -5,10 +5,11 @@ ghost use Rattle.serde_json.specs.View.{view};
 ghost use Rattle.check_drafts.specs.Fault as fault;
 ghost use Rattle.check_drafts.specs.declared.place.Part.TheVariants as part;
 ghost use Rattle.check_documents.specs.Places.{items_at};
+ghost use Rattle.check_explain.specs.Ranges.{no_fault_text};
 ghost use Rattle.check_explain.specs.Explanation.{items_list};
 ghost use Rattle.check_explain.specs.Feeds.{has_feed};
 ghost use Rattle.check_explain.specs.Onward.{is_on, step_from, steps_from, AreWithin, GoesBack, IsEndless, IsOnBy, IsTrip, Reaches};
-ghost use Rattle.check_explain.specs.Rounds.{has_master, has_parent, is_link, left_out_text, more_text, no_fault_text, object_text, objects_text, round_text};
+ghost use Rattle.check_explain.specs.Rounds.{has_master, has_parent, is_link, left_out_text, more_text, object_text, objects_text, round_text};
 ghost use Rattle.check_explain.specs.Rounds.{HasNoMastersRound, HasNoParentsRound, HasNoRound, IsRound, OfWhole, TellsMasters};
 
 use crate::line::Line;
@@ -20,7 +21,7 @@ use check_drafts::Part;
 use serde_json::Value;
 use std::alloc::{AllocError, Global};
 
-/// How many objects of a cycle are named; a longer one is told by its first ones and a count.
+/// How many objects of a cycle are named; of a longer one the first ones, and how many more there are.
 const FEW: usize = 8;
 
 /// For each object the one that is gone on to from it, where there is one.
@@ -117,7 +118,7 @@ fn master_cycle(
     cycle_in(alloc, objects.len(), &links)
 }
 
-// ---- how a cycle is told
+// ---- how a cycle is written
 
 /// Appends the objects of a cycle, and what links them.
 fn push_cycle(

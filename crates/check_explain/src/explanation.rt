@@ -1,10 +1,12 @@
 //! The explanation of a refusal.
-ghost use Rattle.std.specs.Prelude.{◌≡◌, ◌++◌, IfOk, OnOk, Some, [], string_bytes};
+ghost use Rattle.std.specs.Prelude.{◌≡◌, ◌++◌, IfOk, OnOk, Some, None, [], string_bytes};
 ghost use Rattle.serde_json.specs.Errors.{IsMemory};
 ghost use Rattle.serde_json.specs.View.{view};
 ghost use Rattle.check_drafts.specs.Fault.{seen};
+ghost use Rattle.check_documents.specs.Places.{value_at};
 ghost use Rattle.check_explain.specs.Explanation.{head_by, head_of, place_of, subject_in, Begins, IsOfFault};
 ghost use Rattle.check_explain.specs.Feeds.{HasNoFeed};
+ghost use Rattle.check_explain.specs.Ranges.{IsOfRange};
 ghost use Rattle.check_explain.specs.Rounds.{IsOfWhole, OfWhole};
 
 use crate::counts::push_count;
@@ -27,12 +29,13 @@ use std::alloc::{AllocError, Global};
 /// name that stands there, the member or the name that is at fault, and what is wrong with it.
 ///
 /// The fault is the one that `Setup::examine` gave for the document; except for a cycle nothing is looked
-/// for again. The line begins with the fault's place, and names its member (`begins`). Of a fault that
-/// has no place the whole line is known (`whole`): how much there is and how much there can be, or the
-/// objects of a cycle, each linked to the next one and the last to the first. That the document has no
+/// for again. The line begins with the fault's place, and names its member (`begins`). Of three sorts of
+/// faults the whole line is known (`whole`). Of a number out of its limits it is the place, the member, the
+/// number, and what it can be. Of too many items it is how many there are and how many there can be. Of a
+/// cycle it is its objects, each linked to the next one and the last to the first; that the document has no
 /// such fault is said only where it has no cycle, if no two of its items have one name. Texts of the
 /// document stand there as JSON strings, of which at most 80 characters are shown. The one error is that
-/// memory ran out.
+/// memory ran out. The words are this project's own: Nagios checks its configuration in other ways.
 pub fn explain(alloc: Global, document: &[u8], fault: Fault) -> Result<String, AllocError>
     ensures line { IfOk result (λ text. HasNoFeed (string_bytes text)) }
     ensures begins { IfOk result (λ text.
@@ -124,7 +127,10 @@ fn push_fault_at(
     fault: Fault,
     place: Place,
 ) -> Result<(), AllocError>
-    ensures { OnOk result (Begins (line.old ++ head_by (view tree.now) (seen fault) (Some place)) line.new) }
+    ensures text { OnOk result
+        (Begins (line.old ++ head_by (view tree.now) (seen fault) (Some place)) line.new) }
+    ensures whole { OnOk result (line.old ≡ [] → place_of (seen fault) ≡ Some place
+        → OfWhole (view tree.now) (seen fault) line.new) }
 {
     push_head(line, tree, fault, place)?;
     let rest = rest_at(alloc, tree, fault, place)?;
@@ -164,7 +170,9 @@ fn push_subject(
 }
 
 /// What is said of a fault behind its place and its member.
-fn rest_at(alloc: Global, tree: &Value, fault: Fault, place: Place) -> Result<Line, AllocError> {
+fn rest_at(alloc: Global, tree: &Value, fault: Fault, place: Place) -> Result<Line, AllocError>
+    ensures { IfOk result (λ rest. IsOfRange (seen fault) (value_at (view tree.now) place) rest) }
+{
     let mut rest = Line::new(alloc);
     match value_at(tree, place) {
         Some(value) => push_rest(alloc, &mut rest, tree, value, fault)?,
@@ -180,7 +188,10 @@ fn push_rest(
     tree: &Value,
     value: &Value,
     fault: Fault,
-) -> Result<(), AllocError> {
+) -> Result<(), AllocError>
+    ensures { OnOk result
+        (rest.old ≡ [] → IsOfRange (seen fault) (Some (view value.now)) rest.new) }
+{
     match fault {
         Fault::Shape(_, shape) => push_shape(alloc, rest, value, shape),
         Fault::BadName(place) => push_bad_name(rest, value, place.part),
@@ -195,7 +206,8 @@ fn push_rest(
 /// Appends what is wrong with the document as a whole.
 fn push_whole(alloc: Global, line: &mut Line, tree: &Value, fault: Fault) -> Result<(), AllocError>
     ensures text { OnOk result (Begins line.old line.new) }
-    ensures whole { OnOk result (line.old ≡ [] → OfWhole (view tree.now) (seen fault) line.new) }
+    ensures whole { OnOk result (line.old ≡ [] → place_of (seen fault) ≡ None
+        → OfWhole (view tree.now) (seen fault) line.new) }
 {
     let rest = rest_of(alloc, tree, fault)?;
     line.push_line(&rest)
@@ -203,7 +215,8 @@ fn push_whole(alloc: Global, line: &mut Line, tree: &Value, fault: Fault) -> Res
 
 /// What is said of a fault that has no place.
 fn rest_of(alloc: Global, tree: &Value, fault: Fault) -> Result<Line, AllocError>
-    ensures { IfOk result (λ rest. OfWhole (view tree.now) (seen fault) rest) }
+    ensures { IfOk result (λ rest. place_of (seen fault) ≡ None
+        → OfWhole (view tree.now) (seen fault) rest) }
 {
     let mut rest = Line::new(alloc);
     match fault {

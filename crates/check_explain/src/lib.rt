@@ -7,10 +7,11 @@
 //! document, from the table of its members.
 //!
 //! The modules: `line` has a line that never gets a line feed, `places` what stands at a place and how
-//! it is told, `kinds` how kinds and values are, `shapes`, `ranges`, `names`, `counts` and `cycle` (over
-//! `links`) the faults by sort, `explanation` puts them together; `document_line` writes the line of a
-//! document, and `laws` says what is so of every good one and of those that are refused for a count or
-//! a cycle; `schema` writes the schema, over `layout`, which lays JSON text out.
+//! it is written, `kinds` how kinds and values are, `shapes`, `ranges`, `names`, `counts` and `cycle` (over
+//! `links`) the faults by sort, `no_fault` that a document has none of a sort; `explanation` puts them
+//! together. `document_line` writes the line of a document, and `laws` says what is so of every good one
+//! and of those that are refused for a count or a cycle; `schema` writes the schema, over `layout`, which
+//! lays JSON text out.
 
 mod counts;
 mod cycle;

@@ -2,8 +2,9 @@
 ghost use Rattle.std.specs.Prelude.{◌≡◌, ◌<◌, All, IfOk, MatchOption, OnOk, length, map, option_map, position, slice_get, true};
 ghost use Rattle.serde_json.specs.View.{items_view, view};
 ghost use Rattle.check_drafts.specs.declared.place.Part.TheVariants as part;
+ghost use Rattle.check_explain.specs.Explanation.{is_called};
 ghost use Rattle.check_explain.specs.Links.{HasAll, HasEach, HasParentsOf, IsOfNone, IsPlace};
-ghost use Rattle.check_explain.specs.Rounds.{has, has_master, has_parent, is_called, is_dependency, is_named};
+ghost use Rattle.check_explain.specs.Rounds.{has, has_master, has_parent, is_dependency, is_named};
 
 use crate::names::{is_called, parents_of};
 use crate::places::{text_of, texts_of};
@@ -16,7 +17,7 @@ use std::alloc::{AllocError, Global};
 /// A link from the item at the first index to the item at the second.
 pub(crate) type Link = (usize, usize);
 
-/// What tells an item from the others of its list: a host's name and nothing, or a service's host and
+/// What no two items of a list have alike: a host's name and nothing, or a service's host and
 /// description.
 type Key<'v> = (&'v str, &'v str);
 

@@ -5,11 +5,10 @@ ghost use Rattle.serde_json.specs.Find.{as_array, get};
 ghost use Rattle.serde_json.specs.View.{items_view, view};
 ghost use Rattle.check_drafts.specs.declared.place.Part.TheVariants as part;
 ghost use Rattle.check_documents.specs.Places.{or_no_items};
-ghost use Rattle.check_explain.specs.Explanation.{are_texts, first_like, first_unknown, host_role, is_end, is_host, is_service, is_text, like_text, misnamed_member, named};
+ghost use Rattle.check_explain.specs.Explanation.{are_texts, first_like, first_unknown, host_role, is_called, is_end, is_host, is_service, is_text, like_text, misnamed_member, named};
 ghost use Rattle.check_explain.specs.Explanation.{service_pair, texts_in, unknown_end};
 ghost use Rattle.check_explain.specs.Explanation.{text_before, text_in, texts_among, unknown_host};
 ghost use Rattle.check_explain.specs.Feeds.{has_feed};
-ghost use Rattle.check_explain.specs.Rounds.{is_called};
 
 use crate::line::Line;
 use crate::no_fault::push_no_fault;
@@ -269,15 +268,7 @@ fn unknown_text<'v>(tree: &Value, text: Option<&'v str>) -> Option<&'v str>
 fn is_host(tree: &Value, name: &str) -> bool
     ensures { result ≡ is_host (view tree.now) name.now }
 {
-    have_name(items(tree, Part::Hosts), name)
-}
-
-/// Whether one of these hosts has this name.
-fn have_name(hosts: &[Value], name: &str) -> bool
-    ensures { result
-        ≡ list_any (λ host. is_text name.now (text_in (codes "name") (view host))) hosts.now }
-{
-    hosts.iter().any(|host| has_text(host, "name", name))
+    has_called(items(tree, Part::Hosts), Part::Hosts, name)
 }
 
 /// Whether a member of an item is this text.

@@ -1,6 +1,6 @@
 //! What is said of a refusal that another document has.
 ghost use Rattle.std.specs.Prelude.{◌≡◌, ◌++◌, OnOk};
-ghost use Rattle.check_explain.specs.Rounds.{no_fault_text};
+ghost use Rattle.check_explain.specs.Ranges.{no_fault_text};
 
 use crate::line::Line;
 use std::alloc::AllocError;

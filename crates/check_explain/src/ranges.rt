@@ -4,7 +4,7 @@ ghost use Rattle.serde_json.specs.View.{view};
 ghost use Rattle.check_drafts.specs.Fault.{range_seen};
 ghost use Rattle.check_drafts.specs.Member.{as_row, limits_of};
 ghost use Rattle.check_explain.specs.Explanation.{stray_member};
-ghost use Rattle.check_explain.specs.Ranges.{above_text, between_text, beyond_text, crossed_text, is_text, limits_text, number_of};
+ghost use Rattle.check_explain.specs.Ranges.{above_text, between_text, beyond_text, crossed_text, limits_text, number_of, number_text};
 ghost use Rattle.check_explain.specs.Ranges.{range_text};
 
 use crate::line::Line;
@@ -22,8 +22,8 @@ pub(crate) fn stray_member(fault: RangeFault) -> &'static str
 {
     match fault {
         RangeFault::Beyond(member) => member.name,
-        RangeFault::ServiceThresholds => "low_service_flap_threshold",
-        RangeFault::HostThresholds => "low_host_flap_threshold",
+        RangeFault::ServiceThresholds => LOW_SERVICE_FLAP_THRESHOLD.name,
+        RangeFault::HostThresholds => LOW_HOST_FLAP_THRESHOLD.name,
     }
 }
 
@@ -95,7 +95,7 @@ fn push_crossed(
 }
 
 fn push_is(line: &mut Line, number: u64) -> Result<(), AllocError>
-    ensures { OnOk result (line.new ≡ line.old ++ is_text number) }
+    ensures { OnOk result (line.new ≡ line.old ++ number_text number) }
 {
     line.push_words(" is ")?;
     line.push_number(number)

@@ -1,6 +1,6 @@
 use Rattle.std.proofs.Common.{◌∙◌, ◌++◌, ap, inr}
 use Rattle.std.proofs.lemmas.Result.{on_ok_weaker}
-use Rattle.check_explain.specs.Rounds.{no_fault_text}
+use Rattle.check_explain.specs.Ranges.{no_fault_text}
 use Rattle.check_explain.proofs.cycle.push_dependency_cycle.Goals as goal
 
 pub returns : goal.returns

@@ -1,7 +1,7 @@
 use Rattle.std.proofs.Common.{◌∙◌, map, sym}
 use Rattle.serde_json.specs.View.{view}
 use Rattle.check_drafts.proofs.ListLemmas.{position-map}
-use Rattle.check_explain.specs.Rounds.{is_called}
+use Rattle.check_explain.specs.Explanation.{is_called}
 use Rattle.check_explain.proofs.PlaceLemmas.{place_found}
 use Rattle.check_explain.proofs.links.index_by.Goals as goal
 
