@@ -1,9 +1,9 @@
 -- The objects of a setup as they are found among the saved ones, the last of these first.
-use Rattle.std.proofs.Common.{◌≡◌, ◌≢◌, ℕ, ◌+◌, ◌<◌, ◌≤◌, ◌==◌, Bool, true, false, List, [], ◌∷◌, length, drop, get_or, set, replicate, bytes_eq}
+use Rattle.std.proofs.Common.{◌≡◌, ◌≢◌, ℕ, ◌+◌, ◌<◌, ◌≤◌, ◌==◌, Bool, true, false, List, length, drop, get_or, set, bytes_eq}
 use Rattle.std.proofs.Common.{Option, Some, None, option_map, refl, sym, ap, ◌∙◌, arith}
 use Rattle.std.specs.Prelude.{find, slice_get}
 use Rattle.std.proofs.lemmas.Bool.{eqb-false, eqb-true}
-use Rattle.std.proofs.lemmas.List.{get_or-replicate, get_or-set_other, get_or-set_same, get_or_default, length-replicate, length-set, same_lists}
+use Rattle.std.proofs.lemmas.List.{get_or-set_other, get_or-set_same, get_or_default, length-set, same_lists}
 use Rattle.std.proofs.lemmas.Option.{slice_get-get_or, slice_get_within}
 use Rattle.check_drafts.specs.declared.object.Object.{Object}
 use Rattle.check_objects.specs.Configuration.{Configuration, IsSetup, Named, name_of, number_of, object_count, objects_of}
@@ -31,12 +31,6 @@ named_is c n o name valid at e =
     number_is c n name valid (slice_get_within (objects_of c) n o at) (ap (λ full. bytes_eq full name) (name_is c n o at) ∙ e)
 
 -- ---- one saved object more
-
-pub found_none : (c : Configuration) → AreFound c [] (replicate (object_count c) None)
-found_none c = record {
-  one_each = length-replicate (object_count c) None;
-  found = λ n o at. get_or-replicate (object_count c) n None None (slice_get_within (objects_of c) n o at);
-}
 
 -- one more that the setup hasn't
 pub found_past : (c : Configuration) (k : ℕ) (objects : List SavedObject) (x : SavedObject) (kept : List (Option Kept)) → IsSetup c → k < length objects

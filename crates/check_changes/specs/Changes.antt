@@ -1,5 +1,5 @@
 -- What becomes of the objects when a scheduler goes on over a setup from a saved state.
-use Rattle.std.specs.Prelude.{ℕ, ◌==◌, ◌||◌, Bool, false, not, nat_lt, List, [], count_by, drop, Option, Some, None, is_none, is_some, option_map, if◌then◌else◌}
+use Rattle.std.specs.Prelude.{ℕ, ◌==◌, ◌&&◌, Bool, false, not, nat_lt, List, [], count_by, drop, Option, Some, None, is_none, is_some, option_map, if◌then◌else◌}
 use Rattle.check_drafts.specs.declared.object.Object.{Object}
 use Rattle.check_objects.specs.Configuration.{Configuration, host_count, number_of, objects_of}
 use Rattle.check_saved.specs.Saved.{Saved, SavedObject, saved_named}
@@ -56,10 +56,14 @@ abbrev pub is_out : Option Kept → Bool
 is_out None = false
 is_out (Some k) = k.out
 
--- the same count of the objects by number
-abbrev pub given_up_among : Configuration → List (Option Kept) → ℕ
+-- whether more of these services are out than the limit allows; a limit of 0 is none
+abbrev pub are_too_many : Configuration → List (Option Kept) → Bool
+are_too_many setup services = not (limit_of setup == 0) && nat_lt (limit_of setup) (count_by is_out services)
+
+-- the same count of the objects by number: the services that are out, where these are too many
+unfoldable pub given_up_among : Configuration → List (Option Kept) → ℕ
 given_up_among setup kept =
-    let out = count_by is_out (drop (host_count setup) kept) in if limit_of setup == 0 || not (nat_lt (limit_of setup) out) then 0 else out
+    let services = drop (host_count setup) kept in count_by (λ o. are_too_many setup services && is_out o) services
 
 abbrev pub figures_of : Configuration → Saved → Figures
 figures_of setup saved = record {

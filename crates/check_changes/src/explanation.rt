@@ -9,7 +9,7 @@ use std::fmt;
 
 /// Appends a line of plain words that explains why a saved state is refused: which object of the list of
 /// objects, if it is one, and what it has to be. An Err means out of memory, and a part of the line may
-/// have been appended.
+/// have been appended. (Our own profile.)
 pub fn push_explanation(text: &mut String, fault: SavedFault) -> Result<(), AllocError>
     ensures { OnOk result
         (string_bytes text.new ≡ string_bytes text.old ++ saved_explanation fault) }

@@ -14,7 +14,8 @@ use std::alloc::{AllocError, Global};
 /// each line with its line feed: how many objects are kept, how many are new and how many are dropped, how
 /// many runs are given up, and of each object that is kept the values that the setup changes, in the order
 /// of the objects' numbers. Nothing of it goes by the start of the scheduler. It takes time linear in the
-/// objects of both. An Err means out of memory, and a part of the lines may have been appended.
+/// objects of both. An Err means out of memory, and a part of the lines may have been appended. (Our own
+/// profile.)
 pub fn push_changes(
     alloc: Global,
     text: &mut String,
