@@ -17,25 +17,23 @@ use Rattle.check_numbers.specs.Configuration.{Configuration}
 use Rattle.check_explain.specs.Explanation.{place_of, IsOfFault}
 use Rattle.check_explain.specs.Rounds.{IsOfWhole, OfWhole}
 use Rattle.check_explain.proofs.HeadLemmas.{of_nowhere}
+use Rattle.check_explain.proofs.LineLemmas.{good_document}
 use Rattle.check_explain.specs.DocumentLine.{IsFault, OfTree}
 use Rattle.serde_json.specs.Written.{compact_text}
 use Rattle.check_script.specs.declared.drive_error.DriveError.{DriveError}
 use Rattle.check_script.specs.declared.drive_error.DriveError.TheVariants as errors
 use Rattle.check_script.specs.Input.{without_last_feed}
+use Rattle.check_script.proofs.KeptLemmas.{too_long}
 use Rattle.check_text.specs.Output.{WroteFront}
 use Rattle.check_text.proofs.OutputLemmas.{front_all, Appends-Keeps}
 use Rattle.check_drive.specs.declared.drive.Outcome.{Outcome}
-use Rattle.check_session.specs.Check.{HasOnly, IsCheckOf, IsLineTold, IsRefusalTold, IsRefusedAs, IsTold}
+use Rattle.check_session.specs.Check.{IsCheckOf, IsLineTold, IsRefusalTold, IsRefusedAs, IsTold}
 use Rattle.check_session.specs.Reading.{read_of}
 use Rattle.check_session.proofs.ReadingLemmas.{cut_length, read_all, read_long}
 use Rattle.check_drive.proofs.DriveLemmas.{input_of, input_of-is}
 use Rattle.check_text.proofs.WrittenLemmas.{Keeps-same}
 
 -- ---- an input of which a prefix was read
-
-too_long : (bs : List ℕ) → 16777216 < length bs → setup_of bs ≡ Err load.TooLong
-unfolding setup_of
-too_long bs h = let a : nat_lt 16777216 (length bs) ≡ true = grind (arith, nat_tests, h) in rw a refl
 
 examined_long : (bs : List ℕ) → 16777216 < length bs → examined bs ≡ Err fault.too_long
 unfolding examined
@@ -117,15 +115,12 @@ flushed_check Can had held mid holds read text told can a k =
 
 -- ---- a document that was examined
 
-pub examined_good : (document : List ℕ) (c : Configuration) → examined document ≡ Ok c → setup_of document ≡ Ok c
-examined_good document c is = refused_alike document ∙ ap or_refusal is
-
 pub examined_bad : (document : List ℕ) (f : Option Fault) → Fails f (examined document) → IsRefusedAs document f
 examined_bad document None fails = tt
 examined_bad document (Some f) fails = (refused_alike document ∙ ap or_refusal fails, λ other is. cc)
 
 pub good_by : (r : Result Configuration declared.Fault) (document : List ℕ) → Tells (λ c. c) r (examined document) → IfOk r (λ c. setup_of document ≡ Ok c)
-good_by (Ok c) document is = examined_good document c is
+good_by (Ok c) document is = good_document document c is
 good_by (Err f) document is = tt
 
 pub bad_by : (r : Result Configuration declared.Fault) (document : List ℕ) → Tells (λ c. c) r (examined document)
@@ -135,20 +130,11 @@ bad_by (Err f) document is = examined_bad document (but_memory (seen f)) is
 
 -- ---- a document of which no line was written
 
-only_by : (document : List ℕ) (f : Fault) (r : Result Configuration Fault) → examined document ≡ r → IsFault r f → but_memory f ≡ Some f → HasOnly document f
-only_by document f (Ok c) is told real other is_other = cc
-only_by document f (Err e) is told real other is_other =
-    let same : f ≡ e = rw real at told in cc
-
--- the fault for which no line was written is the document's only one
-pub only_unwritten : (document : List ℕ) (f : Fault) → IsFault (examined document) f → but_memory f ≡ Some f → HasOnly document f
-only_unwritten document f told real = only_by document f (examined document) refl told real
-
 unwritten_by : (document : List ℕ) (f : Fault) (text : List ℕ) (told : Outcome) (r : Result Configuration Fault) → examined document ≡ r → IsFault r f
     → but_memory f ≡ Some f → (f ≡ fault.too_long → IsOk (setup_of document) → OfTree document (λ tree. 16777216 < length (compact_text tree)))
     → IsRefusalTold document (load_error f) text told → IsLineTold document text told
 unwritten_by document f text told (Ok c) is fails real long refused =
-    let good : setup_of document ≡ Ok c = examined_good document c is in
+    let good : setup_of document ≡ Ok c = good_document document c is in
     let same : f ≡ fault.too_long = rw real at fails in
     let past = long same (rw good refl) in
     let as_long : IsRefusalTold document load.TooLong text told = rw same at refused in
