@@ -3,3 +3,4 @@ pub mod DrillLaws
 pub mod ReadingLemmas
 pub mod CheckLemmas
 pub mod CheckResumedLemmas
+pub mod SessionLemmas

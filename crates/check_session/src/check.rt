@@ -35,7 +35,7 @@ pub(crate) struct Told {
 /// Of an input no more than 16,777,217 bytes are read, which show that a document is too long; where
 /// the last of these is a line feed, one byte more. The writer is flushed once, at the end. After the
 /// errors `Read` and `Memory` nothing was written, after `Write` a prefix of what was to be printed.
-/// `Memory` comes only where a byte was read, or there was none.
+/// `Memory` comes only where a byte was read, or there was none. (What a check prints is our own profile.)
 pub fn check<R: Read, W: Write>(
     alloc: Global,
     start: u64,

@@ -30,7 +30,7 @@ use std::io::{Read, Write};
 /// before either is tested.
 ///
 /// The writer is flushed once, at the end. After the errors `Read` and `Memory` nothing was written, after
-/// `Write` a prefix of what was to be printed.
+/// `Write` a prefix of what was to be printed. (What a check prints is our own profile.)
 pub fn check_resumed<R: Read, W: Write>(
     alloc: Global,
     start: Option<u64>,

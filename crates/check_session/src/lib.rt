@@ -1,7 +1,7 @@
 #![tactic(auto)]
 //! What the program `nagsched` does for its words, with a reader and a writer that the caller gives:
-//! a run, a conversation, a check, a drill, or a line that says why none of them. The program's own
-//! words and streams are no matter of this crate.
+//! a run, a conversation, a check, a drill, the schema of a setup, or a line that says why none of them. The
+//! program's own words and streams are no matter of this crate.
 //!
 //! The modules: `session` does what the words ask for, which `check_words` reads, and gives the exit
 //! status; a run and a conversation are `check_drive`'s. `check` reports what is in a setup, of which

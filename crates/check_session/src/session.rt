@@ -1,11 +1,12 @@
 //! What the program does, by its words, and its exit statuses.
-ghost use Rattle.std.specs.Prelude.{◌≡◌, codes, Result, OnOk, OnErr, IsOkUnless};
+ghost use Rattle.std.specs.Prelude.{◌≡◌, codes, Result, OnOk, OnErr, IfOk, IfErr, IsOkUnless};
 ghost use Rattle.std.specs.Io.KnownBytes.{Appends};
 ghost use Rattle.clap.specs.Walk.{texts};
 ghost use Rattle.check_script.specs.declared.drive_error.DriveError.{DriveError};
 ghost use Rattle.check_session.specs.declared.session.Ending.{Ending};
 ghost use Rattle.check_text.specs.Output.{WroteFront};
-ghost use Rattle.check_session.specs.Session.{exit_status, Ends, IsSchemaTold, IsTextTold, Tells};
+ghost use Rattle.check_session.specs.Session.{exit_status, DidJob, Ends, FailedJob, IsSchemaTold, IsTextTold, Tells};
+ghost use Rattle.check_words.specs.Words.{IsWithinLimits};
 
 use crate::check::check;
 use crate::check_resumed::check_resumed;
@@ -42,9 +43,9 @@ pub enum Ending {
 /// before each read too.
 ///
 /// The status is that of [`exit_status`]. Where it means a fault or that there was no memory, a job
-/// leaves what `drive`, `live`, `drive_resumed`, `live_resumed`, `check_resumed` or `drill` says of that
-/// error; without a job the reader is as it was, and the writer has got a prefix of what it was to be
-/// handed, or nothing.
+/// leaves what `drive`, `live`, `drive_resumed`, `live_resumed`, `check`, `check_resumed` or `drill` says of
+/// that error. Without a job, and where the job is the schema, the reader is as it was, and the writer has got
+/// a prefix of what it was to be handed, or nothing.
 ///
 /// `rt` is the machine that starts threads and waits, which only a drill uses.
 pub fn session<H: Threads + Wait + Sync, R: Read, W: Write>(
@@ -73,45 +74,43 @@ fn serve<H: Threads + Wait + Sync, R: Read, W: Write>(
         (W.contents writer.old) (W.contents writer.new) }
 {
     match job(alloc, words) {
-        Ok(Job::Run { start }) => match drive(alloc, start, reader, writer) {
-            Ok(outcome) => Ok(Ending::Drove(outcome)),
-            Err(e) => Err(e),
-        },
-        Ok(Job::Live { start }) => match live(alloc, start, reader, writer) {
-            Ok(outcome) => Ok(Ending::Drove(outcome)),
-            Err(e) => Err(e),
-        },
-        Ok(Job::RunResumed { start }) => match drive_resumed(alloc, start, reader, writer) {
-            Ok(outcome) => Ok(Ending::Drove(outcome)),
-            Err(e) => Err(e),
-        },
-        Ok(Job::LiveResumed { start }) => match live_resumed(alloc, start, reader, writer) {
-            Ok(outcome) => Ok(Ending::Drove(outcome)),
-            Err(e) => Err(e),
-        },
-        Ok(Job::Check { start, line }) => match check(alloc, start, line, reader, writer) {
-            Ok(outcome) => Ok(Ending::Drove(outcome)),
-            Err(e) => Err(e),
-        },
-        Ok(Job::CheckResumed { start }) => match check_resumed(alloc, start, reader, writer) {
-            Ok(outcome) => Ok(Ending::Drove(outcome)),
-            Err(e) => Err(e),
-        },
-        Ok(
-            Job::Drill {
-                start,
-                workers,
-                room,
-            },
-        ) => match drill(rt, alloc, start, workers, room, reader, writer) {
-            Ok(outcome) => Ok(Ending::Drove(outcome)),
-            Err(e) => Err(e),
-        },
-        Ok(Job::Schema) => match tell_schema(alloc, writer) {
-            Ok(outcome) => Ok(Ending::Drove(outcome)),
-            Err(e) => Err(e),
-        },
+        Ok(asked) => {
+            let outcome = do_job(rt, alloc, asked, reader, writer)?;
+            Ok(Ending::Drove(outcome))
+        }
         Err(error) => tell_words(error, writer),
+    }
+}
+
+/// Does a job.
+fn do_job<H: Threads + Wait + Sync, R: Read, W: Write>(
+    rt: &H,
+    alloc: Global,
+    asked: Job,
+    reader: &mut R,
+    writer: &mut W,
+) -> Result<Outcome, DriveError>
+    requires { IsWithinLimits asked }
+    ensures did { IfOk result (λ outcome.
+        DidJob asked outcome (R.remaining reader.old) (R.remaining reader.new)
+        (W.contents writer.old) (W.contents writer.new)) }
+    ensures failed { IfErr result (λ e.
+        FailedJob asked e (R.remaining reader.old) (R.remaining reader.new)
+        (W.contents writer.old) (W.contents writer.new)) }
+{
+    match asked {
+        Job::Run { start } => drive(alloc, start, reader, writer),
+        Job::Live { start } => live(alloc, start, reader, writer),
+        Job::RunResumed { start } => drive_resumed(alloc, start, reader, writer),
+        Job::LiveResumed { start } => live_resumed(alloc, start, reader, writer),
+        Job::Check { start, line } => check(alloc, start, line, reader, writer),
+        Job::CheckResumed { start } => check_resumed(alloc, start, reader, writer),
+        Job::Drill {
+            start,
+            workers,
+            room,
+        } => drill(rt, alloc, start, workers, room, reader, writer),
+        Job::Schema => tell_schema(alloc, writer),
     }
 }
 
@@ -133,8 +132,8 @@ fn tell_text<W: Write>(writer: &mut W, told: &str) -> Result<Outcome, DriveError
     Ok(Outcome::Ran)
 }
 
-/// Tells words that ask for no job the text that they ask for, or that they are refused. Out of memory it writes
-/// nothing.
+/// Answers words that ask for no job: by the text that they ask for, or by the line that refuses them. Out of
+/// memory it writes nothing.
 fn tell_words<W: Write>(error: WordsError, writer: &mut W) -> Result<Ending, DriveError>
     ensures { Tells error result (W.contents writer.old) (W.contents writer.new) }
 {
