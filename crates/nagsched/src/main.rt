@@ -1,6 +1,9 @@
 #![tactic(auto)]
-//! The program `nagsched`: reads a setup and a script from standard input, and writes to standard
-//! output what came of it: the line of each reply to the calls of a run, or the history of a drill.
+//! The program `nagsched`: reads standard input, and writes to standard output what came of it, by its
+//! subcommand. `run` reads a setup and a script, and writes the line of each reply. `live` reads a setup and
+//! answers each later line as it comes. `check` reads a setup, and reports what is in it or why it is refused.
+//! `drill` reads a setup and a script for many workers, and writes the history that they made. `schema` reads
+//! nothing, and writes the JSON schema of a setup.
 //!
 //! Here are the program's own words and its streams. What it does with them, and the exit status, is
 //! `session` of `check_session`.
@@ -23,7 +26,8 @@ fn main(rt: HostRuntime) -> ExitCode {
 }
 
 /// The session of the program's own words, from standard input to standard output. Writes are
-/// gathered, and flushed once at the end. Words that are no text are refused.
+/// gathered, and flushed once at the end. `live` also flushes before it reads again. Words that are no
+/// text are refused.
 fn own_session<R: Env + Input + Print + AllocGlobal + Threads + Wait + Sync>(rt: &R) -> u8 {
     let alloc = rt.alloc();
     let Ok(mut writer) = BufWriter::new(alloc, io::writer(rt)) else {
