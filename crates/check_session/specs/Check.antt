@@ -30,8 +30,8 @@ abbrev pub IsSummaryTold : ℕ → Configuration → List ℕ → Outcome → Ty
 IsSummaryTold start c text told = (text ≡ summary_text (summary_of c start)) × (told ≡ outcome.Ran)
 
 -- Words in one line that explain the document's fault: they begin with its place, where it has one, and name the member or the name at
--- fault. Of a count or a cycle the whole line is known: how much there is of what, or the objects of the cycle, or that there is none. Of a
--- document that is too long or no JSON nothing more is known.
+-- fault. Of three sorts of faults the whole line is known: a number out of its limits, and what it can be; how much there is of what; the
+-- objects of a cycle, or that there is none. Of a document that is too long or no JSON nothing more is known.
 abbrev pub IsExplained : List ℕ → List ℕ → Type 0
 IsExplained document words = HasNoFeed words × ((f : Fault) → examined document ≡ Err f → IsOfFault document f words × IsOfWhole document f words)
 
