@@ -1,5 +1,5 @@
 -- Nothing is lost on the way to C: each value can be read back from its struct.
-use Rattle.std.proofs.Common.{◌≡◌, ℕ, ◌<◌, ◌≤◌, ◌^◌, ◌==◌, Bool, true, false, Some, None, refl, sym, ap, subst, arith, ◌∙◌}
+use Rattle.std.proofs.Common.{◌≡◌, ℕ, ◌==◌, Bool, true, false, Some, None, refl, sym, ap, subst, ◌∙◌}
 use mathlib.Core.Logic.{◌≢◌}
 use Rattle.std.specs.Prelude.{Option}
 use Rattle.ticket_steps.specs.declared.kept.Entry.{Entry}
@@ -20,15 +20,14 @@ use Rattle.check_sched.specs.declared.call.Call.TheVariants as call
 use Rattle.check_sched.specs.declared.call.Reply.{Reply}
 use Rattle.check_sched.specs.declared.call.Reply.TheVariants as reply
 use Rattle.check_sched.specs.declared.call.Refusal.TheVariants as refused
-use Rattle.check_records.specs.declared.plain.PlainCall.{PlainCall}
 use Rattle.check_records.specs.declared.plain.PlainReply.{PlainReply}
 use Rattle.check_records.specs.declared.plain.PlainEntry.{PlainEntry}
 use Rattle.check_records.specs.declared.plain.PlainRefusal.{PlainRefusal}
-use Rattle.check_records.specs.Plain.{call_back, code_back, kind_back, part_back, place_back, refusal_back, reply_back, standing_back, state_back, time_back}
-use Rattle.check_records.specs.Plain.{HasByteAttempt, IsNoCall, IsNoEntry, IsNoRefusal, IsNoReply}
+use Rattle.check_records.specs.Plain.{call_back, code_back, kind_back, number_back, part_back, place_back, refusal_back, reply_back, standing_back, state_back}
+use Rattle.check_records.specs.Plain.{IsNoRefusal, IsNoReply}
 use Rattle.check_rules.specs.Numbers.{code_number, kind_number, state_number}
 use Rattle.check_rules.proofs.Cases.{each_state}
-use Rattle.check_records.specs.Plain.{flag, has_time, time_or_0}
+use Rattle.check_records.specs.Plain.{flag, is_there, number_or_0}
 use Rattle.check_records.specs.Plain.{plain_call, plain_entry, plain_refusal, plain_reply, plain_standing, refusal_at}
 
 -- what can be read back distinguishes values
@@ -54,9 +53,9 @@ kind_is : (k : Kind) → kind_back (kind_number k) ≡ k
 kind_is kind.Soft = refl
 kind_is kind.Hard = refl
 
-pub time_is : (t : Option ℕ) → time_back (has_time t) (time_or_0 t) ≡ t
-time_is (Some time) = refl
-time_is None = refl
+pub number_is : (o : Option ℕ) → number_back (is_there o) (number_or_0 o) ≡ o
+number_is (Some number) = refl
+number_is None = refl
 
 each_part : (P : Part → Type 0) → P part.Document → P part.Options → P part.Hosts → P part.Services → P part.ServiceDependencies → P part.HostDependencies
     → (p : Part) → P p
@@ -92,10 +91,10 @@ call_is (call.Status object) = refl
 
 reply_is : (r : Reply) → reply_back (plain_reply r) ≡ r
 reply_is (reply.Taken object run) = refl
-reply_is (reply.PutOff object until) = ap (reply.PutOff object) (time_is until)
-reply_is (reply.Idle next) = ap reply.Idle (time_is next)
+reply_is (reply.PutOff object until) = ap (reply.PutOff object) (number_is until)
+reply_is (reply.Idle next) = ap reply.Idle (number_is next)
 reply_is reply.AtLimit = refl
-reply_is (reply.Standing standing changed next) = λ i. reply.Standing (standing_is standing i) (flag_is changed i) (time_is next i)
+reply_is (reply.Standing standing changed next) = λ i. reply.Standing (standing_is standing i) (flag_is changed i) (number_is next i)
 reply_is (reply.Freed next) = refl
 reply_is reply.Done = refl
 reply_is (reply.Refused refused.UnknownObject) = refl
@@ -111,7 +110,7 @@ entry_is : (e : Entry Call Reply) → entry_back (plain_entry e) ≡ e
 entry_is e = λ i. record { pass = e.pass; call = call_is e.call i; reply = reply_is e.reply i }
 
 place_is : (kind : ℕ) (p : Place) → place_back (refusal_at kind p) ≡ p
-place_is kind p = λ i. record { part = part_is p.part i; index = time_is p.index i }
+place_is kind p = λ i. record { part = part_is p.part i; index = number_is p.index i }
 
 refusal_is : (e : LoadError) → refusal_back (plain_refusal e) ≡ e
 refusal_is load.TooLong = refl
@@ -148,41 +147,8 @@ refusals_told = told refusal_back plain_refusal refusal_is
 pub none_has : {X Y : Type 0} (back : Y → X) (plain : X → Y) → ((x : X) → back (plain x) ≡ x) → (y : Y) → plain (back y) ≢ y → (x : X) → plain x ≢ y
 none_has back plain is y other x has = other (subst (λ z. plain (back z) ≡ z) has (ap plain (is x)))
 
-pub no_call : (plain : PlainCall) → plain_call (call_back plain) ≢ plain → IsNoCall plain
-no_call = none_has call_back plain_call call_is
-
 pub no_reply : (plain : PlainReply) → plain_reply (reply_back plain) ≢ plain → IsNoReply plain
 no_reply plain other r few = none_has reply_back plain_reply reply_is plain other r
 
--- an attempt that crosses is a byte
-few_attempts : (r : Reply) → HasByteAttempt r → (plain_reply r).standing.attempt < 2 ^ 8
-few_attempts (reply.Taken object run) few = omega arith
-few_attempts (reply.PutOff object until) few = omega arith
-few_attempts (reply.Idle next) few = omega arith
-few_attempts reply.AtLimit few = omega arith
-few_attempts (reply.Standing standing changed next) few = few
-few_attempts (reply.Freed next) few = omega arith
-few_attempts reply.Done few = omega arith
-few_attempts (reply.Refused refused.UnknownObject) few = omega arith
-few_attempts (reply.Refused refused.TimeRange) few = omega arith
-few_attempts (reply.Refused refused.NotRunning) few = omega arith
-few_attempts (reply.Refused refused.WrongRun) few = omega arith
-few_attempts (reply.Refused refused.RunsSpent) few = omega arith
-
-pub no_reply_past : (plain : PlainReply) → 2 ^ 8 ≤ plain.standing.attempt → IsNoReply plain
-no_reply_past plain past r few has = absurd (omega (arith, past, few_attempts r few, ap (λ (p : PlainReply). p.standing.attempt) has))
-
-pub no_entry_past : (plain : PlainEntry) → 2 ^ 32 ≤ plain.pass → IsNoEntry plain
-no_entry_past plain past e few bytes has = absurd (omega (arith, past, few, ap (λ (p : PlainEntry). p.pass) has))
-
-pub no_entry_by : (plain : PlainEntry) → IsNoCall plain.call → IsNoEntry plain
-no_entry_by plain none e few bytes has = none e.call (ap (λ (p : PlainEntry). p.call) has)
-
-pub no_entry_to : (plain : PlainEntry) → IsNoReply plain.reply → IsNoEntry plain
-no_entry_to plain none e few bytes has = none e.reply bytes (ap (λ (p : PlainEntry). p.reply) has)
-
 pub no_refusal : (plain : PlainRefusal) → plain_refusal (refusal_back plain) ≢ plain → IsNoRefusal plain
 no_refusal plain other e told = none_has refusal_back plain_refusal refusal_is plain other e
-
-pub no_refusal_told : (plain : PlainRefusal) → refusal_back plain ≡ load.Memory → IsNoRefusal plain
-no_refusal_told plain memory e told has = told (sym (refusal_is e) ∙ (ap refusal_back has ∙ memory))

@@ -53,28 +53,30 @@ plain_call (call.Reschedule object time forced) = call_struct 3 object 0 time 0 
 plain_call (call.Enable object on) = call_struct 4 object 0 0 0 (flag on)
 plain_call (call.Status object) = call_struct 5 object 0 0 0 0
 
-abbrev pub time_or_0 : Option ℕ → ℕ
-time_or_0 (Some time) = time
-time_or_0 None = 0
+-- a time or an index, or 0 where there is none
+abbrev pub number_or_0 : Option ℕ → ℕ
+number_or_0 (Some number) = number
+number_or_0 None = 0
 
-abbrev pub has_time : Option ℕ → ℕ
-has_time (Some time) = 1
-has_time None = 0
+-- 1 where there is a number, 0 where there is none
+abbrev pub is_there : Option ℕ → ℕ
+is_there (Some number) = 1
+is_there None = 0
 
 -- a reply of this kind with an object, a run and a time
 abbrev pub reply_struct : ℕ → ℕ → ℕ → Option ℕ → PlainReply
-reply_struct kind object run time = record { kind = kind; object = object; run = run; time = time_or_0 time; has_time = has_time time; changed = 0; standing = no_standing }
+reply_struct kind object run time = record { kind = kind; object = object; run = run; time = number_or_0 time; has_time = is_there time; changed = 0; standing = no_standing }
 
 -- a reply with this time, if there is one
 abbrev pub with_time : Option ℕ → PlainReply → PlainReply
-with_time time told = record { kind = told.kind; object = told.object; run = told.run; time = time_or_0 time; has_time = has_time time; changed = told.changed; standing = told.standing }
+with_time time told = record { kind = told.kind; object = told.object; run = told.run; time = number_or_0 time; has_time = is_there time; changed = told.changed; standing = told.standing }
 
 abbrev pub plain_reply : Reply → PlainReply
 plain_reply (reply.Taken object run) = reply_struct 0 object run None
 plain_reply (reply.PutOff object until) = reply_struct 1 object 0 until
 plain_reply (reply.Idle next) = reply_struct 2 0 0 next
 plain_reply reply.AtLimit = reply_struct 3 0 0 None
-plain_reply (reply.Standing standing changed next) = record { kind = 4; object = 0; run = 0; time = time_or_0 next; has_time = has_time next; changed = flag changed; standing = plain_standing standing }
+plain_reply (reply.Standing standing changed next) = record { kind = 4; object = 0; run = 0; time = number_or_0 next; has_time = is_there next; changed = flag changed; standing = plain_standing standing }
 plain_reply (reply.Freed next) = reply_struct 5 0 0 (Some next)
 plain_reply reply.Done = reply_struct 6 0 0 None
 plain_reply (reply.Refused refused.UnknownObject) = reply_struct 7 0 0 None
@@ -93,7 +95,7 @@ abbrev pub refusal_nowhere : ℕ → PlainRefusal
 refusal_nowhere kind = record { kind = kind; part = 0; has_index = 0; index = 0 }
 
 abbrev pub refusal_at : ℕ → Place → PlainRefusal
-refusal_at kind p = record { kind = kind; part = part_number p.part; has_index = has_time p.index; index = time_or_0 p.index }
+refusal_at kind p = record { kind = kind; part = part_number p.part; has_index = is_there p.index; index = number_or_0 p.index }
 
 -- want of memory has a status of its own, and no function gives its struct
 abbrev pub plain_refusal : LoadError → PlainRefusal
@@ -121,8 +123,8 @@ state_back n = unwrap_or (numbered_state n) state.Unreachable
 abbrev pub kind_back : ℕ → Kind
 kind_back n = cond (n == 0) kind.Soft kind.Hard
 
-abbrev pub time_back : ℕ → ℕ → Option ℕ
-time_back has time = cond (has == 0) None (Some time)
+abbrev pub number_back : ℕ → ℕ → Option ℕ
+number_back there number = cond (there == 0) None (Some number)
 
 abbrev pub part_back : ℕ → Part
 part_back n = unwrap_or (numbered_part n) part.HostDependencies
@@ -143,15 +145,15 @@ call_back p = cond (p.kind == 0) (call.Take p.moment) (cond (p.kind == 1) (call.
     (cond (p.kind == 4) (call.Enable p.object (p.flag == 1)) (call.Status p.object)))))
 
 abbrev pub reply_back : PlainReply → Reply
-reply_back p = cond (p.kind == 0) (reply.Taken p.object p.run) (cond (p.kind == 1) (reply.PutOff p.object (time_back p.has_time p.time))
-    (cond (p.kind == 2) (reply.Idle (time_back p.has_time p.time)) (cond (p.kind == 3) reply.AtLimit
-    (cond (p.kind == 4) (reply.Standing (standing_back p.standing) (p.changed == 1) (time_back p.has_time p.time))
+reply_back p = cond (p.kind == 0) (reply.Taken p.object p.run) (cond (p.kind == 1) (reply.PutOff p.object (number_back p.has_time p.time))
+    (cond (p.kind == 2) (reply.Idle (number_back p.has_time p.time)) (cond (p.kind == 3) reply.AtLimit
+    (cond (p.kind == 4) (reply.Standing (standing_back p.standing) (p.changed == 1) (number_back p.has_time p.time))
     (cond (p.kind == 5) (reply.Freed p.time) (cond (p.kind == 6) reply.Done (cond (p.kind == 7) (reply.Refused refused.UnknownObject)
     (cond (p.kind == 8) (reply.Refused refused.TimeRange) (cond (p.kind == 9) (reply.Refused refused.NotRunning)
     (cond (p.kind == 10) (reply.Refused refused.WrongRun) (reply.Refused refused.RunsSpent)))))))))))
 
 abbrev pub place_back : PlainRefusal → Place
-place_back p = record { part = part_back p.part; index = time_back p.has_index p.index }
+place_back p = record { part = part_back p.part; index = number_back p.has_index p.index }
 
 abbrev pub refusal_back : PlainRefusal → LoadError
 refusal_back p = cond (p.kind == 0) load.TooLong (cond (p.kind == 1) load.NotJson (cond (p.kind == 2) (load.Shape (place_back p))

@@ -3,11 +3,11 @@ use Rattle.std.specs.Prelude.{◌≢◌, ℕ, ◌==◌, cond, Option, Some, None
 use Rattle.check_saved.specs.declared.fault.SavedFault.{SavedFault}
 use Rattle.check_saved.specs.declared.fault.SavedFault.TheVariants as fault
 use Rattle.check_records.specs.declared.plain.PlainRefusal.{PlainRefusal}
-use Rattle.check_records.specs.Plain.{has_time, time_back, time_or_0}
+use Rattle.check_records.specs.Plain.{is_there, number_back, number_or_0}
 
 -- a refusal of this kind: it has no part, and the index of an object where it is one object's
 abbrev pub fault_struct : ℕ → Option ℕ → PlainRefusal
-fault_struct kind index = record { kind = kind; part = 0; has_index = has_time index; index = time_or_0 index }
+fault_struct kind index = record { kind = kind; part = 0; has_index = is_there index; index = number_or_0 index }
 
 -- want of memory has a status of its own, and no function gives its struct
 abbrev pub plain_fault : SavedFault → PlainRefusal
@@ -25,8 +25,8 @@ plain_fault fault.Memory = fault_struct 20 None
 -- read back: the refusal that has this struct, where one has it
 abbrev pub fault_back : PlainRefusal → SavedFault
 fault_back p = cond (p.kind == 11) fault.TooLong (cond (p.kind == 12) fault.NotJson (cond (p.kind == 13) fault.Version
-    (cond (p.kind == 14) (fault.Shape (time_back p.has_index p.index)) (cond (p.kind == 15) fault.TooMany (cond (p.kind == 16) (fault.BadName p.index)
-    (cond (p.kind == 17) (fault.Duplicate p.index) (cond (p.kind == 18) (fault.Range (time_back p.has_index p.index))
+    (cond (p.kind == 14) (fault.Shape (number_back p.has_index p.index)) (cond (p.kind == 15) fault.TooMany (cond (p.kind == 16) (fault.BadName p.index)
+    (cond (p.kind == 17) (fault.Duplicate p.index) (cond (p.kind == 18) (fault.Range (number_back p.has_index p.index))
     (cond (p.kind == 19) (fault.Unlawful p.index) fault.Memory))))))))
 
 -- no struct says that memory was refused

@@ -26,7 +26,7 @@ pub fn flag_of(number: u32) -> Option<bool>
     }
 }
 
-/// What a check returned, where the number is one of those.
+/// What a check returned, by its number; `Unknown` of a number that no code has.
 pub(crate) fn code_back(number: u32) -> Code
     ensures { result ≡ code_back number }
 {
@@ -36,7 +36,7 @@ pub(crate) fn code_back(number: u32) -> Code
     }
 }
 
-/// The state of this number, where it is that of a state.
+/// The state of this number; `Unreachable` of a number that no state has.
 pub(crate) fn state_back(number: u32) -> State
     ensures { result ≡ state_back number }
 {
@@ -46,7 +46,7 @@ pub(crate) fn state_back(number: u32) -> State
     }
 }
 
-/// The kind of a state of this number, where it is that of a kind.
+/// The kind of a state by its number: `Soft` of 0, `Hard` of any other number.
 pub(crate) fn kind_back(number: u32) -> Kind
     ensures { result ≡ kind_back number }
 {
@@ -56,7 +56,7 @@ pub(crate) fn kind_back(number: u32) -> Kind
     }
 }
 
-/// The part of a document of this number, where it is that of a part.
+/// The part of a document of this number; `HostDependencies` of a number that no part has.
 pub(crate) fn part_back(number: u32) -> Part
     ensures { result ≡ part_back number }
 {

@@ -3,9 +3,10 @@
 //! Each has the layout that `nagsched.h` gives it: no hole and no `bool`. A field for which a kind has
 //! no use is 0. Two values with the same struct are the same ([`crate::laws`]).
 
-ghost use Rattle.std.specs.Prelude.{◌≡◌};
-ghost use Rattle.check_records.specs.Plain.{has_time, time_or_0};
-ghost use Rattle.check_records.specs.Plain.{plain_call, plain_entry, plain_refusal, plain_reply, plain_standing, refusal_at, refusal_nowhere, with_time};
+ghost use Rattle.std.specs.Prelude.{◌≡◌, None};
+ghost use Rattle.check_sched.specs.declared.call.Reply.TheVariants as reply;
+ghost use Rattle.check_records.specs.Plain.{is_there, number_or_0};
+ghost use Rattle.check_records.specs.Plain.{plain_call, plain_entry, plain_refusal, plain_reply, plain_standing, refusal_at, refusal_nowhere, reply_struct, with_time};
 
 use crate::numbers::flag;
 use check_drafts::{LoadError, Place};
@@ -188,21 +189,21 @@ pub fn plain_call(call: Call) -> PlainCall
     }
 }
 
-/// The time, or 0 where there is none.
-fn time_or_0(time: Option<u64>) -> u64
-    ensures { result ≡ time_or_0 time }
+/// The number, or 0 where there is none.
+fn number_or_0(number: Option<u64>) -> u64
+    ensures { result ≡ number_or_0 number }
 {
-    match time {
-        Some(time) => time,
+    match number {
+        Some(number) => number,
         None => 0,
     }
 }
 
-/// Whether there is a time: 1 or 0.
-fn has_time(time: Option<u64>) -> u32
-    ensures { result ≡ has_time time }
+/// Whether there is a number: 1 or 0.
+fn is_there(number: Option<u64>) -> u32
+    ensures { result ≡ is_there number }
 {
-    match time {
+    match number {
         Some(_) => 1,
         None => 0,
     }
@@ -212,8 +213,28 @@ fn has_time(time: Option<u64>) -> u32
 fn tell_time(time: Option<u64>, told: &mut PlainReply)
     ensures { told.new ≡ with_time time told.old }
 {
-    told.time = time_or_0(time);
-    told.has_time = has_time(time);
+    told.time = number_or_0(time);
+    told.has_time = is_there(time);
+}
+
+/// A reply of this kind, of which there is no more to say.
+fn bare_reply(kind: u32) -> PlainReply
+    ensures { result ≡ reply_struct kind 0 0 None }
+{
+    PlainReply { kind, ..NO_REPLY }
+}
+
+/// The refusal of a call, for C.
+fn plain_refused(refusal: Refusal) -> PlainReply
+    ensures { result ≡ plain_reply (reply.Refused refusal) }
+{
+    match refusal {
+        Refusal::UnknownObject => bare_reply(7),
+        Refusal::TimeRange => bare_reply(8),
+        Refusal::NotRunning => bare_reply(9),
+        Refusal::WrongRun => bare_reply(10),
+        Refusal::RunsSpent => bare_reply(11),
+    }
 }
 
 /// Writes what a call is answered, for C: first that there is nothing, and then what the reply says.
@@ -251,11 +272,7 @@ pub fn tell_reply(reply: Reply, told: &mut PlainReply)
             tell_time(Some(next), told);
         }
         Reply::Done => told.kind = 6,
-        Reply::Refused(Refusal::UnknownObject) => told.kind = 7,
-        Reply::Refused(Refusal::TimeRange) => told.kind = 8,
-        Reply::Refused(Refusal::NotRunning) => told.kind = 9,
-        Reply::Refused(Refusal::WrongRun) => told.kind = 10,
-        Reply::Refused(Refusal::RunsSpent) => told.kind = 11,
+        Reply::Refused(refusal) => *told = plain_refused(refusal),
     }
 }
 
@@ -292,14 +309,22 @@ fn refusal_nowhere(kind: u32) -> PlainRefusal
     }
 }
 
+/// An index as the two fields that a struct has for it: whether there is one, 1 or 0, and the index, or 0.
+pub(crate) fn index_parts(index: Option<usize>) -> (u64, u64)
+    ensures there { result.0 ≡ is_there index }
+    ensures number { result.1 ≡ number_or_0 index }
+{
+    match index {
+        Some(index) => (1, index as u64),
+        None => (0, 0),
+    }
+}
+
 /// A refusal of this kind at this place.
 fn refusal_at(kind: u32, place: Place) -> PlainRefusal
     ensures { result ≡ refusal_at kind place }
 {
-    let (has_index, index) = match place.index {
-        Some(index) => (1, index as u64),
-        None => (0, 0),
-    };
+    let (has_index, index) = index_parts(place.index);
     PlainRefusal {
         kind,
         part: place.part.number(),

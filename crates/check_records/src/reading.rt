@@ -2,7 +2,7 @@
 
 ghost use Rattle.std.specs.Prelude.{◌≡◌, ◌≢◌, ◌↔◌, ◌≤◌, ◌^◌, true, IfNone, IfSome};
 ghost use Rattle.check_drafts.specs.declared.error.LoadError.TheVariants.{Memory};
-ghost use Rattle.check_records.specs.Plain.{call_back, place_back, refusal_back, reply_back, standing_back, time_back};
+ghost use Rattle.check_records.specs.Plain.{call_back, number_back, place_back, refusal_back, reply_back, standing_back};
 ghost use Rattle.check_records.specs.Plain.{IsNoCall, IsNoEntry, IsNoRefusal, IsNoReply};
 ghost use Rattle.check_records.specs.Plain.{plain_call, plain_entry, plain_refusal, plain_reply};
 
@@ -116,7 +116,7 @@ fn read_reply(plain: PlainReply) -> Option<Reply>
 
 /// The time, where the first number isn't 0.
 fn time_back(has_time: u32, time: u64) -> Option<u64>
-    ensures { result ≡ time_back has_time time }
+    ensures { result ≡ number_back has_time time }
 {
     if has_time == 0 { None } else { Some(time) }
 }
@@ -196,13 +196,19 @@ fn refusal_back(plain: PlainRefusal) -> LoadError
 fn place_back(plain: PlainRefusal) -> Place
     ensures { result ≡ place_back plain }
 {
-    let index = if plain.has_index == 0 {
-        None
-    } else {
-        Some(plain.index as usize)
-    };
     Place {
         part: part_back(plain.part),
-        index,
+        index: index_back(plain.has_index, plain.index),
+    }
+}
+
+/// The index, where the first number isn't 0.
+pub(crate) fn index_back(has_index: u64, index: u64) -> Option<usize>
+    ensures { result ≡ number_back has_index index }
+{
+    if has_index == 0 {
+        None
+    } else {
+        Some(index as usize)
     }
 }

@@ -3,19 +3,16 @@
 ghost use Rattle.std.specs.Prelude.{◌≡◌, ◌≢◌, IfNone, IfSome};
 ghost use Rattle.check_saved.specs.declared.fault.SavedFault.TheVariants.{Memory};
 ghost use Rattle.check_records.specs.SavedFaults.{fault_back, fault_struct, plain_fault, IsNoFault};
-ghost use Rattle.check_records.specs.Plain.{time_back};
 
-use crate::plain::PlainRefusal;
+use crate::plain::{PlainRefusal, index_parts};
+use crate::reading::index_back;
 use check_saved::SavedFault;
 
 /// A refusal of this kind, at the object with this index, if there is one.
 fn fault_struct(kind: u32, index: Option<usize>) -> PlainRefusal
     ensures { result ≡ fault_struct kind index }
 {
-    let (has_index, index) = match index {
-        Some(index) => (1, index as u64),
-        None => (0, 0),
-    };
+    let (has_index, index) = index_parts(index);
     PlainRefusal {
         kind,
         part: 0,
@@ -70,23 +67,12 @@ fn fault_back(plain: PlainRefusal) -> SavedFault
         11 => SavedFault::TooLong,
         12 => SavedFault::NotJson,
         13 => SavedFault::Version,
-        14 => SavedFault::Shape(index_back(plain)),
+        14 => SavedFault::Shape(index_back(plain.has_index, plain.index)),
         15 => SavedFault::TooMany,
         16 => SavedFault::BadName(plain.index as usize),
         17 => SavedFault::Duplicate(plain.index as usize),
-        18 => SavedFault::Range(index_back(plain)),
+        18 => SavedFault::Range(index_back(plain.has_index, plain.index)),
         19 => SavedFault::Unlawful(plain.index as usize),
         _ => SavedFault::Memory,
-    }
-}
-
-/// The index that the fields of a struct name, if they name one.
-fn index_back(plain: PlainRefusal) -> Option<usize>
-    ensures { result ≡ time_back plain.has_index plain.index }
-{
-    if plain.has_index == 0 {
-        None
-    } else {
-        Some(plain.index as usize)
     }
 }
