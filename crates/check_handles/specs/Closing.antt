@@ -1,5 +1,5 @@
 -- What comes of passes that are put together, of a desk that is ended, and of a book that goes on.
-use Rattle.std.specs.Prelude.{◌≡◌, ◌+◌, ◌<◌, ◌≤◌, ⊤, ℕ, Bool, true, false, [], length, Option, Some, None}
+use Rattle.std.specs.Prelude.{◌≡◌, ◌+◌, ◌<◌, ◌≤◌, ⊤, ℕ, [], length, Option, Some, None}
 use Rattle.check_desk.specs.declared.desk.Desk.{Desk}
 use Rattle.check_desk.specs.Desks.{opened_with, passes_of}
 use Rattle.check_desk.specs.Passes.{pass_of}
@@ -11,7 +11,7 @@ use Rattle.check_handles.specs.declared.lodged.Lodged.{Lodged}
 use Rattle.check_handles.specs.declared.lodged.Lodged.TheVariants as lodged
 use Rattle.check_handles.specs.declared.stage.Stage.{Stage}
 use Rattle.check_handles.specs.declared.stage.Stage.TheVariants as stage
-use Rattle.check_handles.specs.Desks.{AreOneDesk, IsSamePass, desk_of, mark_of}
+use Rattle.check_handles.specs.Desks.{AreOneDesk, IsSamePass, desk_of, mark_of, stage_of}
 use Rattle.check_handles.specs.Joining.{HasJoined}
 
 -- two passes are of one desk; C has to see to it
@@ -21,7 +21,7 @@ AreOfOneDesk a b = ⊤
 
 -- one pass for two: of their desk, with the numbers of both
 abbrev pub IsGathered : Lodged → Lodged → Lodged → Type 0
-IsGathered (lodged.Pass a) (lodged.Pass b) (lodged.Pass both) = AreOneDesk a both × HasJoined a.stage b.stage both.stage
+IsGathered (lodged.Pass a) (lodged.Pass b) (lodged.Pass both) = AreOneDesk a both × HasJoined (stage_of a) (stage_of b) (stage_of both)
 IsGathered a b both = ⊥
 
 -- a pass at rest
@@ -31,7 +31,7 @@ IsAtRest other = ⊥
 
 -- two passes that can be put together: both rest, and their desks have one mark
 abbrev pub MayJoin : DeskPass → DeskPass → Type 0
-MayJoin a b = IsAtRest a.stage × IsAtRest b.stage × (mark_of a ≡ mark_of b)
+MayJoin a b = IsAtRest (stage_of a) × IsAtRest (stage_of b) × (mark_of a ≡ mark_of b)
 
 abbrev pub MayBeGathered : Option Lodged → Option Lodged → Type 0
 MayBeGathered (Some (lodged.Pass a)) (Some (lodged.Pass b)) = MayJoin a b
@@ -43,11 +43,11 @@ IsShortOf desk (stage.Resting pass) = length (pass_of pass).numbers < passes_of 
 IsShortOf desk other = ⊥
 
 abbrev pub MissesPasses : Option Lodged → Type 0
-MissesPasses (Some (lodged.Pass pass)) = IsShortOf (desk_of pass) pass.stage
+MissesPasses (Some (lodged.Pass pass)) = IsShortOf (desk_of pass) (stage_of pass)
 MissesPasses other = ⊥
 
 abbrev pub IsResting : Lodged → Type 0
-IsResting (lodged.Pass pass) = IsAtRest pass.stage
+IsResting (lodged.Pass pass) = IsAtRest (stage_of pass)
 IsResting other = ⊥
 
 -- the book of a desk, all of whose passes are gathered in this one: it opened as the desk did, has the history that the pass has
@@ -57,13 +57,13 @@ IsBookAfter desk (stage.Resting pass) ledger = (opening_of ledger.book ≡ opene
     × (entries_of ledger.book ≡ (pass_of pass).seen) × (length (entries_of ledger.book) + refused_of ledger.book ≡ (pass_of pass).calls)
 IsBookAfter desk other ledger = ⊥
 
--- what became of a pass: the book of its desk, which was ended; or it is as it was
-abbrev pub HasBecome : DeskPass → Bool → Lodged → Type 0
-HasBecome pass true after = (ledger : Ledger) × (after ≡ lodged.Book ledger) × IsBookAfter (desk_of pass) pass.stage ledger
-HasBecome pass false after = (same : DeskPass) × (after ≡ lodged.Pass same) × IsSamePass pass same
+-- a pass, and the book of its desk, which was ended
+abbrev pub HasEnded : Lodged → Lodged → Type 0
+HasEnded before after = (pass : DeskPass) × (before ≡ lodged.Pass pass) × ((ledger : Ledger) × (after ≡ lodged.Book ledger) × IsBookAfter (desk_of pass) (stage_of pass) ledger)
 
-abbrev pub HasShut : Lodged → Bool → Lodged → Type 0
-HasShut before closed after = (pass : DeskPass) × (before ≡ lodged.Pass pass) × HasBecome pass closed after
+-- a pass is as it was
+abbrev pub HasStayed : Lodged → Lodged → Type 0
+HasStayed before after = (pass : DeskPass) × (before ≡ lodged.Pass pass) × ((same : DeskPass) × (after ≡ lodged.Pass same) × IsSamePass pass same)
 
 -- a book that goes on where one stood, with this room and without entries
 abbrev pub IsNext : ℕ → Ledger → Ledger → Type 0

@@ -1,8 +1,9 @@
--- What clauses see of a pass: its desk, its objects, and which of its parts stay from call to call.
+-- What clauses see of a pass: its desk, what stands for it between two calls, and which of its parts stay from call to call.
 use Rattle.std.specs.Prelude.{◌≡◌, ℕ}
 use Rattle.std_alloc.specs.Arc.{arc_value}
 use Rattle.check_desk.specs.declared.desk.Desk.{Desk}
 use Rattle.check_handles.specs.declared.desk_pass.DeskPass.{DeskPass}
+use Rattle.check_handles.specs.declared.stage.Stage.{Stage}
 
 -- the desk of a pass
 abbrev pub desk_of : DeskPass → Desk
@@ -12,6 +13,10 @@ desk_of c = (arc_value c.shared).desk
 abbrev pub mark_of : DeskPass → ℕ
 mark_of c = (arc_value c.shared).mark
 
+-- the pass at rest, or the turn of a call that waits
+abbrev pub stage_of : DeskPass → Stage
+stage_of c = c.stage
+
 -- two passes of one desk
 abbrev pub AreOneDesk : DeskPass → DeskPass → Type 0
 AreOneDesk a b = desk_of a ≡ desk_of b
@@ -20,5 +25,5 @@ AreOneDesk a b = desk_of a ≡ desk_of b
 pub record IsSamePass (before after : DeskPass) : Type 0 where
   pub shared : after.shared ≡ before.shared
   pub names : after.names ≡ before.names
-  pub stage : after.stage ≡ before.stage
+  pub stage : stage_of after ≡ stage_of before
   pub all : after.all ≡ before.all

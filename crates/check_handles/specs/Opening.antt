@@ -17,7 +17,7 @@ use Rattle.check_handles.specs.declared.opening.Terms.{Terms}
 use Rattle.check_handles.specs.declared.shared.Shared.{Shared}
 use Rattle.check_handles.specs.declared.stage.Stage.{Stage}
 use Rattle.check_handles.specs.declared.stage.Stage.TheVariants as stage
-use Rattle.check_handles.specs.Desks.{desk_of}
+use Rattle.check_handles.specs.Desks.{desk_of, stage_of}
 use Rattle.check_handles.specs.Handles.{contents_of}
 
 -- a desk can be opened on it, on these terms: on a setup, or on a book without entries and refusals, whose start and room are its own
@@ -46,7 +46,7 @@ pub record IsFreshPassOf (desk : Desk) (pass : Pass) : Type 0 where
 
 -- a pass of this desk with this number, which has so many calls and has made none
 abbrev pub IsNewPass : ℕ → Shared → ℕ → Option Lodged → Type 0
-IsNewPass calls desk number (Some (lodged.Pass pass)) = (arc_value pass.shared ≡ desk) × IsNewAtRest calls number pass.stage
+IsNewPass calls desk number (Some (lodged.Pass pass)) = (arc_value pass.shared ≡ desk) × IsNewAtRest calls number (stage_of pass)
 IsNewPass calls desk number other = ⊥
 
 -- new passes of a desk in the order of their numbers, from this one on
@@ -75,7 +75,7 @@ IsWholeAtRest desk other = ⊥
 
 -- the one pass of a desk that opened with this state
 abbrev pub IsOnlyPassOf : BookState → DeskPass → Type 0
-IsOnlyPassOf opening pass = (opened_with (desk_of pass) ≡ opening) × IsWholeAtRest (desk_of pass) pass.stage
+IsOnlyPassOf opening pass = (opened_with (desk_of pass) ≡ opening) × IsWholeAtRest (desk_of pass) (stage_of pass)
 
 -- what was handed back of a desk that opened with this state: a book without entries; or else its one pass, which would come only
 -- where so many already share the desk that no one more can be counted

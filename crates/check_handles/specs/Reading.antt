@@ -5,6 +5,7 @@ use Rattle.check_handles.specs.declared.lodged.Lodged.{Lodged}
 use Rattle.check_handles.specs.declared.lodged.Lodged.TheVariants as lodged
 use Rattle.check_handles.specs.declared.stage.Stage.{Stage}
 use Rattle.check_handles.specs.declared.stage.Stage.TheVariants as stage
+use Rattle.check_handles.specs.Desks.{stage_of}
 
 -- a setup, and it is the document's
 abbrev pub IsSetupOf : List ℕ → Option Lodged → Type 0
@@ -18,5 +19,5 @@ IsWaiting other = ⊥
 
 -- a pass that waits for its turn
 abbrev pub IsTurnWaitingIn : Option Lodged → Type 0
-IsTurnWaitingIn (Some (lodged.Pass pass)) = IsWaiting pass.stage
+IsTurnWaitingIn (Some (lodged.Pass pass)) = IsWaiting (stage_of pass)
 IsTurnWaitingIn contents = ⊥

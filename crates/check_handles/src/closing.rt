@@ -1,7 +1,7 @@
 //! Passes put together, a desk ended, and its book gone on with.
 
-ghost use Rattle.std.specs.Prelude.{◌≡◌, ◌↔◌, true, false, Some};
-ghost use Rattle.check_handles.specs.Closing.{AreOfOneDesk, HasGoneOn, HasShut, IsBook, IsGathered, IsRenewed, IsResting, MayBeGathered};
+ghost use Rattle.std.specs.Prelude.{◌≡◌, ◌↔◌, true, false, IfErr, IfOk, Some};
+ghost use Rattle.check_handles.specs.Closing.{AreOfOneDesk, HasEnded, HasGoneOn, HasStayed, IsBook, IsGathered, IsRenewed, IsResting, MayBeGathered};
 ghost use Rattle.check_handles.specs.Handles.{boxed};
 
 use crate::lodged::{Ledger, Lodged};
@@ -36,16 +36,17 @@ pub fn rests(lodged: &Lodged) -> bool
 }
 
 /// The book of a pass's desk, where all passes were gathered into it. Else the pass.
-pub fn close(lodged: Lodged) -> (Lodged, bool)
+pub fn close(lodged: Lodged) -> Result<Lodged, Lodged>
     requires { IsResting lodged }
-    ensures { HasShut lodged result.1 result.0 }
+    ensures ended { IfOk result (λ book. HasEnded lodged book) }
+    ensures stayed { IfErr result (λ pass. HasStayed lodged pass) }
 {
     match lodged {
         Lodged::Pass(pass) => match pass.close() {
-            Ok(ledger) => (Lodged::Book(ledger), true),
-            Err(pass) => (Lodged::Pass(pass), false),
+            Ok(ledger) => Ok(Lodged::Book(ledger)),
+            Err(pass) => Err(Lodged::Pass(pass)),
         },
-        other => (other, false),
+        _ => unreachable!(),
     }
 }
 

@@ -36,7 +36,7 @@ impl DeskPass {
     ghost use Rattle.std.specs.Prelude.{◌↔◌, true, false, IfOk, IfErr};
     ghost use Rattle.check_desk.specs.Desks.{IsPassOf};
     ghost use Rattle.check_handles.specs.Closing.{IsAtRest, IsBookAfter, MayJoin};
-    ghost use Rattle.check_handles.specs.Desks.{AreOneDesk, IsSamePass, desk_of};
+    ghost use Rattle.check_handles.specs.Desks.{AreOneDesk, IsSamePass, desk_of, stage_of};
     ghost use Rattle.check_handles.specs.Glances.{HasLookedAt};
     ghost use Rattle.check_handles.specs.Joining.{HasJoined};
     ghost use Rattle.check_handles.specs.Tries.{HasAdvanced};
@@ -44,8 +44,8 @@ impl DeskPass {
     /// Tries to make the call. A pass that answers for all passes of its desk never has to wait.
     pub fn step(&mut self, call: Call) -> Step
         ensures desk { AreOneDesk self.old self.new }
-        ensures advanced { HasAdvanced (desk_of self.old) call self.old.stage result
-            self.new.stage }
+        ensures advanced { HasAdvanced (desk_of self.old) call (stage_of self.old) result
+            (stage_of self.new) }
     {
         advance(&self.shared.desk, &mut self.stage, call)
     }
@@ -53,7 +53,7 @@ impl DeskPass {
     /// What is known of an object. None where there is no such object, and where the pass waits.
     pub fn glance(&mut self, object: u32) -> Option<Standing>
         ensures desk { AreOneDesk self.old self.new }
-        ensures seen { HasLookedAt (desk_of self.old) object self.old.stage result self.new.stage }
+        ensures seen { HasLookedAt (desk_of self.old) object (stage_of self.old) result (stage_of self.new) }
     {
         match replace(&mut self.stage, Stage::Gone) {
             Stage::Resting(pass) => {
@@ -74,7 +74,7 @@ impl DeskPass {
         requires { AreOneDesk self.old other.old }
         ensures desk { AreOneDesk self.old self.new }
         ensures exactly { (result ≡ true) ↔ MayJoin self.old other.old }
-        ensures joined { result ≡ true → HasJoined self.old.stage other.old.stage self.new.stage }
+        ensures joined { result ≡ true → HasJoined (stage_of self.old) (stage_of other.old) (stage_of self.new) }
         ensures same { result ≡ false → (self.new ≡ self.old) × (other.new ≡ other.old) }
     {
         if !self.rests() || !other.rests() || !self.shared.has_mark_of(&other.shared) {
@@ -92,15 +92,15 @@ impl DeskPass {
 
     /// Whether it is at rest.
     pub(crate) fn rests(&self) -> bool
-        ensures { (result ≡ true) ↔ IsAtRest self.now.stage }
+        ensures { (result ≡ true) ↔ IsAtRest (stage_of self.now) }
     {
         matches!(self.stage, Stage::Resting(_))
     }
 
     /// Ends the desk, where all passes were gathered into this one and nobody else shares the desk.
     pub(crate) fn close(self) -> Result<Ledger, DeskPass>
-        requires { IsAtRest self.stage }
-        ensures closed { IfOk result (λ ledger. IsBookAfter (desk_of self) self.stage ledger) }
+        requires { IsAtRest (stage_of self) }
+        ensures closed { IfOk result (λ ledger. IsBookAfter (desk_of self) (stage_of self) ledger) }
         ensures same { IfErr result (λ same. IsSamePass self same) }
     {
         let DeskPass {

@@ -55,7 +55,8 @@ pub fn is_source(lodged: &Lodged, terms: Terms) -> bool
 }
 
 /// Opens a desk on a setup or a book, with a pass for each handle. Where memory is refused it is handed
-/// back, and the handles are as they were.
+/// back, or else the one pass of the desk, and the handles are as they were. The pass would come only where
+/// so many already share the desk that no one more can be counted (`IsBackOf`).
 pub fn open_source(
     alloc: Global,
     source: Lodged,

@@ -9,6 +9,7 @@ use Rattle.check_handles.specs.declared.lodged.Lodged.TheVariants as lodged
 use Rattle.check_handles.specs.Histories.{entries_by}
 use Rattle.check_records.specs.declared.plain.PlainEntry.{PlainEntry}
 use Rattle.check_records.specs.Plain.{plain_entry}
+use Rattle.nagsched_c.specs.declared.status.TheConstants.{OK, WRONG}
 
 abbrev pub entries_in : Option Lodged → Option (List (Entry Call Reply))
 entries_in (Some lodged) = entries_by lodged
@@ -26,8 +27,8 @@ MatchKept None P Q = Q
 
 -- what C is handed of an entry, and where there is none
 abbrev pub IsEntryTold : Option (Entry Call Reply) → PlainEntry → ℕ → PlainEntry → Type 0
-IsEntryTold (Some entry) before status told = (status ≡ 0) × (told ≡ plain_entry entry)
-IsEntryTold None before status told = (status ≡ 6) × (told ≡ before)
+IsEntryTold (Some entry) before status told = (status ≡ OK) × (told ≡ plain_entry entry)
+IsEntryTold None before status told = (status ≡ WRONG) × (told ≡ before)
 
 abbrev pub HasEntry : List (Entry Call Reply) → ℕ → PlainEntry → ℕ → PlainEntry → Type 0
 HasEntry entries index before status told = IsEntryTold (slice_get entries index) before status told

@@ -1,29 +1,30 @@
 -- What C is handed of an object's name, number and host.
 use Rattle.std.specs.Prelude.{◌≡◌, ◌⊎◌, ◌<◌, ◌≤◌, ◌++◌, ℕ, List, length, drop, IsUtf8, Some, None}
 use Rattle.check_objects.specs.Configuration.{Configuration, host_of, name_of, number_of, object_count}
+use Rattle.nagsched_c.specs.declared.status.TheConstants.{MISSING, OK, WRONG}
 
 -- The number of an object was written, or else there is no object of that name. A name that isn't UTF-8 is no object's.
 abbrev pub HasNumber : Configuration → List ℕ → ℕ → ℕ → ℕ → Type 0
 HasNumber setup name before status after =
-    ((status ≡ 0) × (number_of setup name ≡ Some after))
-    ⊎ ((status ≡ 5) × (after ≡ before) × (IsUtf8 name → number_of setup name ≡ None))
+    ((status ≡ OK) × (number_of setup name ≡ Some after))
+    ⊎ ((status ≡ MISSING) × (after ≡ before) × (IsUtf8 name → number_of setup name ≡ None))
 
 -- A text stands at the beginning of the room, where it fits; its length was written in any case.
 abbrev pub IsPut : List ℕ → List ℕ → ℕ → List ℕ → ℕ → Type 0
 IsPut text room status after bytes =
     (bytes ≡ length text)
-    × (((status ≡ 0) × (length text ≤ length room) × (after ≡ text ++ drop (length text) room))
-    ⊎ ((status ≡ 6) × (length room < length text) × (after ≡ room)))
+    × (((status ≡ OK) × (length text ≤ length room) × (after ≡ text ++ drop (length text) room))
+    ⊎ ((status ≡ WRONG) × (length room < length text) × (after ≡ room)))
 
 -- The name of an object was put, or else there is no object of that number.
 abbrev pub HasName : Configuration → ℕ → List ℕ → ℕ → ℕ → List ℕ → ℕ → Type 0
 HasName setup number room before status after bytes =
     ((number < object_count setup) × IsPut (name_of setup number) room status after bytes)
-    ⊎ ((object_count setup ≤ number) × (status ≡ 6) × (after ≡ room) × (bytes ≡ before))
+    ⊎ ((object_count setup ≤ number) × (status ≡ WRONG) × (after ≡ room) × (bytes ≡ before))
 
 -- what holds where there is a host, where the object is a host itself, and where there is no object
 abbrev pub HasHostOf : Configuration → ℕ → ℕ → ℕ → ℕ → Type 0
 HasHostOf setup number before status after =
-    ((number < object_count setup) × (status ≡ 0) × (host_of setup number ≡ Some after))
-    ⊎ (((number < object_count setup) × (status ≡ 5) × (host_of setup number ≡ None) × (after ≡ before))
-    ⊎ ((object_count setup ≤ number) × (status ≡ 6) × (after ≡ before)))
+    ((number < object_count setup) × (status ≡ OK) × (host_of setup number ≡ Some after))
+    ⊎ (((number < object_count setup) × (status ≡ MISSING) × (host_of setup number ≡ None) × (after ≡ before))
+    ⊎ ((object_count setup ≤ number) × (status ≡ WRONG) × (after ≡ before)))

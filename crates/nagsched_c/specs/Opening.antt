@@ -6,6 +6,7 @@ use Rattle.check_handles.specs.declared.lodged.Lodged.{Lodged}
 use Rattle.check_handles.specs.declared.opening.Terms.{Terms}
 use Rattle.check_handles.specs.Handles.{contents_of}
 use Rattle.check_handles.specs.Opening.{IsBack, IsOpenedBy, IsSource}
+use Rattle.nagsched_c.specs.declared.status.TheConstants.{NO_MEMORY, OK, WRONG}
 
 -- the terms on which a desk opens at this start and with this room, where it has this mark and each pass so many calls
 abbrev pub terms_of : ℕ → ℕ → ℕ → ℕ → Terms
@@ -32,7 +33,7 @@ MayOpen terms before passes = ArePlaces passes × IsSourceIn terms before × (0 
 -- it can't be opened so, and nothing was done.
 abbrev pub HasOpened : Terms → Option Lodged → List Handle → ℕ → Option Lodged → List Handle → Type 0
 HasOpened terms before passes status after opened =
-    ((status ≡ 0) × (after ≡ None)
+    ((status ≡ OK) × (after ≡ None)
     × ((source : Lodged) × (before ≡ Some source) × IsSource terms source × IsOpenedBy terms source opened))
-    ⊎ (((status ≡ 3) × (opened ≡ passes) × ((source : Lodged) × (back : Lodged) × (before ≡ Some source) × (after ≡ Some back) × IsBack terms source back))
-    ⊎ ((status ≡ 6) × (after ≡ before) × (opened ≡ passes) × (MayOpen terms before passes → ⊥)))
+    ⊎ (((status ≡ NO_MEMORY) × (opened ≡ passes) × ((source : Lodged) × (back : Lodged) × (before ≡ Some source) × (after ≡ Some back) × IsBack terms source back))
+    ⊎ ((status ≡ WRONG) × (after ≡ before) × (opened ≡ passes) × (MayOpen terms before passes → ⊥)))

@@ -15,6 +15,7 @@ use Rattle.check_handles.specs.Resuming.{IsResumed, IsSameSetup, IsSetup}
 use Rattle.check_records.specs.declared.plain.PlainRefusal.{PlainRefusal}
 use Rattle.check_records.specs.SavedFaults.{plain_fault}
 use Rattle.nagsched_c.specs.Texts.{IsTold}
+use Rattle.nagsched_c.specs.declared.status.TheConstants.{MISSING, OK, WRONG}
 
 -- the scheduler of a book, as it stands
 abbrev pub sched_in : Option Lodged → Option State
@@ -60,8 +61,8 @@ IsLeftIn setup setup' = (setup' ≡ setup) ⊎ ((before : Lodged) × (after : Lo
 
 -- the run of the check that is out, and the moment at which it began; or that none is
 abbrev pub IsRunTold : Option OpenRun → ℕ → ℕ → ℕ → ℕ → ℕ → Type 0
-IsRunTold (Some found) run start status run' start' = (status ≡ 0) × (run' ≡ found.number) × (start' ≡ found.start)
-IsRunTold None run start status run' start' = (status ≡ 5) × (run' ≡ run) × (start' ≡ start)
+IsRunTold (Some found) run start status run' start' = (status ≡ OK) × (run' ≡ found.number) × (start' ≡ found.start)
+IsRunTold None run start status run' start' = (status ≡ MISSING) × (run' ≡ run) × (start' ≡ start)
 
 -- the check of the object that is out, if one is
 abbrev pub run_of : State → ℕ → Option OpenRun
@@ -71,4 +72,4 @@ run_of sched object = option_and_then (λ o. o.run) (slice_get sched.objects obj
 abbrev pub HasRun : State → ℕ → ℕ → ℕ → ℕ → ℕ → ℕ → Type 0
 HasRun sched object run start status run' start' =
     ((object < object_count sched.setup) × IsRunTold (run_of sched object) run start status run' start')
-    ⊎ ((object_count sched.setup ≤ object) × (status ≡ 6) × (run' ≡ run) × (start' ≡ start))
+    ⊎ ((object_count sched.setup ≤ object) × (status ≡ WRONG) × (run' ≡ run) × (start' ≡ start))

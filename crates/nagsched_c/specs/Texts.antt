@@ -18,6 +18,7 @@ use Rattle.nagsched_c.specs.Names.{IsPut}
 use Rattle.check_records.specs.Plain.{plain_call, plain_entry, plain_refusal, plain_reply}
 use Rattle.check_records.specs.SavedFaults.{plain_fault, IsNoFault}
 use Rattle.check_records.specs.Plain.{IsNoCall, IsNoEntry, IsNoRefusal, IsNoReply}
+use Rattle.nagsched_c.specs.declared.status.TheConstants.{NO_MEMORY, WRONG}
 
 -- nothing was written, and the status says why
 abbrev pub IsUntold : ℕ → List ℕ → ℕ → ℕ → List ℕ → ℕ → Type 0
@@ -25,7 +26,7 @@ IsUntold why room before status after bytes = (status ≡ why) × (after ≡ roo
 
 -- the line was put, or memory was refused for it
 abbrev pub IsTold : List ℕ → List ℕ → ℕ → ℕ → List ℕ → ℕ → Type 0
-IsTold line room before status after bytes = IsPut line room status after bytes ⊎ IsUntold 3 room before status after bytes
+IsTold line room before status after bytes = IsPut line room status after bytes ⊎ IsUntold NO_MEMORY room before status after bytes
 
 -- the line of the refusal with this struct was written, of a document or of a saved state; or none is refused so, as where memory is lacking,
 -- and nothing was written
@@ -34,16 +35,16 @@ HasRefusalText told room before status after bytes =
     ((error : LoadError) × (error ≢ load.Memory) × (plain_refusal error ≡ told)
     × IsTold (refusal_line (refusal.Setup error)) room before status after bytes)
     ⊎ (((why : SavedFault) × (why ≢ fault.Memory) × (plain_fault why ≡ told) × IsTold (refusal_line (refusal.Saved why)) room before status after bytes)
-    ⊎ (IsUntold 6 room before status after bytes × IsNoRefusal told × IsNoFault told))
+    ⊎ (IsUntold WRONG room before status after bytes × IsNoRefusal told × IsNoFault told))
 
 -- the line of the reply with this struct, to the call with this struct, was written; or no call or no reply has its struct
 abbrev pub HasReplyText : Configuration → PlainCall → PlainReply → List ℕ → ℕ → ℕ → List ℕ → ℕ → Type 0
 HasReplyText setup asked told room before status after bytes =
     ((call : Call) × (reply : Reply) × (plain_call call ≡ asked) × (plain_reply reply ≡ told) × IsTold (reply_line setup call reply) room before status after bytes)
-    ⊎ (IsUntold 6 room before status after bytes × (IsNoCall asked ⊎ IsNoReply told))
+    ⊎ (IsUntold WRONG room before status after bytes × (IsNoCall asked ⊎ IsNoReply told))
 
 -- the line of the entry with this struct was written; or no entry has it
 abbrev pub HasEntryText : Configuration → PlainEntry → List ℕ → ℕ → ℕ → List ℕ → ℕ → Type 0
 HasEntryText setup told room before status after bytes =
     ((entry : Entry Call Reply) × (plain_entry entry ≡ told) × IsTold (entry_line setup entry) room before status after bytes)
-    ⊎ (IsUntold 6 room before status after bytes × IsNoEntry told)
+    ⊎ (IsUntold WRONG room before status after bytes × IsNoEntry told)

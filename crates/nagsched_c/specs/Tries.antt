@@ -7,17 +7,18 @@ use Rattle.check_handles.specs.declared.lodged.Lodged.TheVariants as lodged
 use Rattle.check_records.specs.declared.plain.PlainReply.{PlainReply}
 use Rattle.check_handles.specs.declared.stage.Step.{Step}
 use Rattle.check_handles.specs.declared.stage.Step.TheVariants as tried
-use Rattle.check_handles.specs.Desks.{AreOneDesk, desk_of}
+use Rattle.check_handles.specs.Desks.{AreOneDesk, desk_of, stage_of}
 use Rattle.check_handles.specs.Tries.{HasAdvanced}
 use Rattle.check_records.specs.Plain.{plain_reply}
+use Rattle.nagsched_c.specs.declared.status.TheConstants.{NO_MEMORY, OK, SPENT, WAIT, WRONG}
 
 -- what C is handed
 abbrev pub status_of : Step → ℕ
-status_of (tried.Replied reply) = 0
-status_of tried.NotYet = 1
-status_of tried.Spent = 2
-status_of tried.NoMemory = 3
-status_of tried.OtherWaits = 6
+status_of (tried.Replied reply) = OK
+status_of tried.NotYet = WAIT
+status_of tried.Spent = SPENT
+status_of tried.NoMemory = NO_MEMORY
+status_of tried.OtherWaits = WRONG
 
 -- the struct of the reply: it is written where there is a reply
 abbrev pub reply_after : Step → PlainReply → PlainReply
@@ -28,11 +29,11 @@ reply_after made before = before
 abbrev pub HasTriedBy : Call → DeskPass → PlainReply → ℕ → DeskPass → PlainReply → Type 0
 HasTriedBy call before reply status after told =
     AreOneDesk before after × ((made : Step) × (status ≡ status_of made) × (told ≡ reply_after made reply)
-    × HasAdvanced (desk_of before) call before.stage made after.stage)
+    × HasAdvanced (desk_of before) call (stage_of before) made (stage_of after))
 
 -- nothing was done: the handle has what it had, and the struct of the reply is as it was
 abbrev pub IsWrong : Option Lodged → PlainReply → ℕ → Option Lodged → PlainReply → Type 0
-IsWrong before reply status after told = (status ≡ 6) × (after ≡ before) × (told ≡ reply)
+IsWrong before reply status after told = (status ≡ WRONG) × (after ≡ before) × (told ≡ reply)
 
 -- A try by a handle: that of a pass goes on, and with any other nothing is done.
 abbrev pub HasTried : Call → Option Lodged → PlainReply → ℕ → Option Lodged → PlainReply → Type 0

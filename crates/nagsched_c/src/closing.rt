@@ -21,9 +21,7 @@ pub extern "C" fn nagsched_gather(alloc: Global, pass: &mut Handle, other: &mut 
     requires one_desk { AreOfOneDesk (contents_of pass.old) (contents_of other.old) }
     ensures gathered { HasGathered (contents_of pass.old) (contents_of other.old) result
         (contents_of pass.new) (contents_of other.new) }
-    ensures wrong { (IsRestingIn (contents_of pass.old) × IsRestingIn (contents_of other.old) → ⊥)
-        → result ≡ 6 }
-    ensures exactly { (result ≡ 6)
+    ensures exactly { (result ≡ WRONG)
         ↔ (MayBeGathered (contents_of pass.old) (contents_of other.old) → ⊥) }
 {
     let Some(mut first) = pass.take(alloc) else {
@@ -50,8 +48,8 @@ pub extern "C" fn nagsched_gather(alloc: Global, pass: &mut Handle, other: &mut 
 #[unsafe(no_mangle)]
 pub extern "C" fn nagsched_close(alloc: Global, pass: &mut Handle) -> u32
     ensures closed { HasClosed (contents_of pass.old) result (contents_of pass.new) }
-    ensures missing { MissesPasses (contents_of pass.old) → result ≡ 5 }
-    ensures wrong { (result ≡ 6) ↔ (IsRestingIn (contents_of pass.old) → ⊥) }
+    ensures missing { MissesPasses (contents_of pass.old) → result ≡ MISSING }
+    ensures wrong { (result ≡ WRONG) ↔ (IsRestingIn (contents_of pass.old) → ⊥) }
 {
     let Some(mut lodged) = pass.take(alloc) else {
         return WRONG;
@@ -60,10 +58,18 @@ pub extern "C" fn nagsched_close(alloc: Global, pass: &mut Handle) -> u32
         *pass = Handle::of(lodged);
         return WRONG;
     }
-    let (now, closed) = close(replace(&mut *lodged, Lodged::Nothing));
-    *lodged = now;
-    *pass = Handle::of(lodged);
-    if closed { OK } else { MISSING }
+    match close(replace(&mut *lodged, Lodged::Nothing)) {
+        Ok(book) => {
+            *lodged = book;
+            *pass = Handle::of(lodged);
+            OK
+        }
+        Err(same) => {
+            *lodged = same;
+            *pass = Handle::of(lodged);
+            MISSING
+        }
+    }
 }
 
 /// Goes on with a book: it opens where it stood, without entries and with room for so many. Its entries
@@ -80,7 +86,7 @@ pub extern "C" fn nagsched_renew(
 ) -> u32
     ensures renewed { HasRenewed room (contents_of book.old) (contents_of history.old) result
         (contents_of book.new) (contents_of history.new) }
-    ensures wrong { (result ≡ 6)
+    ensures wrong { (result ≡ WRONG)
         ↔ (IsBookIn (contents_of book.old) → is_some (contents_of history.old) ≡ true) }
 {
     if !history.is_empty() {

@@ -18,8 +18,8 @@ use ticket_steps::Kept;
 pub extern "C" fn nagsched_entries(alloc: Global, kept: &mut Handle, count: &mut u64) -> u32
     ensures handle { contents_of kept.new ≡ contents_of kept.old }
     ensures told { MatchKept (entries_in (contents_of kept.old))
-        (λ entries. (result ≡ 0) × (count.new ≡ length entries))
-        ((result ≡ 6) × (count.new ≡ count.old)) }
+        (λ entries. (result ≡ OK) × (count.new ≡ length entries))
+        ((result ≡ WRONG) × (count.new ≡ count.old)) }
 {
     let Some(lodged) = kept.take(alloc) else {
         return WRONG;
@@ -48,7 +48,7 @@ pub extern "C" fn nagsched_entry(
     ensures handle { contents_of kept.new ≡ contents_of kept.old }
     ensures told { MatchKept (entries_in (contents_of kept.old))
         (λ entries. HasEntry entries index entry.old result entry.new)
-        ((result ≡ 6) × (entry.new ≡ entry.old)) }
+        ((result ≡ WRONG) × (entry.new ≡ entry.old)) }
 {
     let Some(lodged) = kept.take(alloc) else {
         return WRONG;
@@ -74,8 +74,8 @@ pub extern "C" fn nagsched_entry(
 pub extern "C" fn nagsched_refused(alloc: Global, book: &mut Handle, count: &mut u64) -> u32
     ensures handle { contents_of book.new ≡ contents_of book.old }
     ensures told { MatchKept (refused_in (contents_of book.old))
-        (λ refused. (result ≡ 0) × (count.new ≡ refused))
-        ((result ≡ 6) × (count.new ≡ count.old)) }
+        (λ refused. (result ≡ OK) × (count.new ≡ refused))
+        ((result ≡ WRONG) × (count.new ≡ count.old)) }
 {
     let Some(lodged) = book.take(alloc) else {
         return WRONG;

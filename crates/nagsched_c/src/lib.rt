@@ -7,10 +7,10 @@
 //!
 //! The handle and what it leads to are check_handles', the structs check_records'.
 //!
-//! The modules: `status` has what each function gives. The functions are in `reading` (a setup, and giving
-//! up), `naming` (objects), `opening` (a desk), `calls` (the six calls), `glancing`, `closing` (passes put
-//! together, a desk ended, a book gone on with), `saving` (states saved and gone on from, checks that are
-//! out), `history` and `texts`.
+//! The modules: `status` has what each function gives, `laws` its numbers. The functions are in `reading`
+//! (a setup, and giving up), `naming` (objects), `opening` (a desk), `calls` (the six calls), `glancing`,
+//! `closing` (passes put together, a desk ended, a book gone on with), `saving` (states saved and gone on
+//! from, checks that are out), `history` and `texts`.
 
 ghost use Rattle.std.specs.Prelude.{◌≡◌};
 
@@ -18,6 +18,7 @@ mod calls;
 mod closing;
 mod glancing;
 mod history;
+pub mod laws;
 mod naming;
 mod opening;
 mod reading;

@@ -24,8 +24,8 @@ pub extern "C" fn nagsched_count(
 ) -> u32
     ensures handle { contents_of named.new ≡ contents_of named.old }
     ensures told { MatchNamed (named_in (contents_of named.old))
-        (λ setup. (result ≡ 0) × (objects.new ≡ object_count setup) × (hosts.new ≡ host_count setup))
-        ((result ≡ 6) × (objects.new ≡ objects.old) × (hosts.new ≡ hosts.old)) }
+        (λ setup. (result ≡ OK) × (objects.new ≡ object_count setup) × (hosts.new ≡ host_count setup))
+        ((result ≡ WRONG) × (objects.new ≡ objects.old) × (hosts.new ≡ hosts.old)) }
 {
     let lodged = named.take(alloc);
     let status = match names_in(&lodged) {
@@ -54,7 +54,7 @@ pub extern "C" fn nagsched_number(
     ensures handle { contents_of named.new ≡ contents_of named.old }
     ensures told { MatchNamed (named_in (contents_of named.old))
         (λ setup. HasNumber setup name.now number.old result number.new)
-        ((result ≡ 6) × (number.new ≡ number.old)) }
+        ((result ≡ WRONG) × (number.new ≡ number.old)) }
 {
     let lodged = named.take(alloc);
     let status = match names_in(&lodged) {
@@ -96,7 +96,7 @@ pub extern "C" fn nagsched_name(
     ensures handle { contents_of named.new ≡ contents_of named.old }
     ensures told { MatchNamed (named_in (contents_of named.old))
         (λ setup. HasName setup number name.old bytes.old result name.new bytes.new)
-        ((result ≡ 6) × (name.new ≡ name.old) × (bytes.new ≡ bytes.old)) }
+        ((result ≡ WRONG) × (name.new ≡ name.old) × (bytes.new ≡ bytes.old)) }
 {
     let lodged = named.take(alloc);
     let status = match names_in(&lodged) {
@@ -140,7 +140,7 @@ pub extern "C" fn nagsched_host_of(
     ensures handle { contents_of named.new ≡ contents_of named.old }
     ensures told { MatchNamed (named_in (contents_of named.old))
         (λ setup. HasHostOf setup number host.old result host.new)
-        ((result ≡ 6) × (host.new ≡ host.old)) }
+        ((result ≡ WRONG) × (host.new ≡ host.old)) }
 {
     let lodged = named.take(alloc);
     let status = match names_in(&lodged) {

@@ -24,7 +24,7 @@ pub extern "C" fn nagsched_open(
 ) -> u32
     ensures opened { HasOpened (terms_of start room mark 4294967295) (contents_of source.old)
         passes.old result (contents_of source.new) passes.new }
-    ensures wrong { (result ≡ 6)
+    ensures wrong { (result ≡ WRONG)
         ↔ (MayOpen (terms_of start room mark 4294967295) (contents_of source.old) passes.old → ⊥) }
 {
     let terms = Terms {
@@ -60,7 +60,7 @@ pub extern "C" fn nagsched_open_with(
 ) -> u32
     ensures opened { HasOpened (terms_of start room mark calls) (contents_of source.old) passes.old
         result (contents_of source.new) passes.new }
-    ensures wrong { (result ≡ 6)
+    ensures wrong { (result ≡ WRONG)
         ↔ (MayOpen (terms_of start room mark calls) (contents_of source.old) passes.old → ⊥) }
 {
     if calls == 0 || (DRAWS as u64) < calls {
@@ -80,7 +80,7 @@ fn open_desk(alloc: Global, source: &mut Handle, terms: Terms, passes: &mut [Han
     requires { 0 < terms.calls }
     ensures opened { HasOpened terms (contents_of source.old) passes.old result
         (contents_of source.new) passes.new }
-    ensures wrong { (result ≡ 6) ↔ (MayOpen terms (contents_of source.old) passes.old → ⊥) }
+    ensures wrong { (result ≡ WRONG) ↔ (MayOpen terms (contents_of source.old) passes.old → ⊥) }
 {
     if !are_places(passes) {
         return WRONG;

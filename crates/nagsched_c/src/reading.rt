@@ -25,12 +25,12 @@ pub extern "C" fn nagsched_read(
     setup: &mut Handle,
     refusal: &mut PlainRefusal,
 ) -> u32
-    ensures status { (result ≡ 0) ⊎ ((result ≡ 3) ⊎ ((result ≡ 4) ⊎ (result ≡ 6))) }
-    ensures wrong { (result ≡ 6) ↔ (is_some (contents_of setup.old) ≡ true) }
-    ensures read { result ≡ 0 → IsSetupOf document.now (contents_of setup.new) }
-    ensures refused { result ≡ 4 → IsRefusalOf document.now refusal.new }
-    ensures handle { result ≢ 0 → contents_of setup.new ≡ contents_of setup.old }
-    ensures told { result ≢ 4 → refusal.new ≡ refusal.old }
+    ensures status { (result ≡ OK) ⊎ ((result ≡ NO_MEMORY) ⊎ ((result ≡ REFUSED) ⊎ (result ≡ WRONG))) }
+    ensures wrong { (result ≡ WRONG) ↔ (is_some (contents_of setup.old) ≡ true) }
+    ensures read { result ≡ OK → IsSetupOf document.now (contents_of setup.new) }
+    ensures refused { result ≡ REFUSED → IsRefusalOf document.now refusal.new }
+    ensures handle { result ≢ OK → contents_of setup.new ≡ contents_of setup.old }
+    ensures told { result ≢ REFUSED → refusal.new ≡ refusal.old }
 {
     if !setup.is_empty() {
         return WRONG;
@@ -54,9 +54,9 @@ pub extern "C" fn nagsched_read(
 /// would stop all others.
 #[unsafe(no_mangle)]
 pub extern "C" fn nagsched_free(alloc: Global, handle: &mut Handle) -> u32
-    ensures freed { (result ≡ 0) × (contents_of handle.new ≡ None)
-        ⊎ (result ≡ 6) × (contents_of handle.new ≡ contents_of handle.old) }
-    ensures wrong { (result ≡ 6) ↔ IsTurnWaitingIn (contents_of handle.old) }
+    ensures freed { (result ≡ OK) × (contents_of handle.new ≡ None)
+        ⊎ (result ≡ WRONG) × (contents_of handle.new ≡ contents_of handle.old) }
+    ensures wrong { (result ≡ WRONG) ↔ IsTurnWaitingIn (contents_of handle.old) }
 {
     let lodged = handle.take(alloc);
     if let Some(lodged) = lodged {

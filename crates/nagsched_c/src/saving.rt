@@ -33,7 +33,7 @@ pub extern "C" fn nagsched_save(
     ensures handle { contents_of book.new ≡ contents_of book.old }
     ensures told { MatchKept (sched_in (contents_of book.old))
         (λ sched. HasSavedText sched text.old bytes.old result text.new bytes.new)
-        (IsUntold 6 text.old bytes.old result text.new bytes.new) }
+        (IsUntold WRONG text.old bytes.old result text.new bytes.new) }
 {
     let Some(lodged) = book.take(alloc) else {
         return WRONG;
@@ -77,15 +77,15 @@ pub extern "C" fn nagsched_resume(
     book: &mut Handle,
     refusal: &mut PlainRefusal,
 ) -> u32
-    ensures status { (result ≡ 0) ⊎ ((result ≡ 3) ⊎ ((result ≡ 4) ⊎ (result ≡ 6))) }
-    ensures wrong { (result ≡ 6)
+    ensures status { (result ≡ OK) ⊎ ((result ≡ NO_MEMORY) ⊎ ((result ≡ REFUSED) ⊎ (result ≡ WRONG))) }
+    ensures wrong { (result ≡ WRONG)
         ↔ (MayResume start (contents_of setup.old) (contents_of book.old) → ⊥) }
-    ensures resumed { result ≡ 0 → HasResumedFrom start room text.now (contents_of setup.old)
+    ensures resumed { result ≡ OK → HasResumedFrom start room text.now (contents_of setup.old)
         (contents_of setup.new) (contents_of book.new) }
-    ensures refused { result ≡ 4 → IsFaultOf text.now refusal.new }
-    ensures setup { result ≢ 0 → IsLeftIn (contents_of setup.old) (contents_of setup.new) }
-    ensures book { result ≢ 0 → contents_of book.new ≡ contents_of book.old }
-    ensures refusal { result ≢ 4 → refusal.new ≡ refusal.old }
+    ensures refused { result ≡ REFUSED → IsFaultOf text.now refusal.new }
+    ensures setup { result ≢ OK → IsLeftIn (contents_of setup.old) (contents_of setup.new) }
+    ensures book { result ≢ OK → contents_of book.new ≡ contents_of book.old }
+    ensures refusal { result ≢ REFUSED → refusal.new ≡ refusal.old }
 {
     if !book.is_empty() {
         return WRONG;
@@ -121,11 +121,11 @@ fn go_on(
 ) -> u32
     requires setup { IsSetup lodged.old }
     requires start { start ≤ LAST_MOMENT }
-    ensures status { (result ≡ 0) ⊎ ((result ≡ 3) ⊎ (result ≡ 4)) }
-    ensures resumed { result ≡ 0 → IsResumedFrom start room text.now lodged.old lodged.new }
-    ensures refused { result ≡ 4 → IsFaultOf text.now refusal.new }
-    ensures left { result ≢ 0 → IsLeft lodged.old lodged.new }
-    ensures refusal { result ≢ 4 → refusal.new ≡ refusal.old }
+    ensures status { (result ≡ OK) ⊎ ((result ≡ NO_MEMORY) ⊎ (result ≡ REFUSED)) }
+    ensures resumed { result ≡ OK → IsResumedFrom start room text.now lodged.old lodged.new }
+    ensures refused { result ≡ REFUSED → IsFaultOf text.now refusal.new }
+    ensures left { result ≢ OK → IsLeft lodged.old lodged.new }
+    ensures refusal { result ≢ REFUSED → refusal.new ≡ refusal.old }
 {
     match Saved::read(alloc, text) {
         Ok(saved) => {
@@ -159,7 +159,7 @@ pub extern "C" fn nagsched_running(
     ensures handle { contents_of book.new ≡ contents_of book.old }
     ensures told { MatchKept (sched_in (contents_of book.old))
         (λ sched. HasRun sched object run.old start.old result run.new start.new)
-        ((result ≡ 6) × (run.new ≡ run.old) × (start.new ≡ start.old)) }
+        ((result ≡ WRONG) × (run.new ≡ run.old) × (start.new ≡ start.old)) }
 {
     let Some(lodged) = book.take(alloc) else {
         return WRONG;

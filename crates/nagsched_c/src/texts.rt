@@ -69,7 +69,7 @@ pub extern "C" fn nagsched_reply_text(
     ensures handle { contents_of named.new ≡ contents_of named.old }
     ensures told { MatchNamed (named_in (contents_of named.old))
         (λ setup. HasReplyText setup call.now reply.now text.old bytes.old result text.new bytes.new)
-        ((result ≡ 6) × (text.new ≡ text.old) × (bytes.new ≡ bytes.old)) }
+        ((result ≡ WRONG) × (text.new ≡ text.old) × (bytes.new ≡ bytes.old)) }
 {
     let lodged = named.take(alloc);
     let status = match names_in(&lodged) {
@@ -117,7 +117,7 @@ pub extern "C" fn nagsched_entry_text(
     ensures handle { contents_of named.new ≡ contents_of named.old }
     ensures told { MatchNamed (named_in (contents_of named.old))
         (λ setup. HasEntryText setup entry.now text.old bytes.old result text.new bytes.new)
-        ((result ≡ 6) × (text.new ≡ text.old) × (bytes.new ≡ bytes.old)) }
+        ((result ≡ WRONG) × (text.new ≡ text.old) × (bytes.new ≡ bytes.old)) }
 {
     let lodged = named.take(alloc);
     let status = match names_in(&lodged) {
