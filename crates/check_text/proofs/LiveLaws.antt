@@ -19,7 +19,7 @@ use Rattle.check_script.specs.Line.{command_of, is_blank}
 use Rattle.check_script.specs.LiveInput.{behind_line, has_feed, said_by}
 use Rattle.check_script.specs.Script.{Script, commands_of, in_setup, script_by, script_in, script_of, script_over}
 use Rattle.check_script.proofs.LiveInputLemmas.{behind_stays, first_stays, lines_apart}
-use Rattle.check_script.proofs.ScriptLemmas.{commands_by_line, commands_from, script_with}
+use Rattle.check_script.proofs.ScriptLemmas.{commands_by_number, commands_from, script_with}
 use Rattle.check_text.specs.LiveText.{answer_to, answers_from, live_over, live_text, said, state_after}
 use Rattle.check_text.specs.Text.{answer_line, refusal_line, script_text, state_by, text, text_from}
 
@@ -82,14 +82,15 @@ over_agrees : (start : ℕ) (setup : Result Configuration LoadError) (lines : Li
     → live_over start setup lines ≡ text_from (opening script.setup start) script.commands
 over_agrees start (Err e) lines script h = cc
 over_agrees start (Ok c) lines script h =
-    over_commands start c lines script (commands_of (command_by c) lines) (sym (commands_by_line (command_by c) lines)) h
+    over_commands start c lines script (commands_of (command_by c) lines) (sym (commands_by_number (command_by c) 2 lines)) h
 
 accepted_by : (long : Bool) (input : List ℕ) (script : Script RunCommand)
     → cond long (Err (refusal.Line fault.TooLong 0)) (script_in command_by (lines_of input)) ≡ Ok script → script_in command_by (lines_of input) ≡ Ok script
 accepted_by true input script e = cc
 accepted_by false input script e = e
 
-accepted : (input : List ℕ) (script : Script RunCommand) → script_of input ≡ Ok script → script_in command_by (lines_of input) ≡ Ok script
+-- what is accepted is within the limit, so that it is the script of its lines
+pub accepted : (input : List ℕ) (script : Script RunCommand) → script_of input ≡ Ok script → script_in command_by (lines_of input) ≡ Ok script
 unfolding script_by
 accepted input script e = accepted_by (nat_lt MAX_INPUT_BYTES (length input)) input script e
 

@@ -10,21 +10,19 @@ use Rattle.std.proofs.lemmas.List.Sums.{AllPass-from_list_all, list_all-from_All
 use Rattle.check_drafts.specs.Name.{full_name, is_name}
 use Rattle.check_numbers.specs.Configuration.{Configuration, Service, IsSetup, Named, host_count, name_of, named_host, named_service, objects_of, pair_of}
 use Rattle.check_numbers.proofs.NameLemmas.{all_passes, item_at, name_of_host}
+use Rattle.check_saved.proofs.RangeLemmas.{short_name}
 
 abbrev is_short : List ℕ → Bool
 is_short name = nat_le (length name) 511
 
-name_few : (name : List ℕ) → is_name name ≡ true → length name ≤ 255
-name_few name h = grind (arith, nat_tests, h)
-
-short_name : (name : List ℕ) → length name ≤ 511 → is_short name ≡ true
-short_name name h = grind (arith, nat_tests, h)
+is_short_by : (name : List ℕ) → length name ≤ 511 → is_short name ≡ true
+is_short_by name h = grind (arith, nat_tests, h)
 
 -- a host's name has at most 255 bytes
 host_few : (c : Configuration) (n : ℕ) → IsSetup c → n < host_count c → length (name_of c n) ≤ 255
 host_few c n is below =
     let i = item_at c.hosts n below in
-    let few = name_few i.item.name (all_passes (λ h. is_name h.name) c.hosts n i.item is.host_names i.at) in
+    let few = short_name i.item.name (all_passes (λ h. is_name h.name) c.hosts n i.item is.host_names i.at) in
     rw (name_of_host c n i.item i.at) few
 
 -- so a service's has at most 511, with a semicolon and its description
@@ -32,7 +30,7 @@ service_few : (c : Configuration) (s : Service) → IsSetup c → nat_lt s.host 
     → s.name ≡ full_name (pair_of c s) → length s.name ≤ 511
 service_few c s is hosted described named =
     let host = host_few c s.host is (ltb-true s.host (length c.hosts) hosted) in
-    let description = name_few s.description described in
+    let description = short_name s.description described in
     let parts : length (full_name (pair_of c s)) ≡ length (name_of c s.host) + length (59 ∷ s.description) =
     length-append (name_of c s.host) (59 ∷ s.description) in
     omega (arith, host, description, parts, ap length named)
@@ -40,13 +38,13 @@ service_few c s is hosted described named =
 hosts_short : (c : Configuration) → IsSetup c → list_all (λ h. is_short h.name) c.hosts ≡ true
 hosts_short c is =
     list_all-from_AllPass (λ h. is_short h.name) c.hosts (λ k d below.
-    let few = name_few (get_or c.hosts k d).name (AllPass-from_list_all (λ h. is_name h.name) c.hosts is.host_names k d below) in
-    short_name (get_or c.hosts k d).name (omega (arith, few)))
+    let few = short_name (get_or c.hosts k d).name (AllPass-from_list_all (λ h. is_name h.name) c.hosts is.host_names k d below) in
+    is_short_by (get_or c.hosts k d).name (omega (arith, few)))
 
 services_short : (c : Configuration) → IsSetup c → list_all (λ s. is_short s.name) c.services ≡ true
 services_short c is =
     list_all-from_AllPass (λ s. is_short s.name) c.services (λ k d below.
-    short_name (get_or c.services k d).name (service_few c (get_or c.services k d) is
+    is_short_by (get_or c.services k d).name (service_few c (get_or c.services k d) is
     (AllPass-from_list_all (λ s. nat_lt s.host (length c.hosts)) c.services is.hosted k d below)
     (AllPass-from_list_all (λ s. is_name s.description) c.services is.descriptions k d below)
     (is.full_names k d below)))

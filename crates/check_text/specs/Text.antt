@@ -17,6 +17,7 @@ use Rattle.check_sched.specs.declared.call.Refusal.{Refusal}
 use Rattle.check_sched.specs.declared.call.Refusal.TheVariants as refused
 use Rattle.check_saved.specs.Saved.{Saved}
 use Rattle.check_saved.specs.Text.{saved_text}
+use Rattle.check_saved.specs.Words.{flapping_word}
 use Rattle.check_saved.specs.declared.fault.SavedFault.{SavedFault}
 use Rattle.check_saved.specs.declared.fault.SavedFault.TheVariants as saved
 use Rattle.check_sched.specs.Saved.{resumed, saved_of}
@@ -63,15 +64,10 @@ abbrev pub changed_text : Bool → List ℕ
 changed_text true = codes "yes"
 changed_text false = codes "no"
 
--- whether an object's states come and go
-abbrev pub flapping_text : Bool → List ℕ
-flapping_text true = codes "FLAPPING"
-flapping_text false = codes "STEADY"
-
 -- how the object with this full name stands, and when it is checked next
 abbrev pub standing_text : Standing → Bool → Option ℕ → List ℕ → List ℕ
 standing_text s changed next name = codes "standing " ++ (state_text s ++ (codes " " ++ (kind_word s.kind ++ (codes " " ++
-    (decimal s.attempt ++ (codes " " ++ (changed_text changed ++ (codes " " ++ (flapping_text s.flapping ++ (codes " " ++
+    (decimal s.attempt ++ (codes " " ++ (changed_text changed ++ (codes " " ++ (flapping_word s.flapping ++ (codes " " ++
     (time_text next ++ (codes " " ++ name))))))))))))
 
 -- the check of the object with this full name was given up, and this is the time of its next one

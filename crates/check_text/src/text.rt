@@ -4,7 +4,8 @@ ghost use Rattle.std.specs.Prelude.{◌≡◌, ◌+◌, ◌≤◌, ◌++◌, IfO
 ghost use Rattle.check_objects.specs.Configuration.{name_of};
 ghost use Rattle.check_text.specs.Text.{reply_text, reply_line, refusal_line, entry_line, total_line};
 ghost use Rattle.check_text.specs.Text.{taken_text, putoff_text, idle_text, standing_text, freed_text, done_text, refused_text, time_text};
-ghost use Rattle.check_text.specs.Text.{asked_name, state_text, changed_text, flapping_text};
+ghost use Rattle.check_saved.specs.Words.{flapping_word};
+ghost use Rattle.check_text.specs.Text.{asked_name, state_text, changed_text};
 ghost use Rattle.check_text.specs.Text.{call_refusal_text, fault_text, saved_line};
 ghost use Rattle.check_text.specs.Room.{FitsIn};
 
@@ -229,7 +230,7 @@ fn state_text(standing: Standing) -> &'static str
 /// Whether a state differs from the one before, and whether the object is flapping, between spaces.
 fn marks_between_spaces(changed: bool, flapping: bool) -> &'static str
     ensures text { result.now ≡ codes " " ++ (changed_text changed
-        ++ (codes " " ++ (flapping_text flapping ++ codes " "))) }
+        ++ (codes " " ++ (flapping_word flapping ++ codes " "))) }
     ensures few { length result.now ≤ 14 }
 {
     match (changed, flapping) {
@@ -241,7 +242,8 @@ fn marks_between_spaces(changed: bool, flapping: bool) -> &'static str
 }
 
 /// Appends the line of an entry of a history, with its line feed: the number of the pass that made
-/// the call, a space, and the line of the reply.
+/// the call, a space, and the line of the reply. An Err means out of memory, and a part of the line may
+/// have been appended.
 pub fn push_entry(
     line: &mut String,
     setup: &Setup,
@@ -257,7 +259,8 @@ pub fn push_entry(
 }
 
 /// Appends the last line of a drill, with its line feed: how many entries its history has, and how
-/// many calls were refused when out of memory.
+/// many calls were refused when out of memory. An Err means out of memory, and a part of the line may
+/// have been appended.
 pub fn push_total(line: &mut String, entries: usize, refused: u64) -> Result<(), AllocError>
     ensures { OnOk result
         (string_bytes line.new ≡ string_bytes line.old ++ total_line entries refused) }
@@ -279,7 +282,8 @@ pub(crate) fn saved_line(alloc: Global, sched: &Sched) -> Result<Vec<u8>, AllocE
     Ok(line)
 }
 
-/// Appends the line of an input's refusal, with its line feed.
+/// Appends the line of an input's refusal, with its line feed. An Err means out of memory, and a part of
+/// the line may have been appended.
 pub fn push_refusal(line: &mut String, refusal: InputRefusal) -> Result<(), AllocError>
     ensures { OnOk result
         (string_bytes line.new ≡ string_bytes line.old ++ refusal_line refusal) }
