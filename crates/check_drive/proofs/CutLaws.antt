@@ -11,7 +11,6 @@ use Rattle.std.proofs.lemmas.Bool.Decides.{nat_tests}
 use Rattle.serde_json.specs.Data.{Data, Items, array, item, no_items, string}
 use Rattle.serde_json.specs.Read.{read}
 use Rattle.serde_json.specs.Written.{compact_text}
-use Rattle.check_drafts.specs.declared.error.LoadError.{LoadError}
 use Rattle.check_objects.specs.Configuration.{Configuration, IsSetup, Named, named_host, named_service, object_count, objects_of}
 use Rattle.check_objects.specs.Setup.{setup_of}
 use Rattle.check_objects.specs.Tree.{tree_of}
@@ -45,13 +44,14 @@ use Rattle.check_script.specs.declared.script.TheConstants.{MAX_INPUT_BYTES}
 use Rattle.check_script.specs.Input.{lines_of}
 use Rattle.check_script.specs.ResumedScript.{ResumedScript, in_saved, resumed_in, resumed_script_of}
 use Rattle.check_script.specs.Script.{Script, commands_behind, commands_of, in_setup, script_by, script_in, script_of}
-use Rattle.check_script.proofs.ScriptLemmas.{commands_by_line, commands_by_number, commands_from, script_with}
+use Rattle.check_script.proofs.ScriptLemmas.{commands_by_number, commands_from, script_with}
 use Rattle.check_text.specs.Text.{answer_line, resumed_from, resumed_script_text, saved_line, script_text, state_by, text, text_from, text_resumed}
-use Rattle.check_text.proofs.LiveLaws.{line_first, lines_by}
+use Rattle.check_text.proofs.LiveLaws.{accepted, line_first, lines_by}
 use Rattle.check_text.proofs.TextLemmas.{command_keeps}
 use Rattle.check_drive.specs.Cut.{first_part, second_part, whole_input}
 use Rattle.check_drive.specs.Live.{AreWholeLines}
 use Rattle.check_drive.proofs.FeedLemmas.{saved_free}
+use Rattle.check_drive.proofs.LiveLemmas.{setup_is}
 use Rattle.check_drive.proofs.NameTextLemmas.{AreTexts, setup_by}
 
 -- ---- commands, whatever the numbers of their lines
@@ -181,10 +181,6 @@ writable s valid names = record {
 
 -- ---- a setup that was read
 
-setup_in : (r : Result Configuration LoadError) (c : Configuration) → in_setup r ≡ Ok c → r ≡ Ok c
-setup_in (Ok d) c e = cc
-setup_in (Err why) c e = cc
-
 -- over a setup that was read a scheduler opens in a state that one can be in
 first_counted : (c : Configuration) (start : ℕ) → length (initial_times c start) ≡ object_count c
 unfolding initial_times
@@ -238,12 +234,12 @@ over_parts : (setup : Result Configuration InputRefusal) (lines : List (List ℕ
     → (c : Configuration) × (all : List RunCommand) × (setup ≡ Ok c) × (commands_from (command_by c) 2 lines ≡ Ok all) × (script_with c all ≡ script)
 over_parts (Err e) lines script h = cc
 over_parts (Ok c) lines script h =
-    let p = over_made c lines (commands_of (command_by c) lines) script (sym (commands_by_line (command_by c) lines)) h in
+    let p = over_made c lines (commands_of (command_by c) lines) script (sym (commands_by_number (command_by c) 2 lines)) h in
     (c, p.0, refl, p.1, p.2)
 
 over_back : (document : List ℕ) (c : Configuration) (lines : List (List ℕ)) (all : List RunCommand) → in_setup (setup_of document) ≡ Ok c
     → commands_from (command_by c) 2 lines ≡ Ok all → script_in command_by (document ∷ lines) ≡ Ok (script_with c all)
-over_back document c lines all s f = let g : commands_of (command_by c) lines ≡ Ok all = commands_by_line (command_by c) lines ∙ f in rw (s, g) refl
+over_back document c lines all s f = let g : commands_of (command_by c) lines ≡ Ok all = commands_by_number (command_by c) 2 lines ∙ f in rw (s, g) refl
 
 resumed_back : (document text : List ℕ) (c : Configuration) (saved : Saved) (later : List (List ℕ)) (b : List RunCommand)
     → in_setup (setup_of document) ≡ Ok c → saved_of_text text ≡ Ok saved → commands_from (command_by c) 3 later ≡ Ok b
@@ -267,7 +263,7 @@ cut_lines start document first later script moment e =
     let q = split (command_by c) first later 2 p.1 p.3 in
     let a = q.0 in
     let b = q.1 in
-    let read = setup_by document c (setup_in (setup_of document) c p.2) in
+    let read = setup_by document c (setup_is (setup_of document) c p.2) in
     let opened = opening c start in
     let s = through opened a in
     let there = through_is opened a (opened_is c start read.setup moment) in
@@ -287,16 +283,6 @@ cut_lines start document first later script moment e =
     )
 
 -- ---- by bytes
-
-accepted_by : (long : Bool) (why : InputRefusal) (r : Result (Script RunCommand) InputRefusal) (script : Script RunCommand)
-    → cond long (Err why) r ≡ Ok script → r ≡ Ok script
-accepted_by true why r script e = cc
-accepted_by false why r script e = e
-
-accepted : (input : List ℕ) (script : Script RunCommand) → script_of input ≡ Ok script → script_in command_by (lines_of input) ≡ Ok script
-unfolding script_by
-accepted input script e =
-    accepted_by (nat_lt MAX_INPUT_BYTES (length input)) (refusal.Line fault.TooLong 0) (script_in command_by (lines_of input)) script e
 
 script_by_lines : (input : List ℕ) (lines : List (List ℕ)) → lines_of input ≡ lines → length input ≤ MAX_INPUT_BYTES
     → script_of input ≡ script_in command_by lines

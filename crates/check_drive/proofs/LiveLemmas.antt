@@ -23,7 +23,7 @@ use Rattle.check_script.specs.Agreement.{Gives}
 use Rattle.check_script.specs.declared.live_error.LiveError.{LiveError}
 use Rattle.check_script.specs.declared.live_error.LiveError.TheVariants as live
 use Rattle.check_script.specs.LiveError.{AfterLine, AfterReads, IsWritten, told, told_by}
-use Rattle.check_script.specs.Input.{first_line_of, lines_of, onto_first}
+use Rattle.check_script.specs.Input.{first_line_of, lines_of}
 use Rattle.check_script.specs.LiveInput.{behind_line, has_feed}
 use Rattle.check_script.specs.Script.{in_setup}
 use Rattle.check_script.proofs.LiveInputLemmas.{Consumes-none, Consumes-then, behind_none, behind_stays, feed_split, first_all, first_free, first_stays, lines_apart}
@@ -377,24 +377,19 @@ pub untaken : (s : State) (number : ℕ) (hand given : List ℕ) (had left held 
 untaken s number hand given had left held holds e read kept =
     (given ++ rest_of left, input_on had left given (rest_of left) read (rest_input left), leaves_kept e held holds _ kept)
 
-unanswered_by : (s : State) (number : ℕ) (hand given : List ℕ) (had left held mid holds : Option (List ℕ)) (e : DriveError) (whole : Bool)
+pub unanswered : (s : State) (number : ℕ) (hand given : List ℕ) (had left held mid holds : Option (List ℕ)) (e : DriveError) (whole : Bool)
     → Consumes had left given → whole ≡ has_feed (hand ++ given) → (whole ≡ false → IsAtEnd left) → Keeps held mid
     → LeavesText e mid holds (answer_to s (said s number (first_line_of (hand ++ given)))) → LineFailed s number hand had held holds e
-unanswered_by s number hand given had left held mid holds e true read feed end kept f = (
+unanswered s number hand given had left held mid holds e true read feed end kept f = (
   given ++ rest_of left,
   input_on had left given (rest_of left) read (rest_input left),
   leaves_before e held mid holds _ kept (rw (answers_on s number hand given (rest_of left) (sym feed)) (leaves_more e mid holds _ _ f)),
 )
-unanswered_by s number hand given had left held mid holds e false read feed end kept f = (
+unanswered s number hand given had left held mid holds e false read feed end kept f = (
   given,
   input_all had left given read (end refl),
   leaves_before e held mid holds _ kept (rw (answers_last s number (hand ++ given) (sym feed)) f),
 )
-
-pub unanswered : (s : State) (number : ℕ) (hand given : List ℕ) (had left held mid holds : Option (List ℕ)) (e : DriveError) (whole : Bool)
-    → Consumes had left given → whole ≡ has_feed (hand ++ given) → (whole ≡ false → IsAtEnd left) → Keeps held mid
-    → LeavesText e mid holds (answer_to s (said s number (first_line_of (hand ++ given)))) → LineFailed s number hand had held holds e
-unanswered = unanswered_by
 
 -- ---- the whole
 
@@ -478,20 +473,6 @@ reads_spend live.Writer given had left read h = λ s. absurd s
 reads_spend live.Memory given had left read h = λ s. absurd s
 reads_spend live.LinesSpent given had left read h = λ s. absurd h
 reads_spend live.ReadsSpent given had left read h = λ s. (given, read, omega (arith, h))
-
-onto_few : (b n : ℕ) (lines : List (List ℕ)) → length lines ≤ n → length (onto_first b lines) ≤ suc n
-onto_few b n [] h = omega (arith, h)
-onto_few b n (line ∷ lines) h = omega (arith, h)
-
--- each line has a byte at least
-pub lines_few : (bytes : List ℕ) → length (lines_of bytes) ≤ length bytes
-lines_few [] = omega arith
-lines_few (b ∷ bs) =
-    let again = lines_few bs in
-    elim (b == 10) as (λ v. length (cond v ([] ∷ lines_of bs) (onto_first b (lines_of bs))) ≤ suc (length bs)) [
-      | true ↦ omega (arith, again)
-      | false ↦ onto_few b (length bs) (lines_of bs) again
-    ]
 
 pub behind_few : (bytes : List ℕ) → length (behind_line bytes) ≤ length bytes
 behind_few [] = omega arith

@@ -11,10 +11,6 @@ use Rattle.check_script.specs.LiveError.{AfterLine, IsOfInput, IsWritten}
 use Rattle.check_script.specs.LiveInput.{LineFront, TookLine, behind_line, front_of, has_feed}
 use Rattle.check_script.proofs.LiveInputLemmas.{Consumes-then, behind_none, feed_on, first_all, more_reads, took_all, took_on}
 
-pub Keeps-none : (known : Option (List ℕ)) → Keeps known known
-Keeps-none None = tt
-Keeps-none (Some xs) = refl
-
 pub Keeps-then : (held mid holds : Option (List ℕ)) → Keeps held mid → Keeps mid holds → Keeps held holds
 Keeps-then None mid holds h k = tt
 Keeps-then (Some a) None holds h k = absurd h

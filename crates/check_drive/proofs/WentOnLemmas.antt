@@ -28,6 +28,7 @@ use Rattle.check_script.specs.LiveInput.{StopsSoon, behind_line, has_feed}
 use Rattle.check_script.specs.ResumedScript.{in_saved}
 use Rattle.check_script.specs.Script.{in_setup}
 use Rattle.check_script.proofs.LiveInputLemmas.{Consumes-none, Consumes-then, behind_none, behind_stays, first_stays}
+use Rattle.check_script.proofs.ScriptLemmas.{length-lines_of}
 use Rattle.check_text.proofs.OutputLemmas.{Appends-none}
 use Rattle.check_text.specs.LiveText.{answers_from, live_from, live_over, live_resumed_over, live_text, live_text_resumed}
 use Rattle.check_text.specs.Text.{refusal_line, resumed_from}
@@ -41,7 +42,7 @@ use Rattle.check_drive.specs.Live.{AfterAll, AfterLater, AfterLines, HadMany, Is
 use Rattle.check_drive.specs.Live.{TalkEnded, TalkReads, WentOn, later_outcome, later_text, saved_in, talk_outcome, talk_text}
 use Rattle.check_drive.proofs.DriveLemmas.{front_tells}
 use Rattle.check_drive.proofs.LiveLemmas.{appended_none, end_input, input_all, input_on, leaves_before, leaves_kept, live_failed}
-use Rattle.check_drive.proofs.LiveLemmas.{behind_few, lines_few, not_long, refused_stays, rest_input, rest_of, setup_is, setup_refused, wrote_behind, written_errs, written_ifs, written_oks}
+use Rattle.check_drive.proofs.LiveLemmas.{behind_few, not_long, refused_stays, rest_input, rest_of, setup_is, setup_refused, wrote_behind, written_errs, written_ifs, written_oks}
 
 -- ---- what is kept of line 2
 
@@ -378,7 +379,7 @@ lines_many live.LinesSpent begins first hand had left held holds a s =
     let there = length-append hand a.given in
     let parts = ap length a.parts in
     let sizes = length-append a.front a.rest in
-    let least = lines_few a.front in
+    let least = length-lines_of a.front in
     (a.given, a.consumed, omega (arith, there, parts, sizes, least, a.lines))
 lines_many live.ReadsSpent begins first hand had left held holds g s = (g.0, g.1, omega (arith, g.2))
 

@@ -14,12 +14,14 @@ use check_text::{REPLY_BYTES, flush, push_reply, write_refusal, write_saved, wri
 use std::alloc::Global;
 use std::io::{Read, Write};
 
-/// How a run ended that met no fault and wasn't out of memory.
+/// How a run, a conversation, a drill, a check or the writing of a schema ended that met no fault and
+/// wasn't out of memory.
 #[derive(Clone, Copy, Debug, PartialEq, Eq)]
 pub enum Outcome {
-    /// Each call of the script was made, and the line of each reply written.
+    /// What was asked for was done. A run made each call of its script and wrote the line of each reply.
     Ran,
-    /// The input was refused before any call was made, and the line of its first refusal written.
+    /// The input was refused before any call was made, and the line of its first refusal written. Of the
+    /// input of a conversation only the setup and what was saved are refused so.
     Refused,
 }
 
@@ -34,6 +36,9 @@ pub enum Outcome {
 /// where the reader fails, and nothing was written then; `Write` where the writer or its flush fails,
 /// and `Memory` where there is no memory, and a prefix of the text was written then, which is empty
 /// where the input wasn't read, and after `Memory` never is the whole of a text that has a line.
+///
+/// Input, text and commands are our own profile. The rules of the calls are those of check_sched, after the
+/// chapters of the Nagios Core 4 manual that it names.
 pub fn drive<R: Read, W: Write>(
     alloc: Global,
     start: u64,

@@ -18,6 +18,9 @@ use std::io::{Read, Write};
 /// Line 1 is the setup, line 2 what was saved, whatever its length, and commands begin at line 3. The
 /// first refusal is that of the input's length, then of the setup, then of what was saved, then of the
 /// lines in their order. Errors come as `drive` has them.
+///
+/// Input, text and commands are our own profile. The rules of the calls are those of check_sched, after the
+/// chapters of the Nagios Core 4 manual that it names.
 pub fn drive_resumed<R: Read, W: Write>(
     alloc: Global,
     start: Option<u64>,

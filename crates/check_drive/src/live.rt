@@ -42,9 +42,13 @@ use std::io::{Read, Write};
 /// of a later line 4,097; there is no limit on the input.
 ///
 /// Any error of the reader or the writer, an interruption among them, and a write that takes no byte,
-/// ends the conversation: `Read` comes where the reader fails, or after 2^64 lines or reads, `Write`
-/// where the writer or its flush fails, and `Memory` where there is no memory, which a save may want
-/// too. A prefix of the text was written then, after `Memory` whole lines of it.
+/// ends the conversation: `Read` comes where the reader fails, or where each line with a number below
+/// 2^64 - 1 was answered, or 2^64 - 1 reads didn't bring the end of a line; `Write` where the writer or
+/// its flush fails, and `Memory` where there is no memory, which a save may want too. A prefix of the
+/// text was written then, after `Memory` whole lines of it.
+///
+/// Input, text and commands are our own profile. The rules of the calls are those of check_sched, after the
+/// chapters of the Nagios Core 4 manual that it names.
 pub fn live<R: Read, W: Write>(
     alloc: Global,
     start: u64,

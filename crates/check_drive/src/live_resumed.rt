@@ -21,6 +21,9 @@ use std::io::{Read, Write};
 /// line of its refusal, and ends the conversation before line 2 is asked for; so does what was saved,
 /// where it is refused, when its line has come. Line 2 has no answer else. Of it no more is kept than
 /// 16,777,217 bytes. Errors come as `live` has them.
+///
+/// Input, text and commands are our own profile. The rules of the calls are those of check_sched, after the
+/// chapters of the Nagios Core 4 manual that it names.
 pub fn live_resumed<R: Read, W: Write>(
     alloc: Global,
     start: Option<u64>,

@@ -4,7 +4,8 @@ use Rattle.check_script.proofs.LiveInputLemmas.{Consumes-none, Consumes-then, if
 use Rattle.std.specs.Prelude.{IfErr}
 use Rattle.std.proofs.lemmas.Result.{err_from_is_err_and}
 use Rattle.check_script.specs.LiveError.{AfterLine}
-use Rattle.check_drive.proofs.LiveLinesLemmas.{after_ask, Keeps-none, Keeps-then, more_begun, more_took, more_took_all}
+use Rattle.check_text.proofs.WrittenLemmas.{Keeps-same}
+use Rattle.check_drive.proofs.LiveLinesLemmas.{after_ask, Keeps-then, more_begun, more_took, more_took_all}
 use Rattle.check_drive.proofs.live_lines.take_rest.Goals as goal
 
 pub loop-reads-init : goal.loop-reads-init
@@ -14,7 +15,7 @@ loop-reads-init g c = record {
   feedless = refl;
   kept = λ begun k. k ∙ ap (front_of _) (sym (append-nil begun));
   nothing = c.requires;
-  written = Keeps-none _;
+  written = Keeps-same _;
   many = omega arith;
 }
 
