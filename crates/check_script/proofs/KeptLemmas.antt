@@ -43,10 +43,6 @@ kept_blank kept line blank k e = sym (ap (λ (x : LineFront). x.blank) k) ∙ e
 pub kept_bytes : (kept : LineFront) (line : List ℕ) → kept ≡ front_of KEPT_LINE_BYTES line → kept.bytes ≡ take KEPT_LINE_BYTES line
 kept_bytes kept line k = ap (λ (x : LineFront). x.bytes) k
 
-pub said_blank : {K : Type 0} (meaning : List ℕ → Items → Result K LineFault) (n : ℕ) (kept : LineFront) (line : List ℕ)
-    → kept ≡ front_of KEPT_LINE_BYTES line → kept.blank ≡ true → said_by meaning n line ≡ Ok None
-said_blank meaning n kept line k e = let b = kept_blank kept line true k e in rw b refl
-
 pub said_command : {K : Type 0} (meaning : List ℕ → Items → Result K LineFault) (n : ℕ) (kept : LineFront) (line : List ℕ) (x : K)
     → kept ≡ front_of KEPT_LINE_BYTES line → kept.blank ≡ false → command_of meaning n kept.bytes ≡ Ok x → said_by meaning n line ≡ Ok (Some x)
 said_command meaning n kept line x k e f =

@@ -3,7 +3,8 @@ use Rattle.std.proofs.Common.{◌≡◌, ◌≢◌, ℕ, ◌==◌, false, cond, 
 use Rattle.std.specs.Prelude.{if◌then◌else◌}
 use Rattle.std.specs.List.{AllByRecursion, join_with_byte}
 use Rattle.std.proofs.lemmas.Bool.{cases_eq, ne_eqb}
-use Rattle.check_script.specs.Input.{AreLines, HasNoFeed, lines_of, onto_first, without_last_feed}
+use Rattle.check_documents.specs.Feeds.{HasNoFeed}
+use Rattle.check_script.specs.Input.{AreLines, lines_of, onto_first, without_last_feed}
 
 -- the pieces between line feeds, of which there is always one
 split_of : List ℕ → List (List ℕ)

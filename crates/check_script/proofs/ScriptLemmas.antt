@@ -35,26 +35,18 @@ commands_from meaning n (line ∷ lines) = if is_blank line then commands_from m
 abbrev pub commands_at : {K : Type 0} → (List ℕ → Items → Result K LineFault) → List (ℕ × List ℕ) → Result (List K) InputRefusal
 commands_at meaning numbered = all_or_first (map (λ p. command_of meaning p.0 p.1) numbered)
 
-commands_numbered : {K : Type 0} (meaning : List ℕ → Items → Result K LineFault) (n : ℕ) (ls : List (List ℕ))
-    → commands_at meaning (numbered_from n ls) ≡ commands_from meaning n ls
-commands_numbered meaning n [] = refl
-commands_numbered meaning n (line ∷ ls) =
-    let again = commands_numbered meaning (n + 1) ls in
+-- one line after another gives the commands of all
+pub commands_by_number : {K : Type 0} (meaning : List ℕ → Items → Result K LineFault) (n : ℕ) (ls : List (List ℕ))
+    → commands_behind n meaning ls ≡ commands_from meaning n ls
+commands_by_number meaning n [] = refl
+commands_by_number meaning n (line ∷ ls) =
+    let again = commands_by_number meaning (n + 1) ls in
     elim (is_blank line) as (λ v. commands_at meaning (cond (not v) ((n, line) ∷ numbered_from (n + 1) ls) (numbered_from (n + 1) ls))
     ≡ cond v (commands_from meaning (n + 1) ls)
     (command_of meaning n line >>= λ first. (commands_from meaning (n + 1) ls >>= λ more. Ok (first ∷ more)))) [
       | true ↦ again
       | false ↦ ap (λ r. command_of meaning n line >>= λ first. (r >>= λ more. Ok (first ∷ more))) again
     ]
-
--- one line after another gives the commands of all
-pub commands_by_line : {K : Type 0} (meaning : List ℕ → Items → Result K LineFault) (ls : List (List ℕ))
-    → commands_of meaning ls ≡ commands_from meaning 2 ls
-commands_by_line meaning ls = commands_numbered meaning 2 ls
-
-pub commands_by_number : {K : Type 0} (meaning : List ℕ → Items → Result K LineFault) (n : ℕ) (ls : List (List ℕ))
-    → commands_behind n meaning ls ≡ commands_from meaning n ls
-commands_by_number = commands_numbered
 
 -- a blank line is passed over, and counted
 pub blank_passed : {K : Type 0} (meaning : List ℕ → Items → Result K LineFault) (n : ℕ) (all : Result (List K) InputRefusal) (front : List K)
@@ -163,7 +155,7 @@ few_over : {K : Type 0} (meaning : Configuration → List ℕ → Items → Resu
     → IfOk (setup >>= λ c. (commands_of (meaning c) ls >>= λ all. Ok (script_with c all))) (λ s. length s.commands ≤ m)
 few_over meaning (Err e) ls m b = tt
 few_over meaning (Ok c) ls m b =
-    few_with c (commands_of (meaning c) ls) (length ls) m b (rw (commands_by_line (meaning c) ls) (few_commands (meaning c) 2 ls))
+    few_with c (commands_of (meaning c) ls) (length ls) m b (rw (commands_by_number (meaning c) 2 ls) (few_commands (meaning c) 2 ls))
 
 few_in : {K : Type 0} (meaning : Configuration → List ℕ → Items → Result K LineFault) (ls : List (List ℕ)) (m : ℕ) → length ls ≤ m
     → IfOk (script_in meaning ls) (λ s. length s.commands ≤ m)

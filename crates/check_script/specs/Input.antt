@@ -1,16 +1,13 @@
 -- The lines of an input.
 use Rattle.std.specs.Prelude.{◌≡◌, ◌≢◌, ℕ, ◌==◌, List, [], ◌∷◌, if◌then◌else◌}
 use Rattle.std.specs.List.{AllByRecursion, join_with_byte}
+use Rattle.check_documents.specs.Feeds.{HasNoFeed}
 
 -- the bytes without the line feed (byte 10) at their end, where there is one
 abbrev pub without_last_feed : List ℕ → List ℕ
 without_last_feed [] = []
 without_last_feed (b ∷ []) = if b == 10 then [] else b ∷ []
 without_last_feed (b ∷ c ∷ bs) = b ∷ without_last_feed (c ∷ bs)
-
--- a line has no line feed
-abbrev pub HasNoFeed : List ℕ → Type 0
-HasNoFeed line = AllByRecursion (λ b. b ≢ 10) line
 
 -- These are the lines of the input: none has a line feed, and with a line feed between each two they are the input, except for
 -- one line feed at its end. No byte gives no line, and any bytes give one.

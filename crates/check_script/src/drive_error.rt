@@ -1,4 +1,5 @@
-//! Why a run or a drill ended early: its reader, its writer, or memory.
+//! Why a run, a drill or a conversation ended early: its reader, its writer or memory; or of a
+//! conversation its lines or reads, which were spent.
 ghost use Rattle.std.specs.Prelude.{◌≡◌};
 ghost use Rattle.check_script.specs.declared.drive_error.DriveError.TheVariants.{Memory, Read};
 
@@ -10,7 +11,8 @@ use thiserror::Error;
 #[derive(Clone, Copy, Debug, PartialEq, Eq, Error)]
 pub enum DriveError {
     /// The reader failed or was interrupted. A run and a drill have written nothing then, a
-    /// conversation the answers to the lines that came.
+    /// conversation the answers to the lines that came. A conversation also ends so where its lines or
+    /// reads are spent, which [`LiveError`](crate::live_error::LiveError) has apart.
     #[error("the input could not be read")]
     Read,
     /// The writer failed, was interrupted or took no byte, or its flush failed. A prefix of the text

@@ -22,7 +22,8 @@ const LINE_FEED: u8 = b'\n';
 
 /// Reads to the end of the input or to `MAX_READ_BYTES` bytes, whichever comes first.
 ///
-/// Each error of the reader is a fault, an interruption among them: nothing is tried again.
+/// Each error of the reader is a fault, an interruption among them: nothing is tried again. An Err is
+/// `Read`, where the reader fails, or `Memory`, and what was read is lost then.
 pub fn read_input<R: Read>(alloc: Global, reader: &mut R) -> Result<Vec<u8>, DriveError>
     ensures all { IfOk result (λ input.
         IfSome (R.remaining reader.old) (λ bytes. input.items ≡ take MAX_READ_BYTES bytes)) }

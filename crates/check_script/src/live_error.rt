@@ -15,7 +15,8 @@ pub enum LiveError {
     Writer,
     /// Out of memory.
     Memory,
-    /// 2^64 - 3 lines were answered: the next has no number.
+    /// Each line with a number below 2^64 - 1 was answered. Those are 2^64 - 3 lines where they begin at
+    /// line 2, and 2^64 - 4 where line 2 is what was saved and they begin at line 3.
     LinesSpent,
     /// A line has so many bytes that 2^64 - 1 reads didn't bring its end.
     ReadsSpent,

@@ -1,6 +1,6 @@
 //! An input that is taken line by line as it comes, in memory that doesn't grow with it: what a
 //! reader has given and nobody has taken, and what is kept of the line that is being taken.
-ghost use Rattle.std.specs.Prelude.{◌≡◌, ◌≢◌, ◌<◌, ◌≤◌, ◌+◌, ◌⊎◌, ◌++◌, ◌&&◌, ℕ, List, [], IfOk, IfErr, OnOk, false, length, true, drop, vec_len, ◌==◌, option_map};
+ghost use Rattle.std.specs.Prelude.{◌≡◌, ◌≢◌, ◌<◌, ◌≤◌, ◌+◌, ◌⊎◌, ◌++◌, ◌&&◌, ℕ, List, [], IfOk, IfErr, OnErr, OnOk, false, length, true, drop, vec_len, ◌==◌, option_map};
 ghost use Rattle.std.specs.Io.KnownBytes.{Consumes, IsAtEnd};
 ghost use Rattle.check_script.specs.Input.{first_line_of};
 ghost use Rattle.check_script.specs.LiveError.{AfterReads, IsOfInput};
@@ -69,10 +69,11 @@ impl KeptLine {
         self.blank = true;
     }
 
-    /// Puts bytes at the end of the line. Out of memory it stays as it was.
+    /// Puts bytes at the end of the line. An Err means out of memory, and the line stays as it was.
     pub fn push(&mut self, bytes: &[u8]) -> Result<(), AllocError>
         ensures kept { (line : List ℕ) → self.old ≡ front_of self.old.most line
             → OnOk result (self.new ≡ front_of self.old.most (line ++ bytes.now)) }
+        ensures unchanged { OnErr result (self.new ≡ self.old) }
     {
         let room = bytes.len().min(self.most - self.bytes.len());
         self.bytes.extend_from_slice(&bytes[..room])?;
@@ -133,12 +134,14 @@ impl InputBuffer {
     }
 
     /// Takes the bytes up to the next line feed, and the line feed, and puts them without it at the
-    /// end of a line. Where no line feed is at hand it takes all. Tells whether one was.
+    /// end of a line. Where no line feed is at hand it takes all. It returns whether one was at hand. An
+    /// Err means out of memory: nothing was taken, and the line stays as it was.
     pub fn take_line(&mut self, line: &mut KeptLine) -> Result<bool, AllocError>
         ensures whole { IfOk result (λ whole. whole ≡ has_feed self.old) }
         ensures rest { OnOk result (self.new ≡ behind_line self.old) }
         ensures line { (begun : List ℕ) → line.old ≡ front_of line.old.most begun
             → OnOk result (line.new ≡ front_of line.old.most (begun ++ first_line_of self.old)) }
+        ensures unchanged { OnErr result ((self.new ≡ self.old) × (line.new ≡ line.old)) }
     {
         let at_hand = &self.given[self.taken..];
         match line_end(at_hand) {
@@ -155,8 +158,9 @@ impl InputBuffer {
         }
     }
 
-    /// Asks the reader once, where nothing is at hand. Tells whether it gave anything: it gives
-    /// nothing at its end.
+    /// Asks the reader once, where nothing is at hand, and returns whether it gave anything: it gives
+    /// nothing at its end. An Err is the reader's fault or `Memory`, and nothing is at hand then: after
+    /// `Memory` what the reader gave is lost.
     pub fn read_more<R: Read>(&mut self, reader: &mut R) -> Result<bool, LiveError>
         requires { self.old ≡ [] }
         ensures given { (given : List ℕ)
@@ -166,6 +170,7 @@ impl InputBuffer {
             → (self.new ≡ []) × IsAtEnd (R.remaining reader.new)) }
         ensures more { IfOk result (λ more. more ≡ true → 0 < length self.new) }
         ensures errors { IfErr result IsOfInput }
+        ensures lost { OnErr result (self.new ≡ []) }
     {
         let mut chunk = [0; ASKED_BYTES];
         let count = ask_reader(reader, &mut chunk)?;
