@@ -1,1 +1,2 @@
+mod FaultLemmas
 mod RoundLemmas

@@ -9,9 +9,10 @@ ghost use Rattle.check_book.specs.Books.{entries_of, refused_of};
 use crate::fault::Fault;
 use crate::job::Job;
 use crate::months::watch;
-use crate::operator::{Runs, begin_the_night, operate};
+use crate::operator::{begin_the_night, operate};
 use crate::restart::{saved_text, take_up};
-use crate::room::{MOMENTS, OBJECTS, night};
+use crate::room::{MOMENTS, OBJECTS, morning, night};
+use crate::runs::{Run, out_at};
 use crate::shift::Shift;
 use crate::told::{Board, Past, write_day};
 use check_book::Book;
@@ -36,7 +37,7 @@ pub(crate) fn watch_day<R: Threads + Wait + Sync, W: Write>(
     requires empty { (entries_of book ≡ []) × (refused_of book ≡ 0) }
     ensures next { IfOk result (λ next. (entries_of next ≡ []) × (refused_of next ≡ 0)) }
 {
-    let out = Runs::out_at(book.sched());
+    let out = out_at(alloc, book.sched(), morning(day))?;
     let Ok((desk, passes)) = Desk::open(alloc, book, job.workers() + 1) else {
         return Err(Fault::Memory);
     };
@@ -70,7 +71,7 @@ fn pass_day<R: Threads + Wait + Sync>(
     desk: &Desk,
     mut passes: Vec<Pass>,
     day: u32,
-    out: &Runs,
+    out: &[Run],
 ) -> Result<(Pass, Board, Board), Fault>
     requires { All (IsPassOf desk.now) passes.items }
     ensures { IfOk result (λ made. IsPassOf desk.now made.0) }
@@ -109,7 +110,7 @@ fn work_together<R: Threads + Wait + Sync>(
     workers: Vec<Pass>,
     operator: Pass,
     day: u32,
-    out: &Runs,
+    out: &[Run],
 ) -> Result<Pass, Fault>
     requires workers { All (IsPassOf desk.now) workers.items }
     requires operator { IsPassOf desk.now operator }

@@ -1,5 +1,7 @@
 //! Why the program ends early.
 
+use check_objects::LoadError;
+use check_saved::SavedFault;
 use std::alloc::AllocError;
 
 /// Why the program ends early.
@@ -18,7 +20,7 @@ pub(crate) enum Fault {
 }
 
 impl Fault {
-    /// The exit status that tells it.
+    /// The exit status that reports it.
     pub(crate) fn status(self) -> u8 {
         match self {
             Fault::Pass => 1,
@@ -31,7 +33,40 @@ impl Fault {
 }
 
 impl From<AllocError> for Fault {
+    ghost use Rattle.std.specs.Prelude.{◌≡◌};
+    ghost use Rattle.machine_room.specs.declared.fault.Fault.TheVariants as fault;
+
+    ghost from_gives = { λ _ e. e ≡ fault.Memory };
+
     fn from(_refused: AllocError) -> Fault {
         Fault::Memory
+    }
+}
+
+impl From<LoadError> for Fault {
+    ghost use Rattle.std.specs.Prelude.{◌≡◌};
+    ghost use Rattle.machine_room.specs.Faults.{fault_of_setup};
+
+    ghost from_gives = { λ refusal e. e ≡ fault_of_setup refusal };
+
+    fn from(refusal: LoadError) -> Fault {
+        match refusal {
+            LoadError::Memory => Fault::Memory,
+            _ => Fault::Refused,
+        }
+    }
+}
+
+impl From<SavedFault> for Fault {
+    ghost use Rattle.std.specs.Prelude.{◌≡◌};
+    ghost use Rattle.machine_room.specs.Faults.{fault_of_text};
+
+    ghost from_gives = { λ refusal e. e ≡ fault_of_text refusal };
+
+    fn from(refusal: SavedFault) -> Fault {
+        match refusal {
+            SavedFault::Memory => Fault::Memory,
+            _ => Fault::Refused,
+        }
     }
 }

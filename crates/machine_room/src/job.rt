@@ -23,10 +23,18 @@ const CALLS_OF_WORKER: usize = 96;
 /// More than the calls that the operator makes in a day.
 const CALLS_OF_OPERATOR: usize = 32;
 
+/// How a room is watched.
+#[derive(Drop)]
+pub(crate) enum Plan {
+    /// By workers and an operator, a generation of the book each day.
+    Days(Job),
+    /// By one loop, for so many days.
+    Loop(u32),
+}
+
 /// For how many days a room is watched, and by how many workers.
 #[derive(Drop)]
 pub(crate) struct Job {
-    is_loop: bool,
     days: u32,
     workers: u32,
     ghost some: { 0 < workers },
@@ -34,11 +42,6 @@ pub(crate) struct Job {
 }
 
 impl Job {
-    /// Whether one loop watches all days, and no day is one generation.
-    pub(crate) fn is_loop(&self) -> bool {
-        self.is_loop
-    }
-
     pub(crate) fn days(&self) -> u32 {
         self.days
     }
@@ -58,7 +61,7 @@ impl Job {
 }
 
 /// What the program's words ask for. An Err is `Words` or `Memory`.
-pub(crate) fn asked<R: Env + AllocGlobal>(rt: &R, alloc: Global) -> Result<Job, Fault> {
+pub(crate) fn asked<R: Env + AllocGlobal>(rt: &R, alloc: Global) -> Result<Plan, Fault> {
     let args = match env::args(rt) {
         Ok(args) => args,
         Err(e) if e.kind() == ErrorKind::OutOfMemory => return Err(Fault::Memory),
@@ -67,45 +70,33 @@ pub(crate) fn asked<R: Env + AllocGlobal>(rt: &R, alloc: Global) -> Result<Job, 
     let Ok(words) = args.collect::<Vec<String>>(alloc) else {
         return Err(Fault::Memory);
     };
-    match job_of(&words) {
-        Some(job) => Ok(job),
+    match plan_of(&words) {
+        Some(plan) => Ok(plan),
         None => Err(Fault::Words),
     }
 }
 
-/// The job that the words ask for, the program's name before them, if they are right.
-fn job_of(words: &[String]) -> Option<Job> {
+/// The plan that the words ask for, the program's name before them, if they are right.
+fn plan_of(words: &[String]) -> Option<Plan> {
     match words {
         [_program, days] => {
             let days = number_of(days, MAX_DAYS)?;
-            Some(Job {
-                is_loop: false,
-                days,
-                workers: 2,
-            })
+            Some(Plan::Days(Job { days, workers: 2 }))
         }
-        [_program, first, second] => job_of_two(first, second),
+        [_program, first, second] => plan_of_two(first, second),
         _ => None,
     }
 }
 
-/// The job that two words ask for: the loop and its days, or days and workers.
-fn job_of_two(first: &String, second: &String) -> Option<Job> {
+/// The plan that two words ask for: the loop and its days, or days and workers.
+fn plan_of_two(first: &String, second: &String) -> Option<Plan> {
     if first.as_str() == LOOP {
         let days = number_of(second, MAX_DAYS)?;
-        return Some(Job {
-            is_loop: true,
-            days,
-            workers: 1,
-        });
+        return Some(Plan::Loop(days));
     }
     let days = number_of(first, MAX_DAYS)?;
     let workers = number_of(second, MAX_WORKERS)?;
-    Some(Job {
-        is_loop: false,
-        days,
-        workers,
-    })
+    Some(Plan::Days(Job { days, workers }))
 }
 
 /// The number that a word is, 1 to this limit.

@@ -24,13 +24,15 @@
 //! that it takes up, and for each generation the state that it keeps, as one line, and then the
 //! lines of the entries.
 //!
-//! It ends in status 0, and in 2 where the words are wrong, 3 where the output can't be written,
-//! 4 out of memory, 5 where a setup or a kept state is refused.
+//! It ends in status 0, and in 1 where a pass of the desk is missing at a day's end, 2 where the
+//! words are wrong, 3 where the output can't be written, 4 out of memory, 5 where a setup or a kept
+//! state is refused.
 //!
 //! `months` has the loop, `round` a round of it, `outside` what it has to do with, `runs` the
 //! checks that it has out, and `restart` what is put down and taken up. `job` has the program's
 //! words, `room` the setup and the plugin, `operator` the operator's calls, `shift` a worker's
-//! clock, `day` a day of all, `simulated` the outside of `loop DAYS`, and `told` the lines.
+//! clock, `day` a day of all, `simulated` the outside of `loop DAYS`, `told` the lines, and `fault`
+//! why the program ends early.
 
 mod day;
 mod fault;
@@ -50,7 +52,7 @@ use check_book::Book;
 use check_objects::Setup;
 use day::watch_day;
 use fault::Fault;
-use job::{Job, asked};
+use job::{Job, Plan, asked};
 use months::watch_months;
 use room::MACHINE_ROOM;
 use simulated::{Days, Memory};
@@ -76,15 +78,14 @@ fn main(rt: HostRuntime) -> ExitCode {
 /// output.
 fn watch<R: Env + Print + AllocGlobal + Threads + Wait + Sync>(rt: &R) -> Result<(), Fault> {
     let alloc = rt.alloc();
-    let job = asked(rt, alloc)?;
-    let Ok(writer) = BufWriter::new(alloc, io::writer(rt)) else {
+    let plan = asked(rt, alloc)?;
+    let Ok(mut writer) = BufWriter::new(alloc, io::writer(rt)) else {
         return Err(Fault::Memory);
     };
-    if job.is_loop() {
-        return watch_by_loop(rt, alloc, job.days(), writer);
+    match plan {
+        Plan::Days(job) => watch_days(rt, alloc, &job, &mut writer),
+        Plan::Loop(days) => watch_by_loop(rt, alloc, days, writer),
     }
-    let mut writer = writer;
-    watch_days(rt, alloc, &job, &mut writer)
 }
 
 /// Lets the loop watch so many days.
@@ -108,9 +109,7 @@ fn watch_days<R: Threads + Wait + Sync, W: Write>(
     job: &Job,
     writer: &mut W,
 ) -> Result<(), Fault> {
-    let Ok(setup) = Setup::read(alloc, MACHINE_ROOM.as_bytes()) else {
-        return Err(Fault::Memory);
-    };
+    let setup = Setup::read(alloc, MACHINE_ROOM.as_bytes())?;
     let Ok(book) = Book::open(alloc, setup, 0, job.room()) else {
         return Err(Fault::Memory);
     };

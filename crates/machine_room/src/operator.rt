@@ -2,35 +2,17 @@
 
 ghost use Rattle.check_desk.specs.Desks.{IsPassOf};
 
-use crate::room::{BACKUP, DISKS, GATEWAY, Machines, OBJECTS, RACK, morning, night, noon};
+use crate::room::{BACKUP, DISKS, GATEWAY, Machines, RACK, morning, night, noon};
+use crate::runs::Run;
 use check_desk::{Desk, Pass};
-use check_sched::{Call, Sched};
+use check_sched::Call;
 use check_workers::Plugin;
 use std::sync::Wait;
-
-/// The runs under which objects are being checked, by their numbers, when a day begins.
-#[derive(Clone, Copy)]
-pub(crate) struct Runs {
-    numbers: [Option<u64>; OBJECTS],
-}
-
-impl Runs {
-    /// Those that a scheduler has handed out and not had back.
-    pub(crate) fn out_at(sched: &Sched) -> Runs {
-        let mut numbers = [None; OBJECTS];
-        for object in 0..OBJECTS {
-            if object < sched.setup().len() {
-                numbers[object] = sched.running(object as u32);
-            }
-        }
-        Runs { numbers }
-    }
-}
 
 /// The operator's day: ends the checks that were out over the night, switches the checks of the rack on
 /// or off, has the backup checked at noon, every second day in spite of its dependency, and asks how
 /// the gateway stands.
-pub(crate) fn operate(rt: &impl Wait, desk: &Desk, pass: Pass, day: u32, out: &Runs) -> Pass
+pub(crate) fn operate(rt: &impl Wait, desk: &Desk, pass: Pass, day: u32, out: &[Run]) -> Pass
     requires { IsPassOf desk.now pass }
     ensures { IsPassOf desk.now result }
 {
@@ -51,16 +33,14 @@ pub(crate) fn operate(rt: &impl Wait, desk: &Desk, pass: Pass, day: u32, out: &R
 }
 
 /// Ends each check that is out when a day begins.
-fn end_the_night(rt: &impl Wait, desk: &Desk, pass: Pass, day: u32, out: &Runs) -> Pass
+fn end_the_night(rt: &impl Wait, desk: &Desk, pass: Pass, day: u32, out: &[Run]) -> Pass
     requires { IsPassOf desk.now pass }
     ensures { IsPassOf desk.now result }
 {
     let mut pass = pass;
-    for object in 0..OBJECTS {
-        if let Some(run) = out.numbers[object] {
-            let (back, _ended) = desk.ask(rt, pass, end_of(object as u32, run, day));
-            pass = back;
-        }
+    for run in out {
+        let (back, _ended) = desk.ask(rt, pass, end_of(run.object, run.number, day));
+        pass = back;
     }
     pass
 }

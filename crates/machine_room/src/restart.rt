@@ -1,9 +1,10 @@
 //! A restart: the book is put down as text, and another one goes on from that text. A program
 //! that really ends keeps the text in a file, and reads its setup anew.
 
-ghost use Rattle.std.specs.Prelude.{◌≡◌, ◌≤◌, [], None, IfOk, IfSome};
+ghost use Rattle.std.specs.Prelude.{◌≡◌, ◌≤◌, [], None, IfErr, IfNone, IfOk, IfSome};
 ghost use Rattle.check_book.specs.Books.{entries_of, refused_of, sched_of};
 ghost use Rattle.check_sched.specs.State.{opening};
+ghost use Rattle.machine_room.specs.Faults.{IsNotTakenUp};
 ghost use Rattle.machine_room.specs.Loop.{IsResumed, saved_text_of};
 
 use crate::fault::Fault;
@@ -31,10 +32,9 @@ pub(crate) fn take_up(
     requires { start ≤ LAST_MOMENT }
     ensures empty { IfOk result (λ book. (entries_of book ≡ []) × (refused_of book ≡ 0)) }
     ensures resumed { IfOk result (λ book. IsResumed setup text.now start (sched_of book)) }
+    ensures refused { IfErr result (IsNotTakenUp text.now) }
 {
-    let Ok(saved) = Saved::read(alloc, text) else {
-        return Err(Fault::Refused);
-    };
+    let saved = Saved::read(alloc, text)?;
     match Book::resume(alloc, setup, &saved, start, room) {
         Ok(book) => Ok(book),
         Err(_setup) => Err(Fault::Memory),
@@ -54,6 +54,8 @@ pub(crate) fn begin(
     ensures anew { kept ≡ None → IfOk result (λ book. sched_of book ≡ opening setup start) }
     ensures resumed { IfSome kept (λ text. IfOk result (λ book.
         IsResumed setup text.items start (sched_of book))) }
+    ensures refused { IfSome kept (λ text. IfErr result (IsNotTakenUp text.items)) }
+    ensures memory { IfNone kept (IfErr result (λ fault. fault ≡ Fault.Memory)) }
 {
     match kept {
         Some(text) => take_up(alloc, setup, &text, start, room),

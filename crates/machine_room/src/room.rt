@@ -78,7 +78,7 @@ impl Plugin for Machines {
     }
 }
 
-/// What a machine tells in an hour, counted from 0. Each has 31 hours after which it tells the same
+/// What a machine reports in an hour, counted from 0. Each has 31 hours after which it reports the same
 /// again, and begins them 7 hours before the one of the number below: 5 hours critical, 2 hours with a
 /// warning, an hour of which nothing is known, and then 23 hours in order.
 fn code_at(object: u32, hour: u64) -> Code {

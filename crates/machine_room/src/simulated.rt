@@ -179,10 +179,7 @@ impl<W: Write> Files for Memory<W> {
         self.is_changed = true;
         told::write(&mut self.writer, document)?;
         told::write(&mut self.writer, "\n")?;
-        match Setup::read(alloc, document.as_bytes()) {
-            Ok(setup) => Ok(setup),
-            Err(_refused) => Err(Fault::Refused),
-        }
+        Ok(Setup::read(alloc, document.as_bytes())?)
     }
 
     fn state(&self, _alloc: Global) -> Result<Option<Vec<u8>>, Fault> {

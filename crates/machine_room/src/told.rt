@@ -1,9 +1,9 @@
-//! How a day is told: its entries as lines that `nagsched run` reads and writes.
+//! How a day is reported: its entries as lines that `nagsched run` reads and writes.
 
 use crate::fault::Fault;
 use crate::room::OBJECTS;
 use check_objects::Setup;
-use check_rules::{Code, Standing};
+use check_rules::Standing;
 use check_sched::{Call, Reply};
 use check_text::{push_entry, push_reply};
 use std::alloc::{AllocError, Global};
@@ -113,7 +113,7 @@ fn push_call(line: &mut String, setup: &Setup, call: Call) -> Result<(), AllocEr
     match call {
         Call::Take { now } => write!(*line, "[\"take\",{now}]"),
         Call::Report { object, run, code } => {
-            let (name, code) = (name_of(setup, object), number_of(code));
+            let (name, code) = (name_of(setup, object), code.number());
             write!(*line, "[\"report\",\"{name}\",{run},{code}]")
         }
         Call::Abandon { object, run, now } => {
@@ -145,16 +145,6 @@ fn name_of(setup: &Setup, object: u32) -> &str {
         setup.name(object)
     } else {
         ""
-    }
-}
-
-/// The number that a plugin returns for a code.
-fn number_of(code: Code) -> u8 {
-    match code {
-        Code::Ok => 0,
-        Code::Warning => 1,
-        Code::Critical => 2,
-        Code::Unknown => 3,
     }
 }
 

@@ -1,0 +1,8 @@
+use Rattle.std.proofs.lemmas.Result.{err_from_is_err_and}
+use Rattle.machine_room.proofs.FaultLemmas.{not_read}
+use Rattle.machine_room.proofs.restart.take_up.Goals as goal
+
+pub returns-in_err-saved-clause-refused : goal.returns-in_err-saved-clause-refused
+returns-in_err-saved-clause-refused c =
+    let p = err_from_is_err_and c.from_residual.result c.from_residual.ensures.1 in
+    rw (p.1, p.2) (not_read c.args.text.now _ c.in_err-saved.ensures.exact)
