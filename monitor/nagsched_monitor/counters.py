@@ -9,6 +9,7 @@ The names of the figures that are kept, and what each is:
     late.sum              the seconds by which all of these were late, together
     calls, saves          calls that were made of the scheduler, and states that were saved
     saved_at              when the state was saved last, in seconds since 1970
+    moment                the moment at which these were written
     begun_at, written_at  when this monitor began, and when it wrote its figures last
     checks_a_second       results a second, over the last minute
     latest_start          by how many seconds a check was late at most, since this monitor began
@@ -93,7 +94,7 @@ class Counters:
 
     def _all(self, now: int, calls: int) -> Dict[str, float]:
         lately = self._latest_lately(now)
-        of_this_run = {"calls": calls, "begun_at": self._begun, "written_at": self._clock.wall(), "checks_a_second": self._rate(now)}
+        of_this_run = {"calls": calls, "begun_at": self._begun, "written_at": self._clock.wall(), "checks_a_second": self._rate(now), "moment": now}
         return {**self._values, **of_this_run, "latest_start": self._latest / 1000, "latest_start_lately": lately / 1000}
 
     def _rate(self, now: int) -> float:

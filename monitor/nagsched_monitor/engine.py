@@ -39,7 +39,7 @@ class Engine:
         self.site, self.scheduling, self.store = site, scheduling, store
         self._runners, self._clock, self._log = runners, clock, log
         self._sooner = Sooner(site, scheduling, clock)
-        self._passive = Passive(scheduling, self._sooner, self._start, self._reported, store.waiting())
+        self._passive = Passive(scheduling, self._sooner, self._start, self._reported, store.waiting(), clock)
         self._results: Deque[Event] = collections.deque()
         self._jobs: Dict[Tuple[str, int], Job] = {}
         self._lost: Counter[str] = collections.Counter()
@@ -52,8 +52,23 @@ class Engine:
         self._last_save = (self._opened, store.last_call)
         self._is_stuck = False
         self._can_save = True
-        self.counters = Counters(store.figures(), clock)
+        figures = store.figures()
+        self.counters = Counters(figures, clock)
         self.made = self.latest_start = 0
+        self._awaited_since = self._all_awaited_since(min(clock.wall(), figures.get("written_at", 0.0)))
+
+    def _all_awaited_since(self, until: float) -> Dict[str, int]:
+        """Since when a result is awaited of each object whose results have to be fresh, as long as none comes while this monitor runs.
+
+        It is the moment of its last result, put off by the time since `until`, when the last monitor ended by the wall clock. Where it had none it is the
+        start of its part."""
+        starts = {part: generation.start for part, generation in self.store.generations().items()} if self.site.with_freshness else {}
+        since = {}
+        for name in self.site.with_freshness:
+            known = self.scheduling.known.objects[name]
+            last = known.past.last_check
+            since[name] = starts.get(known.watched.part, self._opened) if last is None else self._opened - round(max(0.0, until - last) * 1000)
+        return since
 
     # ---- a turn
 
@@ -76,11 +91,15 @@ class Engine:
             self._jobs.clear()
             self._results.clear()
             self.scheduling.reopen()
+            self._passive.begin_anew(self.store.waiting())
             self._last_turn = None
             self._opened = now
+            self._awaited_since = self._all_awaited_since(self._clock.wall())
             return now
         finally:
             self._runners.flush()
+        if self._passive.has_more:
+            return now
         first = self.scheduling.known.first()
         return now + LONGEST_WAIT if first is None else min(first, now + LONGEST_WAIT)
 
@@ -94,7 +113,7 @@ class Engine:
         self._exchange({} if begun or is_behind_pause else known.all_due(now))
         self._sooner.make()
         self._passive.deliver()
-        if self.site.with_freshness:
+        if self.site.with_freshness and not self._passive.has_more:
             self._see_to_freshness(now)
         self._last_turn = now
         if begun or is_behind_pause:
@@ -135,7 +154,7 @@ class Engine:
         """Has the command run of each object of which no result came within its freshness."""
         for name in self.site.with_freshness:
             known = self.scheduling.known.objects[name]
-            if is_stale(known, self._opened, now) and self._is_in_period(known.watched):
+            if is_stale(known, self._awaited_since.get(name, self._opened), now) and self._is_in_period(known.watched):
                 self._log(f"{known.name}: no result for {(known.watched.freshness or 0) / 1000:g} seconds; its command is run")
                 self._sooner.want(Reschedule(known.name, now, True))
         self._sooner.make()

@@ -3,6 +3,7 @@ import collections
 from typing import Callable, Deque, Dict, List, Optional
 
 from .calls import Answer, AtLimit, Idle, Report, Reschedule, Standing, Taken
+from .clock import Clock
 from .known import Known
 from .rows import KeptResult
 from .runners import Job
@@ -10,6 +11,8 @@ from .scheduling import Scheduling
 from .sooner import RESULT_FIRST, Sooner
 from .store import DropResult
 
+# How long results may be reported in one turn, in milliseconds: then all else has its turn.
+LONGEST = 200
 # Takes that are made for one passive result before others have their turn.
 MOST_TAKES = 64
 
@@ -20,9 +23,18 @@ Reported = Callable[[Job, Answer, Optional[Standing]], None]
 class Passive:
     """The passive results that wait."""
 
-    def __init__(self, scheduling: Scheduling, sooner: Sooner, start: Start, reported: Reported, waiting: List[KeptResult]) -> None:
-        self._scheduling, self._sooner, self._start, self._reported = scheduling, sooner, start, reported
+    def __init__(
+        self, scheduling: Scheduling, sooner: Sooner, start: Start, reported: Reported, waiting: List[KeptResult], clock: Clock
+    ) -> None:
+        self._scheduling, self._sooner, self._start, self._reported, self._clock = scheduling, sooner, start, reported, clock
         self._waiting: Dict[str, Deque[KeptResult]] = {}
+        # Whether the time of the last turn was over before all were reported.
+        self.has_more = False
+        self.begin_anew(waiting)
+
+    def begin_anew(self, waiting: List[KeptResult]) -> None:
+        """These wait, as they were stored, and no others: the last one may have been reported when the scheduler ended."""
+        self._waiting.clear()
         for result in waiting:
             self.expect(result)
 
@@ -31,10 +43,16 @@ class Passive:
         self._waiting.setdefault(result.name, collections.deque()).append(result)
 
     def deliver(self) -> None:
-        """Reports the results of objects that aren't out, those of one object in the order in which they came."""
+        """Reports the results of objects that aren't out, those of one object in the order in which they came, as far as the time of a turn goes."""
+        end = self._clock.moment() + LONGEST
+        self.has_more = False
         for name in list(self._waiting):
             known = self._scheduling.known.objects.get(name)
             while known is not None and known.run is None and self._waiting[name]:
+                if self._clock.moment() >= end:
+                    self._waiting[name] = self._waiting.pop(name)  # the other objects have their turn before
+                    self.has_more = True
+                    return
                 if not self._deliver(known, self._waiting[name][0]):
                     break
                 self._waiting[name].popleft()
@@ -67,9 +85,9 @@ class Passive:
         return False
 
 
-def is_stale(known: Known, opened: int, now: int) -> bool:
-    """Whether no result of an object came within its freshness, since the monitor was started at least."""
+def is_stale(known: Known, since: int, now: int) -> bool:
+    """Whether no result of an object came within its freshness. `since` is when it began to be awaited where none came while this monitor runs."""
     freshness = known.watched.freshness
     if freshness is None or known.run is not None or known.forced:
         return False
-    return now - (opened if known.last_result is None else known.last_result) >= freshness
+    return now - (since if known.last_result is None else known.last_result) >= freshness

@@ -140,7 +140,7 @@ class Requests:
             raise RequestFault(f"output is a text of at most {MOST_OUTPUT} characters")
         words = output.partition("\n")[0].encode(errors="replace").decode()
         self.engine.store.write(KeepResult(known.name, code, words))
-        self.engine.expect(self.engine.store.waiting()[-1])
+        self.engine.expect(self.engine.store.last_waiting())
         return {"done": "result", "name": known.name}
 
     def _reload_site(self, members: Members) -> Dict[str, Any]:

@@ -94,8 +94,8 @@ class Store:
         return int(count)
 
     def last_moment(self) -> int:
-        """The greatest moment that a scheduler was handed."""
-        moments = [0, *(generation.start for generation in self.generations().values())]
+        """The greatest moment that was kept. Behind a save no call may have one, so that the figures have one as well."""
+        moments = [0, int(self.figures().get("moment", 0)), *(generation.start for generation in self.generations().values())]
         for (line,) in self._database.execute("SELECT line FROM calls ORDER BY id DESC"):
             call = read_call(line)
             if isinstance(call, (Take, Abandon)):
@@ -108,6 +108,10 @@ class Store:
 
     def waiting(self) -> List[KeptResult]:
         return [KeptResult(*row) for row in self._database.execute("SELECT id, name, code, words FROM passive ORDER BY id")]
+
+    def last_waiting(self) -> KeptResult:
+        """The passive result that was written last."""
+        return KeptResult(*self._database.execute("SELECT id, name, code, words FROM passive ORDER BY id DESC LIMIT 1").fetchone())
 
     def outbox(self) -> List[Tuple[int, str]]:
         return list(self._database.execute("SELECT id, document FROM outbox ORDER BY id"))

@@ -38,6 +38,8 @@ class Database(SiteTest):
         self.assertEqual(store.generations()[0].mirrors, {"gateway"})
         self.assertEqual((store.outbox(), store.figures()), ([(1, '{"name":"web"}')], {"saves": 3.0}))
         self.assertEqual(store.standings(), [(1, STANDING)])
+        store.write(KeepFigures({"moment": 9.0}))
+        self.assertEqual(store.last_moment(), 9)
         store.write(DropStandings(["web"]))
         self.assertEqual(store.standings(), [])
 
