@@ -36,7 +36,11 @@ class Beside:
         if self._clock() >= self._not_before:
             self._begun = self._clock()
             command = [sys.executable, "-m", f"nagsched_monitor.{self._module}", *self._words]
-            self._process = subprocess.Popen(command, stdin=subprocess.PIPE, env={**os.environ, "PYTHONPATH": str(FOLDER)})
+            try:
+                self._process = subprocess.Popen(command, stdin=subprocess.PIPE, env={**os.environ, "PYTHONPATH": str(FOLDER)})
+            except OSError as error:  # there is no room for a process now
+                self._not_before = self._begun + LONGEST_PAUSE
+                self._log(f"{self._module} can't be begun: {error}; it is tried again")
 
     def _let_go(self) -> None:
         if self._process is not None and self._process.stdin is not None:

@@ -76,6 +76,8 @@ class Notifier:
         self._running: Optional[Try] = None
         self._failed = 0
         self._not_before = 0.0
+        # Why the command couldn't be begun when it was tried last.
+        self._trouble: Optional[str] = None
         # The document that was taken or given up, where that couldn't be stored yet: the command isn't run for it again.
         self._ended: Optional[int] = None
 
@@ -98,7 +100,17 @@ class Notifier:
                 return
             waiting = self._store.outbox()
             if waiting:
-                self._begin(*waiting[0])
+                self._try(*waiting[0])
+
+    def _try(self, number: int, document: str) -> None:
+        """Begins the command. Where there is no room for a file or a process now it is tried again later."""
+        before, self._trouble = self._trouble, None
+        try:
+            self._begin(number, document)
+        except OSError as error:
+            self._not_before, self._trouble = self._clock() + PAUSE, str(error)
+            if self._trouble != before:
+                self._log(f"the command for changes can't be begun: {error}; it is tried again")
 
     def _begin(self, number: int, document: str) -> None:
         given = file_with(document.encode() + b"\n")
@@ -111,8 +123,7 @@ class Notifier:
         if status is None and self._clock() < running.deadline:
             return
         if status is None:
-            os.killpg(running.process.pid, signal.SIGKILL)
-            running.process.wait(timeout=5)
+            kill_group(running.process)
         self._running = None
         if status == 0:
             self._drop(running.document)
@@ -143,8 +154,17 @@ class Notifier:
             try:
                 self._running.process.wait(timeout=LIMIT)
             except subprocess.TimeoutExpired:
-                os.killpg(self._running.process.pid, signal.SIGKILL)
+                kill_group(self._running.process)
             self._see_to(self._running)
+
+
+def kill_group(process: "subprocess.Popen[bytes]") -> None:
+    """Kills a command with all of its process group, as far as that can be done."""
+    try:
+        os.killpg(process.pid, signal.SIGKILL)
+        process.wait(timeout=5)
+    except (ProcessLookupError, PermissionError, subprocess.TimeoutExpired):
+        pass  # it has just ended, runs as another user, or hangs: it isn't waited for
 
 
 def file_with(data: bytes) -> IO[bytes]:

@@ -60,7 +60,8 @@ class Worker:
         while end is None or (time.monotonic() < end and any(slot.is_alive() for slot in self._slots)):
             for key, _ in self._selector.select(0.2):
                 with self._lock:
-                    self._runners.read(key.fd)
+                    if self._runners.owns(key.fd):
+                        self._runners.read(key.fd)
             self._hand_out()
             if end is None and not self._is_stopping.is_set() and not all(slot.is_alive() for slot in self._slots):
                 return False
@@ -72,6 +73,7 @@ class Worker:
     def _hand_out(self) -> None:
         """Hands the results that have come to the slots that wait for them."""
         with self._lock:
+            self._runners.flush()
             for event in self._runners.events():
                 box = self._boxes.pop(event.job.run, None)
                 if box is not None:

@@ -100,9 +100,10 @@ class Runner:
         ]
         try:
             process = os.posix_spawnp(words[0], words, os.environ, file_actions=actions, setpgroup=0, setsigdef=RESET)
-        except OSError as error:
+        except (OSError, ValueError) as error:
             os.close(pipe)
-            self._answer({"job": job, "code": 0, "end": "failed", "output": f"{words[0]}: {error.strerror}"})
+            why = error.strerror if isinstance(error, OSError) else error
+            self._answer({"job": job, "code": 0, "end": "failed", "output": f"{words[0]}: {why}"})
             return
         finally:
             os.close(written)
@@ -151,8 +152,8 @@ def kill(plugin: Plugin) -> None:
     """Kills a plugin with all of its process group."""
     try:
         os.killpg(plugin.process, signal.SIGKILL)
-    except ProcessLookupError:
-        pass  # it has just ended
+    except (ProcessLookupError, PermissionError):
+        pass  # it has just ended, or runs as another user, as behind sudo: it is reported when its grace is over
 
 
 def main() -> int:

@@ -102,49 +102,65 @@ class RunnerProcesses:
         self._log, self._watch, self._unwatch = log, watch, unwatch
         # The runner of the jobs that have a queue, where the site has some.
         self._queued: Optional[Process] = None
+        self._queue_words: List[str] = []
         self._events: List[Event] = []
         self._number = 0
         self._processes: Dict[int, Process] = {}
+        self._count, self._words = count, runner_words()
+        self._is_short = False
         for _ in range(count):
-            self._begin(runner_words())
+            self._begin(self._words)
 
     def _begin(self, words: Sequence[str]) -> Process:
         environment = {**os.environ, "PYTHONPATH": str(FOLDER)}
         process = Process(subprocess.Popen(words, stdin=subprocess.PIPE, stdout=subprocess.PIPE, env=environment, bufsize=0), words)
         os.set_blocking(process.writes_to, False)
+        os.set_blocking(process.reads_from, False)  # what it doesn't read at once doesn't hold up the monitor
         self._processes[process.writes_to] = process
         self._watch(process.writes_to)
         return process
 
     def serve(self, queues: Optional[Queues]) -> None:
         """Has the jobs of queues handed to their server from now on; what is out at another one is lost."""
-        words = [] if queues is None else [sys.executable, "-m", QUEUE_MODULE, queues.server, str(queues.wait)]
-        if self._queued is not None and self._queued.words != words:
+        self._queue_words = [] if queues is None else [sys.executable, "-m", QUEUE_MODULE, queues.server, str(queues.wait)]
+        if self._queued is not None and self._queued.words != self._queue_words:
             self._end(self._queued)
-        if words and self._queued is None:
-            self._begin_queued(words)
+        self._begin_missing()
 
-    def _begin_queued(self, words: Sequence[str]) -> None:
-        self._queued = self._begin(words)
-        os.set_blocking(self._queued.reads_from, False)  # what it doesn't read at once doesn't hold up the monitor
+    def _begin_missing(self) -> None:
+        """Begins the runners that are missing. Where there is no room for a process now it is tried again at the next flush."""
+        try:
+            while len(self._processes) - (self._queued is not None) < self._count:
+                self._begin(self._words)
+            if self._queue_words and self._queued is None:
+                self._queued = self._begin(self._queue_words)
+            self._is_short = False
+        except OSError as error:
+            if not self._is_short:
+                self._log(f"a runner can't be started: {error}; it is tried again")
+            self._is_short = True
 
     def start(self, job: Job) -> None:
+        process = self._least_busy() if job.queue is None else self._queued
+        if process is None:
+            self._events.append(Lost(job, "no runner could be started"))
+            return
         self._number += 1
-        process = self._least_busy() if job.queue is None or self._queued is None else self._queued
         process.jobs[self._number] = job
         process.unsent += b'{"job":%d,%s\n' % (self._number, command_line(tuple(job.words), job.limit, job.queue))
 
-    def _least_busy(self) -> Process:
+    def _least_busy(self) -> Optional[Process]:
         """The runner of this machine that has the fewest jobs."""
         least: Optional[Process] = None
         for process in self._processes.values():
             if process is not self._queued and (least is None or len(process.jobs) < len(least.jobs)):
                 least = process
-        assert least is not None
         return least
 
     def flush(self) -> None:
         """Hands on the jobs that were started, with one write for each runner."""
+        if self._is_short:
+            self._begin_missing()
         for process in list(self._processes.values()):
             try:
                 while process.unsent:
@@ -175,23 +191,20 @@ class RunnerProcesses:
         job = process.jobs.pop(result["job"], None)
         if job is None:
             return
+        output = result["output"].encode(errors="replace").decode()  # half a character, which a worker may have sent, can't be kept
         if result["end"] == "lost":
-            self._log(f"{job.name}: run {job.run} is given up: {result['output']}")
-            self._events.append(Lost(job, result["output"]))
+            self._log(f"{job.name}: run {job.run} is given up: {output}")
+            self._events.append(Lost(job, output))
         else:
-            self._events.append(Finished(job, result["end"], result["code"], result["output"]))
+            self._events.append(Finished(job, result["end"], result["code"], output))
 
     def _restart(self, process: Process) -> None:
         """Another runner in place of one that has ended."""
         if process.writes_to not in self._processes:
             return  # it was seen before
-        is_queued = process is self._queued
         status = self._end(process)
         self._log(f"a runner ended with status {status}, and {len(process.jobs)} checks with it; another is started")
-        if is_queued:
-            self._begin_queued(process.words)
-        else:
-            self._begin(process.words)
+        self._begin_missing()
 
     def _end(self, process: Process) -> int:
         """Ends a runner, and returns its status; what it ran is lost."""

@@ -7,6 +7,7 @@ import signal
 import subprocess
 import sys
 from typing import Any, List, Tuple
+from unittest import mock
 
 from nagsched_monitor import control
 from nagsched_monitor.beside import LONGEST_PAUSE, Beside
@@ -71,7 +72,14 @@ class PageProcess(SiteTest):
         return found
 
     def await_end(self, process: int) -> None:
-        self.assertTrue(comes(lambda: not pathlib.Path(f"/proc/{process}").exists()))
+        """Waits until it has ended; whether whoever it belongs to then has taken notice doesn't matter."""
+        def ended() -> bool:
+            try:
+                return " Z " in pathlib.Path(f"/proc/{process}/stat").read_text()
+            except OSError:
+                return True
+
+        self.assertTrue(comes(ended))
 
     def test_killed_and_started_anew(self) -> None:
         """It shows what the monitor counts; killed, it is started anew; it ends with the monitor."""
@@ -168,6 +176,22 @@ class Pauses(SiteTest):
         self.assertEqual(begun, [0, 5, 15, 35, 75, 135, 195])
         self.assertEqual(LONGEST_PAUSE, 60)
         self.assertEqual(set(lines), {"faults ended with status 0; it is begun again"})
+
+
+    def test_no_room_for_a_process(self) -> None:
+        """It is begun a minute later."""
+        lines: List[str] = []
+        now = [0.0]
+        beside = Beside("faults", [], lines.append, lambda: now[0])
+        self.addCleanup(beside.close)
+        with mock.patch.object(subprocess, "Popen", side_effect=BlockingIOError(11, "no room")) as tried:
+            for now[0] in (0.0, 1.0, 59.0):
+                beside.work()
+            self.assertEqual((tried.call_count, beside.process_id()), (1, None))
+        self.assertEqual(lines, ["faults can't be begun: [Errno 11] no room; it is tried again"])
+        now[0] = 60.0
+        beside.work()
+        self.assertIsNotNone(beside.process_id())
 
 
 class Places(SiteTest):

@@ -1,10 +1,14 @@
 """What is printed of a change, and the command that is run for it."""
 import datetime
 import json
+import os
+import subprocess
 import time
+import warnings
 from typing import List, Optional
 from unittest import mock
 
+from nagsched_monitor import changes
 from nagsched_monitor.calls import Standing
 from nagsched_monitor.changes import TRIES, Notifier, document_of, is_change, is_important, line_of
 from nagsched_monitor.faults import NotStored
@@ -103,6 +107,37 @@ class Command(SiteTest):
         self.assertEqual(len((self.folder / "taken").read_text().splitlines()), 1)
         self.assertEqual((self.lines, len(self.store.outbox())), (["the disk is full"], 1))
         self.passed += 10
+        notifier.work()
+        notifier.close()
+        self.assertEqual((len((self.folder / "taken").read_text().splitlines()), self.store.outbox()), (1, []))
+
+    def test_one_that_may_not_be_killed(self) -> None:
+        """It runs as another user, and longer than it may: it isn't waited for."""
+        self.keep(1)
+        notifier = Notifier("exec sleep 3", self.store, self.lines.append, lambda: time.monotonic() + self.passed)
+        with mock.patch.object(os, "killpg", side_effect=PermissionError), mock.patch.object(changes, "LIMIT", 0.1), warnings.catch_warnings():
+            warnings.simplefilter("ignore", ResourceWarning)  # of the processes that aren't waited for
+            notifier.work()
+            self.passed += 1
+            notifier.work()
+            self.assertFalse(notifier.is_busy())
+            self.passed += 10
+            notifier.work()
+            self.assertTrue(notifier.is_busy())
+            notifier.close()
+        self.assertEqual(self.lines, ["the command for changes took longer than 0.1 seconds; it is tried again"] * 2)
+        self.assertEqual(len(self.store.outbox()), 1)
+
+    def test_no_room_for_it(self) -> None:
+        """One line says why it isn't begun, and it is when there is room."""
+        self.keep(1)
+        notifier = Notifier(f"cat >> {self.folder}/taken", self.store, self.lines.append, lambda: time.monotonic() + self.passed)
+        for what, fault in ((subprocess, "Popen"), (changes, "file_with")):
+            with mock.patch.object(what, fault, side_effect=OSError(28, "no room")):
+                for _ in range(3):
+                    notifier.work()
+                    self.passed += 10
+        self.assertEqual(self.lines, ["the command for changes can't be begun: [Errno 28] no room; it is tried again"])
         notifier.work()
         notifier.close()
         self.assertEqual((len((self.folder / "taken").read_text().splitlines()), self.store.outbox()), (1, []))

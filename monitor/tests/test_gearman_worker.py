@@ -1,10 +1,12 @@
 """A worker of a Gearman server: what it runs, what it refuses, and that it goes on where the server is lost. No server is needed."""
 import json
+import os
 import pathlib
 import threading
 import time
 import unittest
 from typing import Any, Callable, Dict, List
+from unittest import mock
 
 from nagsched_monitor.gearman import ServerFault
 from nagsched_monitor.gearman_queue import result_of
@@ -70,6 +72,22 @@ class Working(unittest.TestCase):
                                 ("mark-3", "failed", 0, "/no/such/plugin")])
         for answer in self.answers:
             self.assertIsNotNone(result_of(answer, json.loads(answer)["job"]))
+
+    def test_what_its_runner_does_not_take_at_once(self) -> None:
+        """It is handed on later."""
+        worker = self.begin()
+        with mock.patch.object(os, "write", side_effect=BlockingIOError):
+            self.job(["echo", "fine"])
+            self.assertTrue(comes(lambda: any(process.unsent for process in worker._runners._processes.values())))
+        self.assertEqual([it["output"] for it in self.came(1)], ["fine\n"])
+
+    def test_a_runner_whose_end_was_seen_before(self) -> None:
+        """A slot that hands a job on has seen it, and another runner is there already."""
+        worker = self.begin()
+        with mock.patch.object(worker._selector, "select", return_value=[(mock.Mock(fd=100_000), 1)]) as selected:
+            self.assertTrue(comes(lambda: selected.call_count > 2))
+        self.job(["echo", "fine"])
+        self.assertEqual([it["output"] for it in self.came(1)], ["fine\n"])
 
     def test_a_limit(self) -> None:
         self.job(["sleep", "60"], 0.3)
