@@ -1,6 +1,7 @@
 """The socket in the folder of a site, through which its monitor is asked: lines of JSON there, and as many back."""
 import os
 import pathlib
+import select
 import socket
 from typing import Callable, Dict, List, Sequence, Tuple
 
@@ -37,7 +38,10 @@ class Control:
     def read(self, file: int) -> None:
         """Takes a new connection, or reads requests and answers them."""
         if file == self._socket.fileno():
-            connection, _ = self._socket.accept()
+            try:
+                connection, _ = self._socket.accept()
+            except OSError:
+                return  # there is no room for another file now, or whoever asked has gone: it is tried again where one still waits
             connection.settimeout(1)
             self._asking[connection.fileno()] = connection, b""
             self._watch(connection.fileno())
@@ -49,6 +53,8 @@ class Control:
             data = b""
         *lines, rest = (unread + data).split(b"\n")
         for line in lines:
+            if file in self._asking and is_left(connection):
+                self._forget(file)
             if file in self._asking:
                 self._send(file, connection, self._answer(line))
         if not data:
@@ -61,7 +67,8 @@ class Control:
 
     def _send(self, file: int, connection: socket.socket, answer: bytes) -> None:
         try:
-            connection.sendall(answer)
+            for at in range(0, len(answer), READ_BYTES):  # each piece within the time limit
+                connection.sendall(answer[at : at + READ_BYTES])
         except OSError:
             self._forget(file)  # whoever asked reads no more
 
@@ -77,6 +84,13 @@ class Control:
         self._unwatch(self._socket.fileno())
         self._socket.close()
         self._path.unlink(missing_ok=True)
+
+
+def is_left(connection: socket.socket) -> bool:
+    """Whether whoever asks has closed the connection: the answer wouldn't be heard, and the request may be made again."""
+    poll = select.poll()
+    poll.register(connection, 0)
+    return any(event & select.POLLHUP for _, event in poll.poll(0))
 
 
 def short_path(path: pathlib.Path) -> str:
@@ -105,16 +119,17 @@ def ask_all(folder: pathlib.Path, requests: Sequence[bytes], seconds: float = 30
 
 def answers_from(connection: socket.socket, count: int) -> List[bytes]:
     """So many answers, or fewer where the connection ends before."""
-    read, missing = b"", count
+    parts: List[bytes] = []
+    missing = count
     while missing > 0:
         try:
             data = connection.recv(READ_BYTES)
         except OSError:
-            if b"\n" not in read:
+            if missing == count:
                 raise
             data = b""  # what came before was obeyed
         if not data:
             break
-        read += data
+        parts.append(data)
         missing -= data.count(b"\n")
-    return read.split(b"\n")[:-1]
+    return b"".join(parts).split(b"\n")[:-1]

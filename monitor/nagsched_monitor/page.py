@@ -39,6 +39,8 @@ LONGEST_HEAD = 32_768
 PATIENCE = 5
 LONGEST_REQUEST = 60
 MOST_CLIENTS = 64
+# An answer goes in pieces of so many bytes: a client that doesn't take one within the patience is given up as well.
+PIECE = 65_536
 # Of a request that is refused so much is read and let go, so that the client sees the answer: bytes and seconds.
 MOST_REST, REST_PATIENCE = 1_048_576, 1
 HTML, JSON, METRICS, PLAIN = "text/html; charset=utf-8", "application/json", "text/plain; version=0.0.4; charset=utf-8", "text/plain; charset=utf-8"
@@ -106,7 +108,8 @@ class Handler(http.server.BaseHTTPRequestHandler):
             self.send_header("Allow", "GET, HEAD")
         self.end_headers()
         if self.command != "HEAD":
-            self.wfile.write(data)
+            for at in range(0, len(data), PIECE):
+                self.wfile.write(data[at : at + PIECE])
 
     def send_error(self, code: int, message: Optional[str] = None, explain: Optional[str] = None) -> None:
         """A refusal: one line, which has nothing in it that came with the request."""

@@ -1,8 +1,11 @@
 """What the page's server refuses: other paths and methods, requests that are too long, clients that send nothing, a database that can't be read."""
+import http
 import pathlib
 import socket
 import sqlite3
 import time
+from typing import List
+from unittest import mock
 
 from nagsched_monitor import page
 
@@ -38,6 +41,8 @@ class Refused(ShownSite):
 
     def test_limits(self) -> None:
         """Lines and headers one past what is read, too many of them, and what is no request."""
+        self.addCleanup(setattr, page, "REST_PATIENCE", page.REST_PATIENCE)
+        page.REST_PATIENCE = 10
         fill(self.folder, [standing("h")])
         self.serve()
         line = b"GET /%s HTTP/1.1\r\n\r\n"
@@ -69,14 +74,16 @@ class Refused(ShownSite):
         """Each past the most is let go at once; those that drip are let go behind the longest time, and others have room again."""
         fill(self.folder, [standing("h")])
         self.serve()
-        before, page.LONGEST_REQUEST = page.LONGEST_REQUEST, 4
-        self.addCleanup(setattr, page, "LONGEST_REQUEST", before)
+        self.addCleanup(setattr, page, "LONGEST_REQUEST", page.LONGEST_REQUEST)
+        self.addCleanup(setattr, page.Handler, "timeout", page.Handler.timeout)
+        page.LONGEST_REQUEST = page.Handler.timeout = 60
         clients = [socket.create_connection(("127.0.0.1", self.port), timeout=20) for _ in range(page.MOST_CLIENTS)]
         for client in clients:
             self.addCleanup(client.close)
             client.sendall(b"GET / HT")
         with self.assertRaises((ConnectionError, OSError)):
             self.ask("/")
+        page.LONGEST_REQUEST = 1
 
         def is_let_go() -> bool:
             try:
@@ -93,6 +100,16 @@ class Refused(ShownSite):
 
         self.assertTrue(comes(is_let_go))
         self.assertTrue(comes(is_served))
+
+    def test_a_long_answer(self) -> None:
+        """A client has its patience for each piece of it."""
+        pieces: List[bytes] = []
+        handler = page.Handler.__new__(page.Handler)
+        handler.command = "GET"
+        handler.wfile = mock.Mock(write=pieces.append)
+        with mock.patch.multiple(handler, send_response=mock.DEFAULT, send_header=mock.DEFAULT, end_headers=mock.DEFAULT):
+            handler._send(http.HTTPStatus.OK, page.PLAIN, "0123456789" * 30_000)
+        self.assertEqual((b"".join(pieces), max(map(len, pieces))), (b"0123456789" * 30_000, page.PIECE))
 
     def test_no_database(self) -> None:
         self.serve()

@@ -3,6 +3,7 @@ import json
 import socket
 import threading
 from typing import Any, Dict, List
+from unittest import mock
 
 from nagsched_monitor import control
 from nagsched_monitor.faults import MonitorFault
@@ -52,7 +53,8 @@ class Words(SiteTest):
         self.assertEqual(self.monitored.store.switches(), {"web": True})
 
     def test_a_passive_result(self) -> None:
-        self.ask(do="result", name="web;trap", code=2, output="door open\nand more")
+        with mock.patch.object(self.monitored.store, "waiting", side_effect=AssertionError):  # that reads all
+            self.ask(do="result", name="web;trap", code=2, output="door open\nand more")
         self.monitored.run(1)
         (change,) = self.monitored.changes
         self.assertEqual((change[1].state, change[1].words), ("CRITICAL", "door open"))
@@ -106,6 +108,60 @@ class Socket(SiteTest):
                         pass
             asking.join(0.01)
         self.assertEqual(answers, [b"heard one\n", b"heard two\n"])
+
+    def control(self, answer: bytes) -> control.Control:
+        """The socket of a monitor that answers each request like this; its requests are in `heard`."""
+        self.files: List[int] = []
+        self.heard: List[bytes] = []
+
+        def answered(line: bytes) -> bytes:
+            self.heard.append(line)
+            return answer
+
+        made = control.Control(self.folder, answered, self.files.append, self.files.remove)
+        self.addCleanup(made.close)
+        return made
+
+    def asking(self) -> socket.socket:
+        connection = socket.socket(socket.AF_UNIX, socket.SOCK_STREAM)
+        self.addCleanup(connection.close)
+        connection.connect(control.short_path(self.folder / control.NAME))
+        return connection
+
+    def test_one_that_gave_up(self) -> None:
+        """Whoever asked and has closed the connection may ask again, so that it isn't obeyed; one that only sends no more is."""
+        made = self.control(b"done\n")
+        gone, there = self.asking(), self.asking()
+        gone.sendall(b"one\ntwo\n")
+        gone.close()
+        there.sendall(b"three\n")
+        there.shutdown(socket.SHUT_WR)
+        for _ in range(2):
+            made.read(self.files[0])
+        for file in self.files[1:]:
+            made.read(file)
+        self.assertEqual((self.heard, there.recv(100)), ([b"three"], b"done\n"))
+
+    def test_a_long_answer(self) -> None:
+        """Whoever reads it has time for each piece of it."""
+        made = self.control(b"")
+        answer = bytes(range(256)) * 4_000
+        connection = mock.Mock()
+        made._send(99, connection, answer)
+        pieces = [given.args[0] for given in connection.sendall.call_args_list]
+        self.assertEqual((b"".join(pieces), max(map(len, pieces))), (answer, control.READ_BYTES))
+
+    def test_no_room_for_a_connection(self) -> None:
+        """It waits until there is."""
+        made = self.control(b"done\n")
+        there = self.asking()
+        there.sendall(b"one\n")
+        with mock.patch.object(socket.socket, "accept", side_effect=OSError(24, "too many files")):
+            made.read(self.files[0])
+        self.assertEqual(len(self.files), 1)
+        made.read(self.files[0])
+        made.read(self.files[1])
+        self.assertEqual((self.heard, there.recv(100)), ([b"one"], b"done\n"))
 
     def test_no_monitor(self) -> None:
         with self.assertRaisesRegex(MonitorFault, "no monitor runs on"):
