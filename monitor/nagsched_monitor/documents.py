@@ -19,7 +19,7 @@ def read_object(folder: pathlib.Path, name: str, required: bool) -> Dict[str, An
         document = json.loads(path.read_bytes())
     except OSError as error:
         raise SiteFault(f"{name}: {error.strerror}") from None
-    except ValueError as error:
+    except (ValueError, RecursionError) as error:
         raise SiteFault(f"{name}: {error}") from None
     if not isinstance(document, dict):
         raise SiteFault(f"{name}: it has to be an object")

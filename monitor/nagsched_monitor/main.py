@@ -65,7 +65,10 @@ class Monitor:
         return besides
 
     def log(self, line: str) -> None:
-        print(line, flush=True)
+        try:
+            print(line, flush=True)
+        except (OSError, ValueError):
+            pass  # the disk is full, nobody reads any more, or there is no such letter where it is read: monitoring goes on
 
     def _opened(self, site: Site) -> Scheduling:
         scheduling = Scheduling(self._program, site, self.store, self.clock, self.log, self._notifier.is_wanted())
@@ -144,7 +147,7 @@ class Monitor:
 
     def reload(self) -> Dict[str, Any]:
         """Reads the site anew, and goes on with it; where it is bad the old one goes on."""
-        site = read_site(self._folder, self._program)
+        site = self._site_now()
         before = self.scheduling.known.objects
         changed = self.engine.reload(site)
         self.site = site
@@ -156,6 +159,15 @@ class Monitor:
         for line in changed:
             self.log(line)
         return {"done": "reload", "new": new, "dropped": dropped, "changed": changed}
+
+    def _site_now(self) -> Site:
+        """The site as its files are now. Whatever is wrong with them is a fault: it doesn't end a monitor that runs."""
+        try:
+            return read_site(self._folder, self._program)
+        except MonitorFault:
+            raise
+        except Exception as error:
+            raise MonitorFault(f"the site can't be read: {type(error).__name__}: {' '.join(str(error).split())}") from error
 
     def _reload_by_signal(self) -> None:
         try:

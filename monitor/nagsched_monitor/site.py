@@ -132,12 +132,21 @@ def setup_files(folder: pathlib.Path) -> List[pathlib.Path]:
 def setup_line(path: pathlib.Path, program: str) -> bytes:
     """A setup on one line, as the scheduler reads it; one that it refuses is a fault, in its own words."""
     try:
-        checked = subprocess.run([program, "check"], input=path.read_bytes(), stdout=subprocess.PIPE, check=False)
-    except (FileNotFoundError, PermissionError):
-        raise SiteFault(f"there is no program {program}: put it on the path, or name it with --program") from None
-    if checked.returncode != 0:
-        raise SiteFault(f"{path.name}: {'; '.join(checked.stdout.decode(errors='replace').splitlines()) or 'the scheduler gives no answer'}")
-    return subprocess.run([program, "check", "--line"], input=path.read_bytes(), stdout=subprocess.PIPE, check=True).stdout.rstrip(b"\n")
+        setup = path.read_bytes()
+    except OSError as error:
+        raise SiteFault(f"{path.name}: {error.strerror}") from None
+    line = b""
+    for words in ((), ("--line",)):
+        try:
+            checked = subprocess.run([program, "check", *words], input=setup, stdout=subprocess.PIPE, check=False)
+        except (FileNotFoundError, PermissionError):
+            raise SiteFault(f"there is no program {program}: put it on the path, or name it with --program") from None
+        except OSError as error:
+            raise SiteFault(f"{program} can't be run: {error.strerror}") from None
+        line = checked.stdout.rstrip(b"\n")
+        if checked.returncode != 0:
+            raise SiteFault(f"{path.name}: {'; '.join(line.decode(errors='replace').splitlines()) or 'the scheduler gives no answer'}")
+    return line
 
 
 def originals_of(documents: Mapping[str, Mapping[str, Any]], mirrors: Mapping[int, AbstractSet[str]]) -> Dict[str, Watched]:
@@ -192,9 +201,20 @@ def read_commands(folder: pathlib.Path, objects: Mapping[str, Watched], queue_of
             raise SiteFault(f"{place}: a line is a text, and shell is true or false")
         if "\0" in line:
             raise SiteFault(f"{place}: its line has a zero byte")
+        if not is_whole(line):
+            raise SiteFault(f"{place}: its line has half a character")
         limit = seconds(members.get("limit", 60), f"{place}: limit")
         commands[name] = Command(shell_words(line, place) if shell else plain_words(line, place, name not in queue_of), limit)
     return commands
+
+
+def is_whole(line: str) -> bool:
+    """Whether a line has no half of a character, as JSON may: no program can be handed that."""
+    try:
+        line.encode()
+    except UnicodeEncodeError:
+        return False
+    return True
 
 
 def plain_words(line: str, place: str, is_here: bool) -> List[str]:
@@ -255,7 +275,7 @@ def read_period_file(folder: pathlib.Path, objects: Mapping[str, Watched], zone:
     for name, period in period_of.items():
         if name not in objects:
             raise SiteFault(f"periods.json: {name}: there is no such object")
-        if period not in periods:
+        if not isinstance(period, str) or period not in periods:
             raise SiteFault(f"periods.json: {name}: there is no period {period!r}")
     return Periods(periods, zone), period_of
 
@@ -287,7 +307,7 @@ def read_options(folder: pathlib.Path) -> Tuple[Options, Optional[zoneinfo.ZoneI
         if isinstance(value, bool) or not isinstance(value, int) or not (0 if name != "slots" else 1) <= value <= most:
             raise SiteFault(f"monitor.json: {name}: no whole number up to {most}: {value!r}")
     letter = members.pop("service_check_timeout_state", "c")
-    if letter not in CODES_BY_LETTER:
+    if not isinstance(letter, str) or letter not in CODES_BY_LETTER:
         raise SiteFault(f"monitor.json: service_check_timeout_state is w, c or u, and no {letter!r}")
     zone = members.pop("zone", None)
     try:

@@ -10,10 +10,13 @@ import subprocess
 import sys
 import time
 from typing import List
+from unittest import mock
+
+from nagsched_monitor import main
 
 from .running import MONITOR, ProcessTest
-from .simulated import PROGRAM
-from .waiting import comes
+from .simulated import PROGRAM, SiteTest
+from .waiting import LONG, comes
 
 KILLS = 10
 
@@ -26,6 +29,10 @@ class Running(ProcessTest):
         """How many were kept since the last save, while the monitor runs."""
         with sqlite3.connect(self.folder / "monitor.db") as database:
             return len(self.calls(database))
+
+    def numbers_of_calls(self) -> List[int]:
+        with sqlite3.connect(self.folder / "monitor.db") as database:
+            return [number for (number,) in database.execute("SELECT id FROM calls ORDER BY id")]
 
     def answers(self, calls: List[str]) -> List[str]:
         """What one run answers to the calls that were kept, from the state that was saved before them."""
@@ -95,8 +102,8 @@ class Running(ProcessTest):
         self.write("commands.json", {"h00": {"line": "echo up"}, "h01": {"line": "echo up"}})
         self.write("passive.json", {"h00;trap": {"only": True}})
         running = self.begin("--on-change", f"cat >> {self.folder}/changes")
-        time.sleep(0.5)
         self.assertEqual(self.ask("result", "h00;trap", "2", "door open").stdout, "result: h00;trap\n")
+        self.assertTrue(comes(lambda: "UP HARD 1 h01: up" in self.states()))
         self.assertEqual(self.ask("disable", "h01").stdout, "disable: h01\n")
         wrong = self.ask("enable", "h02")
         self.assertEqual((wrong.returncode, wrong.stderr), (1, "nagsched-monitor: there is no object 'h02'\n"))
@@ -155,9 +162,9 @@ class Running(ProcessTest):
         running = self.begin()
         down = [f"DOWN HARD 2 h0{number}: h0{number}" for number in range(3)]
         self.await_states(down)
+        last = self.numbers_of_calls()[-1]
         self.assertEqual(self.ask("save").stdout, "save: done\n")
-        with sqlite3.connect(self.folder / "monitor.db") as database:
-            self.assertLess(len(self.calls(database)), 20)
+        self.assertEqual([number for number in self.numbers_of_calls() if number <= last], [])
         self.ask("disable", "h02")
         self.end(running, signal.SIGKILL)
         running = self.begin()
@@ -175,7 +182,36 @@ class Running(ProcessTest):
         with sqlite3.connect(self.folder / "monitor.db") as database:
             self.assertEqual(self.calls(database), [])
 
+    def test_a_log_that_takes_nothing(self) -> None:
+        """Its disk is full, or whoever read it has ended: the site is monitored all the same."""
+        self.write_site(self.objects(1), [])
+        there, back = os.pipe()
+        os.close(there)
+        for log in (os.open("/dev/full", os.O_WRONLY), back):
+            running = subprocess.Popen([sys.executable, str(MONITOR), "--program", PROGRAM, str(self.folder)], stdout=log, stderr=subprocess.DEVNULL, text=True)
+            os.close(log)
+            self.addCleanup(self.end, running)
+            self.await_socket(running)
+            self.await_states(["UP HARD 1 h00: "])
+            self.assertEqual(self.ask("stop").stdout, "stop: done\n")
+            running.wait(timeout=LONG)
+
     def test_no_site(self) -> None:
         told = subprocess.run([sys.executable, str(MONITOR), str(self.folder), "test"], capture_output=True, text=True, check=False)
         self.assertEqual(told.returncode, 1)
         self.assertTrue(told.stderr.startswith("nagsched-monitor: ") and told.stderr.count("\n") == 1, told.stderr)
+
+
+class Reloading(SiteTest):
+    def test_whatever_is_wrong_with_a_site(self) -> None:
+        """It is refused, and the old one goes on."""
+        self.write_site([{"name": "web", "max_check_attempts": 1}], [])
+        logged = mock.patch.object(main.Monitor, "log")
+        logged.start()
+        self.addCleanup(logged.stop)
+        monitor = main.Monitor(main.words_of(["--program", PROGRAM, str(self.folder)]))
+        self.addCleanup(monitor.close)
+        with mock.patch.object(main, "read_site", side_effect=OSError("no room\nat all")):
+            answer = monitor.requests.answer(b'{"do":"reload"}')
+        self.assertEqual(json.loads(answer), {"error": "the site can't be read: OSError: no room at all"})
+        self.assertEqual(json.loads(monitor.requests.answer(b'{"do":"reload"}'))["done"], "reload")

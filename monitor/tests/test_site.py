@@ -1,5 +1,7 @@
 """Each file of a site, and each way in which it can be wrong."""
 import json
+import subprocess
+from unittest import mock
 
 from nagsched_monitor.faults import SiteFault
 from nagsched_monitor.site import Command, read_site
@@ -89,7 +91,8 @@ class SiteFiles(SiteTest):
         self.write_site([HOST], [])
         for document, word in (
             ({"slots": 0}, "slots"), ({"slots": True}, "slots"), ({"slotz": 1}, "slotz"), ({"keep_days": -1}, "keep_days"),
-            ({"service_check_timeout_state": "x"}, "'x'"), ({"zone": "Nowhere/Town"}, "Nowhere/Town"),
+            ({"service_check_timeout_state": "x"}, "'x'"), ({"service_check_timeout_state": ["c"]}, "['c']"), ({"zone": "Nowhere/Town"}, "Nowhere/Town"),
+            ("[" * 100_000, "recursion"),
         ):
             with self.subTest(word):
                 self.write("monitor.json", document)
@@ -108,6 +111,7 @@ class SiteFiles(SiteTest):
             ({"periods": {"p": {"dates": [{"first": "2026-13-01", "last": "2026-13-01", "times": []}]}}}, ("p", "2026-13-01")),
             ({"periods": {"p": {"dates": [{"month": 1, "times": []}]}}}, ("p", "date 0")),
             ({"periods": {"p": {"weekdays": day}}, "objects": {"web": "q"}}, ("web", "'q'")),
+            ({"periods": {"p": {"weekdays": day}}, "objects": {"web": ["p"]}}, ("web", "['p']")),
             ({"periods": {"p": {"weekdays": day}}, "objects": {"x": "p"}}, ("x", "no such object")),
             ({"period": {}}, ("'period'",)),
         ):
@@ -123,6 +127,27 @@ class SiteFiles(SiteTest):
                 self.refused("commands.json", "web", f"only a shell gives {sign}")
         self.write("commands.json", {"web": {"line": "echo 'no; exit 2' \"a|b\" # c"}})
         self.assertEqual(read_site(self.folder, PROGRAM).objects["web"].command, Command(["echo", "no; exit 2", "a|b", "#", "c"], 60.0))
+
+    def test_half_a_character(self) -> None:
+        self.write_site([HOST], [])
+        for shell in (False, True):
+            self.write("commands.json", {"web": {"line": "echo \ud800", "shell": shell}})
+            self.refused("commands.json: web: its line has half a character")
+
+    def test_a_setup_that_cannot_be_read(self) -> None:
+        (self.folder / "setup.json").mkdir()
+        self.refused("setup.json: Is a directory")
+
+    def test_a_scheduler_that_fails(self) -> None:
+        """It takes the setup, and then writes no line of it; or there is no room for its process."""
+        self.write_site([HOST], [])
+        program = self.folder / "program"
+        program.write_text("#!/bin/sh\ntest $# = 1\n")
+        program.chmod(0o700)
+        with self.assertRaisesRegex(SiteFault, "setup.json: the scheduler gives no answer"):
+            read_site(self.folder, str(program))
+        with mock.patch.object(subprocess, "run", side_effect=BlockingIOError(11, "no room")):
+            self.refused("can't be run: no room")
 
     def test_no_program(self) -> None:
         self.write_site([HOST], [])
