@@ -6,7 +6,7 @@ import sys
 from typing import Any, Dict, List, Optional
 
 from .simulated import PROGRAM, SiteTest
-from .waiting import comes
+from .waiting import LONG, comes
 
 MONITOR = pathlib.Path(__file__).resolve().parent.parent / "nagsched-monitor"
 
@@ -24,7 +24,7 @@ class ProcessTest(SiteTest):
     def end(self, running: "subprocess.Popen[str]", number: int = signal.SIGTERM) -> str:
         if running.poll() is None:
             running.send_signal(number)
-        output, _ = running.communicate(timeout=30) if running.stdout is not None and not running.stdout.closed else ("", None)
+        output, _ = running.communicate(timeout=LONG) if running.stdout is not None and not running.stdout.closed else ("", None)
         return output
 
     def await_socket(self, running: "subprocess.Popen[str]") -> None:

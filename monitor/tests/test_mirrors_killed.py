@@ -2,6 +2,7 @@
 import os
 import random
 import signal
+import sqlite3
 import time
 from typing import Any, Dict
 
@@ -13,6 +14,7 @@ from nagsched_monitor.store import Store
 from .one_scheduler import told_of
 from .running import ProcessTest
 from .simulated import PROGRAM, SimulatedClock
+from .waiting import comes
 
 KILLS = 8
 OPTIONS = {"interval_length": 1, "host_inter_check_delay_method": "n", "service_inter_check_delay_method": "n"}
@@ -33,12 +35,20 @@ class Killed(ProcessTest):
         lines = {name: f"exit $(( ($(date +%s%N) / 700000000 + {number}) % 3 ))" for number, name in enumerate([*hosts, *(it["name"] for it in behind)])}
         self.write("commands.json", {name: {"line": line, "shell": True} for name, line in lines.items()})
 
+    def last_call(self) -> int:
+        """The number of the last call that was kept, while a monitor runs."""
+        with sqlite3.connect(self.folder / "monitor.db") as database:
+            numbers = database.execute("SELECT max(id) FROM calls UNION SELECT max(last_call) FROM generations")
+            return max(int(number or 0) for (number,) in numbers)
+
     def test_killed_at_random_moments(self) -> None:
         self.write_parts()
         chance = random.Random(3)
         for kill in range(KILLS):
             running = self.begin()
-            time.sleep(chance.uniform(0.3, 1.6))
+            wanted = self.last_call() + chance.randrange(8, 60)
+            self.assertTrue(comes(lambda: self.last_call() >= wanted))
+            time.sleep(chance.uniform(0, 0.2))
             victims = [running.pid, *self.children_of(running.pid)]
             os.kill(victims[kill % len(victims)], signal.SIGKILL)
             time.sleep(0.1)

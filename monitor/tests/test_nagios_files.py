@@ -183,7 +183,7 @@ class Process(ProcessTest):
     def test_the_pipe(self) -> None:
         running = self.begin("--nagios-files", str(self.nagios))
         names = ("h00", "h01", "h00;http", "h00;ssh")
-        self.wait(lambda: (self.nagios / NAME).exists() and all(self.runs(name) == 1 for name in names))
+        self.wait(lambda: (self.nagios / NAME).exists() and all(self.runs(name) == 1 for name in names) and (self.nagios / "status.dat").exists())
         self.assertIn("h00;ssh", objects_of((self.nagios / "status.dat").read_bytes()))
         now = int(time.time())
         self.command(f"SCHEDULE_FORCED_HOST_CHECK;h01;{now}")

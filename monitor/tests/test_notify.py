@@ -11,6 +11,7 @@ from typing import Dict, List
 from nagsched_monitor.notify import Service
 
 from .simulated import PROGRAM, SiteTest
+from .waiting import LONG, comes
 
 MONITOR = pathlib.Path(__file__).resolve().parent.parent / "nagsched-monitor"
 UNIT = pathlib.Path(__file__).resolve().parent.parent / "nagsched-monitor@.service"
@@ -21,7 +22,7 @@ class Notices(SiteTest):
         there = socket.socket(socket.AF_UNIX, socket.SOCK_DGRAM)
         self.addCleanup(there.close)
         there.bind(address)
-        there.settimeout(30)
+        there.settimeout(LONG)
         return there
 
     def heard(self, there: socket.socket) -> List[str]:
@@ -79,10 +80,17 @@ class Notices(SiteTest):
         self.addCleanup(running.kill)
         self.assertEqual(there.recv(4096).decode(), "READY=1\nSTATUS=1 objects")
         self.assertEqual([there.recv(4096).decode() for _ in range(3)], ["WATCHDOG=1"] * 3)
-        asked = subprocess.run([sys.executable, str(MONITOR), str(self.folder), "status"], capture_output=True, text=True, check=True)
-        self.assertEqual(asked.stdout.replace(" out", ""), "UP HARD 1 web: 0\n")
+        words = [sys.executable, str(MONITOR), str(self.folder), "status"]
+        said: List[str] = []
+
+        def is_up() -> bool:
+            said[:] = [subprocess.run(words, capture_output=True, text=True, check=True).stdout.replace(" out", "")]
+            return said == ["UP HARD 1 web: 0\n"]
+
+        comes(is_up)
+        self.assertEqual(said, ["UP HARD 1 web: 0\n"])
         running.send_signal(signal.SIGTERM)
-        running.communicate(timeout=30)
+        running.communicate(timeout=LONG)
         self.assertEqual([line for line in self.heard(there) if line != "WATCHDOG=1"], ["STOPPING=1"])
 
 
