@@ -1,7 +1,6 @@
 """The socket in the folder of a site, through which its monitor is asked: lines of JSON there, and as many back."""
 import os
 import pathlib
-import select
 import socket
 from typing import Callable, Dict, List, Sequence, Tuple
 
@@ -53,8 +52,6 @@ class Control:
             data = b""
         *lines, rest = (unread + data).split(b"\n")
         for line in lines:
-            if file in self._asking and is_left(connection):
-                self._forget(file)
             if file in self._asking:
                 self._send(file, connection, self._answer(line))
         if not data:
@@ -84,13 +81,6 @@ class Control:
         self._unwatch(self._socket.fileno())
         self._socket.close()
         self._path.unlink(missing_ok=True)
-
-
-def is_left(connection: socket.socket) -> bool:
-    """Whether whoever asks has closed the connection: the answer wouldn't be heard, and the request may be made again."""
-    poll = select.poll()
-    poll.register(connection, 0)
-    return any(event & select.POLLHUP for _, event in poll.poll(0))
 
 
 def short_path(path: pathlib.Path) -> str:

@@ -128,20 +128,6 @@ class Socket(SiteTest):
         connection.connect(control.short_path(self.folder / control.NAME))
         return connection
 
-    def test_one_that_gave_up(self) -> None:
-        """Whoever asked and has closed the connection may ask again, so that it isn't obeyed; one that only sends no more is."""
-        made = self.control(b"done\n")
-        gone, there = self.asking(), self.asking()
-        gone.sendall(b"one\ntwo\n")
-        gone.close()
-        there.sendall(b"three\n")
-        there.shutdown(socket.SHUT_WR)
-        for _ in range(2):
-            made.read(self.files[0])
-        for file in self.files[1:]:
-            made.read(file)
-        self.assertEqual((self.heard, there.recv(100)), ([b"three"], b"done\n"))
-
     def test_a_long_answer(self) -> None:
         """Whoever reads it has time for each piece of it."""
         made = self.control(b"")
