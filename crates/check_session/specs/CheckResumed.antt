@@ -1,5 +1,5 @@
 -- What a check of a setup and a saved state leaves, fault or none.
-use Rattle.std.specs.Prelude.{ℕ, ◌≡◌, List, [], ◌∷◌, ◌++◌, codes, length, nat_lt, unwrap_or, Option, Some, None, Result, Ok, Err, if◌then◌else◌}
+use Rattle.std.specs.Prelude.{ℕ, ◌≡◌, ◌≤◌, ◌^◌, List, [], ◌∷◌, ◌++◌, codes, length, nat_lt, unwrap_or, Option, Some, None, Result, Ok, Err, IfSome, if◌then◌else◌}
 use Rattle.check_changes.specs.Text.{changes_text, saved_explanation}
 use Rattle.check_objects.specs.Configuration.{Configuration}
 use Rattle.check_objects.specs.Setup.{setup_of}
@@ -17,6 +17,10 @@ use Rattle.check_text.specs.Text.{refusal_line}
 use Rattle.check_drive.specs.declared.drive.Outcome.{Outcome}
 use Rattle.check_drive.specs.declared.drive.Outcome.TheVariants as outcome
 use Rattle.check_session.specs.Check.{IsCheckOf, IsToldBy}
+
+-- the moment to start at is not past the last one (2^60), where one is given
+abbrev pub CanStart : Option ℕ → Type 0
+CanStart start = IfSome start (λ moment. moment ≤ 2 ^ 60)
 
 -- What is printed of a good setup and a saved state. Of a good one: the figures of the setup, of which the first checks are those of a scheduler
 -- that starts at this moment, or at the saved start, and what becomes of the objects. Of a refused one: the line of a run, and one line

@@ -3,7 +3,7 @@
 ghost use Rattle.std.specs.Prelude.{◌≡◌, ◌≤◌, ℕ, Option, Ok, Err, IfOk, IfErr, IfSome, OnOk};
 ghost use Rattle.check_objects.specs.Configuration.{Configuration};
 ghost use Rattle.check_saved.specs.Text.{saved_of_text};
-ghost use Rattle.check_session.specs.CheckResumed.{AreBothTold, IsLengthTold, IsResumedCheckOnInput, IsResumedTold, IsSavedTold};
+ghost use Rattle.check_session.specs.CheckResumed.{AreBothTold, CanStart, IsLengthTold, IsResumedCheckOnInput, IsResumedTold, IsSavedTold};
 ghost use Rattle.check_drive.specs.Drive.{HasRead};
 
 use crate::check::{Told, examine, tell_refusal};
@@ -12,7 +12,6 @@ use check_drive::beginning::moment_of;
 use check_drive::drive::Outcome;
 use check_objects::{Fault, Setup};
 use check_saved::{Saved, SavedFault};
-use check_sched::LAST_MOMENT;
 use check_script::{DriveError, InputRefusal, LineFault, Lines, MAX_INPUT_BYTES, read_input};
 use check_summary::{Summary, push_summary};
 use check_text::{flush, push_refusal, write_text};
@@ -37,7 +36,7 @@ pub fn check_resumed<R: Read, W: Write>(
     reader: &mut R,
     writer: &mut W,
 ) -> Result<Outcome, DriveError>
-    requires { IfSome start (λ moment. moment ≤ LAST_MOMENT) }
+    requires { CanStart start }
     ensures input { IsResumedCheckOnInput start result (R.remaining reader.old)
         (W.contents writer.old) (W.contents writer.new) }
     ensures read { OnOk result (IfSome (R.remaining reader.old)
@@ -52,7 +51,7 @@ pub fn check_resumed<R: Read, W: Write>(
 
 /// What is to be printed of an input. An Err is `Memory`.
 fn tell(alloc: Global, start: Option<u64>, input: &[u8]) -> Result<Told, DriveError>
-    requires { IfSome start (λ moment. moment ≤ LAST_MOMENT) }
+    requires { CanStart start }
     ensures told { IfOk result (λ told.
         IsResumedTold start input.now told.text.items told.outcome) }
     ensures kind { IfErr result (λ e. e ≡ DriveError.Memory) }
@@ -92,7 +91,7 @@ fn tell_both(
     document: &[u8],
     text: &[u8],
 ) -> Result<Told, DriveError>
-    requires { IfSome start (λ moment. moment ≤ LAST_MOMENT) }
+    requires { CanStart start }
     ensures told { IfOk result (λ told.
         AreBothTold start document.now text.now told.text.items told.outcome) }
     ensures kind { IfErr result (λ e. e ≡ DriveError.Memory) }
@@ -111,7 +110,7 @@ fn tell_saved(
     setup: &Setup,
     text: &[u8],
 ) -> Result<Told, DriveError>
-    requires { IfSome start (λ moment. moment ≤ LAST_MOMENT) }
+    requires { CanStart start }
     ensures told { IfOk result (λ told.
         IsSavedTold start setup.now (saved_of_text text.now) told.text.items told.outcome) }
     ensures kind { IfErr result (λ e. e ≡ DriveError.Memory) }
@@ -130,7 +129,7 @@ fn tell_changes(
     setup: &Setup,
     saved: &Saved,
 ) -> Result<Told, AllocError>
-    requires { IfSome start (λ moment. moment ≤ LAST_MOMENT) }
+    requires { CanStart start }
     ensures { IfOk result (λ told.
         IsSavedTold start setup.now (Ok saved.now) told.text.items told.outcome) }
 {

@@ -64,9 +64,10 @@ impl From<SavedFault> for Fault {
     ghost from_gives = { λ refusal e. e ≡ fault_of_text refusal };
 
     fn from(refusal: SavedFault) -> Fault {
-        match refusal {
-            SavedFault::Memory => Fault::Memory,
-            _ => Fault::Refused,
+        if let SavedFault::Memory = refusal {
+            Fault::Memory
+        } else {
+            Fault::Refused
         }
     }
 }

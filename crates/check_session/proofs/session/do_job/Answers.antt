@@ -9,17 +9,17 @@ returns-in-Run-clause-did g c = rw c.in-Run.is (drove_did _ _ c.drive.result _ _
 pub returns-in-Run-clause-failed : goal.returns-in-Run-clause-failed
 returns-in-Run-clause-failed g c = rw c.in-Run.is (drove_failed _ _ c.drive.result _ _ _ _ c.drive.ensures)
 
-pub returns-in-Live-clause-did : goal.returns-in-Live-clause-did
-returns-in-Live-clause-did g c = rw c.in-Live.is (conversed_did _ _ _ c.live.result _ _ _ _ c.live.ensures)
-
-pub returns-in-Live-clause-failed : goal.returns-in-Live-clause-failed
-returns-in-Live-clause-failed g c = rw c.in-Live.is (conversed_failed _ _ _ c.live.result _ _ _ _ c.live.ensures)
-
 pub returns-in-RunResumed-clause-did : goal.returns-in-RunResumed-clause-did
 returns-in-RunResumed-clause-did g c = rw c.in-RunResumed.is (drove_did _ _ c.drive_resumed.result _ _ _ _ c.drive_resumed.ensures)
 
 pub returns-in-RunResumed-clause-failed : goal.returns-in-RunResumed-clause-failed
 returns-in-RunResumed-clause-failed g c = rw c.in-RunResumed.is (drove_failed _ _ c.drive_resumed.result _ _ _ _ c.drive_resumed.ensures)
+
+pub returns-in-Live-clause-did : goal.returns-in-Live-clause-did
+returns-in-Live-clause-did g c = rw c.in-Live.is (conversed_did _ _ _ c.live.result _ _ _ _ c.live.ensures)
+
+pub returns-in-Live-clause-failed : goal.returns-in-Live-clause-failed
+returns-in-Live-clause-failed g c = rw c.in-Live.is (conversed_failed _ _ _ c.live.result _ _ _ _ c.live.ensures)
 
 pub returns-in-LiveResumed-clause-did : goal.returns-in-LiveResumed-clause-did
 returns-in-LiveResumed-clause-did g c = rw c.in-LiveResumed.is (conversed_did _ _ _ c.live_resumed.result _ _ _ _ c.live_resumed.ensures)
