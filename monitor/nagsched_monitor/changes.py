@@ -12,7 +12,8 @@ from typing import IO, Callable, List, Optional, Sequence, Tuple
 from .calls import Standing
 from .faults import NotStored
 from .rows import KeptChange
-from .store import DropDocument, Store
+from .store import Store
+from .writes import DropDocument
 
 # How long the command may take, in seconds, how often it is tried, and how long it is waited between two tries.
 LIMIT = 30.0

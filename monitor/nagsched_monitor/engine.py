@@ -9,9 +9,10 @@ from .calls import Abandon, Answer, Enable, Freed, PutOff, Refused, Report, Resc
 from .clock import Clock
 from .counters import Counters
 from .faults import ConversationEnded, NotStored
+from .freshness import Freshness
 from .known import Known
 from .mirroring import AskedOf
-from .passive import Passive, is_stale
+from .passive import Passive
 from .rows import KeptResult
 from .runners import Event, Finished, Job, Lost, Runners
 from .scheduling import Scheduling
@@ -48,27 +49,14 @@ class Engine:
         self._last_turn: Optional[int] = None
         self._minute: Optional[int] = None
         # The moment at which this turn began.
-        self._now = self._opened = clock.moment()
-        self._last_save = (self._opened, store.last_call)
+        self._now = clock.moment()
+        self._last_save = (self._now, store.last_call)
         self._is_stuck = False
         self._can_save = True
         figures = store.figures()
         self.counters = Counters(figures, clock)
         self.made = self.latest_start = 0
-        self._awaited_since = self._all_awaited_since(min(clock.wall(), figures.get("written_at", 0.0)))
-
-    def _all_awaited_since(self, until: float) -> Dict[str, int]:
-        """Since when a result is awaited of each object whose results have to be fresh, as long as none comes while this monitor runs.
-
-        It is the moment of its last result, put off by the time since `until`, when the last monitor ended by the wall clock. Where it had none it is the
-        start of its part."""
-        starts = {part: generation.start for part, generation in self.store.generations().items()} if self.site.with_freshness else {}
-        since = {}
-        for name in self.site.with_freshness:
-            known = self.scheduling.known.objects[name]
-            last = known.past.last_check
-            since[name] = starts.get(known.watched.part, self._opened) if last is None else self._opened - round(max(0.0, until - last) * 1000)
-        return since
+        self._freshness = Freshness(scheduling, store, site.with_freshness, self._now, min(clock.wall(), figures.get("written_at", 0.0)))
 
     # ---- a turn
 
@@ -93,8 +81,7 @@ class Engine:
             self.scheduling.reopen()
             self._passive.begin_anew(self.store.waiting())
             self._last_turn = None
-            self._opened = now
-            self._awaited_since = self._all_awaited_since(self._clock.wall())
+            self._freshness.begin(self.site.with_freshness, now, self._clock.wall())
             return now
         finally:
             self._runners.flush()
@@ -152,9 +139,8 @@ class Engine:
 
     def _see_to_freshness(self, now: int) -> None:
         """Has the command run of each object of which no result came within its freshness."""
-        for name in self.site.with_freshness:
-            known = self.scheduling.known.objects[name]
-            if is_stale(known, self._awaited_since.get(name, self._opened), now) and self._is_in_period(known.watched):
+        for known in self._freshness.stale(self.site.with_freshness, now):
+            if self._is_in_period(known.watched):
                 self._log(f"{known.name}: no result for {(known.watched.freshness or 0) / 1000:g} seconds; its command is run")
                 self._sooner.want(Reschedule(known.name, now, True))
         self._sooner.make()

@@ -23,8 +23,9 @@ from .requests import Requests
 from .runners import RunnerProcesses
 from .scheduling import Scheduling
 from .site import Site, read_site
-from .store import DropChangesBefore, Store
+from .store import Store
 from .typed import code_of, time_of
+from .writes import DropChangesBefore
 
 DAY = 86_400
 BUSY_WAIT = 100

@@ -9,7 +9,7 @@ from .rows import KeptResult
 from .runners import Job
 from .scheduling import Scheduling
 from .sooner import RESULT_FIRST, Sooner
-from .store import DropResult
+from .writes import DropResult
 
 # How long results may be reported in one turn, in milliseconds: then all else has its turn.
 LONGEST = 200
@@ -83,11 +83,3 @@ class Passive:
             elif isinstance(answer, (AtLimit, Idle)):
                 return False
         return False
-
-
-def is_stale(known: Known, since: int, now: int) -> bool:
-    """Whether no result of an object came within its freshness. `since` is when it began to be awaited where none came while this monitor runs."""
-    freshness = known.watched.freshness
-    if freshness is None or known.run is not None or known.forced:
-        return False
-    return now - (since if known.last_result is None else known.last_result) >= freshness

@@ -17,7 +17,7 @@ from .engine import Engine
 from .faults import MonitorFault, NotStored, RequestFault
 from .known import Known
 from .standings import FIRST_TIME
-from .store import KeepResult, SetSwitch
+from .writes import KeepResult, SetSwitch
 
 LAST_MOMENT = 2**60
 MOST_OUTPUT = 65_536

@@ -16,7 +16,8 @@ from .mirroring import AskedOf, Mirrors
 from .rows import Generation, KeptChange
 from .site import Site, objects_of
 from .standings import Standings
-from .store import BeginGeneration, KeepCalls, KeepChange, Store, Write
+from .store import Store, Write
+from .writes import BeginGeneration, KeepCalls, KeepChange
 
 # Calls that are made again at a time, and how often it is said how many are left, in seconds.
 AT_ONCE = 4_096

@@ -9,7 +9,8 @@ from .calls import Abandon, Answer, Call, Freed, Report, Standing, Taken
 from .clock import Clock
 from .known import Known, Past
 from .rows import KeptStanding
-from .store import DropStandings, KeepStandings, Store, Write
+from .store import Store, Write
+from .writes import DropStandings, KeepStandings
 
 # How long a marked object waits for others, and behind what it is written by itself, in milliseconds.
 TOGETHER = 500

@@ -8,7 +8,8 @@ from typing import Any, Dict, List, Optional, Tuple
 from nagsched_monitor.counters import KeepFigures
 from nagsched_monitor.page import Server, Site
 from nagsched_monitor.rows import KeptChange, KeptStanding
-from nagsched_monitor.store import DropStandings, KeepChange, KeepStandings, Store
+from nagsched_monitor.store import Store
+from nagsched_monitor.writes import DropStandings, KeepChange, KeepStandings
 
 from .simulated import SiteTest
 

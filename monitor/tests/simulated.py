@@ -142,3 +142,11 @@ class SiteTest(unittest.TestCase):
 def fine(name: str, moment: int) -> Tuple[int, int, str]:
     """A plugin that finds nothing wrong, in 10 milliseconds."""
     return 10, 0, "fine"
+
+
+def host(name: str, **members: Any) -> Dict[str, Any]:
+    return {"name": name, "check_interval": 60, "retry_interval": 10, "max_check_attempts": 3, **members}
+
+
+def service(on: str, description: str, **members: Any) -> Dict[str, Any]:
+    return {"host": on, "description": description, "check_interval": 60, "retry_interval": 10, "max_check_attempts": 3, **members}

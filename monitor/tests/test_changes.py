@@ -13,7 +13,8 @@ from nagsched_monitor.calls import Standing
 from nagsched_monitor.changes import TRIES, Notifier, document_of, is_change, is_important, line_of
 from nagsched_monitor.faults import NotStored
 from nagsched_monitor.rows import KeptChange
-from nagsched_monitor.store import KeepChange, Store
+from nagsched_monitor.store import Store
+from nagsched_monitor.writes import KeepChange
 
 from .simulated import SiteTest
 from .waiting import LONG, comes

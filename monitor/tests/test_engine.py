@@ -1,4 +1,4 @@
-"""Days of a monitor, simulated: pauses, outages, periods, passive results, a full disk, a scheduler that ends."""
+"""Days of a monitor, simulated: pauses, outages, periods, a full disk, a scheduler that ends."""
 import collections
 import os
 import signal
@@ -8,17 +8,8 @@ from unittest import mock
 from nagsched_monitor import gearman
 from nagsched_monitor.faults import NotStored
 from nagsched_monitor.runners import Lost
-from nagsched_monitor.store import DropResult, KeepResult, Write
 
-from .simulated import BEGIN, SimulatedClock, SimulatedMonitor, SiteTest, fine
-
-
-def host(name: str, **members: Any) -> Dict[str, Any]:
-    return {"name": name, "check_interval": 60, "retry_interval": 10, "max_check_attempts": 3, **members}
-
-
-def service(on: str, description: str, **members: Any) -> Dict[str, Any]:
-    return {"host": on, "description": description, "check_interval": 60, "retry_interval": 10, "max_check_attempts": 3, **members}
+from .simulated import BEGIN, SimulatedClock, SimulatedMonitor, SiteTest, fine, host, service
 
 
 class Pauses(SiteTest):
@@ -147,156 +138,6 @@ class Periods(SiteTest):
         monitor.engine.set_switch("web", True)
         monitor.run(100)
         self.assertEqual(monitor.starts()["web"][2:], [400_000, 420_000, 480_000])
-
-
-class PassiveResults(SiteTest):
-    def give(self, monitor: SimulatedMonitor, name: str, code: int, words: str) -> None:
-        monitor.store.write(KeepResult(name, code, words))
-        monitor.engine.expect(monitor.store.waiting()[-1])
-
-    def site(self) -> SimulatedMonitor:
-        trap = service("web", "trap", enabled=False, max_check_attempts=2, check_interval=0)
-        self.write_site([host("web")], [trap, service("web", "http")], passive={"web;trap": {"only": True}})
-        return self.monitor(lambda name, moment: (2_000, 0, "fine"))
-
-    def test_results_go_in_order(self) -> None:
-        monitor = self.site()
-        monitor.run(30)
-        for code, words in ((2, "one"), (2, "two"), (0, "three")):
-            self.give(monitor, "web;trap", code, words)
-        monitor.run(1)
-        told = [(change.state, change.kind, change.words) for _, change in monitor.changes if change.name == "web;trap"]
-        self.assertEqual(told, [("CRITICAL", "SOFT", "one"), ("CRITICAL", "HARD", "two"), ("OK", "HARD", "three")])
-        self.assertNotIn("web;trap", monitor.starts())
-        self.assertEqual(monitor.store.waiting(), [])
-
-    def test_one_that_comes_while_the_object_is_out_waits(self) -> None:
-        monitor = self.site()
-        monitor.run(1)
-        self.assertIn("web;http", monitor.engine.busy())
-        self.give(monitor, "web;http", 1, "slow")
-        monitor.run(0.5)
-        self.assertEqual(len(monitor.store.waiting()), 1)
-        monitor.run(2)
-        self.assertEqual(monitor.store.waiting(), [])
-        self.assertEqual([change.words for _, change in monitor.changes if change.name == "web;http"], ["slow"])
-
-    def test_the_next_check_stays_where_it_was(self) -> None:
-        monitor = self.site()
-        monitor.run(30)
-        self.give(monitor, "web;http", 0, "by hand")
-        monitor.run(60)
-        self.assertEqual(monitor.starts()["web;http"], [0, 60_000])
-
-    def test_one_that_waited_over_a_restart_is_reported(self) -> None:
-        monitor = self.site()
-        monitor.run(30)
-        self.give(monitor, "web;trap", 2, "late")
-        monitor.close()
-        after = self.monitor(fine, monitor.clock)
-        after.run(1)
-        self.assertEqual([change.words for _, change in after.changes], ["late"])
-
-    def test_freshness(self) -> None:
-        trap = service("web", "trap", enabled=False, check_interval=0)
-        self.write_site([host("web")], [trap], passive={"web;trap": {"only": True, "freshness": 90}})
-        monitor = self.monitor(lambda name, moment: (10, 3 if "trap" in name else 0, "stale"))
-        monitor.run(60)
-        self.give(monitor, "web;trap", 0, "fresh")
-        monitor.run(240)
-        first, second = monitor.starts()["web;trap"]
-        self.assertTrue(150_000 <= first <= 151_000 and 90_000 <= second - first <= 92_000, (first, second))
-
-    def started_over_restarts(self, is_given: bool, *spans: Tuple[int, int]) -> List[int]:
-        """When the command of an object is run that has to be fresh for 90 seconds, in seconds of monitors that run and then rest for so many seconds."""
-        trap = service("web", "trap", enabled=False, check_interval=0)
-        self.write_site([host("web")], [trap], passive={"web;trap": {"only": True, "freshness": 90}})
-        clock, passed = SimulatedClock(), 0
-        started: List[int] = []
-        for runs, rests in spans:
-            monitor, begun = self.monitor(fine, clock), clock.now
-            if is_given and passed == 0:
-                self.give(monitor, "web;trap", 0, "fresh")
-            monitor.run(runs)
-            started += [passed + (moment - begun) // 1000 for moment, job in monitor.runners.started if job.name == "web;trap"]
-            monitor.engine.close()
-            monitor.close()
-            clock.now, passed = clock.now + rests * 1000, passed + runs
-        return started
-
-    def test_freshness_over_restarts(self) -> None:
-        """A result is awaited since the last one, however often the monitor starts, and while none runs it isn't."""
-        for spans in (((30, 0),) * 5, ((60, 600), (60, 0))):
-            with self.subTest(spans=spans):
-                (started,) = self.started_over_restarts(True, *spans)
-                self.assertTrue(90 <= started <= 92, started)
-                (self.folder / "monitor.db").unlink()
-
-    def test_freshness_of_one_that_never_had_a_result(self) -> None:
-        (started,) = self.started_over_restarts(False, *((30, 0),) * 5)
-        self.assertTrue(90 <= started <= 92, started)
-
-    def test_a_scheduler_that_ends_at_a_result(self) -> None:
-        """It ends when the report was kept, and before it answers: the result counts once."""
-        monitor = self.site()
-        monitor.run(30)
-        write = monitor.store.write
-
-        def killing(*writes: Write) -> None:
-            write(*writes)
-            if any(isinstance(each, DropResult) for each in writes):
-                setattr(monitor.store, "write", write)
-                os.kill(monitor.scheduling.process_ids()[0], signal.SIGKILL)
-
-        self.give(monitor, "web;trap", 2, "door open")
-        setattr(monitor.store, "write", killing)
-        monitor.run(5)
-        self.assertEqual(len([line for line in monitor.lines if "it is started anew" in line]), 1)
-        standing = monitor.scheduling.known.objects["web;trap"].standing
-        self.assertEqual(standing and (standing.state, standing.kind, standing.attempt), ("CRITICAL", "SOFT", 1))
-        self.assertEqual(monitor.store.waiting(), [])
-
-    def slow_down(self, monitor: SimulatedMonitor) -> None:
-        """Each write takes 20 milliseconds from now on."""
-        write = monitor.store.write
-
-        def slow(*writes: Write) -> None:
-            monitor.clock.now += 20
-            write(*writes)
-
-        setattr(monitor.store, "write", slow)
-
-    def test_a_burst(self) -> None:
-        """Where each write takes 20 milliseconds 100 results take many turns, none of which is long, and stay in their order."""
-        monitor = self.site()
-        monitor.run(30)
-        for number in range(100):
-            self.give(monitor, "web;trap", 2 * (number % 2), f"number {number}")
-        self.slow_down(monitor)
-        turns = 0
-        while monitor.store.waiting():
-            begun = monitor.clock.now
-            wanted = monitor.engine.turn()
-            self.assertLess(monitor.clock.now - begun, 500)
-            self.assertTrue(wanted <= monitor.clock.now or not monitor.store.waiting())
-            turns += 1
-        self.assertTrue(20 <= turns <= 60, turns)
-        told = [change.words for change in monitor.scheduling.changed() if change.name == "web;trap"]
-        self.assertEqual(told, [f"number {number}" for number in range(1, 100)])
-
-    def test_freshness_in_a_burst(self) -> None:
-        """A result that waits behind others has come: the command of its object isn't run."""
-        traps = [service("web", name, enabled=False, check_interval=0) for name in ("one", "two")]
-        self.write_site([host("web")], traps, passive={"web;one": {"only": True}, "web;two": {"only": True, "freshness": 90}})
-        monitor = self.monitor(fine)
-        monitor.run(89)
-        for number in range(20):
-            self.give(monitor, "web;one", 0, f"number {number}")
-        self.give(monitor, "web;two", 0, "fresh")
-        monitor.pause(2)
-        self.slow_down(monitor)
-        monitor.run(5)
-        self.assertEqual((monitor.store.waiting(), "web;two" in monitor.starts()), ([], False))
 
 
 class Faults(SiteTest):

@@ -6,7 +6,7 @@ from unittest import mock
 
 from nagsched_monitor.calls import Reschedule
 from nagsched_monitor.faults import NotStored
-from nagsched_monitor.store import KeepResult
+from nagsched_monitor.writes import KeepResult
 
 from .parted import Parted, depends, host, mirror, service, setup
 from .simulated import BEGIN, Plugin, SimulatedMonitor, fine

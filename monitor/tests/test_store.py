@@ -4,7 +4,8 @@ import sqlite3
 from nagsched_monitor.counters import KeepFigures
 from nagsched_monitor.faults import DamagedRow, MonitorFault, NotStored
 from nagsched_monitor.rows import TABLES, Generation, KeptChange, KeptStanding
-from nagsched_monitor.store import BeginGeneration, DropChangesBefore, DropStandings, KeepCalls, KeepChange, KeepResult, KeepStandings, SetSwitch, Store
+from nagsched_monitor.store import Store
+from nagsched_monitor.writes import BeginGeneration, DropChangesBefore, DropStandings, KeepCalls, KeepChange, KeepResult, KeepStandings, SetSwitch
 
 from .simulated import SiteTest
 
