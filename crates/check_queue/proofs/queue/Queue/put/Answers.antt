@@ -1,28 +1,43 @@
-use Rattle.std.proofs.Common.{◌<◌, length, Some, ap, ◌∙◌, arith}
-use Rattle.std.specs.Vec.{with_items}
+use Rattle.std.proofs.Common.{◌<◌, length, Some, sym, ap, ◌∙◌}
 use Rattle.std.proofs.Math.ListN.{set}
-use Rattle.check_queue.specs.declared.entry.Entry.{Entry}
-use Rattle.check_queue.specs.Tournament.{leaves_of, times_in}
-use Rattle.check_queue.proofs.LeafLaws.{Written, after, entry_time, leaf_of, times_length}
-use Rattle.check_queue.proofs.TournamentLaws.{leaves_length}
+use Rattle.check_queue.specs.Positions.{position_of, times_in}
+use Rattle.check_queue.proofs.QueueLaws.{Takes, takes_new, takes_again, settles}
 use Rattle.check_queue.proofs.queue.Queue.put.Goals as goal
+use Rattle.check_queue.proofs.queue.Queue.put.Goals.{in-Some, in-None, After-deref_mut-2}
 
--- what the queue is then
-written : (c : goal.After-self-1)
-    → Written c.self.inside.nodes.items (with_items c.self.inside.nodes c.put_leaf.new.nodes).items c.args.number (Some c.args.time)
-written c =
-    let q = c.self.inside.nodes in
-    let m = c.self.invariant.tournament in
-    let few = c.self.invariant.leaves.few in
-    let bound : c.args.number < length (times_in q.items) = rw c.self.view_is c.requires in
-    let long = times_length q.items m in
-    let long' = leaves_length q.items m in
-    let small : c.args.number < 4294967295 = omega arith in
-    let leaf : Entry = record { time = c.args.time; number = c.args.number } in
-    let seen = c.deref_mut.ensures.value in
-    after q c.put_leaf.new.nodes c.args.number leaf (Some c.args.time) c.self.invariant.leaves (leaf_of c.args.number c.args.time (omega arith) small)
-    (entry_time c.args.number c.args.time small) (c.put_leaf.ensures.size ∙ ap length seen) c.put_leaf.ensures.tournament
-    (c.put_leaf.ensures.leaves ∙ ap (λ es. set (leaves_of es) c.args.number leaf) seen)
+-- what the code is about to sift
+takes : (c : After-deref_mut-2)
+    → Takes c.deref_mut.result.now c.deref_mut-2.result.now c.match-position_of.self-inside.len c.match-position_of.hole
+    (record { time = c.args.time; number = c.args.number })
+    (set (times_in c.self.inside.entries.items c.self.inside.positions.items) c.args.number (Some c.args.time))
+takes c =
+    let q = c.self.inside in
+    let kept = c.self.invariant in
+    let k = c.args.number in
+    let below : k < length (times_in q.entries.items q.positions.items) = rw c.self.view_is c.requires in
+    let seen = sym (c.position_of.ensures ∙ ap (λ ps. position_of ps k) c.deref.ensures.value) in
+    rw (c.deref_mut.ensures.value, c.deref_mut-2.ensures.value) (elim c.match-position_of.branch [
+      | in-Some w ↦ rw (w.self-inside-is, w.hole-is) (takes_again _ _ _ _ k c.args.time kept.ordered kept.size (seen ∙ w.in-Some.is))
+      | in-None w ↦ rw (w.self-inside-is, w.hole-is) (takes_new _ _ _ k c.args.time kept.ordered kept.size below (seen ∙ w.in-None.is))
+    ])
+
+pub sift_down-requires : goal.sift_down-requires
+sift_down-requires c = (takes (goal.at.sift_down-requires c).After-deref_mut-2).around
+
+pub invariant_of-self : goal.invariant_of-self
+invariant_of-self c =
+    let q = c.match-position_of.self-inside in
+    let e = c.sift_down.ensures in
+    let t = takes (goal.at.invariant_of-self c).After-deref_mut-2 in
+    let h = settles q.entries q.positions _ _ _ _ _ _ _ _ (ap length c.deref_mut.ensures.value) (ap length c.deref_mut-2.ensures.value)
+    t.around.linked.sizes e.ordered e.times t.times t.size in
+    record { ordered = h.ordered; size = h.size }
 
 pub returns : goal.returns
-returns c = (written c).times ∙ ap (λ ts. set ts c.args.number (Some c.args.time)) c.self.view_is
+returns c =
+    let q = c.match-position_of.self-inside in
+    let e = c.sift_down.ensures in
+    let t = takes (goal.at.returns c).After-deref_mut-2 in
+    let h = settles q.entries q.positions _ _ _ _ _ _ _ _ (ap length c.deref_mut.ensures.value) (ap length c.deref_mut-2.ensures.value)
+    t.around.linked.sizes e.ordered e.times t.times t.size in
+    h.times ∙ ap (λ ts. set ts c.args.number (Some c.args.time)) c.self.view_is
