@@ -1,12 +1,14 @@
 -- The order of the heap, from one move of the hole to the next.
-use Rattle.std.proofs.Common.{◌≡◌, ℕ, zero, suc, ◌+◌, ◌-◌, ◌*◌, ◌/◌, ◌<◌, ◌≤◌, true, false, List, length, refl, ap, arith, inl, inr}
+use Rattle.std.proofs.Common.{◌≡◌, ℕ, zero, suc, ◌+◌, ◌-◌, ◌*◌, ◌/◌, ◌<◌, ◌≤◌, true, false, List, Option, length, refl, sym, ap, ◌∙◌, ◌≢◌, arith, inl, inr}
 use Rattle.std.proofs.Math.ListN.{set}
 use Rattle.std.proofs.lemmas.Bool.{cases_eq}
+use Rattle.std.proofs.lemmas.List.{length-set}
 use Rattle.check_queue.specs.declared.entry.Entry.{Entry}
 use Rattle.check_queue.specs.Entries.{IsNotBefore, comes_before, entry_at}
+use Rattle.check_queue.specs.Positions.{position_at, times_in}
 use Rattle.check_queue.specs.Heap.{IsHeap, IsHeapAround, FitsBelow, HasHole, IsOrdered, IsFirstChild}
 use Rattle.check_queue.proofs.EntryLaws.{by, no_later, not_itself, one_way}
-use Rattle.check_queue.proofs.PositionLaws.{link_moves, links_close, unwritten, written}
+use Rattle.check_queue.proofs.PositionLaws.{links_close, links_move, some_position, times_move, unplaced, unwritten, written}
 
 -- ---- the root
 
@@ -20,6 +22,22 @@ root_first es n h (suc fuel) k a b = elim (cases_eq k 0) [
   | inl e ↦ itself es k 0 e
   | inr u ↦ no_later _ _ _ (root_first es n h fuel ((k - 1) / 2) (omega arith) (omega arith)) (h.order ((k - 1) / 2) k (omega arith) (omega arith) b)
 ]
+
+-- ---- a move of the hole
+
+hole_moves : (es : List Entry) (ps : List ℕ) (n hole q : ℕ) (x : Entry) → HasHole es ps n hole x → q < n → q ≢ hole
+    → IsHeapAround (set es hole (entry_at es q)) n q → HasHole (set es hole (entry_at es q)) (set ps (entry_at es q).number hole) n q x
+hole_moves es ps n hole q x h l u around =
+    let is = h.linked.position q l u in
+    let sizes = length-set ps (entry_at es q).number hole in
+    let under = h.below in
+    record {
+      inside = l;
+      around = around;
+      linked = links_move es ps n hole q h.linked h.inside l u;
+      outside = unplaced ps _ x.number hole (λ e. some_position es ps n hole q h.linked l (sym is ∙ sym (ap (λ k. position_at ps k) e) ∙ h.outside)) ∙ h.outside;
+      below = omega arith;
+    }
 
 -- ---- up
 
@@ -49,22 +67,21 @@ below_up es n hole p x from inside room before a = record {
 }
 
 -- what the loop up keeps
-pub record Rises (es : List Entry) (ps : List ℕ) (n hole : ℕ) (x : Entry) : Type 0 where
+pub record Rises (es : List Entry) (ps : List ℕ) (n hole : ℕ) (x : Entry) (ts : List (Option ℕ)) : Type 0 where
   pub around : HasHole es ps n hole x
   pub below : FitsBelow es n hole x
+  pub times : times_in es ps ≡ ts
 
-pub rises : (es : List Entry) (ps : List ℕ) (n hole p : ℕ) (x : Entry) → 2 * p + 1 ≤ hole → hole ≤ 2 * p + 2 → comes_before x (entry_at es p) ≡ true
-    → HasHole es ps n hole x → Rises (set es hole (entry_at es p)) (set ps (entry_at es p).number hole) n p x
-rises es ps n hole p x from to before h =
+pub rises : (es : List Entry) (ps : List ℕ) (n hole p : ℕ) (x : Entry) (ts : List (Option ℕ)) → 2 * p + 1 ≤ hole → hole ≤ 2 * p + 2
+    → comes_before x (entry_at es p) ≡ true → Rises es ps n hole x ts → Rises (set es hole (entry_at es p)) (set ps (entry_at es p).number hole) n p x ts
+rises es ps n hole p x ts from to before r =
+    let h = r.around in
     let inside = h.inside in
     let room = h.linked.room in
     record {
-      around = record {
-        inside = omega arith;
-        around = around_up es n hole p from to inside room h.around;
-        linked = link_moves es ps n hole p x.number inside (omega arith) (omega arith) h.linked;
-      };
+      around = hole_moves es ps n hole p x h (omega arith) (omega arith) (around_up es n hole p from to inside room h.around);
       below = below_up es n hole p x from inside room before h.around;
+      times = times_move es ps n hole p h.linked inside (omega arith) (omega arith) ∙ r.times;
     }
 
 -- x fits between what is above the hole and what is below
@@ -83,7 +100,7 @@ rests es ps n hole x h under over =
           ]
         ];
       };
-      linked = links_close es ps n hole x inside h.linked;
+      linked = links_close es ps n hole x h;
     }
 
 pub below_parent : (es : List Entry) (hole p : ℕ) (x : Entry) → 2 * p + 1 ≤ hole → hole ≤ 2 * p + 2 → comes_before x (entry_at es p) ≡ false
@@ -114,11 +131,7 @@ pub sinks : (es : List Entry) (ps : List ℕ) (n hole c : ℕ) (x : Entry) → I
     → HasHole (set es hole (entry_at es c)) (set ps (entry_at es c).number hole) n c x
 sinks es ps n hole c x child h =
     let from = child.from in
-    record {
-      inside = child.within;
-      around = around_down es n hole c child h.linked.room h.around;
-      linked = link_moves es ps n hole c x.number h.inside child.within (omega arith) h.linked;
-    }
+    hole_moves es ps n hole c x h child.within (omega arith) (around_down es n hole c child h.linked.room h.around)
 
 -- the last entry, where it has no sibling
 pub only_child : (es : List Entry) (n hole c : ℕ) → c ≡ 2 * hole + 1 → n ≡ c + 1 → IsFirstChild es n hole c

@@ -1,5 +1,5 @@
 -- Reads and writes of entries and positions, and the times that they make.
-use Rattle.std.proofs.Common.{◌≡◌, ◌≢◌, ℕ, ◌<◌, false, ◌==◌, List, length, Option, Some, None, refl, sym, ap, ◌∙◌, arith, inl, inr}
+use Rattle.std.proofs.Common.{◌≡◌, ◌≢◌, ℕ, ◌<◌, false, ◌==◌, List, length, Some, None, refl, sym, ap, ◌∙◌, arith, inl, inr}
 use Rattle.std.specs.Prelude.{option_map}
 use Rattle.std.proofs.Math.ListN.{set, get_or-map}
 use Rattle.std.proofs.lemmas.Bool.{cases_eq, cases_lt}
@@ -7,7 +7,8 @@ use Rattle.std.proofs.lemmas.Bool.Decides.{nat_tests}
 use Rattle.std.proofs.lemmas.List.{ext_get_or, get_or-set_same, get_or-set_other, get_or_past, length-map, length-set, set-get_or}
 use Rattle.check_queue.specs.declared.entry.Entry.{Entry}
 use Rattle.check_queue.specs.Entries.{entry_at}
-use Rattle.check_queue.specs.Positions.{absent, position_at, position_from, time_from, times_in, AreLinked, AreLinkedBut}
+use Rattle.check_queue.specs.Positions.{absent, position_at, position_from, time_from, times_in, AreLinked}
+use Rattle.check_queue.specs.Heap.{HasHole}
 use Rattle.check_queue.proofs.TimesLaws.{time_at}
 
 -- what is read past the entries
@@ -46,12 +47,6 @@ time_there es p u = ap (λ o. option_map (λ i. (entry_at es i).time) o) (presen
 pub time_nowhere : (es : List Entry) (p : ℕ) → p ≡ absent → time_from es p ≡ None
 time_nowhere es p e = ap (λ q. time_from es q) e
 
-pub time_unwritten : (es : List Entry) (h p : ℕ) (x : Entry) → p ≢ h → time_from (set es h x) p ≡ time_from es p
-time_unwritten es h p x u = elim (cases_eq p absent) [
-  | inl e ↦ time_nowhere _ p e ∙ sym (time_nowhere es p e)
-  | inr v ↦ time_there _ p v ∙ ap (λ y. Some y.time) (unwritten es h p x u) ∙ sym (time_there es p v)
-]
-
 -- ---- the times
 
 pub time_is : (es : List Entry) (ps : List ℕ) (k : ℕ) → time_at (times_in es ps) k ≡ time_from es (position_at ps k)
@@ -60,135 +55,103 @@ time_is es ps k = get_or-map (time_from es) ps k absent
 pub times_length : (es : List Entry) (ps : List ℕ) → length (times_in es ps) ≡ length ps
 times_length es ps = length-map ps (time_from es)
 
--- as far as a time is written, it doesn't matter what it was
-pub times_but : (es es' : List Entry) (ps ps' : List ℕ) (k : ℕ) (o : Option ℕ) → length ps' ≡ length ps
-    → ((j : ℕ) → j ≢ k → time_from es' (position_at ps' j) ≡ time_from es (position_at ps j)) → set (times_in es' ps') k o ≡ set (times_in es ps) k o
-times_but es es' ps ps' k o l h =
-    let long = times_length es ps in
-    let long' = times_length es' ps' in
-    let size = length-set (times_in es ps) k o in
-    let size' = length-set (times_in es' ps') k o in
-    ext_get_or None _ _ (omega arith) (λ j m. elim (cases_eq j k) [
-      | inl e ↦ ap (λ i. time_at (set (times_in es' ps') k o) i) e ∙ get_or-set_same (times_in es' ps') k o None (omega arith)
-          ∙ sym (ap (λ i. time_at (set (times_in es ps) k o) i) e ∙ get_or-set_same (times_in es ps) k o None (omega arith))
-      | inr u ↦ get_or-set_other (times_in es' ps') k j o None u ∙ time_is es' ps' j ∙ h j u
-          ∙ sym (get_or-set_other (times_in es ps) k j o None u ∙ time_is es ps j)
-    ])
-
 -- ---- the links
 
 -- positions of entries aren't `absent`
-pub some_position : (es : List Entry) (ps : List ℕ) (n i : ℕ) → AreLinked es ps n → i < n → i ≢ absent
-some_position es ps n i a l e = let room = a.room in let few = a.few in absurd (omega (arith, e))
+pub some_position : (es : List Entry) (ps : List ℕ) (n hole i : ℕ) → AreLinked es ps n hole → i < n → i ≢ absent
+some_position es ps n hole i a l e = let room = a.room in let few = a.few in absurd (omega (arith, e))
 
 -- the number at a position is that of which this is the position
-pub number_there : (es : List Entry) (ps : List ℕ) (n i k : ℕ) → AreLinked es ps n → i < n → position_at ps k ≡ i → (entry_at es i).number ≡ k
-number_there es ps n i k a l e =
-    sym (ap (λ p. (entry_at es p).number) e) ∙ a.number k (λ f. some_position es ps n i a l (sym e ∙ f))
+pub number_there : (es : List Entry) (ps : List ℕ) (n hole i k : ℕ) → AreLinked es ps n hole → i < n → position_at ps k ≡ i → (entry_at es i).number ≡ k
+number_there es ps n hole i k a l e =
+    sym (ap (λ p. (entry_at es p).number) e) ∙ (a.entry k (λ f. some_position es ps n hole i a l (sym e ∙ f))).number
 
--- the entry at position q moves into the hole
-pub link_moves : (es : List Entry) (ps : List ℕ) (n hole q k : ℕ) → hole < n → q < n → q ≢ hole → AreLinkedBut es ps n hole k
-    → AreLinkedBut (set es hole (entry_at es q)) (set ps (entry_at es q).number hole) n q k
-link_moves es ps n hole q k l m u a =
-    let e : Entry = entry_at es q in
+-- y is written to the hole, which is then at `next`
+write : (es : List Entry) (ps : List ℕ) (n hole next : ℕ) (y : Entry) → AreLinked es ps n hole → hole < n → y.number < length ps → hole ≢ next
+    → ((i : ℕ) → i < n → i ≢ hole → i ≢ next → (entry_at es i).number ≢ y.number)
+    → ((k : ℕ) → k ≢ y.number → position_at ps k ≢ absent → position_at ps k ≢ next) → AreLinked (set es hole y) (set ps y.number hole) n next
+write es ps n hole next y a inside under u vacant moved =
     let room = a.room in
     let few = a.few in
     let sizes = a.sizes in
-    let below' = a.below in
-    let size' = length-set es hole e in
-    let sizes' = length-set ps e.number hole in
-    let is = a.position q m u in
-    let under = below ps e.number q is (omega arith) in
-    let mine = λ (j : ℕ) (f : j ≡ e.number). placed ps e.number j hole under f in
-    let not_mine = λ (j : ℕ) (v : j ≢ e.number). unplaced ps e.number j hole v in
+    let size' = length-set es hole y in
+    let sizes' = length-set ps y.number hole in
+    let mine = λ (k : ℕ) (e : k ≡ y.number). placed ps y.number k hole under e in
     record {
       room = omega arith;
       few = omega arith;
       sizes = omega arith;
-      below = omega arith;
-      position = λ i h v. elim (cases_eq i hole) [
-        | inl f ↦ mine _ (ap (λ y. y.number) (written es hole i e (omega arith) f)) ∙ sym f
-        | inr w ↦ ap (λ y. position_at (set ps e.number hole) y.number) (unwritten es hole i e w)
-            ∙ not_mine _ (λ f. v (sym (a.position i h w) ∙ ap (λ j. position_at ps j) f ∙ is)) ∙ a.position i h w
+      position = λ i l v. elim (cases_eq i hole) [
+        | inl e ↦ mine _ (ap (λ x. x.number) (written es hole i y (omega arith) e)) ∙ sym e
+        | inr w ↦ ap (λ x. position_at (set ps y.number hole) x.number) (unwritten es hole i y w)
+            ∙ unplaced ps y.number _ hole (vacant i l w v) ∙ a.position i l w
       ];
-      other = λ i h v f. elim (cases_eq i hole) [
-        | inl g ↦ a.other q m u (sym (ap (λ y. y.number) (written es hole i e (omega arith) g)) ∙ f)
-        | inr w ↦ a.other i h w (sym (ap (λ y. y.number) (unwritten es hole i e w)) ∙ f)
-      ];
-      within = λ j v w. elim (cases_eq j e.number) [
-        | inl f ↦ let at = mine j f in omega arith
-        | inr z ↦ let at = not_mine j z in let h = a.within j v (λ f. w (at ∙ f)) in omega arith
-      ];
-      apart = λ j v f. elim (cases_eq j e.number) [
-        | inl g ↦ u (sym f ∙ mine j g)
-        | inr z ↦
-            let at = sym (not_mine j z) ∙ f in
-            z (sym (a.same j v (λ g. absurd (omega (arith, at, g)))) ∙ ap (λ p. (entry_at es p).number) at)
-      ];
-      same = λ j v w. elim (cases_eq j e.number) [
-        | inl f ↦ ap (λ y. y.number) (written es hole _ e (omega arith) (mine j f)) ∙ sym f
-        | inr z ↦
-            let at = not_mine j z in
-            ap (λ p. (entry_at (set es hole e) p).number) at ∙ ap (λ y. y.number) (unwritten es hole _ e (a.apart j v)) ∙ a.same j v (λ f. w (at ∙ f))
+      entry = λ k v. elim (cases_eq k y.number) [
+        | inl e ↦ rw (mine k e) (record { within = inside; apart = u; number = ap (λ x. x.number) (written es hole hole y (omega arith) refl) ∙ sym e })
+        | inr w ↦
+            let same = unplaced ps y.number k hole w in
+            let at = a.entry k (λ f. v (same ∙ f)) in
+            rw same (record {
+              within = at.within;
+              apart = moved k w (λ f. v (same ∙ f));
+              number = ap (λ x. x.number) (unwritten es hole _ y at.apart) ∙ at.number;
+            })
       ];
     }
 
-pub times_move : (es : List Entry) (ps : List ℕ) (n hole q k : ℕ) (o : Option ℕ) → hole < n → q < n → q ≢ hole → AreLinkedBut es ps n hole k
-    → set (times_in (set es hole (entry_at es q)) (set ps (entry_at es q).number hole)) k o ≡ set (times_in es ps) k o
-times_move es ps n hole q k o l m u a =
-    let e : Entry = entry_at es q in
+-- and the times are those from before, but for that of y
+times_write : (es : List Entry) (ps : List ℕ) (n hole : ℕ) (y : Entry) → AreLinked es ps n hole → hole < n → y.number < length ps
+    → times_in (set es hole y) (set ps y.number hole) ≡ set (times_in es ps) y.number (Some y.time)
+times_write es ps n hole y a inside under =
     let room = a.room in
     let few = a.few in
-    let is = a.position q m u in
-    let under = below ps e.number q is (omega arith) in
-    times_but es (set es hole e) ps (set ps e.number hole) k o (length-set ps e.number hole) (λ j v. elim (cases_eq j e.number) [
-      | inl f ↦ ap (λ p. time_from (set es hole e) p) (placed ps e.number j hole under f) ∙ time_there _ hole (λ g. absurd (omega (arith, g)))
-          ∙ ap (λ y. Some y.time) (written es hole hole e (omega arith) refl) ∙ sym (time_there es q (λ g. absurd (omega (arith, g))))
-          ∙ sym (ap (λ p. time_from es p) (ap (λ i. position_at ps i) f ∙ is))
-      | inr z ↦ ap (λ p. time_from (set es hole e) p) (unplaced ps e.number j hole z) ∙ time_unwritten es hole _ e (a.apart j v)
+    let es' = set es hole y in
+    let ps' = set ps y.number hole in
+    let long = times_length es ps in
+    let long' = times_length es' ps' in
+    let size = length-set ps y.number hole in
+    let size' = length-set (times_in es ps) y.number (Some y.time) in
+    ext_get_or None _ _ (omega arith) (λ k l. time_is es' ps' k ∙ elim (cases_eq k y.number) [
+      | inl e ↦ ap (λ p. time_from es' p) (placed ps y.number k hole under e) ∙ time_there es' hole (λ f. absurd (omega (arith, f)))
+          ∙ ap (λ x. Some x.time) (written es hole hole y (omega arith) refl)
+          ∙ sym (ap (λ j. time_at (set (times_in es ps) y.number (Some y.time)) j) e ∙ get_or-set_same (times_in es ps) y.number (Some y.time) None (omega arith))
+      | inr u ↦ ap (λ p. time_from es' p) (unplaced ps y.number k hole u) ∙ elim (cases_eq (position_at ps k) absent) [
+        | inl f ↦ time_nowhere _ _ f ∙ sym (time_nowhere _ _ f)
+        | inr v ↦ time_there _ _ v ∙ ap (λ x. Some x.time) (unwritten es hole _ y (a.entry k v).apart) ∙ sym (time_there _ _ v)
+      ] ∙ sym (get_or-set_other (times_in es ps) y.number k (Some y.time) None u ∙ time_is es ps k)
     ])
 
--- x is written to the hole
-pub links_close : (es : List Entry) (ps : List ℕ) (n hole : ℕ) (x : Entry) → hole < n → AreLinkedBut es ps n hole x.number
-    → AreLinked (set es hole x) (set ps x.number hole) n
-links_close es ps n hole x inside a =
+-- the entry at position q moves into the hole
+pub links_move : (es : List Entry) (ps : List ℕ) (n hole q : ℕ) → AreLinked es ps n hole → hole < n → q < n → q ≢ hole
+    → AreLinked (set es hole (entry_at es q)) (set ps (entry_at es q).number hole) n q
+links_move es ps n hole q a inside l u =
     let room = a.room in
     let few = a.few in
-    let sizes = a.sizes in
-    let size' = length-set es hole x in
-    let sizes' = length-set ps x.number hole in
-    let mine = λ (j : ℕ) (e : j ≡ x.number). placed ps x.number j hole a.below e in
-    let not_mine = λ (j : ℕ) (u : j ≢ x.number). unplaced ps x.number j hole u in
-    record {
-      room = omega arith;
-      few = omega arith;
-      sizes = omega arith;
-      position = λ i l. elim (cases_eq i hole) [
-        | inl e ↦ mine _ (ap (λ y. y.number) (written es hole i x (omega arith) e)) ∙ sym e
-        | inr u ↦ ap (λ y. position_at (set ps x.number hole) y.number) (unwritten es hole i x u) ∙ not_mine _ (a.other i l u) ∙ a.position i l u
-      ];
-      within = λ j v. elim (cases_eq j x.number) [
-        | inl e ↦ let at = mine j e in omega arith
-        | inr u ↦ let at = not_mine j u in let l = a.within j u (λ e. v (at ∙ e)) in omega arith
-      ];
-      number = λ j v. elim (cases_eq j x.number) [
-        | inl e ↦ ap (λ y. y.number) (written es hole _ x (omega arith) (mine j e)) ∙ sym e
-        | inr u ↦
-            let at = not_mine j u in
-            ap (λ p. (entry_at (set es hole x) p).number) at ∙ ap (λ y. y.number) (unwritten es hole _ x (a.apart j u)) ∙ a.same j u (λ e. v (at ∙ e))
-      ];
-    }
+    let is = a.position q l u in
+    write es ps n hole q (entry_at es q) a inside (below ps _ q is (omega arith)) (λ e. u (sym e))
+    (λ i m v w e. w (sym (a.position i m v) ∙ ap (λ k. position_at ps k) e ∙ is)) (λ k v w e. v (sym (number_there es ps n hole q k a l e)))
 
-pub times_close : (es : List Entry) (ps : List ℕ) (n hole : ℕ) (x : Entry) → hole < n → AreLinkedBut es ps n hole x.number
-    → times_in (set es hole x) (set ps x.number hole) ≡ set (times_in es ps) x.number (Some x.time)
-times_close es ps n hole x inside a =
+pub times_move : (es : List Entry) (ps : List ℕ) (n hole q : ℕ) → AreLinked es ps n hole → hole < n → q < n → q ≢ hole
+    → times_in (set es hole (entry_at es q)) (set ps (entry_at es q).number hole) ≡ times_in es ps
+times_move es ps n hole q a inside l u =
     let room = a.room in
     let few = a.few in
-    let es' = set es hole x in
-    let ps' = set ps x.number hole in
-    let time : time_at (times_in es' ps') x.number ≡ Some x.time =
-    time_is es' ps' x.number ∙ ap (λ p. time_from es' p) (placed ps x.number x.number hole a.below refl)
-    ∙ time_there es' hole (λ g. absurd (omega (arith, g))) ∙ ap (λ y. Some y.time) (written es hole hole x (omega arith) refl) in
-    sym (ap (λ o. set (times_in es' ps') x.number o) (sym time) ∙ set-get_or (times_in es' ps') x.number None)
-    ∙ times_but es es' ps ps' x.number (Some x.time) (length-set ps x.number hole)
-    (λ j u. ap (λ p. time_from es' p) (unplaced ps x.number j hole u) ∙ time_unwritten es hole _ x (a.apart j u))
+    let e : Entry = entry_at es q in
+    let is = a.position q l u in
+    let time : time_at (times_in es ps) e.number ≡ Some e.time =
+    time_is es ps e.number ∙ ap (λ p. time_from es p) is ∙ time_there es q (some_position es ps n hole q a l) in
+    times_write es ps n hole e a inside (below ps _ q is (omega arith))
+    ∙ ap (λ o. set (times_in es ps) e.number o) (sym time) ∙ set-get_or (times_in es ps) e.number None
+
+-- the entry that is held is written to the hole
+pub links_close : (es : List Entry) (ps : List ℕ) (n hole : ℕ) (x : Entry) → HasHole es ps n hole x → AreLinked (set es hole x) (set ps x.number hole) n n
+links_close es ps n hole x h =
+    let a = h.linked in
+    let inside = h.inside in
+    write es ps n hole n x a inside h.below (λ e. absurd (omega (arith, e)))
+    (λ i m v w e. some_position es ps n hole i a m (sym (a.position i m v) ∙ ap (λ k. position_at ps k) e ∙ h.outside))
+    (λ k v w e. let at = (a.entry k w).within in absurd (omega (arith, at, e)))
+
+pub times_close : (es : List Entry) (ps : List ℕ) (n hole : ℕ) (x : Entry) → HasHole es ps n hole x
+    → times_in (set es hole x) (set ps x.number hole) ≡ set (times_in es ps) x.number (Some x.time)
+times_close es ps n hole x h = times_write es ps n hole x h.linked h.inside h.below

@@ -1,8 +1,8 @@
 -- The heap: the order of its entries by position. The children of position i are 2 * i + 1 and 2 * i + 2.
-use Rattle.std.specs.Prelude.{◌≢◌, ℕ, ◌+◌, ◌*◌, ◌<◌, ◌≤◌, List}
+use Rattle.std.specs.Prelude.{◌≡◌, ◌≢◌, ℕ, ◌+◌, ◌*◌, ◌<◌, ◌≤◌, List, length}
 use Rattle.check_queue.specs.declared.entry.Entry.{Entry}
 use Rattle.check_queue.specs.Entries.{IsNotBefore, entry_at}
-use Rattle.check_queue.specs.Positions.{AreLinked, AreLinkedBut}
+use Rattle.check_queue.specs.Positions.{AreLinked, absent, position_at}
 
 -- no entry among the first n comes before its parent
 pub record IsHeap (entries : List Entry) (n : ℕ) : Type 0 where
@@ -21,13 +21,15 @@ pub record FitsBelow (entries : List Entry) (n hole : ℕ) (held : Entry) : Type
 -- a heap, and the position of each number
 pub record IsOrdered (entries : List Entry) (positions : List ℕ) (n : ℕ) : Type 0 where
   pub heap : IsHeap entries n
-  pub linked : AreLinked entries positions n
+  pub linked : AreLinked entries positions n n
 
--- the same with a hole, where held will be put or from where the hole will move
+-- the same with a hole, and with an entry that is held outside
 pub record HasHole (entries : List Entry) (positions : List ℕ) (n hole : ℕ) (held : Entry) : Type 0 where
   pub inside : hole < n
   pub around : IsHeapAround entries n hole
-  pub linked : AreLinkedBut entries positions n hole held.number
+  pub linked : AreLinked entries positions n hole
+  pub outside : position_at positions held.number ≡ absent
+  pub below : held.number < length positions
 
 -- c is the child of hole that comes first
 pub record IsFirstChild (entries : List Entry) (n hole c : ℕ) : Type 0 where

@@ -27,23 +27,16 @@ time_from entries position = option_map (λ i. (entry_at entries i).time) (posit
 abbrev pub times_in : List Entry → List ℕ → List (Option ℕ)
 times_in entries positions = map (time_from entries) positions
 
--- the first n entries and the positions of their numbers agree, and no other number has a position
-pub record AreLinked (entries : List Entry) (positions : List ℕ) (n : ℕ) : Type 0 where
-  pub room : n ≤ length entries
-  pub few : length entries < 2 ^ 32
-  pub sizes : length positions ≡ length entries
-  pub position : (i : ℕ) → i < n → position_at positions (entry_at entries i).number ≡ i
-  pub within : (k : ℕ) → position_at positions k ≢ absent → position_at positions k < n
-  pub number : (k : ℕ) → position_at positions k ≢ absent → (entry_at entries (position_at positions k)).number ≡ k
+-- number k has its entry at position p, which is one of the first n and not the hole
+pub record IsAt (entries : List Entry) (n hole k p : ℕ) : Type 0 where
+  pub within : p < n
+  pub apart : p ≢ hole
+  pub number : (entry_at entries p).number ≡ k
 
--- the same but for one number, which belongs at the hole
-pub record AreLinkedBut (entries : List Entry) (positions : List ℕ) (n hole number : ℕ) : Type 0 where
+-- The first n entries, but for that at the hole, and the positions of their numbers agree, and no other number has a position. Without a hole it is n.
+pub record AreLinked (entries : List Entry) (positions : List ℕ) (n hole : ℕ) : Type 0 where
   pub room : n ≤ length entries
   pub few : length entries < 2 ^ 32
   pub sizes : length positions ≡ length entries
-  pub below : number < length positions
   pub position : (i : ℕ) → i < n → i ≢ hole → position_at positions (entry_at entries i).number ≡ i
-  pub other : (i : ℕ) → i < n → i ≢ hole → (entry_at entries i).number ≢ number
-  pub within : (k : ℕ) → k ≢ number → position_at positions k ≢ absent → position_at positions k < n
-  pub apart : (k : ℕ) → k ≢ number → position_at positions k ≢ hole
-  pub same : (k : ℕ) → k ≢ number → position_at positions k ≢ absent → (entry_at entries (position_at positions k)).number ≡ k
+  pub entry : (k : ℕ) → position_at positions k ≢ absent → IsAt entries n hole k (position_at positions k)

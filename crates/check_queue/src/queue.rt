@@ -6,7 +6,7 @@ ghost use Rattle.check_queue.specs.Positions.{position_of};
 ghost use Rattle.check_queue.specs.Times.{pairs_of};
 
 use crate::entry::Entry;
-use crate::sift::sift_down;
+use crate::sift::{sift_down, sift_up};
 use std::alloc::{AllocError, Global};
 use std::marker::Model;
 
@@ -87,21 +87,10 @@ impl Queue {
             time,
             number: number as u64,
         };
-        let hole = match position_of(&self.positions, number) {
-            Some(position) => position,
-            None => {
-                let end = self.len;
-                self.len += 1;
-                end
-            }
-        };
-        sift_down(
-            &mut self.entries,
-            &mut self.positions,
-            self.len,
-            hole,
-            entry,
-        );
+        self.remove(number);
+        let end = self.len;
+        self.len += 1;
+        sift_up(&mut self.entries, &mut self.positions, self.len, end, entry);
     }
 
     /// Takes the time of a number away, and returns whether it had one. All others stay as they are;
@@ -117,6 +106,7 @@ impl Queue {
         self.len -= 1;
         if hole < self.len {
             let last = self.entries[self.len];
+            self.positions[last.number as usize] = ABSENT;
             sift_down(&mut self.entries, &mut self.positions, self.len, hole, last);
         }
         true

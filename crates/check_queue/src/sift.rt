@@ -39,7 +39,13 @@ pub(crate) fn sift_down(
 }
 
 /// Moves the hole up to where `held` fits, and puts `held` there.
-fn sift_up(entries: &mut [Entry], positions: &mut [u32], len: usize, mut hole: usize, held: Entry)
+pub(crate) fn sift_up(
+    entries: &mut [Entry],
+    positions: &mut [u32],
+    len: usize,
+    mut hole: usize,
+    held: Entry,
+)
     requires around { HasHole entries.old positions.old len hole held }
     requires below { FitsBelow entries.old len hole held }
     ensures ordered { IsOrdered entries.new positions.new len }

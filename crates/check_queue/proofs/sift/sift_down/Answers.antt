@@ -1,4 +1,6 @@
-use Rattle.std.proofs.Common.{refl, ◌+◌, ◌*◌, ◌∙◌, arith}
+use Rattle.std.proofs.Common.{Some, ap, refl, ◌+◌, ◌*◌, ◌∙◌, arith}
+use Rattle.std.proofs.Math.ListN.{set}
+use Rattle.check_queue.specs.Positions.{times_in}
 use Rattle.check_queue.proofs.HeapLaws.{Rises, no_child, only_child, sinks}
 use Rattle.check_queue.proofs.PositionLaws.{times_move}
 use Rattle.check_queue.proofs.sift.sift_down.Goals as goal
@@ -13,20 +15,26 @@ loop-hole-preserved c =
     let p = c.put_at.ensures in
     rw (p.entries, p.positions) (record {
       around = sinks _ _ _ _ _ _ child i.around;
-      times = times_move _ _ _ _ _ _ _ i.around.inside child.within (omega arith) i.around.linked ∙ i.times;
+      times = times_move _ _ _ _ _ i.around.linked i.around.inside child.within (omega arith) ∙ i.times;
     })
 
 -- the hole has no child
 at_leaf : (c : Joined-hole-len) → Rises c.if-hole-len.entries c.if-hole-len.positions c.args.len c.if-hole-len.hole c.args.held
+    (times_in c.args.entries.now c.args.positions.now)
 at_leaf c =
     let l = c.loop-hole in
+    let i = l.invariant in
     elim c.if-hole-len.branch [
       | then-hole-len w ↦
           let p = w.put_at-then-hole-len.ensures in
           let child = only_child _ c.args.len l.hole (2 * l.hole + 1) refl (omega arith) in
-          rw (w.entries-is, w.positions-is, w.hole-is, p.entries, p.positions)
-          (record { around = sinks _ _ _ _ _ _ child l.invariant.around; below = no_child _ c.args.len (2 * l.hole + 1) _ (omega arith) })
-      | else-hole-len w ↦ rw (w.entries-is, w.positions-is, w.hole-is) (record { around = l.invariant.around; below = no_child _ c.args.len l.hole _ (omega arith) })
+          rw (w.entries-is, w.positions-is, w.hole-is, p.entries, p.positions) (record {
+            around = sinks _ _ _ _ _ _ child i.around;
+            below = no_child _ c.args.len (2 * l.hole + 1) _ (omega arith);
+            times = times_move _ _ _ l.hole (2 * l.hole + 1) i.around.linked i.around.inside (omega arith) (omega arith) ∙ i.times;
+          })
+      | else-hole-len w ↦ rw (w.entries-is, w.positions-is, w.hole-is)
+          (record { around = i.around; below = no_child _ c.args.len l.hole _ (omega arith); times = i.times })
     ]
 
 pub sift_up-requires-clause-around : goal.sift_up-requires-clause-around
@@ -37,12 +45,4 @@ sift_up-requires-clause-below c = (at_leaf (goal.at.sift_up-requires-clause-belo
 
 pub returns-clause-times : goal.returns-clause-times
 returns-clause-times c =
-    let l = c.loop-hole in
-    let i = l.invariant in
-    c.sift_up.ensures.times ∙ elim c.if-hole-len.branch [
-      | then-hole-len w ↦
-          let p = w.put_at-then-hole-len.ensures in
-          rw (w.entries-is, w.positions-is, p.entries, p.positions)
-          (times_move _ _ _ l.hole (2 * l.hole + 1) _ _ i.around.inside (omega arith) (omega arith) i.around.linked ∙ i.times)
-      | else-hole-len w ↦ rw (w.entries-is, w.positions-is) i.times
-    ]
+    c.sift_up.ensures.times ∙ ap (λ ts. set ts c.args.held.number (Some c.args.held.time)) (at_leaf (goal.at.returns-clause-times c).Joined-hole-len).times

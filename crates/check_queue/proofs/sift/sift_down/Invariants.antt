@@ -1,5 +1,4 @@
-use Rattle.std.proofs.Common.{◌≡◌, ◌-◌, Some}
-use Rattle.std.proofs.Math.ListN.{set}
+use Rattle.std.proofs.Common.{◌≡◌, ◌-◌}
 use Rattle.check_queue.specs.Heap.{HasHole}
 use Rattle.check_queue.specs.Positions.{times_in}
 use Rattle.check_queue.proofs.sift.sift_down.Given as goal
@@ -7,8 +6,7 @@ use Rattle.check_queue.proofs.sift.sift_down.Given as goal
 abbrev pub invariant-loop-hole : goal.invariant-loop-hole
 invariant-loop-hole l = record {
   around : HasHole l.entries l.positions l.len l.hole l.held;
-  times : set (times_in l.entries l.positions) l.held.number (Some l.held.time)
-      ≡ set (times_in l.initial.entries l.initial.positions) l.held.number (Some l.held.time);
+  times : times_in l.entries l.positions ≡ times_in l.initial.entries l.initial.positions;
 }
 
 abbrev pub decreases-loop-hole : goal.decreases-loop-hole

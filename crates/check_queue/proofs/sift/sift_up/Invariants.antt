@@ -1,16 +1,9 @@
-use Rattle.std.proofs.Common.{◌≡◌, Some}
-use Rattle.std.proofs.Math.ListN.{set}
-use Rattle.check_queue.specs.Heap.{FitsBelow, HasHole}
 use Rattle.check_queue.specs.Positions.{times_in}
+use Rattle.check_queue.proofs.HeapLaws.{Rises}
 use Rattle.check_queue.proofs.sift.sift_up.Given as goal
 
 abbrev pub invariant-loop-hole : goal.invariant-loop-hole
-invariant-loop-hole l = record {
-  around : HasHole l.entries l.positions l.len l.hole l.held;
-  below : FitsBelow l.entries l.len l.hole l.held;
-  times : set (times_in l.entries l.positions) l.held.number (Some l.held.time)
-      ≡ set (times_in l.initial.entries l.initial.positions) l.held.number (Some l.held.time);
-}
+invariant-loop-hole l = Rises l.entries l.positions l.len l.hole l.held (times_in l.initial.entries l.initial.positions)
 
 abbrev pub decreases-loop-hole : goal.decreases-loop-hole
 decreases-loop-hole l = l.hole
