@@ -45,6 +45,9 @@ def installed(program, prefix, work):
     (work / "site/commands.json").write_text(json.dumps({"gateway": {"line": "true"}}))
     tested = output(prefix / "bin/nagsched-monitor", "--program", prefix / "bin/nagsched", work / "site", "test")
     yield "the monitor", tested, ("1 objects, 1 parts\n", 0)
+    job = '{"job":1,"words":["echo","fine"],"limit":9}'
+    ran = output("sh", "-c", f"(echo '{job}'; sleep 1) | {prefix}/bin/nagsched-runner")
+    yield "the runner", ran, ('{"job":1,"code":0,"end":"exited","output":"fine\\u000a"}\n', 0)
     yield "the worker", output(prefix / "bin/nagsched-gearman-worker", "--help")[1], 0
     yield "from Nagios", output(prefix / "bin/nagsched-from-nagios", "--help")[1], 0
     yield "the manual pages", sorted(manual), ["nagsched-from-nagios.1", "nagsched-monitor.1", "nagsched.1", "nagsched.5"]
@@ -62,6 +65,7 @@ def main():
     passed, wrong = 0, 0
     with tempfile.TemporaryDirectory() as folder:
         work = pathlib.Path(folder)
+        output(TOP / "monitor/build_runner.sh")
         told, status = output("bash", TOP / "tools/install.sh", "--without-library", work / "prefix")
         rows = [("installing", (told, status), ("", 0))] if status else installed(sys.argv[1], work / "prefix", work)
         for what, came, wanted in rows:

@@ -85,6 +85,8 @@ def tests_of(module):
 def main():
     program = str(pathlib.Path(sys.argv[1]).resolve())
     os.environ["NAGSCHED"] = program
+    subprocess.run([TOP / "monitor/build_runner.sh"], check=True)
+    os.environ["NAGSCHED_RUNNER"] = str(TOP / "monitor/out/nagsched-runner")
     modules = sorted(file.stem for file in (TOP / "monitor/tests").glob("test_*.py"))
     with ThreadPoolExecutor(os.cpu_count()) as several:
         counts = list(several.map(tests_of, modules))

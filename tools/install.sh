@@ -14,10 +14,12 @@ prefix=${1:-/usr/local}
 case $prefix in /*) ;; *) prefix=$PWD/$prefix ;; esac
 root=${DESTDIR:-}$prefix
 program=$top/crates/nagsched/out/nagsched
+runner=$top/monitor/out/nagsched-runner
 built=${NAGSCHED_BUILT:-$top/out/c}
 
 missing=
 [ -x "$program" ] || { echo "install: nagsched isn't built: (cd crates/nagsched && rt run < ../../examples/office.txt)" >&2; missing=yes; }
+[ -x "$runner" ] || { echo "install: nagsched-runner isn't built: monitor/build_runner.sh" >&2; missing=yes; }
 [ -z "$library" ] || [ -e "$built/lib/libnagsched.so" ] || { echo "install: the C library isn't built: tools/build_c.sh" >&2; missing=yes; }
 [ -z "$missing" ] || exit 1
 
@@ -32,12 +34,9 @@ for script in nagsched-monitor nagsched-gearman-worker; do
     place 755 "$top/monitor/$script" "lib/nagsched/$script"
     ln -sf "../lib/nagsched/$script" "$root/bin/$script"
 done
-runner=$top/monitor/out/nagsched-runner
-if [ -x "$runner" ]; then
-    place 755 "$runner" lib/nagsched/nagsched-runner
-else
-    echo "install: the runner in C isn't built, and the monitor uses the one in Python: monitor/build_runner.sh" >&2
-fi
+place 755 "$top/monitor/nagsched-gearman-runner" lib/nagsched/nagsched-gearman-runner
+place 755 "$runner" lib/nagsched/nagsched-runner
+ln -sf ../lib/nagsched/nagsched-runner "$root/bin/nagsched-runner"
 for script in from_nagios nagios_commands nagios_parts nagios_periods nagios_site; do
     place 644 "$top/tools/$script.py" "lib/nagsched/$script.py"
 done

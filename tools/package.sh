@@ -14,11 +14,7 @@ work=$(mktemp -d)
 trap 'rm -rf "$work"' EXIT
 DESTDIR=$work/all "$top/tools/install.sh" /usr
 all=$work/all/usr
-strip --strip-unneeded "$all/bin/nagsched" "$all/lib/libnagsched.so.$surface"
-# The monitor has a program of its own where the runner in C was built.
-runner=$all/lib/nagsched/nagsched-runner
-monitor=all needs=
-[ ! -x "$runner" ] || { strip --strip-unneeded "$runner"; monitor=amd64 needs=", libc6 (>= 2.34)"; }
+strip --strip-unneeded "$all/bin/nagsched" "$all/lib/libnagsched.so.$surface" "$all/lib/nagsched/nagsched-runner"
 glibc=$(objdump -T "$all/bin/nagsched" "$all/lib/libnagsched.so" | grep -o 'GLIBC_[0-9.]*' | sort -V | tail -n 1 | cut -d_ -f2)
 
 # Makes a package: NAME ARCHITECTURE SECTION DEPENDS SUMMARY FILE.. Each file is moved out of the whole.
@@ -61,7 +57,7 @@ package libnagsched-dev amd64 libdevel "libnagsched$surface (= $version)" "sched
     lib/libnagsched.so lib/libnagsched.a include/nagsched.h lib/pkgconfig/nagsched.pc
 package python3-nagsched all python "python3 (>= 3.9), libnagsched$surface (= $version)" "scheduler of active checks, for Python" \
     lib/python3/dist-packages/nagsched
-package nagsched-monitor "$monitor" net "python3 (>= 3.9), nagsched (= $version)$needs" "monitor of a site's hosts and services" \
-    bin/nagsched-monitor bin/nagsched-gearman-worker bin/nagsched-from-nagios lib/nagsched lib/systemd share/man/man1/nagsched-monitor.1 share/man/man1/nagsched-from-nagios.1 \
+package nagsched-monitor amd64 net "python3 (>= 3.9), nagsched (= $version), libc6 (>= 2.34)" "monitor of a site's hosts and services" \
+    bin/nagsched-monitor bin/nagsched-runner bin/nagsched-gearman-worker bin/nagsched-from-nagios lib/nagsched lib/systemd share/man/man1/nagsched-monitor.1 share/man/man1/nagsched-from-nagios.1 \
     share/bash-completion/completions/nagsched-monitor share/doc/nagsched/MONITOR.md
 package nagsched amd64 net "libc6 (>= $glibc)" "scheduler of active checks, the program" bin/nagsched share

@@ -191,7 +191,7 @@ class Queue:
         return f"no worker took it from the queue {self.name}" if self._trouble is None else f"the server of the queue {self.name} wasn't reached"
 
     def _lost(self, job: Handed, why: str) -> None:
-        self._answer({"job": job.number, "code": 0, "end": LOST, "output": why})
+        self._answer({"job": job.number, "lost": why})
 
     def close(self) -> None:
         self._disconnect()

@@ -81,7 +81,8 @@ def log(line: str) -> None:
     print(line, file=sys.stderr, flush=True)
 
 
-def main(server: str, wait: str) -> int:
+def main() -> int:
+    server, wait = sys.argv[1:]
     signal.signal(signal.SIGINT, signal.SIG_IGN)
     signal.signal(signal.SIGTERM, signal.SIG_IGN)
     try:
@@ -92,4 +93,4 @@ def main(server: str, wait: str) -> int:
 
 
 if __name__ == "__main__":
-    sys.exit(main(*sys.argv[1:]))
+    sys.exit(main())

@@ -40,6 +40,11 @@ class Queues:
     wait: float
     patterns: Sequence[Patterns]
 
+    @property
+    def options(self) -> List[str]:
+        """What the runner for these queues has to be told besides."""
+        return []
+
     def queue_of(self, name: str) -> Optional[str]:
         """The queue of an object; None where its plugin runs beside the monitor."""
         return next((each.queue for each in self.patterns if each.fits(name)), None)

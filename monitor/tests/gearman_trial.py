@@ -165,7 +165,7 @@ class HandedJobs:
         """How many jobs ended in each way; `twice` are those with more than one answer."""
         found: Dict[str, int] = {}
         for answers in list(self.answers.values()):
-            end = str(answers[0]["end"]) if len(answers) == 1 else "twice"
+            end = str(answers[0].get("end", "lost")) if len(answers) == 1 else "twice"
             found[end] = found.get(end, 0) + 1
         return found
 

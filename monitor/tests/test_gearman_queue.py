@@ -37,7 +37,7 @@ class OneQueue(unittest.TestCase):
         return job
 
     def ends(self) -> List[Any]:
-        return [(it["job"], it["end"], it["output"]) for it in self.answers]
+        return [(it["job"], it.get("end", "lost"), it.get("lost", it.get("output"))) for it in self.answers]
 
     def test_jobs_in_their_order(self) -> None:
         self.add(5)
@@ -82,7 +82,7 @@ class OneQueue(unittest.TestCase):
         for _ in range(int(WAIT) + 2):
             self.pass_by(1)
         self.assertEqual({end for _, end, _ in self.ends()}, {"lost"})
-        self.assertIn("the server of the queue dmz wasn't reached", self.answers[0]["output"])
+        self.assertIn("the server of the queue dmz wasn't reached", self.answers[0]["lost"])
         self.add(2)
         self.assertEqual(self.ends()[2:], [(4, "exited", "the server of the queue dmz isn't reached")])
         self.server.is_there = True
@@ -246,4 +246,4 @@ class OneQueue(unittest.TestCase):
         self.assertGreater(len(begun), 10_000)
         self.assertEqual({number: len(times) for number, times in ended.items()}, {number: 1 for number in begun})
         self.assertLessEqual(max(ended[number][0] - begun[number] for number in begun), WAIT + LIMIT + GRACE + 2)
-        self.assertGreater(sum(answer["end"] == "exited" and answer["code"] == 0 for answer in self.answers), 1000)
+        self.assertGreater(sum(answer.get("code") == 0 for answer in self.answers), 1000)

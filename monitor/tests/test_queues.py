@@ -1,11 +1,12 @@
 """Queues of a site: which object goes to which, each way in which the file can be wrong, and the runner that has their jobs."""
 import json
+import pathlib
 import select
 import unittest
 from typing import Any, Dict, List, Tuple
 from unittest import mock
 
-from nagsched_monitor import gearman, runners
+from nagsched_monitor import gearman, runner_program
 from nagsched_monitor.faults import MonitorFault, SiteFault
 from nagsched_monitor.queues import Queues, read_queues
 from nagsched_monitor.runners import Finished, Job, Lost, RunnerProcesses
@@ -83,7 +84,7 @@ class Handing(unittest.TestCase):
         self.files: List[int] = []
         self.runners = RunnerProcesses(1, self.lines.append, self.files.append, self.files.remove)
         self.addCleanup(self.runners.close)
-        stand_in = mock.patch.object(runners, "QUEUE_MODULE", "tests.queue_stand_in")
+        stand_in = mock.patch.object(runner_program, "QUEUE_RUNNER", pathlib.Path(__file__).with_name("queue_stand_in.py"))
         stand_in.start()
         self.addCleanup(stand_in.stop)
 
