@@ -54,6 +54,7 @@ void processes_close(void) {
 static void watch_runner(int runner) {
     char nobody_writes;
     ssize_t got;
+    prctl(PR_SET_NAME, "nagsched-guard");
     setsid();
     dup2(runner, STDIN_FILENO);
     close_range(STDOUT_FILENO, ~0U, 0);

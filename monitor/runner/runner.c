@@ -1,12 +1,5 @@
-/* nagsched-runner [--only FILE]: runs plugins. It reads jobs from its standard input and writes results to its standard output, one JSON object a line:
- *
- *     {"job":7,"words":["/usr/lib/nagios/plugins/check_ping","-H","10.0.0.1"],"limit":60}
- *     {"job":7,"code":0,"end":"exited","output":"PING OK","stderr":"words of its standard error, if it has some"}
- *
- * `end` is `exited` (with `code`), `signal` (`code` is its number), `limit` (the plugin was killed at its limit) or `failed` (the program can't be run, or
- * `--only` doesn't allow it). Of both streams the first 4,096 bytes are kept. In place of these members a result has `"lost":"why"` if this machine lacked what
- * the plugin needed, such as memory: the check has to be made again. A plugin that is killed and doesn't end has `"stuck":true` in its result, and a line
- * `{"job":7,"gone":true}` when its process has ended. A line that is no job is answered by `lost`, or by `{"error":"why"}` if no number can be read.
+/* nagsched-runner [--only FILE]: runs plugins. It reads jobs from its standard input and writes results to its standard output, one JSON object a line;
+ * docs/MONITOR.md describes them. Each line that is read has one answer.
  *
  * The runner ends with its standard input, or when nobody reads its results. Its plugins are killed then, with their process groups, even if the runner was
  * killed itself. A plugin is over when its process ends, whatever children it leaves. Nothing is waited for without a limit.
