@@ -92,7 +92,7 @@ def behind_the_wall(program: str) -> List[str]:
             folder = pathlib.Path(holder)
             (folder / "ask.py").write_text(ASK.format(port=port))
             line = f"{sys.executable} {folder}/ask.py"
-            write_site(folder, {"behind": line, "before": line}, queues={"server": trial.place(), "queues": {"wall": ["far;behind"]}})
+            write_site(folder, {"behind": line, "before": line}, queues={"server": trial.place(), "key": str(trial.key), "queues": {"wall": ["far;behind"]}})
             found = states_of(folder, program, 2)
     finally:
         listening.kill()
