@@ -58,7 +58,16 @@ def installed(program, prefix, work):
     first_page = (prefix / "share/doc/nagsched/README.md").read_text().split("## Ask it")[0]
     yield "the trial of the installed page", ("nagsched < examples/office.txt" in first_page, bool(re.search(r"\brt\b", first_page))), (True, False)
     yield "the completion for bash", output("bash", "-n", prefix / "share/bash-completion/completions/nagsched"), ("", 0)
-    yield "the unit", f"ExecStart={prefix}/bin/nagsched-monitor" in (prefix / "lib/systemd/system/nagsched-monitor@.service").read_text(), True
+    unit = prefix / "lib/systemd/system/nagsched-monitor@.service"
+    yield "the unit", f"ExecStart={prefix}/bin/nagsched-monitor" in unit.read_text(), True
+    if shutil.which("systemd-analyze"):
+        site = unit.with_name("nagsched-monitor@office.service")
+        site.write_text(re.sub("^(User|Group|Documentation)=.*\n", "", unit.read_text(), flags=re.MULTILINE))
+        yield "what systemd says of the unit", output("systemd-analyze", "verify", site), ("", 0)
+        yield "its exposure", output("systemd-analyze", "security", "--offline=true", "--threshold=40", unit)[1], 0
+    if shutil.which("systemd-sysusers"):
+        made = output("systemd-sysusers", f"--root={work}", "--dry-run", prefix / "lib/sysusers.d/nagsched-monitor.conf")[0]
+        yield "the user", "Creating user 'nagsched'" in made, True
 
 
 def main():

@@ -1,5 +1,5 @@
 #!/usr/bin/env bash
-# Installs what was built: the program, the C library, the Python module, the monitor, manual pages, the unit of systemd, completions.
+# Installs what was built: the program, the C library, the Python module, the monitor, manual pages, the unit of systemd and its user, completions.
 #   tools/install.sh [PREFIX]     /usr/local where no folder is named; DESTDIR is put before it
 # It builds and proves nothing. What wasn't built is named, with the command that builds it, and then nothing is installed.
 # --without-library leaves the C library and the Python module out.
@@ -48,6 +48,7 @@ pages=$(mktemp -d)
 trap 'rm -rf "$unit" "$manual" "$pages"' EXIT
 sed "s#/usr/local/bin#$prefix/bin#g" "$top/monitor/nagsched-monitor@.service" > "$unit"
 place 644 "$unit" lib/systemd/system/nagsched-monitor@.service
+place 644 "$top/monitor/nagsched-monitor.sysusers" lib/sysusers.d/nagsched-monitor.conf
 python3 "$top/tools/manual.py" "$manual"
 for page in "$manual"/*; do
     place 644 "$page" "share/man/man${page##*.}/$(basename "$page")"
