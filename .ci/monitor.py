@@ -54,11 +54,11 @@ def site(program):
 
 
 def complaints():
-    """What mypy says of the monitor, of the Python module and of its loop; nothing where it isn't here."""
+    """What mypy says of the monitor, of from_nagios.py, of the Python module and of its loop; nothing where it isn't here."""
     if not shutil.which("mypy"):
         print("monitor: passed over what mypy says of the types, which isn't here")
         return ""
-    checks = [(["nagsched_monitor", "tests"], TOP / "monitor", ""), (["bindings/python/nagsched", "examples/loop.py"], TOP, "bindings/python")]
+    checks = [(["nagsched_monitor", "tests"], TOP / "monitor", ""), (["from_nagios.py"], TOP / "tools", ""), (["bindings/python/nagsched", "examples/loop.py"], TOP, "bindings/python")]
     told = ""
     with tempfile.TemporaryDirectory() as cache:
         for files, folder, path in checks:
