@@ -24,5 +24,5 @@ def runner_words() -> List[str]:
 
 
 def queue_runner_words(server: str, wait: float, options: Sequence[str]) -> List[str]:
-    """The command of the runner for the queues of a server. No variable and no folder of its caller says what it imports."""
-    return [sys.executable, "-I", str(QUEUE_RUNNER), server, str(wait), *options]
+    """The command of the runner for the queues of a server. No variable and no folder of its caller says what it imports, and it leaves nothing beside it."""
+    return [sys.executable, "-IB", str(QUEUE_RUNNER), server, str(wait), *options]

@@ -147,14 +147,11 @@ static void offer_to_be_killed(void) {
 
 /* What the new process does: it returns never. */
 static void become(char *const *words, struct entry *entry, pid_t runner, int output, int errors) {
-    static const int reset[] = {SIGPIPE, SIGINT, SIGTERM, SIGHUP};
     sigset_t none;
     setpgid(0, 0);
     prctl(PR_SET_PDEATHSIG, SIGKILL);
     if (getppid() != runner)
         _exit(127);
-    for (size_t i = 0; i < sizeof reset / sizeof *reset; i++)
-        signal(reset[i], SIG_DFL);
     sigemptyset(&none);
     sigprocmask(SIG_SETMASK, &none, NULL);
     offer_to_be_killed();

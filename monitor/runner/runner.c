@@ -329,14 +329,17 @@ static void turn(struct runner *runner) {
 }
 
 static bool open_runner(struct runner *runner) {
-    sigset_t ends;
+    /* They are blocked, not ignored: a plugin has only to let them through. */
+    static const int blocked[] = {SIGCHLD, SIGPIPE, SIGINT, SIGTERM, SIGHUP};
+    sigset_t ends, all;
     sigemptyset(&ends);
     sigaddset(&ends, SIGCHLD);
-    sigprocmask(SIG_BLOCK, &ends, NULL);
-    signal(SIGINT, SIG_IGN);
-    signal(SIGTERM, SIG_IGN);
-    signal(SIGHUP, SIG_IGN);
-    signal(SIGPIPE, SIG_IGN);
+    sigemptyset(&all);
+    for (size_t i = 0; i < sizeof blocked / sizeof *blocked; i++) {
+        signal(blocked[i], SIG_DFL);
+        sigaddset(&all, blocked[i]);
+    }
+    sigprocmask(SIG_BLOCK, &all, NULL);
     runner->running.before = runner->running.after = &runner->running;
     runner->takes_jobs = true;
     runner->poll = epoll_create1(EPOLL_CLOEXEC);

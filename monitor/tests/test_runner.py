@@ -185,9 +185,10 @@ class Troubles(unittest.TestCase):
         cls.folder = tempfile.TemporaryDirectory()
         cls.addClassCleanup(cls.folder.cleanup)
         subprocess.run(["cc", "-shared", "-fPIC", "-o", f"{cls.folder.name}/trouble.so", MONITOR / "tests/trouble.c"], check=True)
+        subprocess.run([MONITOR / "build_runner.sh", f"{cls.folder.name}/nagsched-runner"], env={**os.environ, "CFLAGS": ""}, check=True)
 
     def runner(self, trouble: str) -> OneRunner:
-        return OneRunner(environment={"LD_PRELOAD": f"{self.folder.name}/trouble.so", "TROUBLE": trouble})
+        return OneRunner(program=f"{self.folder.name}/nagsched-runner", environment={"LD_PRELOAD": f"{self.folder.name}/trouble.so", "TROUBLE": trouble})
 
     def test_no_process(self) -> None:
         with self.runner("fork") as runner:
