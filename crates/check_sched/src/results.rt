@@ -33,7 +33,8 @@ impl Results {
     {
         let mut by_number = Vec::with_capacity(alloc, count)?;
         for _number in 0..count {
-            by_number.push(LastResults::none(alloc)?)?;
+            let results = LastResults::none(alloc)?;
+            by_number.push(results)?;
         }
         Ok(Results { by_number })
     }

@@ -214,7 +214,8 @@ fn resumed_results(
     let mut by_number = Vec::with_capacity(alloc, count)?;
     for number in 0..count {
         let kept = kept(saved, places, number as u32);
-        by_number.push(last_results(alloc, kept)?)?;
+        let results = last_results(alloc, kept)?;
+        by_number.push(results)?;
     }
     Ok(Results::of(by_number))
 }
