@@ -1,8 +1,10 @@
--- The texts of a tree that is read from UTF-8 are UTF-8.
-use Rattle.std.proofs.Common.{◌≡◌, ℕ, zero, suc, ◌+◌, ◌*◌, ◌<◌, ◌==◌, ◌||◌, ◌&&◌, Bool, true, false, cond, List, [], ◌∷◌, ◌++◌, length, length-append}
+-- The texts of a tree that is read from UTF-8 are UTF-8, and its whole numbers have 64 bits.
+use Rattle.std.proofs.Common.{◌≡◌, ℕ, zero, suc, ◌+◌, ◌*◌, ◌^◌, ◌<◌, ◌==◌, ◌||◌, ◌&&◌, Bool, true, false, cond, List, [], ◌∷◌, ◌++◌, length, length-append}
 use Rattle.std.proofs.Common.{get_or, take, drop, Option, Some, None, option_and_then, option_map, IsUtf8, refl, sym, ap, ◌∙◌, subst, arith, nat_lt}
 use Rattle.std.proofs.Common.{append_assoc, append-nil, inl, inr, ◌⊎◌}
-use Rattle.std.specs.Prelude.{encode_utf8}
+use Rattle.std.specs.Prelude.{encode_utf8, nat_le, slice_index}
+use Rattle.std.specs.Float.{binary64, float_is_finite}
+use Rattle.fast_float.specs.Text.{Parts, digits_of, minus, nearest, scan, with_sign}
 use Rattle.std.proofs.lemmas.Bool.{and_parts, cases_lt, ltb-true}
 use Rattle.std.proofs.lemmas.Bool.Decides.{nat_tests}
 use Rattle.std.proofs.lemmas.Str.{IsUtf8-append, IsUtf8-encode, IsUtf8-past_char, IsUtf8-take, IsUtf8-drop, IsCharBoundary-after_ascii, IsCharBoundary-before_ascii, encode_ascii}
@@ -22,7 +24,8 @@ use Rattle.std.specs.Cmp.Lexicographic.{slice_cmp}
 use Rattle.serde_json.specs.Data as tree
 use Rattle.serde_json.specs.Data.{Data, put}
 use Rattle.serde_json.specs.Find.{as_array, as_str, get, get_member}
-use Rattle.serde_json.specs.Read.{max_depth, number_of, of_items, of_json, of_members, read}
+use Rattle.serde_json.specs.Read.{float_of, is_integer, max_depth, number_from, number_of, of_items, of_json, of_members, read}
+use Rattle.check_documents.specs.Tree.{whole_number}
 
 -- a text in a token is UTF-8
 abbrev GoodToken : Token → Type 0
@@ -503,12 +506,18 @@ value_good (suc n) ts g =
 
 -- ---- trees
 
--- each text in it is UTF-8
+-- a whole number in a tree has 64 bits
+abbrev IsNarrow : tree.Num → Type 0
+IsNarrow (tree.unsigned n) = n < 2 ^ 64
+IsNarrow (tree.negative z) = Unit {0}
+IsNarrow (tree.float x) = Unit {0}
+
+-- each text in it is UTF-8, and each whole number has 64 bits
 abbrev mutual
   pub GoodTree : Data → Type 0
   GoodTree tree.null = Unit {0}
   GoodTree (tree.boolean b) = Unit {0}
-  GoodTree (tree.number n) = Unit {0}
+  GoodTree (tree.number n) = IsNarrow n
   GoodTree (tree.string s) = IsUtf8 s
   GoodTree (tree.array ds) = GoodItems ds
   GoodTree (tree.object ms) = GoodMembers ms
@@ -543,15 +552,28 @@ pub good_then : {A B : Type 0} (P : A → Type 0) (Q : B → Type 0) (f : A → 
 good_then P Q f None h g = tt
 good_then P Q f (Some x) h g = h x g
 
-number_tree_good : (r : Option tree.Num) → GoodIf GoodTree (option_map tree.number r)
-number_tree_good None = tt
-number_tree_good (Some n) = tt
+float_good : (sign : Bool) (p : Parts) → GoodIf IsNarrow (float_of sign p)
+float_good sign p = on_test (GoodIf IsNarrow) (float_is_finite (nearest binary64 sign p)) (Some (tree.float (nearest binary64 sign p))) None (λ e. tt) (λ e. tt)
+
+from_good : (sign : Bool) (p : Parts) → GoodIf IsNarrow (number_from sign p)
+from_good false p =
+    on_test (GoodIf IsNarrow) (is_integer p && nat_lt (digits_of p) (2 ^ 64)) (Some (tree.unsigned (digits_of p))) (float_of false p)
+    (λ e. ltb-true (digits_of p) (2 ^ 64) (and_parts (is_integer p) (nat_lt (digits_of p) (2 ^ 64)) e).1) (λ e. float_good false p)
+from_good true p =
+    on_test (GoodIf IsNarrow) (is_integer p && nat_lt 0 (digits_of p) && nat_le (digits_of p) (2 ^ 63)) (Some (tree.negative (with_sign true (digits_of p))))
+    (float_of true p) (λ e. tt) (λ e. float_good true p)
+
+narrow_good : (s : List ℕ) → GoodIf IsNarrow (number_of s)
+unfolding number_of
+narrow_good s =
+    on_test (GoodIf IsNarrow) (slice_index s 0 == minus) (number_from true (scan (drop 1 s))) (number_from false (scan s))
+    (λ e. from_good true (scan (drop 1 s))) (λ e. from_good false (scan s))
 
 mutual
   tree_good : (j : json.Json) → GoodJson j → GoodIf GoodTree (of_json j)
   tree_good json.null g = tt
   tree_good (json.boolean b) g = tt
-  tree_good (json.number s) g = number_tree_good (number_of s)
+  tree_good (json.number s) g = good_map IsNarrow GoodTree tree.number (number_of s) (λ n h. h) (narrow_good s)
   tree_good (json.string s) g = g
   tree_good (json.array js) g = good_map GoodItems GoodTree tree.array (of_items js) (λ x h. h) (items_good js g)
   tree_good (json.object ms) g = good_map GoodMembers GoodTree tree.object (of_members ms tree.no_members) (λ x h. h) (members_good ms tree.no_members g tt)
@@ -595,6 +617,17 @@ get_good k (tree.number n) g = tt
 get_good k (tree.string s) g = tt
 get_good k (tree.array ds) g = tt
 get_good k (tree.object ms) g = member_good k ms g
+
+-- the whole number that a tree is, if it is one
+pub whole_good : (d : Data) → GoodTree d → GoodIf (λ n. n < 2 ^ 64) (whole_number d)
+whole_good tree.null g = tt
+whole_good (tree.boolean b) g = tt
+whole_good (tree.number (tree.unsigned n)) g = g
+whole_good (tree.number (tree.negative z)) g = tt
+whole_good (tree.number (tree.float x)) g = tt
+whole_good (tree.string s) g = tt
+whole_good (tree.array ds) g = tt
+whole_good (tree.object ms) g = tt
 
 -- the text that a tree is, if it is one, and its items
 parts_good : (d : Data) → GoodTree d → GoodIf IsUtf8 (as_str d) × GoodIf GoodItems (as_array d)

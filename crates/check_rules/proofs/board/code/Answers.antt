@@ -1,6 +1,6 @@
 use Rattle.std.proofs.Common.{rules}
 use Rattle.check_rules.proofs.BoardLemmas.{coded_back}
-use Rattle.check_rules.proofs.board.encode.Goals as goal
+use Rattle.check_rules.proofs.board.code.Goals as goal
 
 pub returns-clause-read : goal.returns-clause-read
 returns-clause-read c =
