@@ -22,6 +22,7 @@ from .faults import SiteFault
 from .mirrors import read_mirrors
 from .periods import Periods, read_periods
 from .queues import Queues, queue_of_each, read_queues
+from .whole_site import reading
 
 CODES_BY_LETTER = {"w": 1, "c": 2, "u": 3}
 
@@ -82,6 +83,11 @@ class Site:
 
 def read_site(folder: pathlib.Path, program: str) -> Site:
     """The site of a folder, or a `SiteFault` that names the file and what is wrong there."""
+    with reading(folder):
+        return read_files(folder, program)
+
+
+def read_files(folder: pathlib.Path, program: str) -> Site:
     paths = setup_files(folder)
     setups = [setup_line(path, program) for path in paths]
     documents = {path.stem: json.loads(setup) for path, setup in zip(paths, setups)}
