@@ -208,6 +208,13 @@ class Troubles(unittest.TestCase):
         self.assertEqual(set(told), {("exited", 2), "/bin/sh: Too many open files"})
         self.assertEqual(len(told), 40)
 
+    def test_no_memory(self) -> None:
+        """A plugin that the kernel ended is lost; one that somebody killed isn't, and neither is one that ended by itself meanwhile."""
+        with self.runner("memory") as runner:
+            results = runner.ran(shell(1, "kill -9 $$"), shell(2, "kill -TERM $$"), shell(3, "exit 2"), shell(4, "sleep 60", 0.5))
+        self.assertEqual([it.get("lost", (it.get("end"), it.get("code"))) for it in results],
+                         ["/bin/sh: Cannot allocate memory", ("signal", signal.SIGTERM), ("exited", 2), ("limit", signal.SIGKILL)])
+
     def test_a_program_that_is_never_loaded(self) -> None:
         """Its limit is kept, and others run meanwhile."""
         with self.runner("exec") as runner:
