@@ -118,7 +118,9 @@ bool processes_open(void) {
     raised.rlim_cur = files.rlim_max;
     setrlimit(RLIMIT_NOFILE, &raised);
     ended_for_memory = count_ended_for_memory();
-    nothing = open("/dev/null", O_RDONLY | O_CLOEXEC);
+    do /* no file of the runner's takes the place of a standard one that is closed */
+        nothing = open("/dev/null", O_RDWR);
+    while (nothing >= 0 && nothing <= STDERR_FILENO);
     table = mmap(NULL, MOST_PLUGINS * sizeof *table, PROT_READ | PROT_WRITE, MAP_SHARED | MAP_ANONYMOUS, -1, 0);
     if (nothing < 0 || table == MAP_FAILED)
         return false;

@@ -337,16 +337,16 @@ static void turn(struct runner *runner) {
 }
 
 static bool open_runner(struct runner *runner) {
-    /* They are blocked, not ignored: a plugin has only to let them through. */
+    /* They are blocked, not ignored: a plugin has only to let them through. Others that the caller ignores aren't ignored here. */
     static const int blocked[] = {SIGCHLD, SIGPIPE, SIGINT, SIGTERM, SIGHUP};
     sigset_t ends, all;
     sigemptyset(&ends);
     sigaddset(&ends, SIGCHLD);
     sigemptyset(&all);
-    for (size_t i = 0; i < sizeof blocked / sizeof *blocked; i++) {
-        signal(blocked[i], SIG_DFL);
+    for (int number = 1; number < NSIG; number++)
+        signal(number, SIG_DFL);
+    for (size_t i = 0; i < sizeof blocked / sizeof *blocked; i++)
         sigaddset(&all, blocked[i]);
-    }
     sigprocmask(SIG_BLOCK, &all, NULL);
     runner->running.before = runner->running.after = &runner->running;
     runner->takes_jobs = true;

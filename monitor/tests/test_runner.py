@@ -104,6 +104,11 @@ class Plugins(unittest.TestCase):
         (result,) = self.ran(shell(1, "ls /proc/$$/fd"))
         self.assertEqual(result["output"].split(), ["0", "1", "2"])
 
+    def test_a_runner_without_standard_error(self) -> None:
+        with OneRunner(before=["sh", "-c", 'exec "$0" "$@" 2>&-']) as runner:
+            (result,) = runner.ran(shell(1, "echo one; echo two >&2"))
+        self.assertEqual((result["output"], result["stderr"]), ("one\n", "two\n"))
+
     def test_memory_is_taken_from_plugins_first(self) -> None:
         (result,) = self.ran(shell(1, "cat /proc/$$/oom_score_adj"))
         self.assertEqual(result["output"], "500\n")
