@@ -75,7 +75,7 @@ class LeftOut:
 
     # The kinds by harm: what changes which checks are made and what counts as a problem, then who hears of it, then the rest by name.
     WORST = (
-        "parents of services", "passive_checks_enabled 0", "is_volatile", "passive results of hosts", "dependency_period", "flap thresholds of an object", "flap_detection_enabled 0",
+        "quotes around values", "parents of services", "passive_checks_enabled 0", "is_volatile", "passive results of hosts", "dependency_period", "flap thresholds of an object", "flap_detection_enabled 0",
         "flap_detection_options", "initial_state", "event_handler", "dependencies of notifications", "hostescalation definitions",
         "serviceescalation definitions", "contact definitions", "contactgroup definitions",
     )
@@ -452,7 +452,7 @@ def take_commands(words: argparse.Namespace, options: Members, objects: Sequence
     file = os.open(words.commands, os.O_WRONLY | os.O_CREAT | os.O_TRUNC, 0o600)
     os.fchmod(file, 0o600)
     with open(file, "w", encoding="utf-8") as commands:
-        json.dump({name: nagios_commands.without_shell(*line) for name, line in lines.items()}, commands, ensure_ascii=False, indent=1)
+        json.dump({name: nagios_commands.without_shell(line) for name, line in lines.items()}, commands, ensure_ascii=False, indent=1)
         commands.write("\n")
 
 
@@ -476,7 +476,10 @@ def take_site(words: argparse.Namespace, options: Members, objects: Sequence[Def
     unit = setup["options"]["interval_length"]
     interval_of = {it["name"]: it["check_interval"] * unit for it in setup["hosts"]}
     interval_of |= {f"{it['host']};{it['description']}": it["check_interval"] * unit for it in setup["services"]}
-    commands, without = nagios_site.commands_of(options, objects, macros_of_file(words, options))
+    lines, without = nagios_commands.commands_of(objects, macros_of_file(words, options))
+    commands = nagios_site.commands_of(options, objects, lines)
+    for name in (name for name, line in lines.items() if line.by_a_value):
+        left_out.add("quotes around values", "an alias or custom variable has a sign that the shell of its command line obeys", name)
     passive = nagios_site.passive_of(options, objects, interval_of)
     disable(setup, {name: why for name, why in without.items() if not passive.get(name, {}).get("only") or "freshness" in passive[name]})
     for name in without:

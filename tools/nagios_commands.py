@@ -4,7 +4,7 @@ import re
 import shlex
 import sys
 import urllib.parse
-from typing import Callable, Dict, Iterable, List, Mapping, Optional, Sequence, Tuple
+from typing import Callable, Dict, Iterable, List, Mapping, NamedTuple, Optional, Sequence, Tuple
 
 from nagios_groups import Definition, Groups, Members, listed
 
@@ -21,6 +21,14 @@ QUOTED = re.compile(r"""'[^']*'|"[^"$`\\]*\"""")
 FOR_A_SHELL = re.compile(r"""[|&;<>()$`\\"'*?\[\]#~{}!]""")
 
 Lookup = Callable[[str], Optional[str]]
+
+
+class Line(NamedTuple):
+    """A command line; whether a shell has to run it, and whether only because of the value of a macro, such as an alias with a semicolon."""
+
+    text: str
+    needs_shell: bool
+    by_a_value: bool
 
 
 class NoCommand(Exception):
@@ -135,17 +143,30 @@ class Network:
         self.hosts = {str(members["host_name"]): members for kind, _, members in objects if kind == "host"}
         self.services = {f"{members['host_name']};{members['service_description']}": members for kind, _, members in objects if kind == "service"}
 
-    def line_of(self, members: Members, service: Optional[Members]) -> Tuple[str, bool]:
-        """The command line of one object, and whether a shell has to run it."""
+    def line_of(self, members: Members, service: Optional[Members]) -> Line:
+        """The command line of one object."""
         if "check_command" not in members:
             raise NoCommand("no check_command")
         name, arguments = arguments_of(members["check_command"])
         if name not in self.commands:
             raise NoCommand(f"no command {name}")
         macros = Macros(self, self.hosts.get(members["host_name"], members), service)
-        given = {f"ARG{number}": "" for number in range(1, 33)}
-        given.update({f"ARG{number}": written_out(argument, macros.lookup) for number, argument in enumerate(arguments, 1)})
-        return runnable(written_out(self.commands[name], lambda macro: given[macro] if macro in given else macros.lookup(macro)))
+        line = with_arguments(self.commands[name], arguments, macros.lookup)
+        try:
+            words = shlex.split(line)
+        except ValueError as error:
+            raise NoCommand(f"its command line can't be split into words: {error}") from None
+        if not words:
+            raise NoCommand("its command line is empty")
+        without_values = with_arguments(self.commands[name], arguments, lambda macro: self.resource.get(macro, "x"))
+        return Line(line, needs_shell(line), needs_shell(line) and not needs_shell(without_values))
+
+
+def with_arguments(text: str, arguments: Sequence[str], lookup: Lookup) -> str:
+    """A command line with its arguments and macros."""
+    given = {f"ARG{number}": "" for number in range(1, 33)}
+    given.update({f"ARG{number}": written_out(argument, lookup) for number, argument in enumerate(arguments, 1)})
+    return written_out(text, lambda macro: given[macro] if macro in given else lookup(macro))
 
 
 def arguments_of(check_command: str) -> Tuple[str, List[str]]:
@@ -154,20 +175,13 @@ def arguments_of(check_command: str) -> Tuple[str, List[str]]:
     return name.strip(), [argument.replace("\\!", "!") for argument in rest]
 
 
-def runnable(line: str) -> Tuple[str, bool]:
-    """A line that can be split into words, and whether it needs a shell."""
-    try:
-        words = shlex.split(line)
-    except ValueError as error:
-        raise NoCommand(f"its command line can't be split into words: {error}") from None
-    if not words:
-        raise NoCommand("its command line is empty")
-    return line, bool(FOR_A_SHELL.search(QUOTED.sub("", line))) or "=" in line.split(" ", 1)[0]
+def needs_shell(line: str) -> bool:
+    return bool(FOR_A_SHELL.search(QUOTED.sub("", line))) or "=" in line.split(" ", 1)[0]
 
 
-def without_shell(line: str, needs_shell: bool) -> str:
+def without_shell(line: Line) -> str:
     """The line as one that no shell has to run: one that needs a shell begins with it."""
-    return shlex.join(["/bin/sh", "-c", line]) if needs_shell else line
+    return shlex.join(["/bin/sh", "-c", line.text]) if line.needs_shell else line.text
 
 
 def resource_file(options: Mapping[str, str], beside: pathlib.Path, named: Optional[pathlib.Path]) -> Optional[pathlib.Path]:
@@ -184,10 +198,10 @@ def resource_file(options: Mapping[str, str], beside: pathlib.Path, named: Optio
     return copy
 
 
-def commands_of(objects: Sequence[Definition], resource: Mapping[str, str]) -> Tuple[Dict[str, Tuple[str, bool]], Dict[str, str]]:
-    """The command line of each host and service by its full name, each with whether a shell has to run it; and why others have none, by name."""
+def commands_of(objects: Sequence[Definition], resource: Mapping[str, str]) -> Tuple[Dict[str, Line], Dict[str, str]]:
+    """The command line of each host and service by its full name; and why others have none, by name."""
     network = Network(objects, resource)
-    lines: Dict[str, Tuple[str, bool]] = {}
+    lines: Dict[str, Line] = {}
     without: Dict[str, str] = {}
     for kind, place, members in objects:
         if kind not in ("host", "service"):

@@ -94,17 +94,15 @@ def passive_of(options: Options, objects: Sequence[Definition], interval_of: Map
     return passive
 
 
-def commands_of(options: Options, objects: Sequence[Definition], resource: Mapping[str, str]) -> Tuple[Dict[str, Dict[str, Any]], Dict[str, str]]:
-    """The command of each object, and why others have none."""
-    lines, without = nagios_commands.commands_of(objects, resource)
+def commands_of(options: Options, objects: Sequence[Definition], lines: Mapping[str, nagios_commands.Line]) -> Dict[str, Dict[str, Any]]:
+    """The command of each object that has a line."""
     commands: Dict[str, Dict[str, Any]] = {}
     for name, kind, _ in checked(objects):
         if name in lines:
-            line, needs_shell = lines[name]
-            commands[name] = {"line": line, "limit": int(option(options, f"{kind}_check_timeout"))}
-            if needs_shell:
+            commands[name] = {"line": lines[name].text, "limit": int(option(options, f"{kind}_check_timeout"))}
+            if lines[name].needs_shell:
                 commands[name]["shell"] = True
-    return commands, without
+    return commands
 
 
 def monitor_of(options: Options, before: Mapping[str, Any]) -> Dict[str, Any]:

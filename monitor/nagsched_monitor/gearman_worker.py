@@ -2,6 +2,7 @@
 import argparse
 import os
 import pathlib
+import resource
 import signal
 import subprocess
 import sys
@@ -24,6 +25,8 @@ LONGEST = 86_400.0
 # How far the clocks of the two machines may be apart, and how often the log says that jobs are refused, in seconds.
 SKEW, SAYING = 60.0, 60.0
 SLOTS = 32
+# The files that a slot's connection takes, and all else.
+FILES_OF_A_SLOT, FEW_FILES = 8, 64
 NOT_SIGNED = b"it isn't signed with this worker's key, or is no job"
 
 Connect = Callable[[Callable[[bytes], bytes]], Connection]
@@ -203,6 +206,15 @@ def runner_of(only: Optional[pathlib.Path]) -> List[str]:
     return words
 
 
+def raise_files(slots: int) -> None:
+    """Has the process open as many files as so many connections take. A `MonitorFault` if it may not."""
+    wanted, (soft, hard) = FEW_FILES + FILES_OF_A_SLOT * slots, resource.getrlimit(resource.RLIMIT_NOFILE)
+    if soft != resource.RLIM_INFINITY and soft < wanted:
+        if hard != resource.RLIM_INFINITY and hard < wanted:
+            raise MonitorFault(f"--slots {slots}: it takes {wanted} open files, and {hard} are allowed")
+        resource.setrlimit(resource.RLIMIT_NOFILE, (wanted, hard))
+
+
 def log(line: str) -> None:
     """Writes a line to standard output, which doesn't block: a line that isn't read is lost."""
     try:
@@ -216,9 +228,10 @@ def main(given: Optional[List[str]] = None) -> int:
     os.set_blocking(sys.stdout.fileno(), False)
     try:
         place, library, seal = place_of(words.server, "server"), Library(), seal_of(words.key, words.unsigned)
-        link = RunnerLink(runner_of(words.only), log)
         if not 1 <= words.slots <= 1000:
             raise MonitorFault("--slots: 1 to 1000")
+        raise_files(words.slots)
+        link = RunnerLink(runner_of(words.only), log)
     except MonitorFault as fault:
         print(f"nagsched-gearman-worker: {fault}", file=sys.stderr)
         return 1

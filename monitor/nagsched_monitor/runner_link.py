@@ -59,6 +59,7 @@ class RunnerLink:
     def close(self) -> None:
         """Ends the runner, and the plugins that run."""
         with self._lock:
+            self._log = lambda line: None  # that it ends is no news
             if self._process is not None:
                 self._process.kill()
 

@@ -22,7 +22,10 @@ from .faults import SiteFault
 from .mirrors import read_mirrors
 from .periods import Periods, read_periods
 from .queues import Queues, queue_of_each, read_queues
+from .whole_site import reading
 
+# How long a setup may take to be tested, in seconds.
+LIMIT = 60.0
 CODES_BY_LETTER = {"w": 1, "c": 2, "u": 3}
 
 
@@ -82,6 +85,11 @@ class Site:
 
 def read_site(folder: pathlib.Path, program: str) -> Site:
     """The site of a folder, or a `SiteFault` that names the file and what is wrong there."""
+    with reading(folder):
+        return read_files(folder, program)
+
+
+def read_files(folder: pathlib.Path, program: str) -> Site:
     paths = setup_files(folder)
     setups = [setup_line(path, program) for path in paths]
     documents = {path.stem: json.loads(setup) for path, setup in zip(paths, setups)}
@@ -124,11 +132,13 @@ def setup_line(path: pathlib.Path, program: str) -> bytes:
     line = b""
     for words in ((), ("--line",)):
         try:
-            checked = subprocess.run([program, "check", *words], input=setup, stdout=subprocess.PIPE, check=False)
+            checked = subprocess.run([program, "check", *words], input=setup, stdout=subprocess.PIPE, check=False, timeout=LIMIT)
         except (FileNotFoundError, PermissionError):
             raise SiteFault(f"there is no program {program}: put it on the path, or name it with --program") from None
         except OSError as error:
             raise SiteFault(f"{program} can't be run: {error.strerror}") from None
+        except subprocess.TimeoutExpired:
+            raise SiteFault(f"{path.name}: {program} gives no answer within {LIMIT:g} seconds") from None
         line = checked.stdout.rstrip(b"\n")
         if checked.returncode != 0:
             raise SiteFault(f"{path.name}: {'; '.join(line.decode(errors='replace').splitlines()) or 'the scheduler gives no answer'}")

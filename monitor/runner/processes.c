@@ -29,6 +29,7 @@ static pid_t guard = -1;
 /* The guard reads the other end of this pipe. Nobody writes: it ends when the runner does. */
 static int guard_pipe = -1;
 static int nothing = -1;
+static long long ended_for_memory;
 
 /* ---- killing */
 
@@ -46,6 +47,27 @@ void processes_close(void) {
         kill_group(table[place].group);
         table[place].group = 0;
     }
+}
+
+/* ---- memory */
+
+/* How many processes the kernel has ended for their memory since the machine was started. */
+static long long count_ended_for_memory(void) {
+    FILE *file = fopen("/proc/vmstat", "re");
+    char name[64];
+    long long value, count = 0;
+    while (file != NULL && fscanf(file, "%63s %lld", name, &value) == 2)
+        if (strcmp(name, "oom_kill") == 0)
+            count = value;
+    if (file != NULL)
+        fclose(file);
+    return count;
+}
+
+bool was_memory_short(void) {
+    long long before = ended_for_memory;
+    ended_for_memory = count_ended_for_memory();
+    return ended_for_memory > before;
 }
 
 /* ---- the guard */
@@ -95,7 +117,10 @@ bool processes_open(void) {
     raised = files;
     raised.rlim_cur = files.rlim_max;
     setrlimit(RLIMIT_NOFILE, &raised);
-    nothing = open("/dev/null", O_RDONLY | O_CLOEXEC);
+    ended_for_memory = count_ended_for_memory();
+    do /* no file of the runner's takes the place of a standard one that is closed */
+        nothing = open("/dev/null", O_RDWR);
+    while (nothing >= 0 && nothing <= STDERR_FILENO);
     table = mmap(NULL, MOST_PLUGINS * sizeof *table, PROT_READ | PROT_WRITE, MAP_SHARED | MAP_ANONYMOUS, -1, 0);
     if (nothing < 0 || table == MAP_FAILED)
         return false;

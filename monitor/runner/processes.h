@@ -34,6 +34,9 @@ int process_forget(const struct started *started);
 /* Whether an error is a fault of this machine at this moment, not of the command line. */
 bool is_local_trouble(int error);
 
+/* Whether the kernel has ended a process of this machine because memory was short, since it was asked last. */
+bool was_memory_short(void);
+
 /* Kills all plugins. */
 void processes_close(void);
 

@@ -155,11 +155,20 @@ static void forget(const struct runner *runner, struct plugin *plugin) {
     free(plugin);
 }
 
+/* How a process ended that has this status. */
+static struct ending ending_of(const struct plugin *plugin, int status) {
+    if (plugin->phase == IS_KILLED)
+        return (struct ending){"limit", SIGKILL, false};
+    return WIFEXITED(status) ? (struct ending){"exited", WEXITSTATUS(status), false} : (struct ending){"signal", WTERMSIG(status), false};
+}
+
 /* Reports a plugin whose process has ended with this status. */
 static void finish(struct runner *runner, struct plugin *plugin, int status) {
     int error = process_forget(&plugin->started);
-    error = plugin->trouble != 0 ? plugin->trouble : error;
-    bool has_exited = WIFEXITED(status);
+    if (plugin->trouble != 0)
+        error = plugin->trouble;
+    else if (plugin->phase == RUNS && WIFSIGNALED(status) && WTERMSIG(status) == SIGKILL && was_memory_short())
+        error = ENOMEM;
     read_stream(runner, &plugin->output);
     read_stream(runner, &plugin->errors);
     if (plugin->phase == IS_STUCK)
@@ -167,8 +176,7 @@ static void finish(struct runner *runner, struct plugin *plugin, int status) {
     else if (error != 0)
         fail(runner, plugin->job, plugin->program, error);
     else
-        write_ending(runner, plugin, (struct ending){plugin->phase == IS_KILLED ? "limit" : has_exited ? "exited" : "signal",
-                                                     has_exited ? WEXITSTATUS(status) : WTERMSIG(status), false});
+        write_ending(runner, plugin, ending_of(plugin, status));
     forget(runner, plugin);
 }
 
@@ -329,16 +337,16 @@ static void turn(struct runner *runner) {
 }
 
 static bool open_runner(struct runner *runner) {
-    /* They are blocked, not ignored: a plugin has only to let them through. */
+    /* They are blocked, not ignored: a plugin has only to let them through. Others that the caller ignores aren't ignored here. */
     static const int blocked[] = {SIGCHLD, SIGPIPE, SIGINT, SIGTERM, SIGHUP};
     sigset_t ends, all;
     sigemptyset(&ends);
     sigaddset(&ends, SIGCHLD);
     sigemptyset(&all);
-    for (size_t i = 0; i < sizeof blocked / sizeof *blocked; i++) {
-        signal(blocked[i], SIG_DFL);
+    for (int number = 1; number < NSIG; number++)
+        signal(number, SIG_DFL);
+    for (size_t i = 0; i < sizeof blocked / sizeof *blocked; i++)
         sigaddset(&all, blocked[i]);
-    }
     sigprocmask(SIG_BLOCK, &all, NULL);
     runner->running.before = runner->running.after = &runner->running;
     runner->takes_jobs = true;

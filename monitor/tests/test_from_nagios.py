@@ -167,6 +167,16 @@ class TakingOver(unittest.TestCase):
         ran = subprocess.run([sys.executable, str(SCRIPT), str(self.folder / "nagios.cfg"), str(self.folder / "objects")], capture_output=True, text=True, check=False)
         self.assertIn("left out: use_timezone (1): times are those of the machine's zone", ran.stderr)
 
+    def test_values_that_a_shell_obeys(self) -> None:
+        """They are written out as Nagios does it, and the objects are named; one whose command line itself needs the shell isn't."""
+        host = {"alias": "Web; rm -rf /", "_PLAIN": "a b", "check_command": "dummy", "max_check_attempts": "3"}
+        lines = {"bare": "/bin/true $HOSTALIAS$", "quoted": "/bin/true '$HOSTALIAS$'", "plain": "/bin/true $_HOSTPLAIN$", "piped": "/bin/true $HOSTALIAS$ | cat"}
+        text = "".join(defined("command", {"command_name": name, "command_line": line}) + defined("host", {"host_name": name, **host, "check_command": name})
+                       for name, line in lines.items())
+        told = [line for line in self.take(text).splitlines() if "quotes" in line]
+        self.assertEqual(told, ["left out: quotes around values (1): an alias or custom variable has a sign that the shell of its command line obeys: bare"])
+        self.assertEqual({name: entry.get("shell", False) for name, entry in self.read("commands").items()}, {"bare": True, "quoted": False, "plain": False, "piped": True})
+
     def test_files_that_it_does_not_know_stay(self) -> None:
         self.take(self.small())
         (self.site / "queues.json").write_text("{}")

@@ -1,7 +1,10 @@
 """A worker of a Gearman server: what it runs, what it refuses, and that nothing that it is handed ends it. No server is needed."""
+import contextlib
+import io
 import json
 import os
 import random
+import resource
 import signal
 import threading
 import time
@@ -9,7 +12,7 @@ import unittest
 from typing import Any, Callable, Dict, List, Optional
 from unittest import mock
 
-from nagsched_monitor import runner_link
+from nagsched_monitor import gearman_worker, runner_link
 from nagsched_monitor.gearman import ServerFault
 from nagsched_monitor.gearman_queue import result_of
 from nagsched_monitor.gearman_seal import JOB, RESULT, Seal
@@ -288,6 +291,24 @@ class Signed(Working):
         self.assertTrue(comes(lambda: ["run", "last"] in ran and len(self.answers) == len(good) + FORGED + 1))
         self.assertEqual(sorted(ran), sorted([["run", str(number)] for number in range(20)] + [["run", "last"]]))
         self.assertEqual(len([line for line in self.lines if "jobs were refused" in line]), 1)
+
+
+class Starting(unittest.TestCase):
+    """What a worker needs before it begins. No library and no server is needed."""
+
+    def faults(self, *words: str) -> str:
+        told = io.StringIO()
+        with mock.patch.object(gearman_worker, "Library"), mock.patch.object(os, "set_blocking"), contextlib.redirect_stderr(told):
+            self.assertEqual(gearman_worker.main([*words, "127.0.0.1:4730", "dmz"]), 1)
+        return told.getvalue()
+
+    def test_faults(self) -> None:
+        with mock.patch.object(resource, "getrlimit", return_value=(64, 300)), mock.patch.object(resource, "setrlimit") as raised:
+            self.assertIn("--slots 32: it takes 320 open files, and 300 are allowed", self.faults("--unsigned"))
+            self.assertIn("No such file", self.faults("--unsigned", "--slots", "20", "--only", "/no/such/file"))
+            raised.assert_called_once_with(resource.RLIMIT_NOFILE, (224, 300))
+        for words, why in (("--slots 0 --unsigned", "--slots"), ("", "--key"), ("--unsigned --key x", "one of the two"), ("--key /no/such/key", "/no/such/key")):
+            self.assertIn(why, self.faults(*words.split()))
 
 
 class Linked(unittest.TestCase):

@@ -104,6 +104,11 @@ class Plugins(unittest.TestCase):
         (result,) = self.ran(shell(1, "ls /proc/$$/fd"))
         self.assertEqual(result["output"].split(), ["0", "1", "2"])
 
+    def test_a_runner_without_standard_error(self) -> None:
+        with OneRunner(before=["sh", "-c", 'exec "$0" "$@" 2>&-']) as runner:
+            (result,) = runner.ran(shell(1, "echo one; echo two >&2"))
+        self.assertEqual((result["output"], result["stderr"]), ("one\n", "two\n"))
+
     def test_memory_is_taken_from_plugins_first(self) -> None:
         (result,) = self.ran(shell(1, "cat /proc/$$/oom_score_adj"))
         self.assertEqual(result["output"], "500\n")
@@ -207,6 +212,13 @@ class Troubles(unittest.TestCase):
         told = [it.get("lost", (it.get("end"), it.get("code"))) for it in results]
         self.assertEqual(set(told), {("exited", 2), "/bin/sh: Too many open files"})
         self.assertEqual(len(told), 40)
+
+    def test_no_memory(self) -> None:
+        """A plugin that the kernel ended is lost; one that somebody killed isn't, and neither is one that ended by itself meanwhile."""
+        with self.runner("memory") as runner:
+            results = runner.ran(shell(1, "kill -9 $$"), shell(2, "kill -TERM $$"), shell(3, "exit 2"), shell(4, "sleep 60", 0.5))
+        self.assertEqual([it.get("lost", (it.get("end"), it.get("code"))) for it in results],
+                         ["/bin/sh: Cannot allocate memory", ("signal", signal.SIGTERM), ("exited", 2), ("limit", signal.SIGKILL)])
 
     def test_a_program_that_is_never_loaded(self) -> None:
         """Its limit is kept, and others run meanwhile."""

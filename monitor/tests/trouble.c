@@ -3,6 +3,7 @@
  *   kill   no process can be killed, as one of another user
  *   fork   every second process is refused
  *   pipe   every second pipe is refused
+ *   memory the kernel has ended one process more each time that somebody asks
  *   exec   a program whose name ends with `hangs` is never loaded, as on a file system that doesn't answer
  */
 #define _GNU_SOURCE
@@ -10,6 +11,7 @@
 #include <errno.h>
 #include <fcntl.h>
 #include <signal.h>
+#include <stdio.h>
 #include <stdlib.h>
 #include <string.h>
 #include <sys/types.h>
@@ -48,6 +50,16 @@ int pipe2(int *ends, int flags) {
         return really(ends, flags);
     errno = EMFILE;
     return -1;
+}
+
+FILE *fopen(const char *name, const char *mode) {
+    static char text[64];
+    static int count;
+    FILE *(*really)(const char *, const char *) = (FILE *(*)(const char *, const char *))dlsym(RTLD_NEXT, "fopen");
+    if (!is_named("memory") || strcmp(name, "/proc/vmstat") != 0)
+        return really(name, mode);
+    snprintf(text, sizeof text, "pgfault 9\noom_kill %d\noom_other 0\n", ++count);
+    return fmemopen(text, strlen(text), "r");
 }
 
 int execve(const char *file, char *const *words, char *const *environment) {
