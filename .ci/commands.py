@@ -14,7 +14,7 @@ SCRIPT = r"(?:(?:tools|bench|tests|\.ci|examples)/\w+\.(?:py|sh)|conformance/che
 BEGINS = rf"(?:nagsched|crates/nagsched/out/nagsched|nagios4|bash|cc|\(cd|{SCRIPT})"
 LINE = re.compile(rf"^(?: {{4}}|\$ )?({BEGINS}(?: .*)?)$", re.M)
 SPAN = re.compile(rf"`({BEGINS} [^`\n]*|{SCRIPT})`")
-SYNTAX = re.compile(r"nagsched(?: \w+)?(?: \[.*)?")
+SYNTAX = re.compile(r"nagsched(?: [\w.]+)?(?: \[.*)?")
 
 # The commands that are run here, in a folder with these files: the file that each writes, none where it is standard output, and how
 # what is written begins.
@@ -47,6 +47,7 @@ IN_THE_GATE = {
     "nagsched live --resume": ".ci/resume.py",
     "nagsched live --resume --start NOW": ".ci/resume.py",
     "nagsched check --resume": ".ci/resume.py",
+    "conformance/check": ".ci/run",
     "conformance/check PROGRAM": ".ci/run",
     "cc -IPREFIX/include program.c PREFIX/lib/libnagsched.a -lpthread": ".ci/c_library.py",
     "cc program.c $(pkg-config --cflags --libs PREFIX/lib/pkgconfig/nagsched.pc) -lpthread": ".ci/c_library.py",
@@ -56,6 +57,8 @@ IN_THE_GATE = {
     "tools/build_c.sh && NAGSCHED_LIBRARY=out/c/lib/libnagsched.so PYTHONPATH=bindings/python examples/embed.py [MINUTES]": ".ci/c_library.py",
     "tools/from_nagios.py": ".ci/tools.py",
     "tools/from_nagios.py --parts": ".ci/tools.py",
+    "tools/from_nagios.py --site": ".ci/monitor.py",
+    "tools/from_nagios.py --commands": ".ci/tools.py",
     "tools/from_nagios.py /etc/nagios4/nagios.cfg /var/lib/nagios4/objects.precache > setup.json": ".ci/tools.py",
     "examples/embed.py": ".ci/c_library.py",
     "examples/loop.py": ".ci/c_library.py",
@@ -63,11 +66,14 @@ IN_THE_GATE = {
     "examples/alert_change.py": ".ci/monitor.py",
     "examples/monitor.py": ".ci/monitor.py",
     "examples/monitor.py setup.json commands.json": ".ci/monitor.py",
+    "examples/monitor.py SETUP COMMANDS SECONDS PROGRAM": ".ci/monitor.py",
     "monitor/build_runner.sh": ".ci/monitor.py",
     "tools/install.sh": ".ci/install.py",
     "tools/install.sh [PREFIX]": ".ci/install.py",
     "monitor/nagsched-monitor": ".ci/monitor.py",
     "monitor/nagsched-monitor office": ".ci/monitor.py",
+    "monitor/nagsched-monitor --program crates/nagsched/out/nagsched office": ".ci/monitor.py",
+    "monitor/nagsched-gearman-worker": ".ci/monitor.py",
     "monitor/nagsched-monitor --page 127.0.0.1:8080 office": ".ci/monitor.py",
     'monitor/nagsched-monitor --on-change "examples/mail_change.py monitor@example.org oncall@example.org" office': ".ci/monitor.py",
     'monitor/nagsched-monitor --on-change "examples/alert_change.py http://localhost:9093" office': ".ci/monitor.py",
@@ -92,13 +98,14 @@ BY_HAND = {
 
 def is_by_hand(command):
     """Whether a command is no part of the gate: those of bench/ and of tests/ take minutes, on a machine with nothing else to do."""
-    return command in BY_HAND or re.fullmatch(r"(?:bench|tests)/\w+\.(?:sh|py)", command) is not None
+    return command in BY_HAND or re.fullmatch(r"(?:bench|tests)/\w+\.(?:sh|py)(?: .*)?", command) is not None
 
 
 def is_in_the_gate(command):
     """Whether the gate makes it: a script that it runs, or what one of these makes."""
-    gate = (TOP / ".ci/run").read_text(encoding="utf-8")
-    return IN_THE_GATE.get(command, command if command.endswith(".py") else "nothing") in f"{gate} .ci/run"
+    script = IN_THE_GATE.get(command, command)
+    part = re.fullmatch(r"\.ci/(\w+)\.py", script)
+    return script == ".ci/run" or part is not None and re.search(rf"\b{part[1]}\b", (TOP / ".ci/run").read_text(encoding="utf-8")) is not None
 
 
 def named(page):

@@ -1,21 +1,13 @@
 #!/usr/bin/env python3
-"""Writes docs/FILES.md, a table of files for each crate, from the first sentence of each source file.
+"""Prints the files of crates, each with the first sentence of its comment and the definitions that its contracts use.
 
-    .ci/map.py [--check]     with --check it writes nothing, and ends in status 1 where the page says something else
-
-A file's definitions are those of its own crate that its contracts bring in.
+    .ci/map.py [CRATE ..]     all crates if none is named, lowest layer first
 """
 import pathlib
 import re
 import sys
 
 TOP = pathlib.Path(__file__).resolve().parent.parent
-PAGE = TOP / "docs/FILES.md"
-HEAD = """# The files of each crate
-
-Each file by the first sentence of its own comment; `.ci/map.py` writes this page. [MAP.md](MAP.md) has what the crates are.
-
-"""
 
 
 def first_sentence(file):
@@ -33,35 +25,30 @@ def first_sentence(file):
 def definitions(file, crate):
     """The files of the crate's own definitions that a source file brings in."""
     cited = re.findall(rf"Rattle\.{crate}\.specs\.([A-Z]\w*)", file.read_text(encoding="utf-8"))
-    return ", ".join(f"`{name}`" for name in sorted(set(cited)) if (TOP / f"crates/{crate}/specs/{name}.antt").exists())
+    return ", ".join(name for name in sorted(set(cited)) if (TOP / f"crates/{crate}/specs/{name}.antt").exists())
 
 
 def rows(crate):
-    """A crate's rows: its sources with their definitions, and then the definitions."""
+    """A crate's lines: its sources with their definitions, and then the definitions."""
     folder = TOP / "crates" / crate
     for file in sorted(folder.glob("src/**/*.rt")):
         said = first_sentence(file)
         if said and file.name != "lib.rt":
-            yield f"| `{file.relative_to(folder / 'src')}` | {said} | {definitions(file, crate)} |".replace("|  |", "| |")
+            yield f"  {file.relative_to(folder)}: {said}" + f" ({definitions(file, crate)})" * bool(definitions(file, crate))
     for file in sorted(folder.glob("specs/*.antt")):
         said = first_sentence(file)
         if said:
-            yield f"| `specs/{file.name}` | {said} | |"
-
-
-def tables():
-    """The tables of all crates, lowest layer first."""
-    for line in (TOP / "crates.txt").read_text(encoding="utf-8").splitlines():
-        crate = re.match(r"\w+", line)
-        if crate:
-            yield f"## {crate.group()}\n\n| File | What is in it | Its definitions |\n|---|---|---|\n" + "\n".join(rows(crate.group())) + "\n"
+            yield f"  {file.relative_to(folder)}: {said}"
 
 
 def main():
-    made = HEAD + "\n".join(tables())
-    if "--check" in sys.argv[1:]:
-        return 0 if made == PAGE.read_text(encoding="utf-8") else 1
-    PAGE.write_text(made, encoding="utf-8")
+    crates = re.findall(r"^\w+", (TOP / "crates.txt").read_text(encoding="utf-8"), re.MULTILINE)
+    unknown = [name for name in sys.argv[1:] if name not in crates]
+    if unknown:
+        print(f"map: crates.txt has no crate {unknown[0]}")
+        return 1
+    for crate in sys.argv[1:] or crates:
+        print("\n".join([crate, *rows(crate)]))
     return 0
 
 

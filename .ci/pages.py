@@ -117,7 +117,7 @@ helped((TOP / "docs/FORMATS.md").read_text())
 nagios((TOP / "docs/NAGIOS.md").read_text())
 readme((TOP / "README.md").read_text())
 commands.check(PROGRAM, [TOP / "README.md", *sorted((TOP / "docs").rglob("*.md")), TOP / "conformance/README.md"], compare)
-compare("FILES.md, by .ci/map.py", 0, subprocess.run([sys.executable, TOP / ".ci/map.py", "--check"]).returncode)
+compare("the files of a crate, by .ci/map.py", 0, subprocess.run([sys.executable, TOP / ".ci/map.py", "check_queue"], stdout=subprocess.DEVNULL).returncode)
 for example in wrong:
     print(example)
 print(f"pages: {checked - len(wrong)} passed, {len(wrong)} failed")
