@@ -66,11 +66,8 @@ pub record Rises (es : List Entry) (ps : List ℕ) (n hole : ℕ) (x : Entry) (t
 pub rises : (es : List Entry) (ps : List ℕ) (n hole p : ℕ) (x : Entry) (ts : List (Option ℕ)) → 2 * p + 1 ≤ hole → hole ≤ 2 * p + 2
     → comes_before x (entry_at es p) ≡ true → Rises es ps n hole x ts → Rises (set es hole (entry_at es p)) (set ps (entry_at es p).number hole) n p x ts
 rises es ps n hole p x ts from to before r =
-    let h = r.around in
-    let inside = h.inside in
-    let room = h.linked.room in
-    let is = h.linked.position p (omega arith) (omega arith) in
-    let sizes = length-set ps (entry_at es p).number hole in
+    let h = r.around in let inside = h.inside in let room = h.linked.room in
+    let is = h.linked.position p (omega arith) (omega arith) in let sizes = length-set ps (entry_at es p).number hole in
     let under = r.outside.below in
     record {
       around = hole_moves es ps n hole p h (omega arith) (omega arith) (around_up es n hole p from to inside room h.around);
@@ -78,7 +75,7 @@ rises es ps n hole p x ts from to before r =
       outside = record {
         below = omega arith;
         is = unplaced ps _ x.number hole
-        (λ e. some_position es ps n hole p h.linked (omega arith) (sym is ∙ sym (ap (λ k. position_at ps k) e) ∙ r.outside.is)) ∙ r.outside.is;
+            (λ e. some_position es ps n hole p h.linked (omega arith) (sym is ∙ sym (ap (λ k. position_at ps k) e) ∙ r.outside.is)) ∙ r.outside.is;
       };
       times = times_move es ps n hole p h.linked inside (omega arith) (omega arith) ∙ r.times;
     }
@@ -87,8 +84,7 @@ rises es ps n hole p x ts from to before r =
 pub rests : (es : List Entry) (ps : List ℕ) (n hole : ℕ) (x : Entry) → HasHole es ps n hole → FitsBelow es n hole x → IsOutside ps x.number
     → ((i : ℕ) → 2 * i + 1 ≤ hole → hole ≤ 2 * i + 2 → IsNotBefore x (entry_at es i)) → IsOrdered (set es hole x) (set ps x.number hole) n
 rests es ps n hole x h under out over =
-    let inside = h.inside in
-    let room = h.linked.room in
+    let inside = h.inside in let room = h.linked.room in
     record {
       heap = record {
         order = λ i j b c l. elim (cases_eq i hole) [
@@ -111,9 +107,7 @@ below_parent es hole p x from to before i b c = by _ _ _ _ refl (ap (λ k. entry
 around_down : (es : List Entry) (n hole c : ℕ) → IsFirstChild es n hole c → n ≤ length es → IsHeapAround es n hole
     → IsHeapAround (set es hole (entry_at es c)) n c
 around_down es n hole c child room a =
-    let from = child.from in
-    let to = child.to in
-    let inside = child.within in
+    let from = child.from in let to = child.to in let inside = child.within in
     record {
       order = λ i j u v b d l. elim (cases_eq i hole) [
         | inl e ↦ by _ _ _ _ (unwritten es hole j _ (omega arith)) (written es hole i _ (omega arith) e) (child.first j (omega arith) (omega arith) l)
@@ -134,8 +128,7 @@ pub record Sinks (es : List Entry) (ps : List ℕ) (n hole : ℕ) (ts : List (Op
 pub sinks : (es : List Entry) (ps : List ℕ) (n hole c : ℕ) (ts : List (Option ℕ)) → IsFirstChild es n hole c → Sinks es ps n hole ts
     → Sinks (set es hole (entry_at es c)) (set ps (entry_at es c).number hole) n c ts
 sinks es ps n hole c ts child s =
-    let from = child.from in
-    let h = s.around in
+    let from = child.from in let h = s.around in
     record {
       around = hole_moves es ps n hole c h child.within (omega arith) (around_down es n hole c child h.linked.room h.around);
       times = times_move es ps n hole c h.linked h.inside child.within (omega arith) ∙ s.times;

@@ -70,10 +70,7 @@ write : (es : List Entry) (ps : List ℕ) (n hole next : ℕ) (y : Entry) → Ar
     → ((i : ℕ) → i < n → i ≢ hole → i ≢ next → (entry_at es i).number ≢ y.number)
     → ((k : ℕ) → k ≢ y.number → position_at ps k ≢ absent → position_at ps k ≢ next) → AreLinked (set es hole y) (set ps y.number hole) n next
 write es ps n hole next y a inside under u vacant moved =
-    let room = a.room in
-    let few = a.few in
-    let sizes = a.sizes in
-    let size' = length-set es hole y in
+    let room = a.room in let few = a.few in let sizes = a.sizes in let size' = length-set es hole y in
     let sizes' = length-set ps y.number hole in
     let mine = λ (k : ℕ) (e : k ≡ y.number). placed ps y.number k hole under e in
     record {
@@ -102,13 +99,8 @@ write es ps n hole next y a inside under u vacant moved =
 pub times_write : (es : List Entry) (ps : List ℕ) (n hole : ℕ) (y : Entry) → AreLinked es ps n hole → hole < n → y.number < length ps
     → times_in (set es hole y) (set ps y.number hole) ≡ set (times_in es ps) y.number (Some y.time)
 times_write es ps n hole y a inside under =
-    let room = a.room in
-    let few = a.few in
-    let es' = set es hole y in
-    let ps' = set ps y.number hole in
-    let long = times_length es ps in
-    let long' = times_length es' ps' in
-    let size = length-set ps y.number hole in
+    let room = a.room in let few = a.few in let es' = set es hole y in let ps' = set ps y.number hole in
+    let long = times_length es ps in let long' = times_length es' ps' in let size = length-set ps y.number hole in
     let size' = length-set (times_in es ps) y.number (Some y.time) in
     ext_get_or None _ _ (omega arith) (λ k l. time_is es' ps' k ∙ elim (cases_eq k y.number) [
       | inl e ↦ ap (λ p. time_from es' p) (placed ps y.number k hole under e) ∙ time_there es' hole (λ f. absurd (omega (arith, f)))
@@ -124,17 +116,14 @@ times_write es ps n hole y a inside under =
 pub links_move : (es : List Entry) (ps : List ℕ) (n hole q : ℕ) → AreLinked es ps n hole → hole < n → q < n → q ≢ hole
     → AreLinked (set es hole (entry_at es q)) (set ps (entry_at es q).number hole) n q
 links_move es ps n hole q a inside l u =
-    let room = a.room in
-    let few = a.few in
-    let is = a.position q l u in
+    let room = a.room in let few = a.few in let is = a.position q l u in
     write es ps n hole q (entry_at es q) a inside (below ps _ q is (omega arith)) (λ e. u (sym e))
     (λ i m v w e. w (sym (a.position i m v) ∙ ap (λ k. position_at ps k) e ∙ is)) (λ k v w e. v (sym (number_there es ps n hole q k a l e)))
 
 pub times_move : (es : List Entry) (ps : List ℕ) (n hole q : ℕ) → AreLinked es ps n hole → hole < n → q < n → q ≢ hole
     → times_in (set es hole (entry_at es q)) (set ps (entry_at es q).number hole) ≡ times_in es ps
 times_move es ps n hole q a inside l u =
-    let room = a.room in
-    let few = a.few in
+    let room = a.room in let few = a.few in
     let e : Entry = entry_at es q in
     let is = a.position q l u in
     let time : time_at (times_in es ps) e.number ≡ Some e.time =
@@ -155,10 +144,8 @@ pub links_end : (es : List Entry) (ps : List ℕ) (n m hole : ℕ) → n ≡ m +
     → AreLinked es (set ps (entry_at es m).number absent) m hole
 links_end es ps n m hole e inside a =
     let k = (entry_at es m).number in
-    let room = a.room in let few = a.few in let sizes = a.sizes in
-    let sizes' = length-set ps k absent in
-    let last = a.position m (omega arith) (omega arith) in
-    let under = below ps k m last (omega arith) in
+    let room = a.room in let few = a.few in let sizes = a.sizes in let sizes' = length-set ps k absent in
+    let last = a.position m (omega arith) (omega arith) in let under = below ps k m last (omega arith) in
     record {
       room = omega arith;
       few = few;
@@ -198,9 +185,8 @@ pub end_put_back : (es : List Entry) (ps : List ℕ) (n m hole : ℕ) → n ≡ 
     → set (times_in es (set ps (entry_at es m).number absent)) (entry_at es m).number (Some (entry_at es m).time) ≡ times_in es ps
 end_put_back es ps n m hole e inside a =
     let x : Entry = entry_at es m in
-    let ts = times_in es ps in
-    let last = a.position m (omega arith) (omega arith) in
+    let ts = times_in es ps in let last = a.position m (omega arith) (omega arith) in
     let time : time_at ts x.number ≡ Some x.time =
-        time_is es ps x.number ∙ ap (λ p. time_from es p) last ∙ time_there es m (some_position es ps n hole m a (omega arith)) in
+    time_is es ps x.number ∙ ap (λ p. time_from es p) last ∙ time_there es m (some_position es ps n hole m a (omega arith)) in
     ap (λ u. set u x.number (Some x.time)) (without es ps x.number) ∙ set-set ts x.number None (Some x.time)
     ∙ ap (λ o. set ts x.number o) (sym time) ∙ set-get_or ts x.number None

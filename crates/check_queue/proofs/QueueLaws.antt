@@ -1,5 +1,5 @@
 -- What the calls of the queue leave.
-use Rattle.std.proofs.Common.{◌≡◌, ◌≢◌, ℕ, zero, suc, ◌+◌, ◌<◌, ◌≤◌, ◌^◌, false, cond, List, ◌∷◌, length, Option, Some, None, replicate, Vec, Global}
+use Rattle.std.proofs.Common.{◌≡◌, ◌≢◌, ℕ, zero, suc, ◌+◌, ◌<◌, ◌^◌, false, cond, List, ◌∷◌, length, Option, Some, None, replicate, Vec, Global}
 use Rattle.std.proofs.Common.{refl, sym, ap, ◌∙◌, arith, inl, inr}
 use Rattle.std.specs.Prelude.{count_by, is_some, option_map}
 use Rattle.std.specs.Vec.{with_items}
@@ -52,10 +52,7 @@ found es ps n k p a e = elim (cases_eq (position_at ps k) absent) [
   | inr u ↦
       let some = present (position_at ps k) u in
       let at : position_at ps k ≡ p = cc in
-      let inside = (a.entry k u).within in
-      let room = a.room in
-      let few = a.few in
-      let long = times_length es ps in
+      let inside = (a.entry k u).within in let room = a.room in let few = a.few in let long = times_length es ps in
       let under = below ps k p at (omega arith) in
       record {
         at = at;
@@ -84,8 +81,7 @@ pub settles : (v : Vec Entry Global) (w : Vec ℕ Global) (es : List Entry) (ps 
 settles v w es ps n ts long long' ordered times size =
     let sizes = ordered.linked.sizes in
     let same = sym (times_length es ps) ∙ ap length times in
-    let held = v.ok.0 in
-    let held' = w.ok.0 in
+    let held = v.ok.0 in let held' = w.ok.0 in
     rw (with_items_is v es (omega arith), with_items_is w ps (omega arith)) (record { ordered = ordered; times = times; size = ap count times ∙ size })
 
 -- the entries but that at the hole are a heap
@@ -110,12 +106,8 @@ pub record Takes (es : List Entry) (ps : List ℕ) (n hole : ℕ) (x : Entry) (t
 pub takes_new : (es : List Entry) (ps : List ℕ) (n k t : ℕ) → IsOrdered es ps n → count (times_in es ps) ≡ n → k < length (times_in es ps)
     → time_at (times_in es ps) k ≡ None → Takes es ps (n + 1) n (record { time = t; number = k }) (set (times_in es ps) k (Some t))
 takes_new es ps n k t o size below none =
-    let a = o.linked in
-    let few = a.few in
-    let sizes = a.sizes in
-    let long = times_length es ps in
-    let long' = length-set (times_in es ps) k (Some t) in
-    let room = has_room (times_in es ps) k below none in
+    let a = o.linked in let few = a.few in let sizes = a.sizes in let long = times_length es ps in
+    let long' = length-set (times_in es ps) k (Some t) in let room = has_room (times_in es ps) k below none in
     let more : count (set (times_in es ps) k (Some t)) + 0 ≡ count (times_in es ps) + 1 = counted (times_in es ps) k (Some t) None below none in
     record {
       around = record {
@@ -140,9 +132,7 @@ takes_new es ps n k t o size below none =
 -- number k leaves position p, which is the hole then
 vacates : (es : List Entry) (ps : List ℕ) (n k p : ℕ) → AreLinked es ps n n → IsFound es ps n k p → AreLinked es (set ps k absent) n p
 vacates es ps n k p a f =
-    let sizes = a.sizes in
-    let sizes' = length-set ps k absent in
-    let long = times_length es ps in
+    let sizes = a.sizes in let sizes' = length-set ps k absent in let long = times_length es ps in
     let under = f.below in
     record {
       room = a.room;
@@ -173,8 +163,7 @@ pub leaves : (es : List Entry) (ps : List ℕ) (n k p : ℕ) → IsOrdered es ps
 leaves es ps n k p o size e =
     let f = found es ps n k p o.linked e in
     let less : count (set (times_in es ps) k None) + 1 ≡ count (times_in es ps) + 0 = counted (times_in es ps) k None (Some _) f.below f.time in
-    let sizes = length-set ps k absent in
-    let long = times_length es ps in
+    let sizes = length-set ps k absent in let long = times_length es ps in
     let long' = length-set (times_in es ps) k None in
     record {
       around = record { inside = f.inside; around = around es n n p (λ j l u. l) o.heap; linked = vacates es ps n k p o.linked f };

@@ -43,12 +43,7 @@ pub(crate) fn sift_up(
 /// where it hasn't two children; from there the last entry, which mostly belongs low, rises to where
 /// it fits. Where the hole came to the last position, the last entry has moved already, or it was the
 /// one that left.
-pub(crate) fn close_hole(
-    entries: &mut [Entry],
-    positions: &mut [u32],
-    len: usize,
-    mut hole: usize,
-)
+pub(crate) fn close_hole(entries: &mut [Entry], positions: &mut [u32], len: usize, mut hole: usize)
     requires { HasHole entries.old positions.old len hole }
     ensures ordered { IsOrdered entries.new positions.new (len - 1) }
     ensures times { times_in entries.new positions.new ≡ times_in entries.old positions.old }

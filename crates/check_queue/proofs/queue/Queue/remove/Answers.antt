@@ -1,4 +1,4 @@
-use Rattle.std.proofs.Common.{length, Some, None, sym, ap, ◌∙◌, arith}
+use Rattle.std.proofs.Common.{length, None, sym, ap, ◌∙◌, arith}
 use Rattle.std.specs.Vec.{with_item}
 use Rattle.std.proofs.Math.ListN.{set}
 use Rattle.check_queue.specs.Positions.{absent, position_of, times_in}
@@ -17,7 +17,7 @@ left : (c : After-deref_mut-2)
     (set (times_in c.self.inside.entries.items c.self.inside.positions.items) c.args.number None)
 left c =
     rw (c.deref_mut.ensures.value, c.deref_mut-2.ensures.value) (leaves _ _ _ c.args.number _ c.self.invariant.ordered c.self.invariant.size
-      (sym (c.position_of.ensures ∙ ap (λ ps. position_of ps c.args.number) c.deref.ensures.value) ∙ c.in-Some.is))
+    (sym (c.position_of.ensures ∙ ap (λ ps. position_of ps c.args.number) c.deref.ensures.value) ∙ c.in-Some.is))
 
 pub close_hole-requires : goal.close_hole-requires
 close_hole-requires c = (left (goal.at.close_hole-requires c).After-deref_mut-2).around
