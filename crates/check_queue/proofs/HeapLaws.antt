@@ -5,10 +5,10 @@ use Rattle.std.proofs.lemmas.Bool.{cases_eq}
 use Rattle.std.proofs.lemmas.List.{length-set}
 use Rattle.check_queue.specs.declared.entry.Entry.{Entry}
 use Rattle.check_queue.specs.Entries.{IsNotBefore, comes_before, entry_at}
-use Rattle.check_queue.specs.Positions.{position_at, times_in}
+use Rattle.check_queue.specs.Positions.{absent, position_at, times_in, IsOutside}
 use Rattle.check_queue.specs.Heap.{IsHeap, IsHeapAround, FitsBelow, HasHole, IsOrdered, IsFirstChild}
 use Rattle.check_queue.proofs.EntryLaws.{by, no_later, not_itself, one_way}
-use Rattle.check_queue.proofs.PositionLaws.{links_close, links_move, some_position, times_move, unplaced, unwritten, written}
+use Rattle.check_queue.proofs.PositionLaws.{links_close, links_end, links_move, links_shorter, some_position, times_move, unplaced, unwritten, written}
 
 -- ---- the root
 
@@ -25,19 +25,9 @@ root_first es n h (suc fuel) k a b = elim (cases_eq k 0) [
 
 -- ---- a move of the hole
 
-hole_moves : (es : List Entry) (ps : List ℕ) (n hole q : ℕ) (x : Entry) → HasHole es ps n hole x → q < n → q ≢ hole
-    → IsHeapAround (set es hole (entry_at es q)) n q → HasHole (set es hole (entry_at es q)) (set ps (entry_at es q).number hole) n q x
-hole_moves es ps n hole q x h l u around =
-    let is = h.linked.position q l u in
-    let sizes = length-set ps (entry_at es q).number hole in
-    let under = h.below in
-    record {
-      inside = l;
-      around = around;
-      linked = links_move es ps n hole q h.linked h.inside l u;
-      outside = unplaced ps _ x.number hole (λ e. some_position es ps n hole q h.linked l (sym is ∙ sym (ap (λ k. position_at ps k) e) ∙ h.outside)) ∙ h.outside;
-      below = omega arith;
-    }
+hole_moves : (es : List Entry) (ps : List ℕ) (n hole q : ℕ) → HasHole es ps n hole → q < n → q ≢ hole
+    → IsHeapAround (set es hole (entry_at es q)) n q → HasHole (set es hole (entry_at es q)) (set ps (entry_at es q).number hole) n q
+hole_moves es ps n hole q h l u around = record { inside = l; around = around; linked = links_move es ps n hole q h.linked h.inside l u }
 
 -- ---- up
 
@@ -68,28 +58,33 @@ below_up es n hole p x from inside room before a = record {
 
 -- what the loop up keeps
 pub record Rises (es : List Entry) (ps : List ℕ) (n hole : ℕ) (x : Entry) (ts : List (Option ℕ)) : Type 0 where
-  pub around : HasHole es ps n hole x
+  pub around : HasHole es ps n hole
   pub below : FitsBelow es n hole x
+  pub outside : IsOutside ps x.number
   pub times : times_in es ps ≡ ts
 
 pub rises : (es : List Entry) (ps : List ℕ) (n hole p : ℕ) (x : Entry) (ts : List (Option ℕ)) → 2 * p + 1 ≤ hole → hole ≤ 2 * p + 2
     → comes_before x (entry_at es p) ≡ true → Rises es ps n hole x ts → Rises (set es hole (entry_at es p)) (set ps (entry_at es p).number hole) n p x ts
 rises es ps n hole p x ts from to before r =
-    let h = r.around in
-    let inside = h.inside in
-    let room = h.linked.room in
+    let h = r.around in let inside = h.inside in let room = h.linked.room in
+    let is = h.linked.position p (omega arith) (omega arith) in let sizes = length-set ps (entry_at es p).number hole in
+    let under = r.outside.below in
     record {
-      around = hole_moves es ps n hole p x h (omega arith) (omega arith) (around_up es n hole p from to inside room h.around);
+      around = hole_moves es ps n hole p h (omega arith) (omega arith) (around_up es n hole p from to inside room h.around);
       below = below_up es n hole p x from inside room before h.around;
+      outside = record {
+        below = omega arith;
+        is = unplaced ps _ x.number hole
+            (λ e. some_position es ps n hole p h.linked (omega arith) (sym is ∙ sym (ap (λ k. position_at ps k) e) ∙ r.outside.is)) ∙ r.outside.is;
+      };
       times = times_move es ps n hole p h.linked inside (omega arith) (omega arith) ∙ r.times;
     }
 
 -- x fits between what is above the hole and what is below
-pub rests : (es : List Entry) (ps : List ℕ) (n hole : ℕ) (x : Entry) → HasHole es ps n hole x → FitsBelow es n hole x
+pub rests : (es : List Entry) (ps : List ℕ) (n hole : ℕ) (x : Entry) → HasHole es ps n hole → FitsBelow es n hole x → IsOutside ps x.number
     → ((i : ℕ) → 2 * i + 1 ≤ hole → hole ≤ 2 * i + 2 → IsNotBefore x (entry_at es i)) → IsOrdered (set es hole x) (set ps x.number hole) n
-rests es ps n hole x h under over =
-    let inside = h.inside in
-    let room = h.linked.room in
+rests es ps n hole x h under out over =
+    let inside = h.inside in let room = h.linked.room in
     record {
       heap = record {
         order = λ i j b c l. elim (cases_eq i hole) [
@@ -100,7 +95,7 @@ rests es ps n hole x h under over =
           ]
         ];
       };
-      linked = links_close es ps n hole x h;
+      linked = links_close es ps n hole x h.linked inside out;
     }
 
 pub below_parent : (es : List Entry) (hole p : ℕ) (x : Entry) → 2 * p + 1 ≤ hole → hole ≤ 2 * p + 2 → comes_before x (entry_at es p) ≡ false
@@ -112,9 +107,7 @@ below_parent es hole p x from to before i b c = by _ _ _ _ refl (ap (λ k. entry
 around_down : (es : List Entry) (n hole c : ℕ) → IsFirstChild es n hole c → n ≤ length es → IsHeapAround es n hole
     → IsHeapAround (set es hole (entry_at es c)) n c
 around_down es n hole c child room a =
-    let from = child.from in
-    let to = child.to in
-    let inside = child.within in
+    let from = child.from in let to = child.to in let inside = child.within in
     record {
       order = λ i j u v b d l. elim (cases_eq i hole) [
         | inl e ↦ by _ _ _ _ (unwritten es hole j _ (omega arith)) (written es hole i _ (omega arith) e) (child.first j (omega arith) (omega arith) l)
@@ -127,16 +120,35 @@ around_down es n hole c child room a =
           by _ _ _ _ (unwritten es hole j _ (omega arith)) (written es hole i _ (omega arith) (omega arith)) (a.order c j (omega arith) (omega arith) f g l);
     }
 
-pub sinks : (es : List Entry) (ps : List ℕ) (n hole c : ℕ) (x : Entry) → IsFirstChild es n hole c → HasHole es ps n hole x
-    → HasHole (set es hole (entry_at es c)) (set ps (entry_at es c).number hole) n c x
-sinks es ps n hole c x child h =
-    let from = child.from in
-    hole_moves es ps n hole c x h child.within (omega arith) (around_down es n hole c child h.linked.room h.around)
+-- what the loop down keeps
+pub record Sinks (es : List Entry) (ps : List ℕ) (n hole : ℕ) (ts : List (Option ℕ)) : Type 0 where
+  pub around : HasHole es ps n hole
+  pub times : times_in es ps ≡ ts
 
--- the last entry, where it has no sibling
-pub only_child : (es : List Entry) (n hole c : ℕ) → c ≡ 2 * hole + 1 → n ≡ c + 1 → IsFirstChild es n hole c
-only_child es n hole c e last =
-    record { from = omega arith; to = omega arith; within = omega arith; first = λ j b d l. itself es j c (omega arith) }
+pub sinks : (es : List Entry) (ps : List ℕ) (n hole c : ℕ) (ts : List (Option ℕ)) → IsFirstChild es n hole c → Sinks es ps n hole ts
+    → Sinks (set es hole (entry_at es c)) (set ps (entry_at es c).number hole) n c ts
+sinks es ps n hole c ts child s =
+    let from = child.from in let h = s.around in
+    record {
+      around = hole_moves es ps n hole c h child.within (omega arith) (around_down es n hole c child h.linked.room h.around);
+      times = times_move es ps n hole c h.linked h.inside child.within (omega arith) ∙ s.times;
+    }
 
-pub no_child : (es : List Entry) (n hole : ℕ) (x : Entry) → n ≤ 2 * hole + 1 → FitsBelow es n hole x
-no_child es n hole x e = record { below = λ j b c l. absurd (omega arith) }
+-- the last entry is taken out
+pub ends : (es : List Entry) (ps : List ℕ) (n m hole : ℕ) → n ≡ m + 1 → hole < m → HasHole es ps n hole
+    → HasHole es (set ps (entry_at es m).number absent) m hole
+ends es ps n m hole e inside h = record {
+  inside = inside;
+  around = record {
+    order = λ i j u v b c l. h.around.order i j u v b c (omega arith);
+    across = λ i j b c d f l. h.around.across i j b c d f (omega arith);
+  };
+  linked = links_end es ps n m hole e inside h.linked;
+}
+
+-- the hole is at the end
+pub shorter : (es : List Entry) (ps : List ℕ) (n m : ℕ) → n ≡ m + 1 → HasHole es ps n m → IsOrdered es ps m
+shorter es ps n m e h = record {
+  heap = record { order = λ i j b c l. h.around.order i j (omega arith) (omega arith) b c (omega arith) };
+  linked = links_shorter es ps n m e h.linked;
+}

@@ -1,14 +1,13 @@
 -- Reads and writes of entries and positions, and the times that they make.
-use Rattle.std.proofs.Common.{◌≡◌, ◌≢◌, ℕ, ◌<◌, false, ◌==◌, List, length, Some, None, refl, sym, ap, ◌∙◌, arith, inl, inr}
+use Rattle.std.proofs.Common.{◌≡◌, ◌≢◌, ℕ, ◌+◌, ◌<◌, false, ◌==◌, List, length, Some, None, refl, sym, ap, ◌∙◌, arith, inl, inr}
 use Rattle.std.specs.Prelude.{option_map}
 use Rattle.std.proofs.Math.ListN.{set, get_or-map}
 use Rattle.std.proofs.lemmas.Bool.{cases_eq, cases_lt}
 use Rattle.std.proofs.lemmas.Bool.Decides.{nat_tests}
-use Rattle.std.proofs.lemmas.List.{ext_get_or, get_or-set_same, get_or-set_other, get_or_past, length-map, length-set, set-get_or}
+use Rattle.std.proofs.lemmas.List.{ext_get_or, get_or-set_same, get_or-set_other, get_or_past, length-map, length-set, map-set, set-get_or, set-set}
 use Rattle.check_queue.specs.declared.entry.Entry.{Entry}
 use Rattle.check_queue.specs.Entries.{entry_at}
-use Rattle.check_queue.specs.Positions.{absent, position_at, position_from, time_from, times_in, AreLinked}
-use Rattle.check_queue.specs.Heap.{HasHole}
+use Rattle.check_queue.specs.Positions.{absent, position_at, position_from, time_from, times_in, AreLinked, IsOutside}
 use Rattle.check_queue.proofs.TimesLaws.{time_at}
 
 -- what is read past the entries
@@ -71,10 +70,7 @@ write : (es : List Entry) (ps : List ℕ) (n hole next : ℕ) (y : Entry) → Ar
     → ((i : ℕ) → i < n → i ≢ hole → i ≢ next → (entry_at es i).number ≢ y.number)
     → ((k : ℕ) → k ≢ y.number → position_at ps k ≢ absent → position_at ps k ≢ next) → AreLinked (set es hole y) (set ps y.number hole) n next
 write es ps n hole next y a inside under u vacant moved =
-    let room = a.room in
-    let few = a.few in
-    let sizes = a.sizes in
-    let size' = length-set es hole y in
+    let room = a.room in let few = a.few in let sizes = a.sizes in let size' = length-set es hole y in
     let sizes' = length-set ps y.number hole in
     let mine = λ (k : ℕ) (e : k ≡ y.number). placed ps y.number k hole under e in
     record {
@@ -100,16 +96,11 @@ write es ps n hole next y a inside under u vacant moved =
     }
 
 -- and the times are those from before, but for that of y
-times_write : (es : List Entry) (ps : List ℕ) (n hole : ℕ) (y : Entry) → AreLinked es ps n hole → hole < n → y.number < length ps
+pub times_write : (es : List Entry) (ps : List ℕ) (n hole : ℕ) (y : Entry) → AreLinked es ps n hole → hole < n → y.number < length ps
     → times_in (set es hole y) (set ps y.number hole) ≡ set (times_in es ps) y.number (Some y.time)
 times_write es ps n hole y a inside under =
-    let room = a.room in
-    let few = a.few in
-    let es' = set es hole y in
-    let ps' = set ps y.number hole in
-    let long = times_length es ps in
-    let long' = times_length es' ps' in
-    let size = length-set ps y.number hole in
+    let room = a.room in let few = a.few in let es' = set es hole y in let ps' = set ps y.number hole in
+    let long = times_length es ps in let long' = times_length es' ps' in let size = length-set ps y.number hole in
     let size' = length-set (times_in es ps) y.number (Some y.time) in
     ext_get_or None _ _ (omega arith) (λ k l. time_is es' ps' k ∙ elim (cases_eq k y.number) [
       | inl e ↦ ap (λ p. time_from es' p) (placed ps y.number k hole under e) ∙ time_there es' hole (λ f. absurd (omega (arith, f)))
@@ -125,17 +116,14 @@ times_write es ps n hole y a inside under =
 pub links_move : (es : List Entry) (ps : List ℕ) (n hole q : ℕ) → AreLinked es ps n hole → hole < n → q < n → q ≢ hole
     → AreLinked (set es hole (entry_at es q)) (set ps (entry_at es q).number hole) n q
 links_move es ps n hole q a inside l u =
-    let room = a.room in
-    let few = a.few in
-    let is = a.position q l u in
+    let room = a.room in let few = a.few in let is = a.position q l u in
     write es ps n hole q (entry_at es q) a inside (below ps _ q is (omega arith)) (λ e. u (sym e))
     (λ i m v w e. w (sym (a.position i m v) ∙ ap (λ k. position_at ps k) e ∙ is)) (λ k v w e. v (sym (number_there es ps n hole q k a l e)))
 
 pub times_move : (es : List Entry) (ps : List ℕ) (n hole q : ℕ) → AreLinked es ps n hole → hole < n → q < n → q ≢ hole
     → times_in (set es hole (entry_at es q)) (set ps (entry_at es q).number hole) ≡ times_in es ps
 times_move es ps n hole q a inside l u =
-    let room = a.room in
-    let few = a.few in
+    let room = a.room in let few = a.few in
     let e : Entry = entry_at es q in
     let is = a.position q l u in
     let time : time_at (times_in es ps) e.number ≡ Some e.time =
@@ -144,14 +132,61 @@ times_move es ps n hole q a inside l u =
     ∙ ap (λ o. set (times_in es ps) e.number o) (sym time) ∙ set-get_or (times_in es ps) e.number None
 
 -- the entry that is held is written to the hole
-pub links_close : (es : List Entry) (ps : List ℕ) (n hole : ℕ) (x : Entry) → HasHole es ps n hole x → AreLinked (set es hole x) (set ps x.number hole) n n
-links_close es ps n hole x h =
-    let a = h.linked in
-    let inside = h.inside in
-    write es ps n hole n x a inside h.below (λ e. absurd (omega (arith, e)))
-    (λ i m v w e. some_position es ps n hole i a m (sym (a.position i m v) ∙ ap (λ k. position_at ps k) e ∙ h.outside))
+pub links_close : (es : List Entry) (ps : List ℕ) (n hole : ℕ) (x : Entry) → AreLinked es ps n hole → hole < n → IsOutside ps x.number
+    → AreLinked (set es hole x) (set ps x.number hole) n n
+links_close es ps n hole x a inside out =
+    write es ps n hole n x a inside out.below (λ e. absurd (omega (arith, e)))
+    (λ i m v w e. some_position es ps n hole i a m (sym (a.position i m v) ∙ ap (λ k. position_at ps k) e ∙ out.is))
     (λ k v w e. let at = (a.entry k w).within in absurd (omega (arith, at, e)))
 
-pub times_close : (es : List Entry) (ps : List ℕ) (n hole : ℕ) (x : Entry) → HasHole es ps n hole x
-    → times_in (set es hole x) (set ps x.number hole) ≡ set (times_in es ps) x.number (Some x.time)
-times_close es ps n hole x h = times_write es ps n hole x h.linked h.inside h.below
+-- the last of n entries is taken out
+pub links_end : (es : List Entry) (ps : List ℕ) (n m hole : ℕ) → n ≡ m + 1 → hole < m → AreLinked es ps n hole
+    → AreLinked es (set ps (entry_at es m).number absent) m hole
+links_end es ps n m hole e inside a =
+    let k = (entry_at es m).number in
+    let room = a.room in let few = a.few in let sizes = a.sizes in let sizes' = length-set ps k absent in
+    let last = a.position m (omega arith) (omega arith) in let under = below ps k m last (omega arith) in
+    record {
+      room = omega arith;
+      few = few;
+      sizes = omega arith;
+      position = λ i l u.
+          let is = a.position i (omega arith) u in
+          unplaced ps k _ absent (λ f. let g : i ≡ m = sym is ∙ ap (λ j. position_at ps j) f ∙ last in absurd (omega arith)) ∙ is;
+      entry = λ j v.
+          let u : j ≢ k = λ f. v (placed ps k j absent under f) in
+          let same = unplaced ps k j absent u in
+          let at = a.entry j (λ f. v (same ∙ f)) in
+          let within = at.within in
+          let other : position_at ps j ≢ m = λ f. u (sym (number_there es ps n hole m j a (omega arith) f)) in
+          rw same (record { within = omega (arith, within, other, e); apart = at.apart; number = at.number });
+    }
+
+-- where the hole is the last of n positions, it goes
+pub links_shorter : (es : List Entry) (ps : List ℕ) (n m : ℕ) → n ≡ m + 1 → AreLinked es ps n m → AreLinked es ps m m
+links_shorter es ps n m e a =
+    let room = a.room in
+    record {
+      room = omega arith;
+      few = a.few;
+      sizes = a.sizes;
+      position = λ i l u. a.position i (omega arith) u;
+      entry = λ j v.
+          let at = a.entry j v in let within = at.within in let apart = at.apart in
+          record { within = omega (arith, within, apart, e); apart = apart; number = at.number };
+    }
+
+-- a number that is taken out has no time
+pub without : (es : List Entry) (ps : List ℕ) (k : ℕ) → times_in es (set ps k absent) ≡ set (times_in es ps) k None
+without es ps k = map-set (time_from es) ps k absent
+
+-- the last entry, put back
+pub end_put_back : (es : List Entry) (ps : List ℕ) (n m hole : ℕ) → n ≡ m + 1 → hole < m → AreLinked es ps n hole
+    → set (times_in es (set ps (entry_at es m).number absent)) (entry_at es m).number (Some (entry_at es m).time) ≡ times_in es ps
+end_put_back es ps n m hole e inside a =
+    let x : Entry = entry_at es m in
+    let ts = times_in es ps in let last = a.position m (omega arith) (omega arith) in
+    let time : time_at ts x.number ≡ Some x.time =
+    time_is es ps x.number ∙ ap (λ p. time_from es p) last ∙ time_there es m (some_position es ps n hole m a (omega arith)) in
+    ap (λ u. set u x.number (Some x.time)) (without es ps x.number) ∙ set-set ts x.number None (Some x.time)
+    ∙ ap (λ o. set ts x.number o) (sym time) ∙ set-get_or ts x.number None

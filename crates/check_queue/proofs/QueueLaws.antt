@@ -1,20 +1,20 @@
 -- What the calls of the queue leave.
-use Rattle.std.proofs.Common.{◌≡◌, ◌≢◌, ℕ, zero, suc, ◌+◌, ◌<◌, ◌≤◌, ◌^◌, false, cond, List, ◌∷◌, length, Option, Some, None, replicate, Vec, Global}
+use Rattle.std.proofs.Common.{◌≡◌, ◌≢◌, ℕ, zero, suc, ◌+◌, ◌<◌, ◌^◌, false, cond, List, ◌∷◌, length, Option, Some, None, replicate, Vec, Global}
 use Rattle.std.proofs.Common.{refl, sym, ap, ◌∙◌, arith, inl, inr}
 use Rattle.std.specs.Prelude.{count_by, is_some, option_map}
 use Rattle.std.specs.Vec.{with_items}
 use Rattle.std.proofs.Math.ListN.{set}
 use Rattle.std.proofs.lemmas.Bool.{cases_eq}
-use Rattle.std.proofs.lemmas.List.{length-replicate, length-set, map-set, set-get_or, set-set, with_items_is}
+use Rattle.std.proofs.lemmas.List.{length-replicate, length-set, set-get_or, with_items_is}
 use Rattle.std.proofs.lemmas.List.Sums.{sum_by-set, count_by-le-length}
 use Rattle.check_queue.specs.declared.entry.Entry.{Entry}
 use Rattle.check_queue.specs.Entries.{entry_at}
 use Rattle.check_queue.specs.Order.{is_before, least}
 use Rattle.check_queue.specs.Times.{pairs_of}
-use Rattle.check_queue.specs.Positions.{absent, position_at, position_from, position_of, time_from, times_in, AreLinked}
+use Rattle.check_queue.specs.Positions.{absent, position_at, position_from, position_of, time_from, times_in, AreLinked, IsOutside}
 use Rattle.check_queue.specs.Heap.{IsHeap, IsHeapAround, HasHole, IsOrdered}
 use Rattle.check_queue.proofs.EntryLaws.{by, no_later}
-use Rattle.check_queue.proofs.PositionLaws.{below, number_there, placed, present, some_position, time_is, time_nowhere, time_there, times_length, unplaced}
+use Rattle.check_queue.proofs.PositionLaws.{below, number_there, placed, present, some_position, time_is, time_nowhere, time_there, times_length, unplaced, without}
 use Rattle.check_queue.proofs.HeapLaws.{root_first}
 use Rattle.check_queue.proofs.LeastLaws.{least_found}
 use Rattle.check_queue.proofs.TimesLaws.{least_by_times, none_by_times, time_at}
@@ -46,16 +46,13 @@ pub record IsFound (es : List Entry) (ps : List ℕ) (n k p : ℕ) : Type 0 wher
   pub below : k < length (times_in es ps)
   pub time : time_at (times_in es ps) k ≡ Some (entry_at es p).time
 
-pub found : (es : List Entry) (ps : List ℕ) (n k p : ℕ) → AreLinked es ps n n → position_of ps k ≡ Some p → IsFound es ps n k p
+found : (es : List Entry) (ps : List ℕ) (n k p : ℕ) → AreLinked es ps n n → position_of ps k ≡ Some p → IsFound es ps n k p
 found es ps n k p a e = elim (cases_eq (position_at ps k) absent) [
   | inl f ↦ let none : position_of ps k ≡ None = ap (λ q. position_from q) f in cc
   | inr u ↦
       let some = present (position_at ps k) u in
       let at : position_at ps k ≡ p = cc in
-      let inside = (a.entry k u).within in
-      let room = a.room in
-      let few = a.few in
-      let long = times_length es ps in
+      let inside = (a.entry k u).within in let room = a.room in let few = a.few in let long = times_length es ps in
       let under = below ps k p at (omega arith) in
       record {
         at = at;
@@ -84,8 +81,7 @@ pub settles : (v : Vec Entry Global) (w : Vec ℕ Global) (es : List Entry) (ps 
 settles v w es ps n ts long long' ordered times size =
     let sizes = ordered.linked.sizes in
     let same = sym (times_length es ps) ∙ ap length times in
-    let held = v.ok.0 in
-    let held' = w.ok.0 in
+    let held = v.ok.0 in let held' = w.ok.0 in
     rw (with_items_is v es (omega arith), with_items_is w ps (omega arith)) (record { ordered = ordered; times = times; size = ap count times ∙ size })
 
 -- the entries but that at the hole are a heap
@@ -99,9 +95,10 @@ around es n m hole within h = record {
 
 -- ---- a number more
 
--- what sifting asks of the heap, and the count of its times
+-- an entry may rise from the hole, and leaves the times ts
 pub record Takes (es : List Entry) (ps : List ℕ) (n hole : ℕ) (x : Entry) (ts : List (Option ℕ)) : Type 0 where
-  pub around : HasHole es ps n hole x
+  pub around : HasHole es ps n hole
+  pub outside : IsOutside ps x.number
   pub long : length ts ≡ length ps
   pub times : set (times_in es ps) x.number (Some x.time) ≡ ts
   pub size : count ts ≡ n
@@ -109,12 +106,8 @@ pub record Takes (es : List Entry) (ps : List ℕ) (n hole : ℕ) (x : Entry) (t
 pub takes_new : (es : List Entry) (ps : List ℕ) (n k t : ℕ) → IsOrdered es ps n → count (times_in es ps) ≡ n → k < length (times_in es ps)
     → time_at (times_in es ps) k ≡ None → Takes es ps (n + 1) n (record { time = t; number = k }) (set (times_in es ps) k (Some t))
 takes_new es ps n k t o size below none =
-    let a = o.linked in
-    let few = a.few in
-    let sizes = a.sizes in
-    let long = times_length es ps in
-    let long' = length-set (times_in es ps) k (Some t) in
-    let room = has_room (times_in es ps) k below none in
+    let a = o.linked in let few = a.few in let sizes = a.sizes in let long = times_length es ps in
+    let long' = length-set (times_in es ps) k (Some t) in let room = has_room (times_in es ps) k below none in
     let more : count (set (times_in es ps) k (Some t)) + 0 ≡ count (times_in es ps) + 1 = counted (times_in es ps) k (Some t) None below none in
     record {
       around = record {
@@ -127,9 +120,8 @@ takes_new es ps n k t o size below none =
           position = λ i l u. a.position i (omega arith) u;
           entry = λ j v. let at = a.entry j v in let within = at.within in record { within = omega arith; apart = at.apart; number = at.number };
         };
-        outside = no_position es ps k none;
-        below = omega arith;
       };
+      outside = record { below = omega arith; is = no_position es ps k none };
       long = omega arith;
       times = refl;
       size = omega arith;
@@ -137,16 +129,10 @@ takes_new es ps n k t o size below none =
 
 -- ---- a number less
 
--- a number without a position has no time
-without : (es : List Entry) (ps : List ℕ) (k : ℕ) → times_in es (set ps k absent) ≡ set (times_in es ps) k None
-without es ps k = map-set (time_from es) ps k absent
-
 -- number k leaves position p, which is the hole then
 vacates : (es : List Entry) (ps : List ℕ) (n k p : ℕ) → AreLinked es ps n n → IsFound es ps n k p → AreLinked es (set ps k absent) n p
 vacates es ps n k p a f =
-    let sizes = a.sizes in
-    let sizes' = length-set ps k absent in
-    let long = times_length es ps in
+    let sizes = a.sizes in let sizes' = length-set ps k absent in let long = times_length es ps in
     let under = f.below in
     record {
       room = a.room;
@@ -165,92 +151,25 @@ vacates es ps n k p a f =
           });
     }
 
--- the last entry is taken out
-ends : (es : List Entry) (ps : List ℕ) (n m hole : ℕ) → n ≡ m + 1 → hole < m → AreLinked es ps n hole
-    → AreLinked es (set ps (entry_at es m).number absent) m hole
-ends es ps n m hole e inside a =
-    let k = (entry_at es m).number in
-    let room = a.room in
-    let few = a.few in
-    let sizes = a.sizes in
-    let sizes' = length-set ps k absent in
-    let last = a.position m (omega arith) (omega arith) in
-    let under = below ps k m last (omega arith) in
-    record {
-      room = omega arith;
-      few = few;
-      sizes = omega arith;
-      position = λ i l u.
-          let is = a.position i (omega arith) u in
-          unplaced ps k _ absent (λ f. let g : i ≡ m = sym is ∙ ap (λ j. position_at ps j) f ∙ last in absurd (omega arith)) ∙ is;
-      entry = λ j v.
-          let u : j ≢ k = λ f. v (placed ps k j absent under f) in
-          let same = unplaced ps k j absent u in
-          let at = a.entry j (λ f. v (same ∙ f)) in
-          let within = at.within in
-          let other : position_at ps j ≢ m = λ f. u (sym (number_there es ps n hole m j a (omega arith) f)) in
-          rw same (record { within = omega (arith, within, other, e); apart = at.apart; number = at.number });
-    }
+-- the hole may be closed, and the times are ts
+pub record Leaves (es : List Entry) (ps : List ℕ) (n hole : ℕ) (ts : List (Option ℕ)) : Type 0 where
+  pub around : HasHole es ps n hole
+  pub long : length ts ≡ length ps
+  pub times : times_in es ps ≡ ts
+  pub size : count ts + 1 ≡ n
 
-pub takes_last : (es : List Entry) (ps : List ℕ) (n m hole k : ℕ) → IsOrdered es ps n → count (times_in es ps) ≡ n → n ≡ m + 1
-    → position_of ps k ≡ Some hole → hole < m
-    → Takes es (set (set ps k absent) (entry_at es m).number absent) m hole (entry_at es m) (set (times_in es ps) k None)
-takes_last es ps n m hole k o size e at inside =
-    let x : Entry = entry_at es m in
-    let f = found es ps n k hole o.linked at in
-    let a = vacates es ps n k hole o.linked f in
-    let ps' = set ps k absent in
-    let few = o.linked.few in
-    let room = o.linked.room in
-    let last = a.position m (omega arith) (omega arith) in
-    let under = below ps' x.number m last (omega arith) in
+pub leaves : (es : List Entry) (ps : List ℕ) (n k p : ℕ) → IsOrdered es ps n → count (times_in es ps) ≡ n → position_of ps k ≡ Some p
+    → Leaves es (set ps k absent) n p (set (times_in es ps) k None)
+leaves es ps n k p o size e =
+    let f = found es ps n k p o.linked e in
     let less : count (set (times_in es ps) k None) + 1 ≡ count (times_in es ps) + 0 = counted (times_in es ps) k None (Some _) f.below f.time in
-    let sizes = length-set ps' x.number absent in
-    let sizes' = length-set ps k absent in
-    let long = times_length es ps in
+    let sizes = length-set ps k absent in let long = times_length es ps in
     let long' = length-set (times_in es ps) k None in
-    let time : time_at (times_in es ps') x.number ≡ Some x.time =
-    time_is es ps' x.number ∙ ap (λ p. time_from es p) last ∙ time_there es m (some_position es ps n n m o.linked (omega arith)) in
     record {
-      around = record {
-        inside = inside;
-        around = around es n m hole (λ j l u. omega arith) o.heap;
-        linked = ends es ps' n m hole e inside a;
-        outside = placed ps' x.number x.number absent under refl;
-        below = omega arith;
-      };
+      around = record { inside = f.inside; around = around es n n p (λ j l u. l) o.heap; linked = vacates es ps n k p o.linked f };
       long = omega arith;
-      times = ap (λ ts. set ts x.number (Some x.time)) (without es ps' x.number) ∙ set-set (times_in es ps') x.number None (Some x.time)
-          ∙ ap (λ o. set (times_in es ps') x.number o) (sym time) ∙ set-get_or (times_in es ps') x.number None ∙ without es ps k;
-      size = omega arith;
-    }
-
--- where that of the last entry is the number that leaves, no entry moves
-pub last_leaves : (es : List Entry) (ps : List ℕ) (n m hole k : ℕ) → IsOrdered es ps n → count (times_in es ps) ≡ n → n ≡ m + 1
-    → position_of ps k ≡ Some hole → m ≤ hole → Holds es (set ps k absent) m (set (times_in es ps) k None)
-last_leaves es ps n m hole k o size e at le =
-    let f = found es ps n k hole o.linked at in
-    let inside = f.inside in
-    let a = vacates es ps n k hole o.linked f in
-    let room = a.room in
-    let less : count (set (times_in es ps) k None) + 1 ≡ count (times_in es ps) + 0 = counted (times_in es ps) k None (Some _) f.below f.time in
-    record {
-      ordered = record {
-        heap = record { order = λ i j b c l. o.heap.order i j b c (omega arith) };
-        linked = record {
-          room = omega arith;
-          few = a.few;
-          sizes = a.sizes;
-          position = λ i l u. a.position i (omega arith) (omega arith);
-          entry = λ j v.
-              let at = a.entry j v in
-              let within = at.within in
-              let apart = at.apart in
-              record { within = omega (arith, within, apart, inside, le, e); apart = λ g. apart (g ∙ omega arith); number = at.number };
-        };
-      };
       times = without es ps k;
-      size = ap count (without es ps k) ∙ omega arith;
+      size = omega arith;
     }
 
 -- a number without a time keeps none

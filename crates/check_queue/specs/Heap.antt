@@ -1,8 +1,8 @@
 -- The heap: the order of its entries by position. The children of position i are 2 * i + 1 and 2 * i + 2.
-use Rattle.std.specs.Prelude.{◌≡◌, ◌≢◌, ℕ, ◌+◌, ◌*◌, ◌<◌, ◌≤◌, List, length}
+use Rattle.std.specs.Prelude.{◌≢◌, ℕ, ◌+◌, ◌*◌, ◌<◌, ◌≤◌, List}
 use Rattle.check_queue.specs.declared.entry.Entry.{Entry}
 use Rattle.check_queue.specs.Entries.{IsNotBefore, entry_at}
-use Rattle.check_queue.specs.Positions.{AreLinked, absent, position_at}
+use Rattle.check_queue.specs.Positions.{AreLinked}
 
 -- no entry among the first n comes before its parent
 pub record IsHeap (entries : List Entry) (n : ℕ) : Type 0 where
@@ -23,13 +23,11 @@ pub record IsOrdered (entries : List Entry) (positions : List ℕ) (n : ℕ) : T
   pub heap : IsHeap entries n
   pub linked : AreLinked entries positions n n
 
--- the same with a hole, and with an entry that is held outside
-pub record HasHole (entries : List Entry) (positions : List ℕ) (n hole : ℕ) (held : Entry) : Type 0 where
+-- the same with a hole
+pub record HasHole (entries : List Entry) (positions : List ℕ) (n hole : ℕ) : Type 0 where
   pub inside : hole < n
   pub around : IsHeapAround entries n hole
   pub linked : AreLinked entries positions n hole
-  pub outside : position_at positions held.number ≡ absent
-  pub below : held.number < length positions
 
 -- c is the child of hole that comes first
 pub record IsFirstChild (entries : List Entry) (n hole c : ℕ) : Type 0 where

@@ -40,3 +40,8 @@ pub record AreLinked (entries : List Entry) (positions : List ℕ) (n hole : ℕ
   pub sizes : length positions ≡ length entries
   pub position : (i : ℕ) → i < n → i ≢ hole → position_at positions (entry_at entries i).number ≡ i
   pub entry : (k : ℕ) → position_at positions k ≢ absent → IsAt entries n hole k (position_at positions k)
+
+-- a number below the bound that isn't in the heap
+pub record IsOutside (positions : List ℕ) (number : ℕ) : Type 0 where
+  pub below : number < length positions
+  pub is : position_at positions number ≡ absent

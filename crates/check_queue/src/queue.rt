@@ -6,7 +6,7 @@ ghost use Rattle.check_queue.specs.Positions.{position_of};
 ghost use Rattle.check_queue.specs.Times.{pairs_of};
 
 use crate::entry::Entry;
-use crate::sift::{sift_down, sift_up};
+use crate::sift::{ABSENT, close_hole, sift_up};
 use std::alloc::{AllocError, Global};
 use std::marker::Model;
 
@@ -21,10 +21,6 @@ pub struct Queue {
     /// How many numbers have a time.
     len: usize,
 }
-
-/// The position of a number without a time. No heap reaches so far, since there are at most
-/// `u32::MAX` numbers.
-const ABSENT: u32 = u32::MAX;
 
 impl Model for Queue {
     ghost use Rattle.std.specs.Prelude.{ℕ, List, Option};
@@ -103,12 +99,9 @@ impl Queue {
             return false;
         };
         self.positions[number as usize] = ABSENT;
+        let len = self.len;
         self.len -= 1;
-        if hole < self.len {
-            let last = self.entries[self.len];
-            self.positions[last.number as usize] = ABSENT;
-            sift_down(&mut self.entries, &mut self.positions, self.len, hole, last);
-        }
+        close_hole(&mut self.entries, &mut self.positions, len, hole);
         true
     }
 }

@@ -3,40 +3,15 @@
 //! Entries aren't swapped. The entry that moves is held outside the heap, and its position is a hole:
 //! other entries move into the hole, one by one, and the held entry is written once, at the end.
 
-ghost use Rattle.std.specs.Prelude.{◌≡◌, ◌+◌, ◌*◌, ◌<◌, ◌≤◌, ◌^◌, Some, length, slice_set};
+ghost use Rattle.std.specs.Prelude.{◌≡◌, ◌+◌, ◌-◌, ◌*◌, ◌<◌, ◌≤◌, ◌^◌, Some, length, slice_set};
 ghost use Rattle.check_queue.specs.Heap.{FitsBelow, HasHole, IsFirstChild, IsOrdered};
-ghost use Rattle.check_queue.specs.Positions.{times_in};
+ghost use Rattle.check_queue.specs.Positions.{IsOutside, times_in};
 
 use crate::entry::{Entry, is_before};
 
-/// Moves the hole down until it has no child, and from there up to where `held` fits, and puts `held`
-/// there. An entry that is put in high mostly belongs low, so it is cheaper to compare only the
-/// children on the way down.
-pub(crate) fn sift_down(
-    entries: &mut [Entry],
-    positions: &mut [u32],
-    len: usize,
-    mut hole: usize,
-    held: Entry,
-)
-    requires { HasHole entries.old positions.old len hole held }
-    ensures ordered { IsOrdered entries.new positions.new len }
-    ensures times { times_in entries.new positions.new ≡ slice_set (times_in entries.old positions.old) held.number (Some held.time) }
-{
-    while hole < (len - 1) / 2 {
-        let child = first_child(entries, len, hole);
-        let below = entries[child];
-        put_at(entries, positions, hole, below);
-        hole = child;
-    }
-    if hole < len / 2 {
-        let child = 2 * hole + 1;
-        let below = entries[child];
-        put_at(entries, positions, hole, below);
-        hole = child;
-    }
-    sift_up(entries, positions, len, hole, held);
-}
+/// What stands for the position of a number without a time. No heap reaches so far, since there are
+/// at most `u32::MAX` numbers.
+pub(crate) const ABSENT: u32 = u32::MAX;
 
 /// Moves the hole up to where `held` fits, and puts `held` there.
 pub(crate) fn sift_up(
@@ -46,8 +21,9 @@ pub(crate) fn sift_up(
     mut hole: usize,
     held: Entry,
 )
-    requires around { HasHole entries.old positions.old len hole held }
+    requires around { HasHole entries.old positions.old len hole }
     requires below { FitsBelow entries.old len hole held }
+    requires outside { IsOutside positions.old held.number }
     ensures ordered { IsOrdered entries.new positions.new len }
     ensures times { times_in entries.new positions.new ≡ slice_set (times_in entries.old positions.old) held.number (Some held.time) }
 {
@@ -61,6 +37,28 @@ pub(crate) fn sift_up(
         hole = parent;
     }
     put_at(entries, positions, hole, held);
+}
+
+/// Closes the hole by the last entry, so that the heap is one entry shorter. The hole moves down to
+/// where it hasn't two children; from there the last entry, which mostly belongs low, rises to where
+/// it fits. Where the hole came to the last position, the last entry has moved already, or it was the
+/// one that left.
+pub(crate) fn close_hole(entries: &mut [Entry], positions: &mut [u32], len: usize, mut hole: usize)
+    requires { HasHole entries.old positions.old len hole }
+    ensures ordered { IsOrdered entries.new positions.new (len - 1) }
+    ensures times { times_in entries.new positions.new ≡ times_in entries.old positions.old }
+{
+    while hole < (len - 1) / 2 {
+        let child = first_child(entries, len, hole);
+        let below = entries[child];
+        put_at(entries, positions, hole, below);
+        hole = child;
+    }
+    if hole < len - 1 {
+        let last = entries[len - 1];
+        positions[last.number as usize] = ABSENT;
+        sift_up(entries, positions, len - 1, hole, last);
+    }
 }
 
 /// The position of that of the two children of `hole` which comes first.

@@ -23,6 +23,9 @@ takes c =
 pub sift_up-requires-clause-around : goal.sift_up-requires-clause-around
 sift_up-requires-clause-around c = (takes (goal.at.sift_up-requires-clause-around c).After-deref_mut-2).around
 
+pub sift_up-requires-clause-outside : goal.sift_up-requires-clause-outside
+sift_up-requires-clause-outside c = (takes (goal.at.sift_up-requires-clause-outside c).After-deref_mut-2).outside
+
 pub invariant_of-self : goal.invariant_of-self
 invariant_of-self c =
     let t = takes (goal.at.invariant_of-self c).After-deref_mut-2 in
