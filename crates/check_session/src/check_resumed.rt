@@ -154,7 +154,7 @@ fn tell_fault(alloc: Global, fault: SavedFault) -> Result<Told, AllocError>
 {
     let mut text = String::new(alloc);
     push_refusal(&mut text, InputRefusal::Saved(fault))?;
-    push_explanation(&mut text, fault)?;
+    push_explanation(alloc, &mut text, fault)?;
     Ok(Told {
         text: text.into_bytes(),
         outcome: Outcome::Refused,
