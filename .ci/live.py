@@ -4,8 +4,9 @@
     .ci/live.py PROGRAM
 
 Each case of conformance/ that `run` accepts is answered alike by `live`. A line is sent, and its answer read, again and again;
-200,000 lines are sent at once, while a thread reads; setups come byte by byte, and of as many bytes as there may be; and who reads
-the answers goes away, or the device is full, which ends in status 3. A conversation's memory doesn't grow with what was said: a line
+200,000 lines are sent at once, while a thread reads; setups come byte by byte, and of as many bytes as there may be; a saved state is
+refused as soon as it shows, while its input goes on; and who reads the answers goes away, or the device is full, which ends in
+status 3. A conversation's memory doesn't grow with what was said: a line
 of 70 MB is answered in 64 MB, and a million lines leave it as a thousand did.
 """
 import fcntl
@@ -40,9 +41,9 @@ def as_run(program):
         yield None if (ran.returncode, ran.stdout) == (0, case.wanted) else f"{case.name}: live writes {ran.stdout[:200]!r}"
 
 
-def talk(program, **how):
+def talk(program, *words, **how):
     """A conversation: the program, over two pipes."""
-    return subprocess.Popen([program, "live"], **{"stdin": subprocess.PIPE, "stdout": subprocess.PIPE, "bufsize": 0, **how})
+    return subprocess.Popen([program, "live", *words], **{"stdin": subprocess.PIPE, "stdout": subprocess.PIPE, "bufsize": 0, **how})
 
 
 def send(live, rest):
@@ -125,6 +126,37 @@ def long_setup(program):
     return None
 
 
+def while_open(live, pieces):
+    """What is answered to these pieces, and how the conversation ends, while its input stays open."""
+    try:
+        for piece in pieces:
+            send(live, piece)
+    except BrokenPipeError:
+        pass
+    try:
+        status = live.wait(SECONDS)
+    except subprocess.TimeoutExpired:
+        live.kill()
+        status = None
+    return live.stdout.read(), status
+
+
+def refused_state(program):
+    """A saved state is refused when its line has come, or as soon as it is too long, and nothing more is waited for."""
+    for pieces, wanted in {
+        (SETUP, b"{\n"): b"refused K2 NotJson\n",
+        (SETUP + b"{\n", TAKE): b"refused K2 NotJson\n",
+        (SETUP, b'{"format":2}\n'): b"refused K3 Version\n",
+        (SETUP, b"x" * DOCUMENT, b"\n"): b"refused K2 NotJson\n",
+        (SETUP, b"x" * DOCUMENT, b"x"): b"refused K1 TooLong\n",
+    }.items():
+        with talk(program, "--resume") as live:
+            wrong = told(f"the saved state {pieces[1][:20]!r} ..", (wanted, 1), while_open(live, pieces))
+            if wrong:
+                return wrong
+    return None
+
+
 def few_addresses():
     """Bounds what a program may have of memory, used or not."""
     resource.setrlimit(resource.RLIMIT_AS, (ADDRESSES, ADDRESSES))
@@ -202,7 +234,7 @@ def full(program):
 def main():
     program = str(pathlib.Path(sys.argv[1]).resolve())
     faults = [*as_run(program), all_at_once(program, 70_000), all_at_once(program, 200_000)]
-    faults += [part(program) for part in (line_by_line, byte_by_byte, long_setup, long_line, million_lines, torn, full)]
+    faults += [part(program) for part in (line_by_line, byte_by_byte, long_setup, refused_state, long_line, million_lines, torn, full)]
     wrong = [fault for fault in faults if fault is not None]
     for fault in wrong:
         print(f"live: {fault}")

@@ -4,8 +4,8 @@
     .ci/refusals.py [PROGRAM]     crates/nagsched/out/nagsched where no program is named; wants a C compiler, cc
 
 A run is made with its first request refused, then with its second and so on, until one asks for less. Each has to end in the answer
-of ample memory, in status 4 with a front of that answer, or, for a drill, in a total that counts the refusal. The lines of several
-workers come in any order: there only the total is compared.
+of ample memory, in status 4 with whole lines from the beginning of that answer, or, for a drill, in a total that counts the refusal.
+The lines of several workers come in any order: there only the total is compared.
 """
 import json
 import os
@@ -104,7 +104,7 @@ def kind_of(written, status, ample):
     """How a run ended with a request refused: ample, memory, counted, or nothing of these."""
     total = TOTAL.fullmatch(written)
     if status == OUT_OF_MEMORY:
-        return "memory" if ample is None or ample.startswith(written) else None
+        return "memory" if written[-1:] in (b"", b"\n") and (ample is None or ample.startswith(written)) else None
     if status not in (0, 1):
         return None
     if written == ample or ample is None and total and total[1] == b"0":

@@ -4,17 +4,21 @@
     .ci/session.py [PROGRAM]     crates/nagsched/out/nagsched where no program is named
 
 Words that are no text, help, the version, an input that can't be read, an output whose reader has gone away, a device that is full, how
-much of a long document is read. A folder stands for an input that can't be read: whoever reads it ends in status 3, and whoever doesn't,
+much of a long document is read, how often is written, and an input from a terminal. A folder stands for an input that can't be read: whoever reads it ends in status 3, and whoever doesn't,
 where words ask for help or the version or are refused, never notices.
 """
 import os
+import pty
 import re
+import socket
 import subprocess
 import tempfile
+import termios
 
 from program import EXAMPLES, REFUSED_WORDS, SERVICE, TOP, Held
 
 TAKE = b'["take",0]\n'
+SAVE = b'["save"]\n'
 DOCUMENT = 16_777_216
 SECONDS = 20
 
@@ -83,6 +87,42 @@ def of_file(held, words, given):
         return *held.run(words, file.fileno()), os.lseek(file.fileno(), 0, os.SEEK_CUR)
 
 
+def in_writes(held, words, given):
+    """What the program writes on these words, a piece for each write, and its status. A socket that keeps records apart shows the writes."""
+    here, there = socket.socketpair(socket.AF_UNIX, socket.SOCK_SEQPACKET)
+    with here, subprocess.Popen([held.program, *words], stdin=subprocess.PIPE, stdout=there) as ran:
+        there.close()
+        here.settimeout(SECONDS)
+        ran.stdin.write(given)
+        ran.stdin.close()
+        pieces = []
+        try:
+            while piece := here.recv(1 << 20):
+                pieces.append(piece)
+            return pieces, ran.wait(SECONDS)
+        except (TimeoutError, subprocess.TimeoutExpired):
+            ran.kill()
+            return pieces, f"not ended after {SECONDS} seconds"
+
+
+def from_terminal(held, words, given):
+    """What the program writes where these lines are typed at a terminal, and Ctrl-D once behind them, and its status."""
+    keyboard, terminal = pty.openpty()
+    modes = termios.tcgetattr(terminal)
+    modes[3] &= ~termios.ECHO
+    termios.tcsetattr(terminal, termios.TCSANOW, modes)
+    with subprocess.Popen([held.program, *words], stdin=terminal, stdout=subprocess.PIPE) as ran:
+        try:
+            os.write(keyboard, given + b"\x04")
+            return ran.communicate(timeout=SECONDS)[0], ran.returncode
+        except subprocess.TimeoutExpired:
+            ran.kill()
+            return f"not ended after {SECONDS} seconds", None
+        finally:
+            os.close(keyboard)
+            os.close(terminal)
+
+
 def helps(held):
     """Help has status 0, reads nothing, and is the same to the byte whatever words ask for it, in lines of 80 columns."""
     for case, forms in HELPS.items():
@@ -125,6 +165,7 @@ def faults(held):
     torn += [(["live"], SERVICE + TAKE), (["live"], b"{}}")]
     torn += [(words, given) for words in (["check"], ["check", "--line"]) for given in (SERVICE, b"{}}")]
     torn += [(words, given) for words in resumed for given in (b"{}\n{}\n", b"{}}")]
+    torn += [(words, SERVICE + saved_state(held) + TAKE) for words in resumed]
     for words, given in [*torn, (["--help"], b""), (["--version"], b""), (["schema"], b""), (["walk"], b""), ([b"\xff"], b"")]:
         held.compare(f"{words}: a torn pipe", 3, into_torn_pipe(held, words, given))
         held.compare(f"{words}: a full device", 3, into_full_device(held, words, given))
@@ -158,7 +199,36 @@ def long_documents(held):
             held.compare(f"{words}: {what}", (b"refused L12 TooLong", 1, read), (text.split(b"\n")[0], status, count))
 
 
+def saved_state(held):
+    """The line of what is saved of a scheduler that was opened over the service, without its word."""
+    return held.run([], SERVICE + SAVE)[0].removeprefix(b"saved ")
+
+
+def inputs(held):
+    """An input of each job that reads one."""
+    calls = TAKE + SAVE + TAKE
+    resumed = SERVICE + saved_state(held) + calls
+    yield from (([word], SERVICE + calls) for word in ("run", "live"))
+    yield from (([word, "--resume"], resumed) for word in ("run", "live", "check"))
+    yield from ((words, SERVICE) for words in (["check"], ["check", "--line"]))
+    yield ["drill", "--workers", "1"], SERVICE + b'["plugin","h;s",0]\n["moment",0]\n'
+
+
+def writes(held):
+    """What fits the program's buffer is written at once, at the end; of a conversation before more is read, whose lines come at once here."""
+    for words, given in inputs(held):
+        text, status = held.run(words, given)
+        held.compare(f"{words}: some text", (True, 0), (text.endswith(b"\n"), status))
+        held.compare(f"{words}: one write", ([text], 0), in_writes(held, words, given))
+
+
+def terminals(held):
+    """The end of an input is read once: at a terminal Ctrl-D once ends it."""
+    for words, given in inputs(held):
+        held.compare(f"{words}: from a terminal", held.run(words, given), from_terminal(held, words, given))
+
+
 held = Held("session")
-for part in (helps, versions, schema, refused_words, faults, faults_of_conversations, long_documents):
+for part in (helps, versions, schema, refused_words, faults, faults_of_conversations, long_documents, writes, terminals):
     part(held)
 held.end()

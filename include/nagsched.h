@@ -70,8 +70,9 @@ struct nagsched_handle {
 
 #define NAGSCHED_EMPTY {0, 0}
 
-/* The statuses. After every status except NAGSCHED_OK and NAGSCHED_WAIT everything is as it was before the call, except for a length that
- * is written where a buffer is too small. */
+/* The statuses. After NAGSCHED_SPENT, NAGSCHED_WRONG and NAGSCHED_MISSING everything is as it was before the call, except for a length that
+ * is written where a buffer is too small. After NAGSCHED_REFUSED only the refusal was written. After NAGSCHED_NO_MEMORY nothing was
+ * changed either, but one of the six calls is counted, and its pass has seen the history so far. */
 enum nagsched_result {
     NAGSCHED_OK = 0,
     NAGSCHED_WAIT = 1,      /* the turn hasn't come: the same call again */

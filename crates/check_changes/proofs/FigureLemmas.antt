@@ -46,7 +46,7 @@ new_counted c saved = counted_from is_none is_none c saved (none_same c) 0 (obje
 
 -- ---- what is out
 
-abbrev scheduled : Configuration → Saved → List (Option ℕ) → ℕ × Named → Scheduling
+abbrev pub scheduled : Configuration → Saved → List (Option ℕ) → ℕ × Named → Scheduling
 scheduled c saved times p = scheduling_of c (time_among times p.0) p.1.object (saved_named saved p.1.name)
 
 out_same : (c : Configuration) (first : Option ℕ) (o : Named) (found : Option SavedObject)
@@ -54,7 +54,7 @@ out_same : (c : Configuration) (first : Option ℕ) (o : Named) (found : Option 
 out_same c first o None = refl
 out_same c first o (Some x) = refl
 
-out_from : (c : Configuration) (saved : Saved) (times : List (Option ℕ)) (h k : ℕ) (os : List Named)
+pub out_from : (c : Configuration) (saved : Saved) (times : List (Option ℕ)) (h k : ℕ) (os : List Named)
     → count_by is_out (drop h (map (λ p. option_map (kept_by c p.1.object) (saved_named saved p.1.name)) (enumerate_from k os)))
     ≡ running_among (drop h (map (scheduled c saved times) (enumerate_from k os)))
 out_from c saved times zero k [] = refl

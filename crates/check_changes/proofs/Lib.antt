@@ -1,3 +1,4 @@
 pub mod KeptLemmas
 pub mod FigureLemmas
 pub mod TextLemmas
+pub mod FigureLaws

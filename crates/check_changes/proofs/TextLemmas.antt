@@ -1,5 +1,5 @@
 -- The lines by the objects' numbers.
-use Rattle.std.proofs.Common.{◌≡◌, ℕ, suc, ◌+◌, ◌<◌, ◌≤◌, List, [], ◌∷◌, ◌++◌, get_or, length, map, take, Option, Some, option_map, refl, sym, ap, ◌∙◌, arith}
+use Rattle.std.proofs.Common.{◌≡◌, ℕ, suc, ◌+◌, ◌<◌, ◌≤◌, cond, List, [], ◌∷◌, ◌++◌, Result, Ok, Err, OnOk, get_or, is_ok, length, map, take, Option, Some, option_map, refl, sym, ap, ◌∙◌, arith}
 use Rattle.std.specs.Prelude.{flat_map, slice_get}
 use Rattle.std.specs.List.{enumerate_from}
 use Rattle.std.proofs.lemmas.List.{flat_map_more, get_or_default, take_all, take_more}
@@ -31,6 +31,12 @@ text_from c saved k (o ∷ os) names =
 pub changed_is : (c : Configuration) (saved : Saved) → changed_among c (kept_of c saved) ≡ changed_text c saved
 changed_is c saved =
     text_from c saved 0 (objects_of c) (λ i o at. let start : 0 + i ≡ i = omega arith in ap (name_of c) start ∙ name_is c i o at)
+
+-- what one push appended is the text that it was handed, or nothing where it failed
+pub pushed_all : {T E : Type 0} (r : Result T E) (was now handed text : List ℕ) → handed ≡ text → now ≡ cond (is_ok r) (was ++ handed) was
+    → OnOk r (now ≡ was ++ text)
+pushed_all (Ok x) was now handed text same is = is ∙ ap (λ l. was ++ l) same
+pushed_all (Err e) was now handed text same is = tt
 
 -- ---- one object more
 

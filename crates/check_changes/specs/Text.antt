@@ -65,5 +65,5 @@ saved_explanation (saved.BadName index) =
 saved_explanation (saved.Duplicate index) = at_object index (codes "\"name\" is that of an earlier object\n")
 saved_explanation (saved.Range None) = codes "\"start\" and \"runs\" can be at most 1152921504606846976\n"
 saved_explanation (saved.Range (Some index)) = at_object index (codes "a time, an attempt or the maximum of attempts is out of its limits\n")
-saved_explanation (saved.Unlawful index) = at_object index (codes "no object of its sort can have this standing, these results or this run\n")
+saved_explanation (saved.Unlawful index) = at_object index (codes "no object of its sort can have this standing, these results or this run, or a forced check without a next time\n")
 saved_explanation saved.Memory = codes "out of memory\n"

@@ -1,21 +1,27 @@
 //! The words that explain why a saved state is refused.
 
-ghost use Rattle.std.specs.Prelude.{◌≡◌, ◌++◌, OnOk, string_bytes};
+ghost use Rattle.std.specs.Prelude.{◌≡◌, ◌++◌, OnErr, OnOk, string_bytes};
 ghost use Rattle.check_changes.specs.Text.{saved_explanation};
 
 use check_saved::SavedFault;
-use std::alloc::AllocError;
+use std::alloc::{AllocError, Global};
 use std::fmt;
 
 /// Appends a line of plain words that explains why a saved state is refused: which object of the list of
-/// objects, if it is one, and what it has to be. An Err means out of memory, and a part of the line may
-/// have been appended. (Our own profile.)
-pub fn push_explanation(text: &mut String, fault: SavedFault) -> Result<(), AllocError>
-    ensures { OnOk result
+/// objects, if it is one, and what it has to be. An Err means out of memory, and the text stays as it was.
+/// (Our own profile.)
+pub fn push_explanation(
+    alloc: Global,
+    text: &mut String,
+    fault: SavedFault,
+) -> Result<(), AllocError>
+    ensures pushed { OnOk result
         (string_bytes text.new ≡ string_bytes text.old ++ saved_explanation fault) }
+    ensures unchanged { OnErr result (string_bytes text.new ≡ string_bytes text.old) }
 {
     let explanation = Explanation(fault);
-    write!(text, "{explanation}")
+    let line = format!(in alloc; "{explanation}")?;
+    text.push_str(line.as_str())
 }
 
 /// The line that explains a fault.
@@ -59,7 +65,7 @@ impl fmt::Display for Explanation {
             ),
             SavedFault::Unlawful(index) => writeln!(
                 f,
-                "objects {index}: no object of its sort can have this standing, these results or this run"
+                "objects {index}: no object of its sort can have this standing, these results or this run, or a forced check without a next time"
             ),
             SavedFault::Memory => f.write_str("out of memory\n"),
         }

@@ -1,6 +1,6 @@
 //! The lines of what becomes of the objects.
 
-ghost use Rattle.std.specs.Prelude.{◌≡◌, ◌≤◌, ◌++◌, OnOk, length, string_bytes};
+ghost use Rattle.std.specs.Prelude.{◌≡◌, ◌≤◌, ◌++◌, OnErr, OnOk, length, string_bytes};
 ghost use Rattle.check_objects.specs.Configuration.{object_count};
 ghost use Rattle.check_changes.specs.Text.{changed_among, changed_line, changes_text, figures_text, kept_text, object_text};
 
@@ -14,20 +14,22 @@ use std::alloc::{AllocError, Global};
 /// each line with its line feed: how many objects are kept, how many are new and how many are dropped, how
 /// many runs are given up, and of each object that is kept the values that the setup changes, in the order
 /// of the objects' numbers. Nothing of it goes by the start of the scheduler. It takes time linear in the
-/// objects of both. An Err means out of memory, and a part of the lines may have been appended. (Our own
-/// profile.)
+/// objects of both. An Err means out of memory, and the text stays as it was. (Our own profile.)
 pub fn push_changes(
     alloc: Global,
     text: &mut String,
     setup: &Setup,
     saved: &Saved,
 ) -> Result<(), AllocError>
-    ensures { OnOk result
+    ensures pushed { OnOk result
         (string_bytes text.new ≡ string_bytes text.old ++ changes_text setup.now saved.now) }
+    ensures unchanged { OnErr result (string_bytes text.new ≡ string_bytes text.old) }
 {
     let kept = list_kept(alloc, setup, saved)?;
-    push_figures(text, Figures::of(setup, saved, &kept))?;
-    push_changed(text, setup, &kept)
+    let mut lines = String::new(alloc);
+    push_figures(&mut lines, Figures::of(setup, saved, &kept))?;
+    push_changed(&mut lines, setup, &kept)?;
+    text.push_str(lines.as_str())
 }
 
 /// Appends the figures, a line each.

@@ -40,7 +40,7 @@ use Rattle.check_text.specs.Text.{answer_line, resumed_from, resumed_script_text
 use Rattle.check_text.proofs.LiveLaws.{accepted, line_first, lines_by}
 use Rattle.check_text.proofs.TextLemmas.{command_keeps}
 use Rattle.check_drive.specs.Cut.{first_part, second_part, whole_input}
-use Rattle.check_drive.specs.Live.{AreWholeLines}
+use Rattle.check_text.specs.Output.{AreWholeLines}
 use Rattle.check_drive.proofs.FeedLemmas.{saved_free}
 use Rattle.check_drive.proofs.LiveLemmas.{setup_is}
 use Rattle.check_drive.proofs.NameTextLemmas.{AreTexts, setup_by}

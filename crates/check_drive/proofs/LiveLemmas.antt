@@ -2,16 +2,13 @@
 use Rattle.std.proofs.Common.{◌≡◌, ℕ, suc, ◌+◌, ◌≤◌, ◌==◌, cond, length-append, Bool, true, false, List, [], ◌∷◌, ◌++◌, length, Option, Some, None}
 use Rattle.std.proofs.Common.{Result, Ok, Err, refl, sym, ap, ◌∙◌}
 use Rattle.std.proofs.Common.{arith, inl, inr, ◌⊎◌, append_assoc, append-nil, subst}
-use Rattle.check_saved.specs.Text.{saved_text}
-use Rattle.check_sched.specs.Saved.{saved_of}
-use Rattle.std.specs.Prelude.{codes, IfSome, IfOk, IsOkUnless, OnOk, IfErr}
+use Rattle.std.specs.Prelude.{IfSome, IfOk, IsOkUnless, OnOk, IfErr}
 use Rattle.std.specs.Io.KnownBytes.{Appends, Consumes, IsAtEnd, Keeps}
 use Rattle.check_objects.specs.Configuration.{Configuration}
 use Rattle.check_objects.specs.Setup.{setup_of}
 use Rattle.check_drafts.specs.declared.error.LoadError.{LoadError}
 use Rattle.check_sched.specs.State.{State}
 use Rattle.check_script.specs.declared.command.RunCommand.{RunCommand}
-use Rattle.check_script.specs.declared.command.RunCommand.TheVariants as command
 use Rattle.check_script.specs.declared.drive_error.DriveError.{DriveError}
 use Rattle.check_script.specs.declared.drive_error.DriveError.TheVariants as errors
 use Rattle.check_script.specs.declared.live_input.TheConstants.{KEPT_SETUP_BYTES}
@@ -30,12 +27,14 @@ use Rattle.check_script.proofs.LiveInputLemmas.{Consumes-none, Consumes-then, be
 use Rattle.check_text.proofs.LiveLaws.{line_first, lines_by}
 use Rattle.check_script.proofs.KeptLemmas.{setup_stays, too_long}
 use Rattle.check_text.specs.LiveText.{answer_to, answers_from, said, state_after}
-use Rattle.check_text.specs.Text.{answer_line, input_refusal_text, refused_text, saved_line}
-use Rattle.check_text.proofs.OutputLemmas.{Appends-Keeps, Appends-none, Appends-trans, front_none}
+use Rattle.check_text.specs.Text.{input_refusal_text, refused_text}
+use Rattle.check_text.specs.Output.{AreWholeLines}
+use Rattle.check_text.proofs.OutputLemmas.{Appends-Keeps, Appends-none, Appends-trans, front_none, whole_on}
+use Rattle.check_text.proofs.TextLemmas.{answer_line_ends}
 use Rattle.check_drive.specs.declared.drive.Outcome.{Outcome}
 use Rattle.check_drive.specs.Drive.{IsInput}
 use Rattle.check_text.specs.Written.{IsLineWritten, LeftOfLine}
-use Rattle.check_drive.specs.Live.{AfterAll, AfterLines, AnsweredLines, AreWholeLines, Conversed, IsLiveOf, LeavesText, TalkEnded}
+use Rattle.check_drive.specs.Live.{AfterAll, AfterLines, AnsweredLines, Conversed, IsLiveOf, LeavesText, TalkEnded}
 
 -- ---- what is read
 
@@ -66,10 +65,6 @@ pub input_all : (had left : Option (List ℕ)) (given : List ℕ) → Consumes h
 input_all had left given h e = subst (IsInput had) (append-nil given) (input_on had left given [] h (end_input left e))
 
 -- ---- what an error leaves
-
-whole_on : (a b : List ℕ) → AreWholeLines a → AreWholeLines b → AreWholeLines (a ++ b)
-whole_on a b w (inl none) = subst AreWholeLines (sym (ap (λ l. a ++ l) none ∙ append-nil a)) w
-whole_on a b w (inr (xs, e)) = inr (a ++ xs, ap (λ l. a ++ l) e ∙ sym (append_assoc a xs (10 ∷ [])))
 
 pub leaves_none : (e : DriveError) (held : Option (List ℕ)) (text : List ℕ) → LeavesText e held held text
 leaves_none errors.Read held text = front_none held text
@@ -154,14 +149,9 @@ wrote_behind held mid holds text k a = Appends-trans held mid holds [] text (app
 
 -- ---- answers
 
-command_lines : (s : State) (c : RunCommand) → AreWholeLines (answer_line s c)
-unfolding saved_line
-command_lines s (command.Call call) = inr (_, refl)
-command_lines s command.Save = inr (codes "saved " ++ saved_text (saved_of s), refl)
-
 pub answer_lines : (s : State) (r : Result (Option RunCommand) InputRefusal) → AreWholeLines (answer_to s r)
 answer_lines s (Ok None) = inl refl
-answer_lines s (Ok (Some c)) = command_lines s c
+answer_lines s (Ok (Some c)) = inr (answer_line_ends s c)
 answer_lines s (Err why) = inr (refused_text (input_refusal_text why), refl)
 
 -- bytes with a line feed are a line and those behind it, whatever comes later

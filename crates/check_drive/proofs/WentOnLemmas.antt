@@ -5,7 +5,6 @@ use Rattle.std.proofs.Common.{arith, inl, inr, ◌⊎◌, append_assoc, append-n
 use Rattle.std.specs.Prelude.{IfOk, OnOk, IfErr, nat_lt}
 use Rattle.std.specs.Io.KnownBytes.{Appends, Consumes, IsAtEnd, Keeps}
 use Rattle.std.proofs.lemmas.Bool.Decides.{nat_tests}
-use Rattle.std.proofs.lemmas.Result.{IfErr-weaker, on_ok_weaker}
 use Rattle.check_objects.specs.Configuration.{Configuration}
 use Rattle.check_objects.specs.Setup.{setup_of}
 use Rattle.check_drafts.specs.Agreement.{◌>>=◌}
@@ -27,7 +26,8 @@ use Rattle.check_script.specs.Input.{first_line_of, lines_of}
 use Rattle.check_script.specs.LiveInput.{StopsSoon, behind_line, has_feed}
 use Rattle.check_script.specs.ResumedScript.{in_saved}
 use Rattle.check_script.specs.Script.{in_setup}
-use Rattle.check_script.proofs.LiveInputLemmas.{Consumes-none, Consumes-then, behind_none, behind_stays, first_stays}
+use Rattle.check_script.proofs.KeptLemmas.{line_stays}
+use Rattle.check_script.proofs.LiveInputLemmas.{Consumes-none, Consumes-then, behind_none, behind_on, behind_soon, behind_stays, first_all, first_stays}
 use Rattle.check_script.proofs.ScriptLemmas.{length-lines_of}
 use Rattle.check_text.proofs.OutputLemmas.{Appends-none}
 use Rattle.check_text.specs.LiveText.{answers_from, live_from, live_over, live_resumed_over, live_text, live_text_resumed}
@@ -41,8 +41,8 @@ use Rattle.check_sched.specs.State.{State, opening}
 use Rattle.check_drive.specs.Live.{AfterAll, AfterLater, AfterLines, HadMany, IsLiveOf, LaterReads, LeavesText, ReadBehind, ReadBy, ReadResumedBy}
 use Rattle.check_drive.specs.Live.{TalkEnded, TalkReads, WentOn, later_outcome, later_text, saved_in, talk_outcome, talk_text}
 use Rattle.check_drive.proofs.DriveLemmas.{front_tells}
-use Rattle.check_drive.proofs.LiveLemmas.{appended_none, end_input, input_all, input_on, leaves_before, leaves_kept, live_failed}
-use Rattle.check_drive.proofs.LiveLemmas.{behind_few, not_long, refused_stays, rest_input, rest_of, setup_is, setup_refused, wrote_behind, written_errs, written_ifs, written_oks}
+use Rattle.check_drive.proofs.LiveLemmas.{end_input, input_all, input_on, leaves_kept, live_failed}
+use Rattle.check_drive.proofs.LiveLemmas.{behind_few, not_long, refused_stays, rest_input, rest_of, setup_is, setup_refused, written_errs, written_ifs, written_oks}
 
 -- ---- what is kept of line 2
 
@@ -55,8 +55,12 @@ kept_saved line = front_tells saved_of_text 16777216 KEPT_SAVED_BYTES (Err fault
 -- nothing follows the setup: line 2 has no byte
 pub unfollowed : (hand : List ℕ) (r : Result Saved ScriptError) (left : Option (List ℕ)) → hand ≡ [] → IsAtEnd left
     → Gives (λ saved. saved) r (in_saved (saved_of_text []))
-    → Gives (λ saved. saved) r (saved_in (hand ++ [])) × (false ≡ has_feed (hand ++ [])) × (hand ≡ behind_line (hand ++ [])) × (false ≡ false → IsAtEnd left)
-unfollowed hand r left e end g = rw e (g, refl, refl, λ f. end)
+    → Gives (λ saved. saved) r (saved_in (hand ++ [])) × (false ≡ has_feed (hand ++ [])) × (hand ≡ behind_line (hand ++ []))
+    × (false ≡ false → IsAtEnd left ⊎ (KEPT_SAVED_BYTES ≤ length (hand ++ [])))
+unfollowed hand r left e end g = rw e (g, refl, refl, λ f. inl end)
+
+pub unread : (hand : List ℕ) → hand ≡ [] → StopsSoon KEPT_SAVED_BYTES (hand ++ [])
+unread hand e = rw e (record { at_the_bound = omega arith; at_the_feed = omega arith })
 
 -- what holds anyway holds of a value
 on_ok_any : {T E P : Type 0} (r : Result T E) → P → OnOk r P
@@ -89,6 +93,22 @@ none_text start c saved bytes s free =
 saved_stays : (bytes more : List ℕ) → has_feed bytes ≡ true → saved_in (bytes ++ more) ≡ saved_in bytes
 saved_stays bytes more feed = ap (λ l. in_saved (saved_of_text l)) (first_stays bytes more feed)
 
+long_stays : (bytes more : List ℕ) → has_feed bytes ≡ false → KEPT_SAVED_BYTES ≤ length bytes → saved_in (bytes ++ more) ≡ saved_in bytes
+long_stays bytes more free long = ap in_saved (line_stays saved_of_text (Err faults.TooLong) saved_too_long bytes more (inr (free, inr long)))
+
+-- what was saved wasn't too long
+ends_at : (bytes : List ℕ) (saved : Saved) (left : Option (List ℕ)) → saved_in bytes ≡ Ok saved → has_feed bytes ≡ false
+    → IsAtEnd left ⊎ (KEPT_SAVED_BYTES ≤ length bytes) → IsAtEnd left
+ends_at bytes saved left s free (inl end) = end
+ends_at bytes saved left s free (inr long) =
+    let all = ap length (first_all bytes free) in
+    let r = sym (saved_too_long (first_line_of bytes) (omega (arith, long, all))) ∙ saved_is (saved_of_text (first_line_of bytes)) saved s in
+    cc
+
+pub saved_ends : (bytes : List ℕ) (saved : Saved) (left : Option (List ℕ)) (follow : Bool) → saved_in bytes ≡ Ok saved → follow ≡ has_feed bytes
+    → (follow ≡ false → IsAtEnd left ⊎ (KEPT_SAVED_BYTES ≤ length bytes)) → follow ≡ false → IsAtEnd left
+saved_ends bytes saved left follow s feed ended f = ends_at bytes saved left s (sym feed ∙ f) (ended f)
+
 on_text : (start : Option ℕ) (c : Configuration) (saved : Saved) (bytes more : List ℕ) → saved_in bytes ≡ Ok saved → has_feed bytes ≡ true
     → live_resumed_over start (Ok c) (bytes ++ more) ≡ answers_from (resumed_from c saved start) 3 (lines_of (behind_line bytes ++ more))
 on_text start c saved bytes more s feed =
@@ -103,6 +123,13 @@ never_follows may_follow hand part had none end feed f =
     let here : has_feed (hand ++ part) ≡ has_feed [] = rw ((end f).0, none f) refl in
     let e : true ≡ false = sym feed ∙ here in
     cc
+
+-- nor so many bytes
+never_long : (may_follow : Bool) (hand part : List ℕ) (had : Option (List ℕ)) → (may_follow ≡ false → part ≡ [])
+    → (may_follow ≡ false → (hand ≡ []) × IsAtEnd had) → KEPT_SAVED_BYTES ≤ length (hand ++ part) → may_follow ≡ false → ⊥
+never_long may_follow hand part had none end long f =
+    let size : length (hand ++ part) ≡ 0 = rw ((end f).0, none f) refl in
+    omega (arith, size, long)
 
 -- ---- behind a setup
 
@@ -150,66 +177,77 @@ pub record Refuses (may_follow : Bool) (hand : List ℕ) (had left : Option (Lis
   pub short : may_follow ≡ false → coming ≡ []
   pub refused : saved_in (hand ++ coming) ≡ Err why
 
-refuses : (may_follow follow : Bool) (hand part : List ℕ) (had left : Option (List ℕ)) (why : InputRefusal)
-    → saved_in (hand ++ part) ≡ Err why → Consumes had left part → (may_follow ≡ false → part ≡ [])
-    → (may_follow ≡ false → (hand ≡ []) × IsAtEnd had) → follow ≡ has_feed (hand ++ part) → (follow ≡ false → IsAtEnd left)
-    → Refuses may_follow hand had left why
-refuses may_follow true hand part had left why s read none end feed ended = record {
+refuses_on : (may_follow : Bool) (hand part : List ℕ) (had left : Option (List ℕ)) (why : InputRefusal) → Consumes had left part
+    → (may_follow ≡ false → ⊥) → saved_in ((hand ++ part) ++ rest_of left) ≡ Err why → Refuses may_follow hand had left why
+refuses_on may_follow hand part had left why read never s = record {
   coming = part ++ rest_of left;
   is_input = input_on had left part (rest_of left) read (rest_input left);
-  short = λ f. absurd (never_follows may_follow hand part had none end (sym feed) f);
-  refused = ap saved_in (sym (append_assoc hand part (rest_of left))) ∙ saved_stays (hand ++ part) (rest_of left) (sym feed) ∙ s;
-}
-refuses may_follow false hand part had left why s read none end feed ended = record {
-  coming = part;
-  is_input = input_all had left part read (ended refl);
-  short = none;
-  refused = s;
+  short = λ f. absurd (never f);
+  refused = ap saved_in (sym (append_assoc hand part (rest_of left))) ∙ s;
 }
 
-gone_refused_by : (start : Option ℕ) (c : Configuration) (may_follow : Bool) (hand part : List ℕ) (had left held mid holds : Option (List ℕ))
+refuses_by : (may_follow : Bool) (hand part : List ℕ) (had left : Option (List ℕ)) (why : InputRefusal)
+    → saved_in (hand ++ part) ≡ Err why → Consumes had left part → (may_follow ≡ false → part ≡ [])
+    → (may_follow ≡ false → (hand ≡ []) × IsAtEnd had) → has_feed (hand ++ part) ≡ false
+    → IsAtEnd left ⊎ (KEPT_SAVED_BYTES ≤ length (hand ++ part)) → Refuses may_follow hand had left why
+refuses_by may_follow hand part had left why s read none end free (inl ended) =
+    record { coming = part; is_input = input_all had left part read ended; short = none; refused = s }
+refuses_by may_follow hand part had left why s read none end free (inr long) =
+    refuses_on may_follow hand part had left why read (never_long may_follow hand part had none end long)
+    (long_stays (hand ++ part) (rest_of left) free long ∙ s)
+
+refuses : (may_follow follow : Bool) (hand part : List ℕ) (had left : Option (List ℕ)) (why : InputRefusal)
+    → saved_in (hand ++ part) ≡ Err why → Consumes had left part → (may_follow ≡ false → part ≡ [])
+    → (may_follow ≡ false → (hand ≡ []) × IsAtEnd had) → follow ≡ has_feed (hand ++ part)
+    → (follow ≡ false → IsAtEnd left ⊎ (KEPT_SAVED_BYTES ≤ length (hand ++ part))) → Refuses may_follow hand had left why
+refuses may_follow true hand part had left why s read none end feed ended =
+    refuses_on may_follow hand part had left why read (never_follows may_follow hand part had none end (sym feed))
+    (saved_stays (hand ++ part) (rest_of left) (sym feed) ∙ s)
+refuses may_follow false hand part had left why s read none end feed ended =
+    refuses_by may_follow hand part had left why s read none end (sym feed) (ended refl)
+
+gone_refused_by : (start : Option ℕ) (c : Configuration) (may_follow : Bool) (hand part : List ℕ) (had left held holds : Option (List ℕ))
     (why : InputRefusal) (wrote : Result Outcome DriveError) (r : Result Outcome LiveError)
-    → Refuses may_follow hand had left why → Consumes had left part → Keeps held mid
-    → IfOk wrote (λ o. o ≡ outcome.Refused) → OnOk wrote (Appends mid holds (refusal_line why))
-    → IfErr wrote (λ e. LeavesText e mid holds (refusal_line why)) → IsWritten r wrote
+    → Refuses may_follow hand had left why → Consumes had left part → StopsSoon KEPT_SAVED_BYTES (hand ++ part)
+    → IfOk wrote (λ o. o ≡ outcome.Refused) → OnOk wrote (Appends held holds (refusal_line why))
+    → IfErr wrote (λ e. LeavesText e held holds (refusal_line why)) → IsWritten r wrote
     → WentOn (beginning.Saved start) c may_follow hand r had left held holds
-gone_refused_by start c may_follow hand part had left held mid holds why wrote r z read kept refused written fault w =
+gone_refused_by start c may_follow hand part had left held holds why wrote r z read soon refused written fault w =
     let line = refusal_line why in
     let text = sym (refused_text start c (hand ++ z.coming) why z.refused) in
-    let all = on_ok_weaker wrote (wrote_behind held mid holds line kept) written in
-    let front = IfErr-weaker wrote (λ e. LeavesText e mid holds line) (λ e. LeavesText e held holds line) (λ e f. leaves_before e held mid holds line kept f) fault in
     record {
       coming = z.coming;
       is_input = z.is_input;
       short = z.short;
       outcome_is = subst (λ k. IfOk r (λ o. o ≡ k)) (sym (ap outcome_by z.refused)) (written_ifs r wrote (λ o. o ≡ outcome.Refused) w refused);
-      written = subst (λ l. OnOk r (Appends held holds l)) text (written_oks r wrote (Appends held holds line) w all);
-      read = on_ok_any r (subst (λ q. ReadBehind q had left z.coming) (sym z.refused) (part, read));
-      front = subst (λ l. IfErr r (λ e. LeavesText (told e) held holds l)) text (written_errs r wrote (λ e. LeavesText e held holds line) w front);
+      written = subst (λ l. OnOk r (Appends held holds l)) text (written_oks r wrote (Appends held holds line) w written);
+      read = on_ok_any r (subst (λ q. ReadBehind (λ given. hand ++ given) q had left z.coming) (sym z.refused) (part, read, soon));
+      front = subst (λ l. IfErr r (λ e. LeavesText (told e) held holds l)) text (written_errs r wrote (λ e. LeavesText e held holds line) w fault);
     }
 
 -- what is shown of the refusal of what was saved is what is shown of all behind the setup
-pub gone_refused : (start : Option ℕ) (c : Configuration) (may_follow follow : Bool) (hand part : List ℕ) (had left held mid holds : Option (List ℕ))
+pub gone_refused : (start : Option ℕ) (c : Configuration) (may_follow follow : Bool) (hand part : List ℕ) (had left held holds : Option (List ℕ))
     (why : InputRefusal) (wrote : Result Outcome DriveError) (r : Result Outcome LiveError)
     → saved_in (hand ++ part) ≡ Err why → Consumes had left part → (may_follow ≡ false → part ≡ [])
-    → (may_follow ≡ false → (hand ≡ []) × IsAtEnd had) → follow ≡ has_feed (hand ++ part) → (follow ≡ false → IsAtEnd left) → Keeps held mid
-    → IfOk wrote (λ o. o ≡ outcome.Refused) → OnOk wrote (Appends mid holds (refusal_line why))
-    → IfErr wrote (λ e. LeavesText e mid holds (refusal_line why)) → IsWritten r wrote
+    → StopsSoon KEPT_SAVED_BYTES (hand ++ part) → (may_follow ≡ false → (hand ≡ []) × IsAtEnd had) → follow ≡ has_feed (hand ++ part)
+    → (follow ≡ false → IsAtEnd left ⊎ (KEPT_SAVED_BYTES ≤ length (hand ++ part)))
+    → IfOk wrote (λ o. o ≡ outcome.Refused) → OnOk wrote (Appends held holds (refusal_line why))
+    → IfErr wrote (λ e. LeavesText e held holds (refusal_line why)) → IsWritten r wrote
     → WentOn (beginning.Saved start) c may_follow hand r had left held holds
-gone_refused start c may_follow follow hand part had left held mid holds why wrote r s read none end feed ended kept refused written fault w =
-    gone_refused_by start c may_follow hand part had left held mid holds why wrote r
-    (refuses may_follow follow hand part had left why s read none end feed ended) read kept refused written fault w
+gone_refused start c may_follow follow hand part had left held holds why wrote r s read none soon end feed ended refused written fault w =
+    gone_refused_by start c may_follow hand part had left held holds why wrote r
+    (refuses may_follow follow hand part had left why s read none end feed ended) read soon refused written fault w
 
 -- what is shown of the lines behind what was saved is what is shown of all behind the setup
 pub gone_answered : (start : Option ℕ) (c : Configuration) (saved : Saved) (may_follow follow : Bool) (hand part : List ℕ)
-    (had mid left held wrote holds : Option (List ℕ)) (r : Result Outcome LiveError)
+    (had mid left held holds : Option (List ℕ)) (r : Result Outcome LiveError)
     → saved_in (hand ++ part) ≡ Ok saved → Consumes had mid part → (may_follow ≡ false → part ≡ [])
-    → (may_follow ≡ false → (hand ≡ []) × IsAtEnd had) → follow ≡ has_feed (hand ++ part) → (follow ≡ false → IsAtEnd mid) → Keeps held wrote
+    → (may_follow ≡ false → (hand ≡ []) × IsAtEnd had) → follow ≡ has_feed (hand ++ part) → (follow ≡ false → IsAtEnd mid)
     → IfOk r (λ o. o ≡ outcome.Ran)
-    → (follow ≡ false → (r ≡ Ok outcome.Ran) × (left ≡ mid) × (holds ≡ wrote))
-    → (follow ≡ true → TalkEnded 3 (resumed_from c saved start) (behind_line (hand ++ part)) mid left wrote holds r)
+    → (follow ≡ false → (r ≡ Ok outcome.Ran) × (left ≡ mid) × (holds ≡ held))
+    → (follow ≡ true → TalkEnded 3 (resumed_from c saved start) (behind_line (hand ++ part)) mid left held holds r)
     → WentOn (beginning.Saved start) c may_follow hand r had left held holds
-gone_answered start c saved may_follow false hand part had mid left held wrote holds r s read none end feed ended kept ran unread lines =
+gone_answered start c saved may_follow false hand part had mid left held holds r s read none end feed ended ran unread lines =
     let n = unread refl in
     let text = none_text start c saved (hand ++ part) s (sym feed) in
     rw (n.0, n.1, n.2)
@@ -218,11 +256,11 @@ gone_answered start c saved may_follow false hand part had mid left held wrote h
       is_input = input_all had mid part read (ended refl);
       short = none;
       outcome_is = sym (ap outcome_by s);
-      written = subst (λ l. Appends held wrote l) (sym text) (appended_none held wrote kept);
-      read = subst (λ q. ReadBehind q had mid part) (sym s) read;
+      written = subst (λ l. Appends held held l) (sym text) (Appends-none held);
+      read = subst (λ q. ReadBehind (λ given. hand ++ given) q had mid part) (sym s) read;
       front = tt;
     })
-gone_answered start c saved may_follow true hand part had mid left held wrote holds (Ok o) s read none end feed ended kept ran unread lines =
+gone_answered start c saved may_follow true hand part had mid left held holds (Ok o) s read none end feed ended ran unread lines =
     let t = lines refl in
     let bytes = append_assoc hand part t.0 in
     let stays = ap saved_in (sym bytes) ∙ saved_stays (hand ++ part) t.0 (sym feed) ∙ s in
@@ -232,11 +270,11 @@ gone_answered start c saved may_follow true hand part had mid left held wrote ho
       is_input = input_on had mid part t.0 read t.1;
       short = λ f. absurd (never_follows may_follow hand part had none end (sym feed) f);
       outcome_is = ran ∙ sym (ap outcome_by stays);
-      written = subst (λ l. Appends held holds l) (sym text) (wrote_behind held wrote holds _ kept t.3);
-      read = subst (λ q. ReadBehind q had left (part ++ t.0)) (sym stays) (Consumes-then had mid left part t.0 read t.2);
+      written = subst (λ l. Appends held holds l) (sym text) t.3;
+      read = subst (λ q. ReadBehind (λ given. hand ++ given) q had left (part ++ t.0)) (sym stays) (Consumes-then had mid left part t.0 read t.2);
       front = tt;
     }
-gone_answered start c saved may_follow true hand part had mid left held wrote holds (Err e) s read none end feed ended kept ran unread lines =
+gone_answered start c saved may_follow true hand part had mid left held holds (Err e) s read none end feed ended ran unread lines =
     let t = lines refl in
     let text = ap (live_resumed_over start (Ok c)) (sym (append_assoc hand part t.0)) ∙ on_text start c saved (hand ++ part) t.0 s (sym feed) in
     record {
@@ -246,7 +284,7 @@ gone_answered start c saved may_follow true hand part had mid left held wrote ho
       outcome_is = tt;
       written = tt;
       read = tt;
-      front = subst (λ l. LeavesText (told e) held holds l) (sym text) (leaves_before (told e) held wrote holds _ kept t.4);
+      front = subst (λ l. LeavesText (told e) held holds l) (sym text) t.4;
     }
 
 -- ---- the whole
@@ -269,10 +307,18 @@ parts_stay given coming true feed none = (first_stays given coming (sym feed), b
 parts_stay given coming false feed none =
     rw (none refl) (ap first_line_of (append-nil given), ap behind_line (append-nil given) ∙ sym (append-nil (behind_line given)))
 
-read_behind : (r : Result Saved InputRefusal) (had mid left : Option (List ℕ)) (given coming : List ℕ) → Consumes had mid given
-    → ReadBehind r mid left coming → ReadBehind r had left (given ++ coming)
-read_behind (Ok saved) had mid left given coming read more = Consumes-then had mid left given coming read more
-read_behind (Err e) had mid left given coming read more = (given ++ more.0, Consumes-then had mid left given more.0 read more.1)
+-- no more behind the setup than shows it, whether the setup's line feed was given before or not
+soon_behind : (given more : List ℕ) (whole : Bool) → whole ≡ has_feed given → StopsSoon KEPT_SAVED_BYTES (behind_line given ++ more)
+    → StopsSoon KEPT_SAVED_BYTES (behind_line (given ++ more))
+soon_behind given more true feed soon = rw (behind_stays given more (sym feed)) soon
+soon_behind given more false feed soon =
+    rw (behind_on given more (sym feed)) (behind_soon KEPT_SAVED_BYTES more (omega arith) (rw (behind_none given (sym feed)) at soon))
+
+read_behind : (r : Result Saved InputRefusal) (had mid left : Option (List ℕ)) (given coming : List ℕ) (whole : Bool) → whole ≡ has_feed given
+    → Consumes had mid given → ReadBehind (λ more. behind_line given ++ more) r mid left coming → ReadBehind behind_line r had left (given ++ coming)
+read_behind (Ok saved) had mid left given coming whole feed read more = Consumes-then had mid left given coming read more
+read_behind (Err e) had mid left given coming whole feed read more =
+    (given ++ more.0, Consumes-then had mid left given more.0 read more.1, soon_behind given more.0 whole feed more.2)
 
 -- what is said of an input whose setup is this one
 talk_over : (b : Beginning) (c : Configuration) (input behind : List ℕ) → setup_of (first_line_of input) ≡ Ok c → behind_line input ≡ behind
@@ -287,14 +333,15 @@ talk_over (beginning.Saved start) c input behind s b = (
   ap (λ r. outcome_by (in_setup r >>= λ d. saved_in (behind_line input))) s ∙ ap (λ l. outcome_by (saved_in l)) b,
 )
 
-talk_read : (b : Beginning) (c : Configuration) (given coming behind : List ℕ) (had mid left : Option (List ℕ))
-    → setup_of (first_line_of (given ++ coming)) ≡ Ok c → behind_line (given ++ coming) ≡ behind → Consumes had mid given
-    → LaterReads b behind mid left coming → TalkReads b had left (given ++ coming)
-talk_read (beginning.Opened start) c given coming behind had mid left s b read later =
+talk_read : (b : Beginning) (c : Configuration) (given coming : List ℕ) (had mid left : Option (List ℕ)) (whole : Bool) → whole ≡ has_feed given
+    → setup_of (first_line_of (given ++ coming)) ≡ Ok c → behind_line (given ++ coming) ≡ behind_line given ++ coming → Consumes had mid given
+    → LaterReads b (behind_line given) mid left coming → TalkReads b had left (given ++ coming)
+talk_read (beginning.Opened start) c given coming had mid left whole feed s b read later =
     subst (λ q. ReadBy q had left (given ++ coming)) (sym s) (Consumes-then had mid left given coming read later)
-talk_read (beginning.Saved start) c given coming behind had mid left s b read later =
+talk_read (beginning.Saved start) c given coming had mid left whole feed s b read later =
     subst (λ q. ReadResumedBy q had left (given ++ coming)) (sym s)
-    (subst (λ l. ReadBehind (saved_in l) had left (given ++ coming)) (sym b) (read_behind (saved_in behind) had mid left given coming read later))
+    (subst (λ l. ReadBehind behind_line (saved_in l) had left (given ++ coming)) (sym b)
+    (read_behind (saved_in (behind_line given ++ coming)) had mid left given coming whole feed read later))
 
 -- what is shown of all behind a setup is what is shown of the whole
 pub whole_gone : (b : Beginning) (c : Configuration) (given : List ℕ) (had mid left held holds : Option (List ℕ)) (whole : Bool)
@@ -311,7 +358,7 @@ whole_gone b c given had mid left held holds whole (Ok o) s feed read w =
       is_input = input_on had mid given w.coming read w.is_input;
       outcome_is = w.outcome_is ∙ sym says.1;
       written = subst (Appends held holds) (sym says.0) w.written;
-      read = talk_read b c given w.coming (behind_line given ++ w.coming) had mid left setup parts.1 read w.read;
+      read = talk_read b c given w.coming had mid left whole feed setup parts.1 read w.read;
       front = tt;
     }
 whole_gone b c given had mid left held holds whole (Err e) s feed read w =

@@ -80,7 +80,7 @@ pub record Drove (outcomes : List ℕ → Outcome) (says : List ℕ → List ℕ
   pub read : OnOk ended (IfSome had (HasRead had left))
   -- what an error leaves
   pub fault : IfErr ended (λ e. AfterFaultOf says e had left held holds)
-  -- out of memory something of the text is missing
+  -- out of memory whole lines of the text were written, and something is missing
   pub memory : IfErr ended (λ e. e ≡ errors.Memory → IfSome had (λ input. WroteShort held holds (says input)))
   -- whatever is known of reader and writer
   pub input : IsRunOf outcomes says ended had held holds

@@ -1,5 +1,5 @@
 -- What a conversation from a reader to a writer leaves, fault or none.
-use Rattle.std.specs.Prelude.{ℕ, Bool, false, ◌≡◌, ◌+◌, ◌-◌, ◌^◌, ◌≤◌, length, ⊤, ◌⊎◌, List, [], ◌∷◌, ◌++◌, Option, Result, Ok, Err, IfOk, IfErr}
+use Rattle.std.specs.Prelude.{ℕ, Bool, false, ◌≡◌, ◌+◌, ◌-◌, ◌^◌, ◌≤◌, length, ⊤, List, [], ◌++◌, Option, Result, Ok, Err, IfOk, IfErr}
 use Rattle.std.specs.Prelude.{IfSome, OnOk}
 use Rattle.std.specs.Io.KnownBytes.{Appends, Consumes}
 use Rattle.check_objects.specs.Configuration.{Configuration}
@@ -7,7 +7,7 @@ use Rattle.check_objects.specs.Setup.{setup_of}
 use Rattle.check_drafts.specs.declared.error.LoadError.{LoadError}
 use Rattle.check_script.specs.declared.drive_error.DriveError.{DriveError}
 use Rattle.check_script.specs.declared.drive_error.DriveError.TheVariants as errors
-use Rattle.check_script.specs.declared.live_input.TheConstants.{KEPT_SETUP_BYTES}
+use Rattle.check_script.specs.declared.live_input.TheConstants.{KEPT_SAVED_BYTES, KEPT_SETUP_BYTES}
 use Rattle.check_script.specs.declared.live_error.LiveError.{LiveError}
 use Rattle.check_script.specs.declared.live_error.LiveError.TheVariants as live
 use Rattle.check_script.specs.Input.{first_line_of, lines_of}
@@ -21,16 +21,12 @@ use Rattle.check_script.specs.ResumedScript.{in_saved}
 use Rattle.check_script.specs.Script.{in_setup}
 use Rattle.check_sched.specs.State.{State, opening}
 use Rattle.check_text.specs.LiveText.{answers_from, live_resumed_over, live_text, live_text_resumed}
-use Rattle.check_text.specs.Output.{WroteFront}
+use Rattle.check_text.specs.Output.{AreWholeLines, WroteFront}
 use Rattle.check_drive.specs.declared.beginning.Beginning.{Beginning}
 use Rattle.check_drive.specs.declared.beginning.Beginning.TheVariants as beginning
 use Rattle.check_drive.specs.declared.drive.Outcome.{Outcome}
 use Rattle.check_drive.specs.declared.drive.Outcome.TheVariants as outcome
 use Rattle.check_drive.specs.Drive.{IsInput, outcome_by}
-
--- these bytes end a line, or there are none
-abbrev pub AreWholeLines : List ℕ → Type 0
-AreWholeLines bytes = (bytes ≡ []) ⊎ ((xs : List ℕ) × (bytes ≡ xs ++ 10 ∷ []))
 
 -- the writer took whole lines from the beginning of the text, and no more
 pub record WroteLines (old new : Option (List ℕ)) (text : List ℕ) : Type 0 where
@@ -109,14 +105,15 @@ saved_in bytes = in_saved (saved_of_text (first_line_of bytes))
 abbrev pub live_resumed_outcome : List ℕ → Outcome
 live_resumed_outcome input = outcome_by (in_setup (setup_of (first_line_of input)) >>= λ c. saved_in (behind_line input))
 
--- what was read behind a setup: all, or a prefix of it where what was saved is refused
-abbrev pub ReadBehind : Result Saved InputRefusal → Option (List ℕ) → Option (List ℕ) → List ℕ → Type 0
-ReadBehind (Ok saved) had left input = Consumes had left input
-ReadBehind (Err e) had left input = (given : List ℕ) × Consumes had left given
+-- What was read, by what was saved and by `behind`, which says of what was read what stands behind the setup: the input to its end, or where
+-- what was saved is refused no more behind the setup than shows it.
+abbrev pub ReadBehind : (List ℕ → List ℕ) → Result Saved InputRefusal → Option (List ℕ) → Option (List ℕ) → List ℕ → Type 0
+ReadBehind behind (Ok saved) had left input = Consumes had left input
+ReadBehind behind (Err e) had left input = (given : List ℕ) × Consumes had left given × StopsSoon KEPT_SAVED_BYTES (behind given)
 
--- What was read: the input to its end; where the setup is refused no more of it than that takes, and where the saved state is refused a prefix.
+-- What was read: the input to its end, or where its setup or what was saved is refused no more than shows it.
 abbrev pub ReadResumedBy : Result Configuration LoadError → Option (List ℕ) → Option (List ℕ) → List ℕ → Type 0
-ReadResumedBy (Ok c) had left input = ReadBehind (saved_in (behind_line input)) had left input
+ReadResumedBy (Ok c) had left input = ReadBehind behind_line (saved_in (behind_line input)) had left input
 ReadResumedBy (Err e) had left input = (given : List ℕ) × Consumes had left given × StopsSoon KEPT_SETUP_BYTES given
 
 abbrev pub HasReadResumed : Option (List ℕ) → Option (List ℕ) → List ℕ → Type 0
@@ -163,9 +160,10 @@ abbrev pub later_text : Beginning → Configuration → List ℕ → List ℕ
 later_text (beginning.Opened start) c bytes = answers_from (opening c start) 2 (lines_of bytes)
 later_text (beginning.Saved start) c bytes = live_resumed_over start (Ok c) bytes
 
+-- and what is read, where the first bytes behind the setup are at hand and others come
 abbrev pub LaterReads : Beginning → List ℕ → Option (List ℕ) → Option (List ℕ) → List ℕ → Type 0
-LaterReads (beginning.Opened start) bytes = Consumes
-LaterReads (beginning.Saved start) bytes = ReadBehind (saved_in bytes)
+LaterReads (beginning.Opened start) hand had left coming = Consumes had left coming
+LaterReads (beginning.Saved start) hand had left coming = ReadBehind (λ given. hand ++ given) (saved_in (hand ++ coming)) had left coming
 
 -- How a conversation ended behind a setup, with these bytes at hand: some came, and no more where none may follow; by all of them together it
 -- answered lines, or refused what was saved, and wrote its text, or after an error a prefix of it.
@@ -176,7 +174,7 @@ pub record WentOn (begins : Beginning) (c : Configuration) (may_follow : Bool) (
   pub short : may_follow ≡ false → coming ≡ []
   pub outcome_is : IfOk ended (λ outcome. outcome ≡ later_outcome begins (hand ++ coming))
   pub written : OnOk ended (Appends held holds (later_text begins c (hand ++ coming)))
-  pub read : OnOk ended (LaterReads begins (hand ++ coming) had left coming)
+  pub read : OnOk ended (LaterReads begins hand had left coming)
   pub front : IfErr ended (λ e. LeavesText (told e) held holds (later_text begins c (hand ++ coming)))
 
 -- How the answering of lines ended, of which the first has the number `begins`, with these bytes at hand: some came, and as the lines of all of

@@ -35,7 +35,7 @@ pub enum Outcome {
 /// writer, an interruption among them, and a write that takes no byte, ends the run: `Read` comes
 /// where the reader fails, and nothing was written then; `Write` where the writer or its flush fails,
 /// and `Memory` where there is no memory, and a prefix of the text was written then, which is empty
-/// where the input wasn't read, and after `Memory` never is the whole of a text that has a line.
+/// where the input wasn't read. After `Memory` it is whole lines, and never all of a text that has a line.
 ///
 /// Input, text and commands are our own profile. The rules of the calls are those of check_sched, after the
 /// chapters of the Nagios Core 4 manual that it names.

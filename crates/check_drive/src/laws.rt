@@ -8,13 +8,13 @@ ghost use Rattle.check_script.specs.LiveInput.{has_feed};
 ghost use Rattle.check_script.specs.Script.{Script, script_of};
 ghost use Rattle.check_spread.specs.declared.limits.TheConstants.{LAST_MOMENT};
 ghost use Rattle.check_script.specs.declared.drive_error.DriveError.{DriveError};
-ghost use Rattle.check_text.specs.Output.{WroteShort};
+ghost use Rattle.check_text.specs.Output.{AreWholeLines, WroteShort};
 ghost use Rattle.check_text.specs.Text.{saved_line, text, text_resumed};
 ghost use Rattle.check_drive.specs.declared.beginning.Beginning.{Beginning};
 ghost use Rattle.check_drive.specs.declared.drive.Outcome.{Outcome};
 ghost use Rattle.check_drive.specs.Cut.{first_part, second_part, whole_input};
 ghost use Rattle.check_drive.specs.Drive.{AfterFaultOf, Drove, HasRead, IsRunOf, run_outcome, run_text};
-ghost use Rattle.check_drive.specs.Live.{AreWholeLines, Conversed, IsLiveOf, LeavesText, TalkReads, talk_outcome, talk_text};
+ghost use Rattle.check_drive.specs.Live.{Conversed, IsLiveOf, LeavesText, TalkReads, talk_outcome, talk_text};
 
 /// A run that is accepted is cut behind any of its lines. The first part, with `["save"]` behind it, writes
 /// what the whole writes of it, and then the line of a saved state. The second part, behind the same setup

@@ -22,9 +22,9 @@ use check_objects::Setup;
 use check_saved::Saved;
 use check_sched::{LAST_MOMENT, Sched};
 use check_script::{
-    DriveError, InputBuffer, InputRefusal, KEPT_LINE_BYTES, KEPT_SAVED_BYTES, KEPT_SETUP_BYTES,
-    KeptLine, LiveError, RunCommand, ScriptError, read_kept, read_saved, read_setup,
-    take_first_line,
+    ASKED_BYTES, DriveError, InputBuffer, InputRefusal, KEPT_LINE_BYTES, KEPT_SAVED_BYTES,
+    KEPT_SETUP_BYTES, KeptLine, LiveError, RunCommand, ScriptError, read_kept, read_saved,
+    read_setup, take_document,
 };
 use check_text::{REPLY_BYTES, flush, write_refusal};
 use std::alloc::{AllocError, Global};
@@ -100,6 +100,7 @@ fn go_on<R: Read, W: Write>(
 ) -> Result<Outcome, LiveError>
     requires beginning { CanBegin beginning }
     requires end { may_follow ≡ false → (at_hand ≡ []) × IsAtEnd (R.remaining reader.old) }
+    requires few { length at_hand ≤ ASKED_BYTES }
     ensures went_on { WentOn beginning setup may_follow at_hand result (R.remaining reader.old)
         (R.remaining reader.new) (W.contents writer.old) (W.contents writer.new) }
     ensures spent { IfErr result
@@ -112,7 +113,7 @@ fn go_on<R: Read, W: Write>(
             talk.answer_all(alloc, 2, may_follow, reader, writer)
         }
         Beginning::Saved(start) => {
-            let (saved, follow) = take_saved(alloc, may_follow, &mut at_hand, reader, writer)?;
+            let (saved, follow) = take_saved(alloc, may_follow, &mut at_hand, reader)?;
             match saved {
                 Ok(saved) => {
                     let sched = resume(alloc, setup, &saved, start)?;
@@ -162,37 +163,39 @@ fn read_first<R: Read>(
         × IfErr result (AfterReads given) }
 {
     let mut document = KeptLine::new(alloc, KEPT_SETUP_BYTES);
-    let whole = take_first_line(at_hand, &mut document, reader)?;
+    let whole = take_document(at_hand, &mut document, reader)?;
     Ok((read_setup(alloc, document.bytes()), whole))
 }
 
 /// What was saved, by line 2, or its refusal, and whether lines may follow. Where nothing may follow the
 /// setup, line 2 has no byte, and nothing is read. Where the whole line is at hand the reader isn't asked.
-fn take_saved<R: Read, W: Write>(
+/// Before this line nothing was written, so nothing is flushed.
+fn take_saved<R: Read>(
     alloc: Global,
     may_follow: bool,
     at_hand: &mut InputBuffer,
     reader: &mut R,
-    writer: &mut W,
 ) -> Result<(Result<Saved, ScriptError>, bool), LiveError>
     requires end { may_follow ≡ false → (at_hand.old ≡ []) × IsAtEnd (R.remaining reader.old) }
+    requires few { length at_hand.old ≤ ASKED_BYTES }
     ensures took { (given : List ℕ)
         × Consumes (R.remaining reader.old) (R.remaining reader.new) given
         × (may_follow ≡ false → given ≡ [])
+        × StopsSoon KEPT_SAVED_BYTES (at_hand.old ++ given)
         × IfOk result (λ second.
         Gives (λ saved. saved) second.0 (saved_in (at_hand.old ++ given))
         × (second.1 ≡ has_feed (at_hand.old ++ given))
         × (at_hand.new ≡ behind_line (at_hand.old ++ given))
-        × (second.1 ≡ false → IsAtEnd (R.remaining reader.new)))
-        × IfErr result (AfterLine given) }
+        × (second.1 ≡ false → IsAtEnd (R.remaining reader.new)
+        ⊎ (KEPT_SAVED_BYTES ≤ length (at_hand.old ++ given))))
+        × IfErr result (AfterReads given) }
     ensures unasked { has_feed at_hand.old ≡ true → reader.new ≡ reader.old }
-    ensures kept { Keeps (W.contents writer.old) (W.contents writer.new) }
 {
     if !may_follow {
         return Ok((read_saved(alloc, &[]), false));
     }
     let mut line = KeptLine::new(alloc, KEPT_SAVED_BYTES);
-    let follow = take_next_line(at_hand, &mut line, reader, writer)?;
+    let follow = take_document(at_hand, &mut line, reader)?;
     Ok((read_saved(alloc, line.bytes()), follow))
 }
 

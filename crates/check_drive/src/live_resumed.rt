@@ -18,9 +18,9 @@ use std::io::{Read, Write};
 /// from the moment `start` on, in milliseconds, or from the saved start where none is given.
 ///
 /// Line 1 is the setup, line 2 what was saved, and commands begin at line 3. A refused setup writes the
-/// line of its refusal, and ends the conversation before line 2 is asked for; so does what was saved,
-/// where it is refused, when its line has come. Line 2 has no answer else. Of it no more is kept than
-/// 16,777,217 bytes. Errors come as `live` has them.
+/// line of its refusal, and ends the conversation before line 2 is asked for. So does what was saved, where
+/// it is refused: when its line has come, or as soon as it has more than 16,777,216 bytes. Line 2 has no
+/// answer else. Errors come as `live` has them.
 ///
 /// Input, text and commands are our own profile. The rules of the calls are those of check_sched, after the
 /// chapters of the Nagios Core 4 manual that it names.

@@ -97,7 +97,7 @@ refusal_nowhere kind = record { kind = kind; part = 0; has_index = 0; index = 0 
 abbrev pub refusal_at : ℕ → Place → PlainRefusal
 refusal_at kind p = record { kind = kind; part = part_number p.part; has_index = is_there p.index; index = number_or_0 p.index }
 
--- want of memory has a status of its own, and no function gives its struct
+-- want of memory has a status of its own, and no function gives its struct; its kind comes behind those of a saved state's refusals
 abbrev pub plain_refusal : LoadError → PlainRefusal
 plain_refusal load.TooLong = refusal_nowhere 0
 plain_refusal load.NotJson = refusal_nowhere 1
@@ -110,7 +110,7 @@ plain_refusal (load.UnknownMaster p) = refusal_at 7 p
 plain_refusal (load.Range p) = refusal_at 8 p
 plain_refusal load.DependencyCycle = refusal_nowhere 9
 plain_refusal load.ParentCycle = refusal_nowhere 10
-plain_refusal load.Memory = refusal_nowhere 11
+plain_refusal load.Memory = refusal_nowhere 21
 
 -- ---- read back: the value that has this struct, where one has it
 

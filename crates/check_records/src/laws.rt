@@ -1,6 +1,6 @@
 //! Laws without code: nothing is lost on the way to C.
 
-ghost use Rattle.std.specs.Prelude.{◌≡◌};
+ghost use Rattle.std.specs.Prelude.{◌≡◌, ◌≢◌};
 ghost use Rattle.ticket_steps.specs.declared.kept.Entry.{Entry};
 ghost use Rattle.check_drafts.specs.declared.error.LoadError.{LoadError};
 ghost use Rattle.check_rules.specs.declared.standing.Standing.{Standing};
@@ -18,4 +18,10 @@ pub fn structs_tell()
     ensures entries { (a b : Entry Call Reply) → plain_entry a ≡ plain_entry b → a ≡ b }
     ensures refusals { (a b : LoadError) → plain_refusal a ≡ plain_refusal b → a ≡ b }
     ensures saved_faults { (a b : SavedFault) → plain_fault a ≡ plain_fault b → a ≡ b }
+{}
+
+/// No struct is that of a document's refusal and of a saved state's too.
+pub fn refusals_are_apart()
+    ensures { (of_document : LoadError) → (of_saved : SavedFault)
+        → plain_refusal of_document ≢ plain_fault of_saved }
 {}

@@ -350,6 +350,6 @@ pub fn plain_refusal(error: LoadError) -> PlainRefusal
         LoadError::Range(place) => refusal_at(8, place),
         LoadError::DependencyCycle => refusal_nowhere(9),
         LoadError::ParentCycle => refusal_nowhere(10),
-        LoadError::Memory => refusal_nowhere(11),
+        LoadError::Memory => refusal_nowhere(21),
     }
 }

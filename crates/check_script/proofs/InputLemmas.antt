@@ -1,6 +1,6 @@
 -- Reads one after another, and the first line of an input.
-use Rattle.std.proofs.Common.{◌≡◌, ℕ, suc, ◌+◌, ◌-◌, min, ◌==◌, Bool, true, false, not, cond, length, List, [], ◌∷◌, ◌++◌, take, drop, Option, None, Some}
-use Rattle.std.proofs.Common.{refl, sym, ◌∙◌, ap, arith, ◌≤◌, get_or}
+use Rattle.std.proofs.Common.{◌≡◌, ℕ, zero, suc, ◌+◌, ◌-◌, min, ◌==◌, Bool, true, false, not, cond, length, List, [], ◌∷◌, ◌++◌, take, drop, Option, None, Some}
+use Rattle.std.proofs.Common.{refl, sym, ◌∙◌, ap, arith, ◌<◌, ◌≤◌, get_or, length-append, length-take}
 use Rattle.std.specs.List.{position_or_len, position}
 use Rattle.std.proofs.lemmas.Bool.Decides.{nat_tests}
 use Rattle.std.proofs.lemmas.List.{take_rest, take_all, drop_min}
@@ -8,9 +8,10 @@ use Rattle.std.proofs.lemmas.List.Sums.{position_or_len_is}
 use Rattle.std.proofs.Math.Seq.{take-append_seam}
 use Rattle.std.specs.Prelude.{IfSome, nat_lt}
 use borrow.Author.Tests.{ltb-false}
-use Rattle.check_script.specs.Input.{lines_of, first_line_of, onto_first}
+use Rattle.check_script.specs.Input.{HasBegun, lines_of, first_line_of, onto_first}
 use Rattle.std.specs.Io.KnownBytes.{Consumes, IsAtEnd}
 use Rattle.memchr.specs.Find.{IsFirstByte}
+use Rattle.check_script.proofs.LiveInputLemmas.{Consumes-then}
 use Rattle.std.proofs.lemmas.Grind.{common_steps}
 
 suc_first : (n : ℕ) → suc (n + 1) ≡ suc n + 1
@@ -74,6 +75,27 @@ read_nothing None mid new input piece n h k e = tt
 read_nothing (Some xs) None new input piece n h k e = absurd h
 read_nothing (Some xs) (Some ys) None input piece n h k e = absurd k
 read_nothing (Some xs) (Some ys) (Some zs) input piece n h k e = h ∙ ap (λ l. input ++ l) (k ∙ ap (λ m. take m piece ++ zs) e)
+
+-- a byte that is there
+pub some_there : {A : Type 0} (xs : List ℕ) → 0 < length xs → xs ≡ [] → A
+some_there [] h e = absurd (omega (arith, h))
+some_there (x ∷ xs) h e = cc
+
+positive : (n : ℕ) → (n ≡ 0 → ⊥) → 0 < n
+positive zero h = absurd (h refl)
+positive (suc n) h = omega arith
+
+-- what was read before, and a read that gave something
+pub begun_by : (had mid left : Option (List ℕ)) (input piece : List ℕ) (n : ℕ) → Consumes had mid input → Consumes mid left (take n piece)
+    → n ≤ length piece → (n ≡ 0 → ⊥) → HasBegun had left
+begun_by had mid left input piece n h k few some =
+    let more = positive n some in (
+      input ++ take n piece,
+      (
+        Consumes-then had mid left input (take n piece) h k,
+        some_there (input ++ take n piece) (omega (arith, length-append input (take n piece), length-take n piece, few, more)),
+      ),
+    )
 
 fails : (b : Bool) → (b ≡ true → ⊥) → b ≡ false
 fails true h = absurd (h refl)

@@ -79,13 +79,19 @@ kept_setup_by line (inr h) = ap setup_of (take_all KEPT_SETUP_BYTES line (omega 
 pub kept_setup : (line : List ℕ) → setup_of (take KEPT_SETUP_BYTES line) ≡ setup_of line
 kept_setup line = kept_setup_by line (cases_lt 16777216 (length line))
 
--- What comes later says nothing of the setup: where its line feed came, or so many bytes of it as are kept, or nothing does come.
-pub setup_stays : (given more : List ℕ) → (has_feed given ≡ true) ⊎ ((has_feed given ≡ false) × ((more ≡ []) ⊎ (KEPT_SETUP_BYTES ≤ length given)))
-    → setup_of (first_line_of (given ++ more)) ≡ setup_of (first_line_of given)
-setup_stays given more (inl feed) = ap setup_of (first_stays given more feed)
-setup_stays given more (inr (free, inl none)) = ap (λ l. setup_of (first_line_of l)) (ap (λ l. given ++ l) none ∙ append-nil given)
-setup_stays given more (inr (free, inr long)) =
+-- What comes later says nothing of a document's line: where its line feed came, or more bytes of it than a document may have, or nothing
+-- does come.
+pub line_stays : {A : Type 0} (says : List ℕ → A) (long : A) → ((line : List ℕ) → 16777216 < length line → says line ≡ long) → (given more : List ℕ)
+    → (has_feed given ≡ true) ⊎ ((has_feed given ≡ false) × ((more ≡ []) ⊎ (16777217 ≤ length given)))
+    → says (first_line_of (given ++ more)) ≡ says (first_line_of given)
+line_stays says long same given more (inl feed) = ap says (first_stays given more feed)
+line_stays says long same given more (inr (free, inl none)) = ap (λ l. says (first_line_of l)) (ap (λ l. given ++ l) none ∙ append-nil given)
+line_stays says long same given more (inr (free, inr many)) =
     let all = ap length (first_all given free) in
     let front = ap length (first_on given more free) in
     let more' = length-append given (first_line_of more) in
-    too_long (first_line_of (given ++ more)) (omega (arith, long, front, more')) ∙ sym (too_long (first_line_of given) (omega (arith, long, all)))
+    same (first_line_of (given ++ more)) (omega (arith, many, front, more')) ∙ sym (same (first_line_of given) (omega (arith, many, all)))
+
+pub setup_stays : (given more : List ℕ) → (has_feed given ≡ true) ⊎ ((has_feed given ≡ false) × ((more ≡ []) ⊎ (KEPT_SETUP_BYTES ≤ length given)))
+    → setup_of (first_line_of (given ++ more)) ≡ setup_of (first_line_of given)
+setup_stays given more h = line_stays setup_of (Err load.TooLong) too_long given more h

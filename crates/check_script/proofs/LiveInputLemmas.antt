@@ -1,6 +1,6 @@
 -- Lines that are taken as they come.
 use Rattle.std.proofs.Common.{◌≡◌, ℕ, zero, suc, ◌+◌, ◌-◌, min, ◌==◌, ◌&&◌, Bool, true, false, not, cond, length, List, [], ◌∷◌, ◌++◌, take, drop, Option, None, Some}
-use Rattle.std.proofs.Common.{refl, sym, ◌∙◌, ap, arith, ◌≤◌, ◌<◌, length-append, length-take, append-nil, append_assoc}
+use Rattle.std.proofs.Common.{refl, sym, ◌∙◌, ap, arith, ◌≤◌, ◌<◌, length-append, length-take, append-nil, append_assoc, subst}
 use Rattle.std.specs.List.{position_or_len, position}
 use Rattle.std.specs.Prelude.{nat_lt, IfOk, Result, Ok, Err}
 use Rattle.std.specs.Result.{IsErr}
@@ -221,15 +221,35 @@ not_yet most bytes rest line end whole t e =
     let free : has_feed bytes ≡ false = sym t.whole_is ∙ e in
     record { feedless = free; kept = t.line_is ∙ ap (front_of most) (first_all bytes free); nothing = t.rest_is ∙ behind_none bytes free }
 
--- ---- line 1
+-- ---- a document's line
 
--- so far line 1 has no line feed, and not as many bytes as are kept of it at most, and each read gave some
-pub record FirstBegun (most : ℕ) (had left : Option (List ℕ)) (line : LineFront) (rest : List ℕ) (reads : ℕ) : Type 0 where
+-- What is at hand of a line and of what comes later: what was taken of it has no line feed, and not as many bytes as are kept of the line at
+-- most; the rest is at hand, and is no more than one read gave. Each read gave some.
+pub record Coming (most : ℕ) (hand : List ℕ) (had left : Option (List ℕ)) (line : LineFront) (rest : List ℕ) (reads : ℕ) : Type 0 where
   pub given : List ℕ
+  pub taken : List ℕ
   pub consumed : Consumes had left given
-  pub begun : Begun most given line rest
-  pub few : length given < most
+  pub parts : hand ++ given ≡ taken ++ rest
+  pub feedless : has_feed taken ≡ false
+  pub kept : line ≡ front_of most taken
+  pub few : length taken < most
+  pub size : length rest ≤ ASKED_BYTES
   pub many : reads ≤ length given
+
+-- nothing was taken yet
+pub comes_first : (most : ℕ) (hand : List ℕ) (had : Option (List ℕ)) (line : LineFront) → line ≡ front_of most [] → 0 < most
+    → length hand ≤ ASKED_BYTES → Coming most hand had had line hand 0
+comes_first most hand had line kept some size = record {
+  given = [];
+  taken = [];
+  consumed = Consumes-none had;
+  parts = append-nil hand;
+  feedless = refl;
+  kept = kept;
+  few = some;
+  size = size;
+  many = omega arith;
+}
 
 pub stops_soon : (most : ℕ) (given part : List ℕ) → has_feed given ≡ false → length given < most → length part ≤ ASKED_BYTES
     → StopsSoon most (given ++ part)
@@ -239,32 +259,44 @@ stops_soon most given part free few h =
     let front = length-append given (first_line_of part) in
     record { at_the_bound = omega (arith, whole, few, h); at_the_feed = omega (arith, whole, front, first, h) }
 
-pub soon_yet : (most : ℕ) (given : List ℕ) → has_feed given ≡ false → length given < most → StopsSoon most given
-soon_yet most given free few =
-    let first = ap length (first_all given free) in
-    record { at_the_bound = omega (arith, few); at_the_feed = omega (arith, first) }
+-- what is so of all that was given, where the reader isn't asked again
+pub given_so : {most reads : ℕ} {hand rest : List ℕ} {had left : Option (List ℕ)} {line : LineFront} (s : Coming most hand had left line rest reads)
+    (took after : List ℕ → Type 0) → took s.given → after s.given
+    → (given : List ℕ) × Consumes had left given × took given × StopsSoon most (hand ++ given) × after given
+given_so {most} {reads} {hand} {rest} s took after t a =
+    (s.given, s.consumed, t, subst (StopsSoon most) (sym s.parts) (stops_soon most s.taken rest s.feedless s.few s.size), a)
 
--- what is so of what was given and of what one more read gave, behind what had no line feed
-pub given_more : {most reads : ℕ} {had mid : Option (List ℕ)} {line : LineFront} {rest : List ℕ} (s : FirstBegun most had mid line rest reads)
-    (left : Option (List ℕ)) (part : List ℕ) (took after : List ℕ → Type 0) → Consumes mid left part → length part ≤ ASKED_BYTES
-    → took (s.given ++ part) → after (s.given ++ part) → (all : List ℕ) × Consumes had left all × took all × StopsSoon most all × after all
-given_more {most} {reads} {had} {mid} s left part took after now size t a =
-    (s.given ++ part, Consumes-then had mid left s.given part s.consumed now, t, stops_soon most s.given part s.begun.feedless s.few size, a)
-
--- the line behind what one more read gave, of which as much was taken as stands before a line feed
-pub took_more : {most reads : ℕ} {had mid : Option (List ℕ)} {line : LineFront} {before : List ℕ} (s : FirstBegun most had mid line before reads)
-    (part hand rest : List ℕ) (new : LineFront) (whole : Bool) (end : Type 0) → hand ≡ part → whole ≡ has_feed hand → rest ≡ behind_line hand
-    → ((b : List ℕ) → line ≡ front_of line.most b → new ≡ front_of line.most (b ++ first_line_of hand)) → (whole ≡ false → end)
-    → TookLine most (s.given ++ part) new rest end whole
-took_more s part hand rest new whole end = took_on _ s.given part hand rest _ new whole end s.begun.feedless s.begun.kept
+-- the line behind what is at hand, of which as much was taken as stands before a line feed
+pub took_hand : {most reads : ℕ} {hand rest : List ℕ} {had left : Option (List ℕ)} {line : LineFront} (s : Coming most hand had left line rest reads)
+    (behind : List ℕ) (new : LineFront) (whole : Bool) (end : Type 0) → whole ≡ has_feed rest → behind ≡ behind_line rest
+    → ((b : List ℕ) → line ≡ front_of line.most b → new ≡ front_of line.most (b ++ first_line_of rest)) → (whole ≡ false → end)
+    → TookLine most (hand ++ s.given) new behind end whole
+took_hand {most} {reads} {hand} {rest} s behind new whole end w r n e =
+    subst (λ l. TookLine most l new behind end whole) (sym s.parts) (took_on most s.taken rest rest behind _ new whole end s.feedless s.kept refl w r n e)
 
 -- that line, where it isn't whole
-pub begun_more : {most reads : ℕ} {had mid : Option (List ℕ)} {line : LineFront} {before : List ℕ} (s : FirstBegun most had mid line before reads)
-    (part hand rest : List ℕ) (new : LineFront) (whole : Bool) → hand ≡ part → whole ≡ has_feed hand → rest ≡ behind_line hand
-    → ((b : List ℕ) → line ≡ front_of line.most b → new ≡ front_of line.most (b ++ first_line_of hand)) → whole ≡ false
-    → Begun most (s.given ++ part) new rest
-begun_more s part hand rest new whole same w r n none =
-    not_yet _ (s.given ++ part) rest new (Unit {0}) whole (took_more s part hand rest new whole (Unit {0}) same w r n (λ _. tt)) none
+pub begun_hand : {most reads : ℕ} {hand rest : List ℕ} {had left : Option (List ℕ)} {line : LineFront} (s : Coming most hand had left line rest reads)
+    (behind : List ℕ) (new : LineFront) (whole : Bool) → whole ≡ has_feed rest → behind ≡ behind_line rest
+    → ((b : List ℕ) → line ≡ front_of line.most b → new ≡ front_of line.most (b ++ first_line_of rest)) → whole ≡ false
+    → Begun most (hand ++ s.given) new behind
+begun_hand {most} {reads} {hand} s behind new whole w r n none =
+    not_yet most (hand ++ s.given) behind new (Unit {0}) whole (took_hand s behind new whole (Unit {0}) w r n (λ _. tt)) none
+
+-- behind the line there is no more than one read gave
+behind_few : (most : ℕ) (bytes : List ℕ) (feed : Bool) → has_feed bytes ≡ feed → StopsSoon most bytes → length (behind_line bytes) ≤ ASKED_BYTES
+behind_few most bytes true e soon =
+    let parts = ap length (feed_split bytes e) in
+    let sizes = length-append (first_line_of bytes) (10 ∷ behind_line bytes) in
+    omega (arith, parts, sizes, soon.at_the_feed)
+behind_few most bytes false e soon = rw (behind_none bytes e) (omega arith)
+
+pub behind_size : (most : ℕ) (bytes : List ℕ) → StopsSoon most bytes → length (behind_line bytes) ≤ ASKED_BYTES
+behind_size most bytes soon = behind_few most bytes (has_feed bytes) refl soon
+
+pub behind_soon : (most : ℕ) (bytes : List ℕ) → 0 < most → StopsSoon most bytes → StopsSoon most (behind_line bytes)
+behind_soon most bytes some soon =
+    let size = behind_size most bytes soon in
+    record { at_the_bound = omega (arith, size, some); at_the_feed = omega (arith, size) }
 
 -- as many bytes are kept as may be exactly where as many have come
 pub full_is : (most : ℕ) (bytes : List ℕ) (line : LineFront) → line ≡ front_of most bytes → (length line.bytes == line.most) ≡ true → most ≤ length bytes
@@ -286,20 +318,53 @@ more_reads reads given part hand many same some =
     let sizes = ap length same in
     omega (arith, all, sizes, many, some)
 
--- and so it goes on, where the line isn't whole and not as many bytes are kept as may be
-pub first_goes_on : {most reads : ℕ} {had mid : Option (List ℕ)} {line : LineFront} {before : List ℕ} (s : FirstBegun most had mid line before reads)
-    (left : Option (List ℕ)) (part hand rest : List ℕ) (new : LineFront) (whole : Bool) → hand ≡ part → whole ≡ has_feed hand → rest ≡ behind_line hand
-    → ((b : List ℕ) → line ≡ front_of line.most b → new ≡ front_of line.most (b ++ first_line_of hand)) → whole ≡ false
-    → Consumes mid left part → (length new.bytes == new.most) ≡ false → 0 < length hand → FirstBegun most had left new rest (reads + 1)
-first_goes_on {most} {reads} {had} {mid} s left part hand rest new whole same w r n none now short some =
-    let begun = begun_more s part hand rest new whole same w r n none in
-    record {
-      given = s.given ++ part;
-      consumed = Consumes-then had mid left s.given part s.consumed now;
-      begun = begun;
-      few = not_full most (s.given ++ part) new begun.kept short;
-      many = more_reads reads s.given part hand s.many same some;
-    }
+-- what is so of all that was given, where what was at hand was taken, and the reader was asked again
+pub asked_so : {most reads : ℕ} {hand rest : List ℕ} {had mid : Option (List ℕ)} {line : LineFront} (s : Coming most hand had mid line rest reads)
+    (behind : List ℕ) (new : LineFront) (left : Option (List ℕ)) (part : List ℕ) (took after : List ℕ → Type 0)
+    → Begun most (hand ++ s.given) new behind → (length new.bytes == new.most) ≡ false → Consumes mid left part → length part ≤ ASKED_BYTES
+    → took (s.given ++ part) → after (s.given ++ part)
+    → (given : List ℕ) × Consumes had left given × took given × StopsSoon most (hand ++ given) × after given
+asked_so {most} {reads} {hand} {rest} {had} {mid} s behind new left part took after begun short now size t a =
+    let few = not_full most (hand ++ s.given) new begun.kept short in (
+      s.given ++ part,
+      Consumes-then had mid left s.given part s.consumed now,
+      t,
+      subst (StopsSoon most) (append_assoc hand s.given part) (stops_soon most (hand ++ s.given) part begun.feedless few size),
+      a,
+    )
+
+-- it gave nothing
+pub took_rest : {most reads : ℕ} {hand rest : List ℕ} {had mid : Option (List ℕ)} {line : LineFront} (s : Coming most hand had mid line rest reads)
+    (behind : List ℕ) (new : LineFront) (part now_hand : List ℕ) (end : Type 0) → Begun most (hand ++ s.given) new behind
+    → now_hand ≡ part → now_hand ≡ [] → end → TookLine most (hand ++ (s.given ++ part)) new now_hand end false
+took_rest {most} {reads} {hand} s behind new part now_hand end begun same none e =
+    subst (λ l. TookLine most l new now_hand end false) (append_assoc hand s.given part)
+    (took_all most (hand ++ s.given) part now_hand new end begun.feedless begun.kept same none e)
+
+-- it gave some
+pub comes_more : {most reads : ℕ} {hand rest : List ℕ} {had mid : Option (List ℕ)} {line : LineFront} (s : Coming most hand had mid line rest reads)
+    (behind : List ℕ) (new : LineFront) (left : Option (List ℕ)) (part now_hand : List ℕ) → Begun most (hand ++ s.given) new behind
+    → (length new.bytes == new.most) ≡ false → Consumes mid left part → length part ≤ ASKED_BYTES → now_hand ≡ part → 0 < length now_hand
+    → Coming most hand had left new now_hand (reads + 1)
+comes_more {most} {reads} {hand} {rest} {had} {mid} s behind new left part now_hand begun short now size same some = record {
+  given = s.given ++ part;
+  taken = hand ++ s.given;
+  consumed = Consumes-then had mid left s.given part s.consumed now;
+  parts = sym (append_assoc hand s.given part) ∙ ap (λ l. (hand ++ s.given) ++ l) (sym same);
+  feedless = begun.feedless;
+  kept = begun.kept;
+  few = not_full most (hand ++ s.given) new begun.kept short;
+  size = (let sizes = ap length same in omega (arith, sizes, size));
+  many = more_reads reads s.given part now_hand s.many same some;
+}
+
+-- the reader is asked only where no line feed was at hand
+front_free : (xs bs : List ℕ) → has_feed (xs ++ bs) ≡ false → has_feed xs ≡ false
+front_free [] bs h = refl
+front_free (a ∷ xs) bs h = by_feed (a == 10) (has_feed (xs ++ bs)) h (λ e k. rw e (front_free xs bs k))
+
+pub never_asked : {P : Type 0} (most : ℕ) (hand given rest : List ℕ) (line : LineFront) → Begun most (hand ++ given) line rest → has_feed hand ≡ true → P
+never_asked most hand given rest line begun feed = let both : true ≡ false = sym feed ∙ front_free hand given begun.feedless in cc
 
 -- ---- errors
 

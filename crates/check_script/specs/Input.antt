@@ -1,7 +1,16 @@
--- The lines of an input.
-use Rattle.std.specs.Prelude.{◌≡◌, ◌≢◌, ℕ, ◌==◌, List, [], ◌∷◌, if◌then◌else◌}
+-- What is read of an input, and its lines.
+use Rattle.std.specs.Prelude.{◌≡◌, ◌≢◌, ℕ, ◌==◌, List, [], ◌∷◌, Option, if◌then◌else◌}
+use Rattle.std.specs.Io.KnownBytes.{Consumes, IsAtEnd}
 use Rattle.std.specs.List.{AllByRecursion, join_with_byte}
 use Rattle.check_documents.specs.Feeds.{HasNoFeed}
+
+-- these bytes were read: one at least, unless the reader had none
+abbrev pub HasBegunBy : Option (List ℕ) → Option (List ℕ) → List ℕ → Type 0
+HasBegunBy had left given = Consumes had left given × (given ≡ [] → IsAtEnd left)
+
+-- a byte was read, unless the reader had none
+abbrev pub HasBegun : Option (List ℕ) → Option (List ℕ) → Type 0
+HasBegun had left = (given : List ℕ) × HasBegunBy had left given
 
 -- the bytes without the line feed (byte 10) at their end, where there is one
 abbrev pub without_last_feed : List ℕ → List ℕ

@@ -40,8 +40,9 @@ pub record TookLine (most : ℕ) (bytes : List ℕ) (line : LineFront) (rest : L
   pub whole_is : whole ≡ has_feed bytes
   pub ended : whole ≡ false → end
 
--- A reader that gave these bytes was asked no more once the line feed of their first line had come, or so many bytes of it as
--- are kept at most: behind that it gave less than it is asked for at a time.
+-- What a reader gave that is asked for a line, of which so many bytes are kept at most: less than one read's bytes more than that, and
+-- no more than one read's bytes behind the line. This bounds the bytes and doesn't count the reads: a reader that is asked again behind the
+-- line feed, for the rest of those bytes, isn't excluded.
 pub record StopsSoon (most : ℕ) (given : List ℕ) : Type 0 where
   pub at_the_bound : length given < most + ASKED_BYTES
   pub at_the_feed : length given ≤ length (first_line_of given) + ASKED_BYTES

@@ -1,9 +1,8 @@
 //! The bytes of an input and its lines. What a line says is read in `script` and `command`.
 ghost use Rattle.std.specs.Prelude.{◌≡◌, ◌==◌, ◌<◌, ◌++◌, ℕ, List, length, position, ◌≢◌, take};
 ghost use Rattle.std.specs.Prelude.{IfOk, IfErr, IfSome, IsOkUnless, OnOk};
-ghost use Rattle.std.specs.Io.KnownBytes.{Consumes};
 ghost use Rattle.std.specs.Iterator.{YieldsFirstRef, item_count};
-ghost use Rattle.check_script.specs.Input.{AreLines, lines_of, first_line_of};
+ghost use Rattle.check_script.specs.Input.{AreLines, HasBegun, HasBegunBy, lines_of, first_line_of};
 
 use crate::drive_error::DriveError;
 use crate::reader::ask_reader;
@@ -23,18 +22,40 @@ const LINE_FEED: u8 = b'\n';
 /// Reads to the end of the input or to `MAX_READ_BYTES` bytes, whichever comes first.
 ///
 /// Each error of the reader is a fault, an interruption among them: nothing is tried again. An Err is
-/// `Read`, where the reader fails, or `Memory`, and what was read is lost then.
+/// `Read`, where the reader fails, or `Memory`, and what was read is lost then. `Memory` comes only where
+/// a byte was read, or there was none.
 pub fn read_input<R: Read>(alloc: Global, reader: &mut R) -> Result<Vec<u8>, DriveError>
     ensures all { IfOk result (λ input.
         IfSome (R.remaining reader.old) (λ bytes. input.items ≡ take MAX_READ_BYTES bytes)) }
     ensures left { IfOk result (λ input.
-        Consumes (R.remaining reader.old) (R.remaining reader.new) input.items) }
+        HasBegunBy (R.remaining reader.old) (R.remaining reader.new) input.items) }
     ensures errors { IfErr result (λ e. e ≢ DriveError.Write) }
+    ensures memory { IfErr result (λ e. e ≡ DriveError.Memory
+        → HasBegun (R.remaining reader.old) (R.remaining reader.new)) }
+{
+    read_front(alloc, reader, MAX_READ_BYTES)
+}
+
+/// Reads to the end of the input or to `most` bytes, whichever comes first. Errors come as
+/// [`read_input`] has them.
+pub fn read_front<R: Read>(
+    alloc: Global,
+    reader: &mut R,
+    most: usize,
+) -> Result<Vec<u8>, DriveError>
+    requires { 0 < most }
+    ensures all { IfOk result (λ input.
+        IfSome (R.remaining reader.old) (λ bytes. input.items ≡ take most bytes)) }
+    ensures left { IfOk result (λ input.
+        HasBegunBy (R.remaining reader.old) (R.remaining reader.new) input.items) }
+    ensures errors { IfErr result (λ e. e ≢ DriveError.Write) }
+    ensures memory { IfErr result (λ e. e ≡ DriveError.Memory
+        → HasBegun (R.remaining reader.old) (R.remaining reader.new)) }
 {
     let mut input = Vec::new(alloc);
     let mut chunk = [0; CHUNK];
-    while input.len() < MAX_READ_BYTES {
-        let wanted = CHUNK.min(MAX_READ_BYTES - input.len());
+    while input.len() < most {
+        let wanted = CHUNK.min(most - input.len());
         let count = ask_reader(reader, &mut chunk[..wanted])?;
         if count == 0 {
             break;

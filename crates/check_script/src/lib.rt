@@ -29,12 +29,12 @@ pub use command::RunCommand;
 pub use drill_command::DrillCommand;
 pub use drill_script::DrillScript;
 pub use drive_error::DriveError;
-pub use input::{Lines, MAX_READ_BYTES, read_input};
+pub use input::{Lines, MAX_READ_BYTES, read_front, read_input};
 pub use line::Command;
 pub use live_error::LiveError;
 pub use live_input::{
     ASKED_BYTES, InputBuffer, KEPT_LINE_BYTES, KEPT_SAVED_BYTES, KEPT_SETUP_BYTES, KeptLine,
-    read_kept, take_first_line,
+    read_kept, take_document,
 };
 pub use reader::{ReaderFault, ask_reader};
 pub use refusal::{InputRefusal, LineFault, ScriptError};

@@ -181,32 +181,33 @@ impl InputBuffer {
     }
 }
 
-/// Takes the first line of an input, of which nothing is at hand, and returns whether its line feed
-/// came. Where it didn't, the input has ended, or as many bytes of the line have come as are kept of
-/// it at most. The reader is asked no more than that. An Err is the reader's fault, `Memory`, or `ReadsSpent`
-/// where 2^64 - 1 reads each gave something.
-pub fn take_first_line<R: Read>(
+/// Takes the next line, a document's, and returns whether its line feed came. Where it didn't, the
+/// input has ended, or as many bytes of the line have come as are kept of it at most: the reader isn't
+/// asked for more than that, nor where the whole line is at hand. An Err is the reader's fault, `Memory`,
+/// or `ReadsSpent` where 2^64 - 1 reads each gave something.
+pub fn take_document<R: Read>(
     at_hand: &mut InputBuffer,
     line: &mut KeptLine,
     reader: &mut R,
 ) -> Result<bool, LiveError>
-    requires nothing { at_hand.old ≡ [] }
+    requires few { length at_hand.old ≤ ASKED_BYTES }
     requires begins { (line.old ≡ front_of line.old.most []) × (0 < line.old.most) }
     ensures took { (given : List ℕ)
         × Consumes (R.remaining reader.old) (R.remaining reader.new) given
-        × IfOk result (TookLine line.old.most given line.new at_hand.new
-        (IsAtEnd (R.remaining reader.new) ⊎ (line.old.most ≤ length given)))
-        × StopsSoon line.old.most given
+        × IfOk result (TookLine line.old.most (at_hand.old ++ given) line.new at_hand.new
+        (IsAtEnd (R.remaining reader.new) ⊎ (line.old.most ≤ length (at_hand.old ++ given))))
+        × StopsSoon line.old.most (at_hand.old ++ given)
         × IfErr result (AfterReads given) }
+    ensures unasked { has_feed at_hand.old ≡ true → reader.new ≡ reader.old }
 {
     for _reads in 0..u64::MAX {
-        if !at_hand.read_more(reader)? {
-            return Ok(false);
-        }
         if at_hand.take_line(line)? {
             return Ok(true);
         }
         if line.is_full() {
+            return Ok(false);
+        }
+        if !at_hand.read_more(reader)? {
             return Ok(false);
         }
     }

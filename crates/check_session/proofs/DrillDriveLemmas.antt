@@ -41,7 +41,7 @@ wrote_drill (Err errors.Memory) start workers room input text held holds is (inl
     record { written = tt; front = inl kept; kind = λ q. cc; short = λ q. inl kept }
 wrote_drill (Err errors.Memory) start workers room input text held holds is (inr w) = record {
   written = tt;
-  front = inr (record { text = text; is_text = is; written = (w.0, w.2) });
+  front = inr (record { text = text; is_text = is; written = (w.0, w.2.0) });
   kind = λ q. cc;
   short = λ q. inr (record { text = text; is_text = is; rest = w.0; is_missing = w.1; written = w.2 });
 }

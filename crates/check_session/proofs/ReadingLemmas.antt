@@ -1,5 +1,5 @@
 -- What a check reads of its input, and the document in it.
-use Rattle.std.proofs.Common.{◌≡◌, ◌≢◌, ℕ, zero, suc, ◌+◌, ◌<◌, ◌≤◌, ◌==◌, ◌&&◌, Bool, true, false, List, [], ◌∷◌, ◌++◌, length, take, Option, Some}
+use Rattle.std.proofs.Common.{◌≡◌, ◌≢◌, ℕ, ◌+◌, ◌<◌, ◌≤◌, ◌==◌, ◌&&◌, Bool, true, false, List, [], ◌∷◌, ◌++◌, length, take, Option, Some}
 use Rattle.std.proofs.Common.{None, refl, sym, ap, subst, ◌∙◌}
 use Rattle.std.proofs.Common.{arith, length-take, length-append}
 use Rattle.std.specs.Prelude.{IfSome, if◌then◌else◌}
@@ -9,9 +9,10 @@ use Rattle.std.proofs.lemmas.Bool.{eqb-true}
 use Rattle.std.proofs.lemmas.Bool.Decides.{nat_tests}
 use Rattle.std.proofs.lemmas.List.{take_all}
 use Rattle.std.proofs.Math.Seq.{take-append-add}
-use Rattle.check_script.specs.Input.{without_last_feed}
+use Rattle.check_script.specs.Input.{HasBegun, HasBegunBy, without_last_feed}
+use Rattle.check_script.proofs.InputLemmas.{some_there}
 use Rattle.check_script.proofs.LiveInputLemmas.{Consumes-then}
-use Rattle.check_session.specs.Reading.{HasBegun, HasBegunBy, HasReadDocument, is_undecided, read_of}
+use Rattle.check_session.specs.Reading.{HasReadDocument, is_undecided, read_of}
 use Rattle.check_session.specs.declared.reading.TheConstants.{MAX_CHECKED_BYTES}
 
 -- ---- the document of an input
@@ -41,29 +42,6 @@ pub cut_length : (bs : List ℕ) → length bs ≤ length (without_last_feed bs)
 cut_length [] = omega arith
 cut_length (b ∷ []) = cut_one (b == 10) b
 cut_length (b ∷ c ∷ bs) = let h = cut_length (c ∷ bs) in omega (arith, h)
-
--- ---- reads one after another
-
--- a byte that is there
-pub some_there : {A : Type 0} (xs : List ℕ) → 0 < length xs → xs ≡ [] → A
-some_there [] h e = absurd (omega (arith, h))
-some_there (x ∷ xs) h e = cc
-
-positive : (n : ℕ) → (n ≡ 0 → ⊥) → 0 < n
-positive zero h = absurd (h refl)
-positive (suc n) h = omega arith
-
--- what was read before, and a read that gave something
-pub begun_by : (had mid left : Option (List ℕ)) (input piece : List ℕ) (n : ℕ) → Consumes had mid input → Consumes mid left (take n piece)
-    → n ≤ length piece → (n ≡ 0 → ⊥) → HasBegun had left
-begun_by had mid left input piece n h k few some =
-    let more = positive n some in (
-      input ++ take n piece,
-      (
-        Consumes-then had mid left input (take n piece) h k,
-        some_there (input ++ take n piece) (omega (arith, length-append input (take n piece), length-take n piece, few, more)),
-      ),
-    )
 
 -- ---- what is read of an input
 

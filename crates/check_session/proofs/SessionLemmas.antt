@@ -9,7 +9,8 @@ use Rattle.check_text.specs.Output.{WroteShort}
 use Rattle.check_session.specs.Check.{IsCheckOnInput}
 use Rattle.check_session.specs.CheckResumed.{IsResumedCheckOnInput}
 use Rattle.check_session.specs.Drill.{AfterDrillFault, IsDrillOnInput, WroteDrillShort}
-use Rattle.check_session.specs.Reading.{HasBegun, HasReadDocument}
+use Rattle.check_script.specs.Input.{HasBegun}
+use Rattle.check_session.specs.Reading.{HasReadDocument}
 use Rattle.check_session.specs.Session.{IsSchemaTold}
 
 -- ---- a run
@@ -60,10 +61,11 @@ pub both_checked_did : (start : Option ℕ) (r : Result Outcome DriveError) (had
 both_checked_did start (Ok o) had left held holds input read = (input, read)
 both_checked_did start (Err e) had left held holds input read = tt
 
-pub both_checked_failed : (start : Option ℕ) (r : Result Outcome DriveError) (had held holds : Option (List ℕ))
-    → IsResumedCheckOnInput start r had held holds → IfErr r (λ e. IsResumedCheckOnInput start (Err e) had held holds)
-both_checked_failed start (Ok o) had held holds input = tt
-both_checked_failed start (Err e) had held holds input = input
+pub both_checked_failed : (start : Option ℕ) (r : Result Outcome DriveError) (had left held holds : Option (List ℕ))
+    → IsResumedCheckOnInput start r had held holds → IfErr r (λ e. e ≡ errors.Memory → HasBegun had left)
+    → IfErr r (λ e. IsResumedCheckOnInput start (Err e) had held holds × (e ≡ errors.Memory → HasBegun had left))
+both_checked_failed start (Ok o) had left held holds input memory = tt
+both_checked_failed start (Err e) had left held holds input memory = (input, memory)
 
 -- ---- a drill
 

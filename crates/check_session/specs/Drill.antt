@@ -15,7 +15,7 @@ use Rattle.check_drive.specs.declared.drive.Outcome.{Outcome}
 use Rattle.check_script.specs.declared.refusal.InputRefusal.{InputRefusal}
 use Rattle.check_script.specs.DrillScript.{DrillScript, drill_script_of}
 use Rattle.check_drive.specs.Drive.{HasRead, IsInput, outcome_by}
-use Rattle.check_text.specs.Output.{WroteFront, WroteUpTo}
+use Rattle.check_text.specs.Output.{WroteFront, WroteLinesUpTo}
 use Rattle.check_session.specs.ScriptedCodes.{scripted_code}
 use Rattle.check_text.specs.Text.{drill_text, refusal_line}
 
@@ -87,20 +87,20 @@ pub record WroteDrillFront (start workers room : ℕ) (input : List ℕ) (held h
   pub is_text : IsTextOf start workers room input text
   pub written : WroteFront held holds text
 
--- a prefix of such a text was, and not all of it
+-- whole lines from the beginning of such a text were, and not all of it
 pub record WroteDrillPart (start workers room : ℕ) (input : List ℕ) (held holds : Option (List ℕ)) : Type 0 where
   pub text : List ℕ
   pub is_text : IsTextOf start workers room input text
   pub rest : List ℕ
   pub is_missing : rest ≢ []
-  pub written : WroteUpTo held holds text rest
+  pub written : WroteLinesUpTo held holds text rest
 
--- nothing was written, or a prefix of such a text that isn't all of it
+-- nothing was written, or whole lines from the beginning of such a text that aren't all of it
 abbrev pub WroteDrillShort : ℕ → ℕ → ℕ → List ℕ → Option (List ℕ) → Option (List ℕ) → Type 0
 WroteDrillShort start workers room input held holds = Keeps held holds ⊎ WroteDrillPart start workers room input held holds
 
--- What a drill on an input that was read has written when it ended so: such a text, or after an error nothing or a prefix of one, which isn't
--- all of it where memory ran out. It is no fault of a reader.
+-- What a drill on an input that was read has written when it ended so: such a text, or after an error nothing or a prefix of one, which is
+-- whole lines and isn't all of it where memory ran out. It is no fault of a reader.
 pub record IsDrillWritten (start workers room : ℕ) (input : List ℕ) (ended : Result Outcome DriveError) (held holds : Option (List ℕ)) : Type 0 where
   pub written : OnOk ended (WroteDrill start workers room input held holds)
   pub front : OnErr ended (Keeps held holds ⊎ WroteDrillFront start workers room input held holds)

@@ -1,6 +1,6 @@
 -- What a check reads of its input.
-use Rattle.std.specs.Prelude.{ℕ, ◌≡◌, ◌==◌, ◌&&◌, ◌+◌, nat_lt, Bool, List, [], Option, length, take, if◌then◌else◌}
-use Rattle.std.specs.Io.KnownBytes.{Consumes, IsAtEnd}
+use Rattle.std.specs.Prelude.{ℕ, ◌==◌, ◌&&◌, ◌+◌, nat_lt, Bool, List, Option, length, take, if◌then◌else◌}
+use Rattle.std.specs.Io.KnownBytes.{Consumes}
 use Rattle.check_script.specs.Input.{without_last_feed}
 use Rattle.check_session.specs.declared.reading.TheConstants.{MAX_CHECKED_BYTES}
 
@@ -16,11 +16,3 @@ read_of input = take (if is_undecided (take MAX_CHECKED_BYTES input) then MAX_CH
 -- so much was read
 abbrev pub HasReadDocument : Option (List ℕ) → Option (List ℕ) → List ℕ → Type 0
 HasReadDocument had left input = Consumes had left (read_of input)
-
--- these bytes were read: one at least, unless the reader had none
-abbrev pub HasBegunBy : Option (List ℕ) → Option (List ℕ) → List ℕ → Type 0
-HasBegunBy had left given = Consumes had left given × (given ≡ [] → IsAtEnd left)
-
--- a byte was read, unless the reader had none
-abbrev pub HasBegun : Option (List ℕ) → Option (List ℕ) → Type 0
-HasBegun had left = (given : List ℕ) × HasBegunBy had left given

@@ -15,7 +15,8 @@ use Rattle.check_words.specs.declared.words.WordsError.TheVariants as words_erro
 use Rattle.check_session.specs.Check.{IsCheckOnInput}
 use Rattle.check_session.specs.CheckResumed.{IsResumedCheckOnInput}
 use Rattle.check_session.specs.Drill.{AfterDrillFault, IsDrillOnInput, WroteDrillShort}
-use Rattle.check_session.specs.Reading.{HasBegun, HasReadDocument}
+use Rattle.check_script.specs.Input.{HasBegun}
+use Rattle.check_session.specs.Reading.{HasReadDocument}
 use Rattle.check_drive.specs.Drive.{AfterFault, AfterResumedFault, HasRead, IsResumedOnInput, IsRunOnInput}
 use Rattle.check_drive.specs.Live.{IsLiveOnInput, IsLiveResumedOnInput}
 use Rattle.check_text.specs.Output.{WroteFront, WroteShort}
@@ -64,7 +65,8 @@ FailedJob (job.RunResumed start) e had left held holds =
 FailedJob (job.LiveResumed start) e had left held holds = IsLiveResumedOnInput start (Err e) had left held holds
 FailedJob (job.Check start line) e had left held holds =
     IsCheckOnInput start line (Err e) had held holds × (e ≡ errors.Memory → HasBegun had left)
-FailedJob (job.CheckResumed start) e had left held holds = IsResumedCheckOnInput start (Err e) had held holds
+FailedJob (job.CheckResumed start) e had left held holds =
+    IsResumedCheckOnInput start (Err e) had held holds × (e ≡ errors.Memory → HasBegun had left)
 FailedJob (job.Drill start workers room) e had left held holds =
     AfterDrillFault e start workers room had left held holds × IsDrillOnInput start workers room (Err e) had held holds
     × (e ≡ errors.Memory → IfSome had (λ input. WroteDrillShort start workers room input held holds))

@@ -3,7 +3,8 @@ ghost use Rattle.std.specs.Prelude.{◌≡◌, ◌≤◌, Ok, IfOk, IfErr, IfSom
 ghost use Rattle.check_drafts.specs.Fault.{but_memory, load_error, seen};
 ghost use Rattle.check_objects.specs.Setup.{setup_of};
 ghost use Rattle.check_session.specs.Check.{HasOnly, IsCheckOnInput, IsRefusedAs, IsLineTold, IsSummaryTold, IsRefusalTold, IsTold};
-ghost use Rattle.check_session.specs.Reading.{HasBegun, HasReadDocument};
+ghost use Rattle.check_script.specs.Input.{HasBegun};
+ghost use Rattle.check_session.specs.Reading.{HasReadDocument};
 
 use crate::reading::{MAX_CHECKED_BYTES, document, read_checked};
 use check_drive::drive::Outcome;

@@ -5,6 +5,7 @@ ghost use Rattle.check_objects.specs.Configuration.{Configuration};
 ghost use Rattle.check_saved.specs.Text.{saved_of_text};
 ghost use Rattle.check_session.specs.CheckResumed.{AreBothTold, CanStart, IsLengthTold, IsResumedCheckOnInput, IsResumedTold, IsSavedTold};
 ghost use Rattle.check_drive.specs.Drive.{HasRead};
+ghost use Rattle.check_script.specs.Input.{HasBegun};
 
 use crate::check::{Told, examine, tell_refusal};
 use check_changes::{push_changes, push_explanation};
@@ -29,7 +30,8 @@ use std::io::{Read, Write};
 /// before either is tested.
 ///
 /// The writer is flushed once, at the end. After the errors `Read` and `Memory` nothing was written, after
-/// `Write` a prefix of what was to be printed. (What a check prints is our own profile.)
+/// `Write` a prefix of what was to be printed. `Memory` comes only where a byte was read, or there was
+/// none. (What a check prints is our own profile.)
 pub fn check_resumed<R: Read, W: Write>(
     alloc: Global,
     start: Option<u64>,
@@ -41,6 +43,8 @@ pub fn check_resumed<R: Read, W: Write>(
         (W.contents writer.old) (W.contents writer.new) }
     ensures read { OnOk result (IfSome (R.remaining reader.old)
         (HasRead (R.remaining reader.old) (R.remaining reader.new))) }
+    ensures memory { IfErr result (λ e. e ≡ DriveError.Memory
+        → HasBegun (R.remaining reader.old) (R.remaining reader.new)) }
 {
     let input = read_input(alloc, reader)?;
     let told = tell(alloc, start, &input)?;
@@ -150,7 +154,7 @@ fn tell_fault(alloc: Global, fault: SavedFault) -> Result<Told, AllocError>
 {
     let mut text = String::new(alloc);
     push_refusal(&mut text, InputRefusal::Saved(fault))?;
-    push_explanation(&mut text, fault)?;
+    push_explanation(alloc, &mut text, fault)?;
     Ok(Told {
         text: text.into_bytes(),
         outcome: Outcome::Refused,

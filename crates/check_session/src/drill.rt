@@ -36,7 +36,7 @@ use ticket_steps::{Entry, Kept};
 /// at its first call without memory, which the total counts. The error `Memory` comes where there is
 /// no memory elsewhere, as for a thread, `Read` where the reader fails, `Write` where the writer or
 /// its flush fails. After `Read` nothing was written, after the others nothing or a prefix of a text
-/// that the drill can write, after `Memory` never the whole of it. (A drill is our own profile.)
+/// that the drill can write, after `Memory` whole lines and never all of it. (A drill is our own profile.)
 pub fn drill<H: Threads + Wait + Sync, R: Read, W: Write>(
     rt: &H,
     alloc: Global,

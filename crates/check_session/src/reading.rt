@@ -1,18 +1,15 @@
 //! What a check reads of its input, and the document in it.
-ghost use Rattle.std.specs.Prelude.{◌≡◌, ◌≢◌, ◌<◌, IfOk, IfErr, IfSome, take};
-ghost use Rattle.check_script.specs.Input.{without_last_feed};
-ghost use Rattle.check_session.specs.Reading.{HasBegun, HasBegunBy, is_undecided, read_of};
+ghost use Rattle.std.specs.Prelude.{◌≡◌, ◌≢◌, IfOk, IfErr, IfSome};
+ghost use Rattle.check_script.specs.Input.{HasBegun, HasBegunBy, without_last_feed};
+ghost use Rattle.check_session.specs.Reading.{is_undecided, read_of};
 
-use check_script::DriveError;
+use check_script::{DriveError, read_front};
 use std::alloc::Global;
 use std::io::Read;
 
 /// How many bytes of an input are read at first: one more than a document may have, so that a longer
 /// one is known to be too long.
 pub const MAX_CHECKED_BYTES: usize = 16_777_217;
-
-/// How many bytes are asked of the reader at a time.
-const CHUNK: usize = 65_536;
 
 /// Reads to the end of the input or to `MAX_CHECKED_BYTES` bytes, whichever comes first, and one byte
 /// more where the last of these is a line feed: it is no part of the document where the input ends
@@ -33,32 +30,6 @@ pub(crate) fn read_checked<R: Read>(alloc: Global, reader: &mut R) -> Result<Vec
     if is_undecided(&input) {
         let behind = read_front(alloc, reader, 1)?;
         input.extend_from_slice(&behind)?;
-    }
-    Ok(input)
-}
-
-/// Reads to the end of the input or to `most` bytes, whichever comes first.
-fn read_front<R: Read>(alloc: Global, reader: &mut R, most: usize) -> Result<Vec<u8>, DriveError>
-    requires { 0 < most }
-    ensures all { IfOk result (λ input.
-        IfSome (R.remaining reader.old) (λ bytes. input.items ≡ take most bytes)) }
-    ensures left { IfOk result (λ input.
-        HasBegunBy (R.remaining reader.old) (R.remaining reader.new) input.items) }
-    ensures errors { IfErr result (λ e. e ≢ DriveError.Write) }
-    ensures memory { IfErr result (λ e. e ≡ DriveError.Memory
-        → HasBegun (R.remaining reader.old) (R.remaining reader.new)) }
-{
-    let mut input = Vec::new(alloc);
-    let mut chunk = [0; CHUNK];
-    while input.len() < most {
-        let wanted = CHUNK.min(most - input.len());
-        let Ok(count) = reader.read(&mut chunk[..wanted]) else {
-            return Err(DriveError::Read);
-        };
-        if count == 0 {
-            break;
-        }
-        input.extend_from_slice(&chunk[..count])?;
     }
     Ok(input)
 }

@@ -1,6 +1,6 @@
 -- Laws of the text of a conversation.
 use Rattle.std.proofs.Common.{◌≡◌, ℕ, suc, ◌+◌, ◌==◌, Bool, true, false, cond, List, [], ◌∷◌, ◌++◌, length, Option, Some, None, Result, Ok, Err, refl, sym, ap, ◌∙◌}
-use Rattle.std.proofs.Common.{arith, append_assoc, append-nil, inl, inr, ◌⊎◌}
+use Rattle.std.proofs.Common.{arith, append_assoc, append-nil, inl, inr}
 use Rattle.std.specs.Prelude.{nat_lt}
 use Rattle.check_objects.specs.Configuration.{Configuration}
 use Rattle.check_objects.specs.Setup.{setup_of}
@@ -21,6 +21,7 @@ use Rattle.check_script.specs.Script.{Script, commands_of, in_setup, script_by, 
 use Rattle.check_script.proofs.LiveInputLemmas.{behind_stays, first_stays, lines_apart}
 use Rattle.check_script.proofs.ScriptLemmas.{commands_by_number, commands_from, script_with}
 use Rattle.check_text.specs.LiveText.{answer_to, answers_from, live_over, live_text, said, state_after}
+use Rattle.check_text.specs.Output.{AreWholeLines}
 use Rattle.check_text.specs.Text.{answer_line, refusal_line, script_text, state_by, text, text_from}
 
 -- ---- an input that a run accepts
@@ -57,7 +58,7 @@ agree_by s n lines (Ok (Some call)) (Ok more) all again e =
 agree_by s n lines (Ok (Some call)) (Err why) all again e = cc
 agree_by s n lines (Err why) rest all again e = cc
 
-answers_agree : (lines : List (List ℕ)) (c : Configuration) (s : State) (n : ℕ) (all : List RunCommand) → s.setup ≡ c
+pub answers_agree : (lines : List (List ℕ)) (c : Configuration) (s : State) (n : ℕ) (all : List RunCommand) → s.setup ≡ c
     → commands_from (command_by c) n lines ≡ Ok all → answers_from s n lines ≡ text_from s all
 answers_agree [] c s n all same e = let none : [] ≡ all = cc in ap (text_from s) none
 answers_agree (line ∷ lines) c s n all same e =
@@ -84,15 +85,15 @@ over_agrees start (Err e) lines script h = cc
 over_agrees start (Ok c) lines script h =
     over_commands start c lines script (commands_of (command_by c) lines) (sym (commands_by_number (command_by c) 2 lines)) h
 
-accepted_by : (long : Bool) (input : List ℕ) (script : Script RunCommand)
-    → cond long (Err (refusal.Line fault.TooLong 0)) (script_in command_by (lines_of input)) ≡ Ok script → script_in command_by (lines_of input) ≡ Ok script
-accepted_by true input script e = cc
-accepted_by false input script e = e
+pub accepted_by : {X : Type 0} (long : Bool) (r : Result X InputRefusal) (script : X)
+    → cond long (Err (refusal.Line fault.TooLong 0)) r ≡ Ok script → r ≡ Ok script
+accepted_by true r script e = cc
+accepted_by false r script e = e
 
 -- what is accepted is within the limit, so that it is the script of its lines
 pub accepted : (input : List ℕ) (script : Script RunCommand) → script_of input ≡ Ok script → script_in command_by (lines_of input) ≡ Ok script
 unfolding script_by
-accepted input script e = accepted_by (nat_lt MAX_INPUT_BYTES (length input)) input script e
+accepted input script e = accepted_by (nat_lt MAX_INPUT_BYTES (length input)) (script_in command_by (lines_of input)) script e
 
 pub agrees : (start : ℕ) (input : List ℕ) (script : Script RunCommand) → script_of input ≡ Ok script → live_text start input ≡ text start input
 unfolding live_text text
@@ -122,16 +123,15 @@ lines_of-whole (b ∷ bs) back =
     ]
 
 -- what stands behind line 1 of whole lines is whole lines, or nothing
-behind_whole : (front : List ℕ) → (behind_line (front ++ 10 ∷ []) ≡ []) ⊎ ((xs : List ℕ) × (behind_line (front ++ 10 ∷ []) ≡ xs ++ 10 ∷ []))
+pub behind_whole : (front : List ℕ) → AreWholeLines (behind_line (front ++ 10 ∷ []))
 behind_whole [] = inl refl
 behind_whole (b ∷ bs) =
-    elim (b == 10) as (λ v. (cond v (bs ++ 10 ∷ []) (behind_line (bs ++ 10 ∷ [])) ≡ [])
-    ⊎ ((xs : List ℕ) × (cond v (bs ++ 10 ∷ []) (behind_line (bs ++ 10 ∷ [])) ≡ xs ++ 10 ∷ []))) [
+    elim (b == 10) as (λ v. AreWholeLines (cond v (bs ++ 10 ∷ []) (behind_line (bs ++ 10 ∷ [])))) [
       | true ↦ inr (bs, refl)
       | false ↦ behind_whole bs
     ]
 
-pub lines_by : (bytes back : List ℕ) → (bytes ≡ []) ⊎ ((xs : List ℕ) × (bytes ≡ xs ++ 10 ∷ [])) → lines_of (bytes ++ back) ≡ lines_of bytes ++ lines_of back
+pub lines_by : (bytes back : List ℕ) → AreWholeLines bytes → lines_of (bytes ++ back) ≡ lines_of bytes ++ lines_of back
 lines_by bytes back (inl e) = rw e refl
 lines_by bytes back (inr (xs, e)) = rw e (lines_of-whole xs back)
 
@@ -140,14 +140,14 @@ lines_behind : (front back : List ℕ)
     → lines_of (behind_line (front ++ 10 ∷ []) ++ back) ≡ lines_of (behind_line (front ++ 10 ∷ [])) ++ lines_of back
 lines_behind front back = lines_by (behind_line (front ++ 10 ∷ [])) back (behind_whole front)
 
-feed_last : (front : List ℕ) → has_feed (front ++ 10 ∷ []) ≡ true
+pub feed_last : (front : List ℕ) → has_feed (front ++ 10 ∷ []) ≡ true
 feed_last [] = refl
 feed_last (b ∷ bs) = elim (b == 10) as (λ v. cond v true (has_feed (bs ++ 10 ∷ [])) ≡ true) [
   | true ↦ refl
   | false ↦ feed_last bs
 ]
 
-answers_apart : (s : State) (n : ℕ) (xs ys : List (List ℕ)) → (rest : List ℕ) × (answers_from s n (xs ++ ys) ≡ answers_from s n xs ++ rest)
+pub answers_apart : (s : State) (n : ℕ) (xs ys : List (List ℕ)) → (rest : List ℕ) × (answers_from s n (xs ++ ys) ≡ answers_from s n xs ++ rest)
 answers_apart s n [] ys = (answers_from s n ys, refl)
 answers_apart s n (x ∷ xs) ys =
     let again = answers_apart (state_after s (said s n x)) (n + 1) xs ys in
@@ -185,10 +185,10 @@ state_after-setup s (Ok (Some call)) = command_keeps s call
 state_after-setup s (Err why) = refl
 
 -- the same answers except for that of the refused line
-abbrev Passes : List ℕ → List ℕ → InputRefusal → Type 0
+abbrev pub Passes : List ℕ → List ℕ → InputRefusal → Type 0
 Passes refused passed why = (before : List ℕ) × (behind : List ℕ) × (refused ≡ before ++ (refusal_line why ++ behind)) × (passed ≡ before ++ behind)
 
-passes_in : (xs : List (List ℕ)) (s : State) (n : ℕ) (line : List ℕ) (ys : List (List ℕ)) (why : InputRefusal)
+pub passes_in : (xs : List (List ℕ)) (s : State) (n : ℕ) (line : List ℕ) (ys : List (List ℕ)) (why : InputRefusal)
     → said_by (command_by s.setup) (n + length xs) line ≡ Err why
     → Passes (answers_from s n (xs ++ line ∷ ys)) (answers_from s n (xs ++ [] ∷ ys)) why
 passes_in [] s n line ys why e =
@@ -213,7 +213,7 @@ line_first (b ∷ bs) back h =
     ]) h
 
 -- how many lines there are
-count_apart : (front : List ℕ) → length (lines_of (front ++ 10 ∷ [])) ≡ suc (length (lines_of (behind_line (front ++ 10 ∷ []))))
+pub count_apart : (front : List ℕ) → length (lines_of (front ++ 10 ∷ [])) ≡ suc (length (lines_of (behind_line (front ++ 10 ∷ []))))
 count_apart [] = ap length (lines_apart 10 [])
 count_apart (b ∷ bs) = ap length (lines_apart b (bs ++ 10 ∷ []))
 

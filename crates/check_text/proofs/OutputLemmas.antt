@@ -1,18 +1,28 @@
 -- Writes one after another, and what a writer holds where one of them fails.
-use Rattle.std.proofs.Common.{◌≡◌, ◌≢◌, ℕ, List, [], ◌∷◌, ◌++◌, take, drop, Option, None, Some, refl, sym, ◌∙◌, ap, append_assoc, append-nil, arith, inr}
+use Rattle.std.proofs.Common.{◌≡◌, ◌≢◌, ℕ, List, [], ◌∷◌, ◌++◌, take, drop, Option, None, Some, refl, sym, subst, ◌∙◌, ap, append_assoc, append-nil, arith, inl, inr}
 use Rattle.std.specs.Prelude.{OnErr, Result, Ok, Err}
 use Rattle.std.specs.Io.KnownBytes.{Appends, Keeps}
 use Rattle.std.proofs.lemmas.Grind.{common_steps}
-use Rattle.check_text.specs.Output.{WroteUpTo, WroteFront, WroteShort}
+use Rattle.check_text.specs.Output.{AreWholeLines, EndsLine, WroteFront, WroteLinesUpTo, WroteShort, WroteUpTo}
 
 -- a text with something in it, with more behind it or before it
 pub some_append : (xs ys : List ℕ) → xs ≢ [] → xs ++ ys ≢ []
 some_append [] ys some e = some refl
 some_append (x ∷ xs) ys some e = cc
 
-pub append_some : (xs ys : List ℕ) → ys ≢ [] → xs ++ ys ≢ []
+append_some : (xs ys : List ℕ) → ys ≢ [] → xs ++ ys ≢ []
 append_some [] ys some e = some e
 append_some (x ∷ xs) ys some e = cc
+
+-- what ends a line has something in it, and so has what goes on with it
+pub line_goes_on : (line rest left : List ℕ) → left ≡ line ++ rest → EndsLine line → left ≢ []
+line_goes_on line rest left next (xs, e) none =
+    some_append line rest (λ f. append_some xs (10 ∷ []) (λ g. cc) (sym e ∙ f)) (sym next ∙ none)
+
+-- behind whole lines come whole lines
+pub whole_on : (a b : List ℕ) → AreWholeLines a → AreWholeLines b → AreWholeLines (a ++ b)
+whole_on a b w (inl none) = subst AreWholeLines (sym (ap (λ l. a ++ l) none ∙ append-nil a)) w
+whole_on a b w (inr (xs, e)) = inr (a ++ xs, ap (λ l. a ++ l) e ∙ sym (append_assoc a xs (10 ∷ [])))
 
 -- nothing was appended
 pub Appends-none : (known : Option (List ℕ)) → Appends known known []
@@ -91,6 +101,19 @@ pub WroteUpTo-whole : (old new : Option (List ℕ)) (text left : List ℕ) → W
 WroteUpTo-whole old new text left w e =
     WroteUpTo-all old new text (record { front = w.front; parts = w.parts ∙ ap (λ l. w.front ++ l) e; appended = w.appended })
 
+-- ---- whole lines
+
+pub lines_none : (known : Option (List ℕ)) (text : List ℕ) → WroteLinesUpTo known known text text
+unfolding WroteUpTo-none
+lines_none known text = (WroteUpTo-none known text, inl refl)
+
+-- the line that is next was written
+pub lines_next : (old mid new : Option (List ℕ)) (text left line rest : List ℕ) → WroteLinesUpTo old mid text left → left ≡ line ++ rest
+    → Appends mid new line → EndsLine line → WroteLinesUpTo old new text rest
+unfolding WroteUpTo-next WroteUpTo-line
+lines_next old mid new text left line rest (w, whole) e a ends =
+    (WroteUpTo-next old mid new text left line rest w e a, whole_on w.front line whole (inr ends))
+
 -- nothing of a text was written
 pub front_none : (known : Option (List ℕ)) (text : List ℕ) → WroteFront known known text
 front_none known text = (text, WroteUpTo-none known text)
@@ -101,16 +124,14 @@ front_all old new bytes a = ([], record { front = bytes; parts = sym (append-nil
 
 -- ---- want of memory
 
--- what is left has something in it, and it is missing
-pub WroteShort-left : (old mid new : Option (List ℕ)) (text left : List ℕ) → WroteUpTo old mid text left → left ≢ [] → Keeps mid new → WroteShort old new text
-WroteShort-left old mid new text left w some k =
-    inr (left, some, record { front = w.front; parts = w.parts; appended = Appends-Keeps old mid new w.front w.appended k })
-
--- what is next in the text has something in it, and it is missing
-pub WroteShort-next : (old mid new : Option (List ℕ)) (text left line rest : List ℕ) → WroteUpTo old mid text left → left ≡ line ++ rest → line ≢ []
+-- what is next in the text ends a line, and it is missing
+pub short_next : (old mid new : Option (List ℕ)) (text left line rest : List ℕ) → WroteLinesUpTo old mid text left → left ≡ line ++ rest → EndsLine line
     → Keeps mid new → WroteShort old new text
-WroteShort-next old mid new text left line rest w e some k =
-    WroteShort-left old mid new text left w (λ none. some_append line rest some (sym e ∙ none)) k
+short_next old mid new text left line rest (w, whole) e ends k = inr (
+  left,
+  line_goes_on line rest left e ends,
+  (record { front = w.front; parts = w.parts; appended = Appends-Keeps old mid new w.front w.appended k }, whole),
+)
 
 -- ---- faults
 

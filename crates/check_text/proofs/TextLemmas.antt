@@ -1,5 +1,5 @@
 -- The text of a run, call by call, and of a history, entry by entry.
-use Rattle.std.proofs.Common.{◌≡◌, ◌≢◌, ℕ, List, [], ◌∷◌, ◌++◌, refl, ap, ◌∙◌, append_assoc, append-nil, sym, arith, drop, length, ◌+◌, ◌≤◌, ◌<◌, get_or}
+use Rattle.std.proofs.Common.{◌≡◌, ℕ, List, [], ◌∷◌, ◌++◌, refl, ap, ◌∙◌, append_assoc, append-nil, sym, arith, drop, length, ◌+◌, ◌≤◌, ◌<◌, get_or}
 use Rattle.std.specs.Prelude.{codes, decimal, flat_map}
 use Rattle.check_saved.specs.Text.{saved_text}
 use Rattle.check_sched.specs.Saved.{saved_of}
@@ -14,8 +14,8 @@ use Rattle.check_script.specs.declared.command.RunCommand.{RunCommand}
 use Rattle.check_script.specs.declared.command.RunCommand.TheVariants as command
 use Rattle.check_sched.specs.declared.call.Call.{Call}
 use Rattle.check_sched.specs.declared.call.Reply.{Reply}
-use Rattle.check_text.specs.Text.{answer_line, text_from, line_from, line_of, entry_line, reply_text, saved_line, state_by, total_line, total_text}
-use Rattle.check_text.proofs.OutputLemmas.{append_some}
+use Rattle.check_text.specs.Output.{EndsLine}
+use Rattle.check_text.specs.Text.{answer_line, text_from, entry_line, reply_text, saved_line, state_by, total_line, total_text}
 
 -- a command leaves the setup
 pub command_keeps : (s : State) (c : RunCommand) → (state_by s c).setup ≡ s.setup
@@ -45,24 +45,22 @@ pub entries_end : (c : Configuration) (es : List (Entry Call Reply)) (i : ℕ) (
     → flat_map (entry_line c) (drop i es) ++ total ≡ total ++ []
 entries_end c es i total h = ap (λ l. flat_map (entry_line c) l ++ total) (drop_all i es h) ∙ sym (append-nil total)
 
--- ---- each line has something in it
+-- ---- each line ends with its line feed
 
-line_of_some : (text : List ℕ) → line_of text ≢ []
-line_of_some text = append_some text (10 ∷ []) (λ e. cc)
-
-pub line_from_some : (s : State) (call : Call) → line_from s call ≢ []
-line_from_some s call = line_of_some (reply_text s.setup call (step s call).1)
-
-pub answer_line_some : (s : State) (c : RunCommand) → answer_line s c ≢ []
+pub answer_line_ends : (s : State) (c : RunCommand) → EndsLine (answer_line s c)
 unfolding saved_line
-answer_line_some s (command.Call call) = line_from_some s call
-answer_line_some s command.Save = line_of_some (codes "saved " ++ saved_text (saved_of s))
+answer_line_ends s (command.Call call) = (reply_text s.setup call (step s call).1, refl)
+answer_line_ends s command.Save = (codes "saved " ++ saved_text (saved_of s), refl)
 
-pub entry_line_some : (c : Configuration) (e : Entry Call Reply) → entry_line c e ≢ []
-entry_line_some c e = append_some (decimal e.pass) _ (append_some (codes " ") _ (line_of_some (reply_text c e.call e.reply)))
+pub entry_line_ends : (c : Configuration) (e : Entry Call Reply) → EndsLine (entry_line c e)
+entry_line_ends c e =
+    let reply = reply_text c e.call e.reply in (
+      decimal e.pass ++ (codes " " ++ reply),
+      ap (λ l. decimal e.pass ++ l) (sym (append_assoc (codes " ") reply (10 ∷ []))) ∙ sym (append_assoc (decimal e.pass) (codes " " ++ reply) (10 ∷ [])),
+    )
 
-pub total_line_some : (entries refused : ℕ) → total_line entries refused ≢ []
-total_line_some entries refused = line_of_some (total_text entries refused)
+pub total_line_ends : (entries refused : ℕ) → EndsLine (total_line entries refused)
+total_line_ends entries refused = (total_text entries refused, refl)
 
 -- ---- texts in parts
 

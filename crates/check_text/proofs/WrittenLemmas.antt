@@ -4,8 +4,8 @@ use Rattle.std.specs.Prelude.{IsErrAnd, IsOkUnless, OnErr, OnOk}
 use Rattle.std.specs.Io.KnownBytes.{Appends, Keeps}
 use Rattle.check_script.specs.declared.drive_error.DriveError.{DriveError}
 use Rattle.check_script.specs.declared.drive_error.DriveError.TheVariants as errors
-use Rattle.check_text.specs.Output.{WroteFront, WroteShort, WroteUpTo}
-use Rattle.check_text.proofs.OutputLemmas.{Appends-Keeps, Appends-none, WroteShort-next, WroteUpTo-all, WroteUpTo-cut, WroteUpTo-next}
+use Rattle.check_text.specs.Output.{EndsLine, WroteFront, WroteLinesUpTo, WroteShort}
+use Rattle.check_text.proofs.OutputLemmas.{Appends-Keeps, Appends-none, WroteUpTo-all, WroteUpTo-cut, WroteUpTo-next, short_next}
 use Rattle.check_text.specs.Written.{IsLineWritten, IsTextWritten, LeftOfLine, LeftOfText}
 
 pub Keeps-same : (known : Option (List ℕ)) → Keeps known known
@@ -45,17 +45,17 @@ line_none e held line is = rw is (Keeps-same held)
 -- ---- a text
 
 -- of which this line was next
-pub text_cut : (e : DriveError) (old mid new : Option (List ℕ)) (text left line rest : List ℕ) → WroteUpTo old mid text left → left ≡ line ++ rest → line ≢ []
-    → LeftOfLine e mid new line → LeftOfText e old new text
-text_cut errors.Read old mid new text left line rest w next some h = h
-text_cut errors.Write old mid new text left line rest w next some h = WroteUpTo-cut old mid new text left line rest w next h
-text_cut errors.Memory old mid new text left line rest w next some h = WroteShort-next old mid new text left line rest w next some h
+pub text_cut : (e : DriveError) (old mid new : Option (List ℕ)) (text left line rest : List ℕ) → WroteLinesUpTo old mid text left → left ≡ line ++ rest
+    → EndsLine line → LeftOfLine e mid new line → LeftOfText e old new text
+text_cut errors.Read old mid new text left line rest w next ends h = h
+text_cut errors.Write old mid new text left line rest w next ends h = WroteUpTo-cut old mid new text left line rest w.0 next h
+text_cut errors.Memory old mid new text left line rest w next ends h = short_next old mid new text left line rest w next ends h
 
 -- of which only this line was missing
-pub text_ended : {T : Type 0} (r : Result T DriveError) (old mid new : Option (List ℕ)) (text left line : List ℕ) → WroteUpTo old mid text left → left ≡ line ++ []
-    → line ≢ [] → IsLineWritten r mid new line → IsTextWritten r old new text
-text_ended (Ok x) old mid new text left line w next some h = WroteUpTo-all old new text (WroteUpTo-next old mid new text left line [] w next h)
-text_ended (Err e) old mid new text left line w next some h = text_cut e old mid new text left line [] w next some h
+pub text_ended : {T : Type 0} (r : Result T DriveError) (old mid new : Option (List ℕ)) (text left line : List ℕ) → WroteLinesUpTo old mid text left
+    → left ≡ line ++ [] → EndsLine line → IsLineWritten r mid new line → IsTextWritten r old new text
+text_ended (Ok x) old mid new text left line w next ends h = WroteUpTo-all old new text (WroteUpTo-next old mid new text left line [] w.0 next h)
+text_ended (Err e) old mid new text left line w next ends h = text_cut e old mid new text left line [] w next ends h
 
 -- that is no more than the line
 pub text_line : (e : DriveError) (old new : Option (List ℕ)) (line : List ℕ) → LeftOfLine e old new line → LeftOfText e old new line
@@ -65,7 +65,7 @@ text_line errors.Memory old new line h = inl h
 
 short_front : (old new : Option (List ℕ)) (text : List ℕ) → WroteShort old new text → WroteFront old new text
 short_front old new text (inl kept) = kept_front old new text kept
-short_front old new text (inr (rest, some, w)) = (rest, w)
+short_front old new text (inr (rest, some, w)) = (rest, w.0)
 
 -- what it says clause by clause
 pub text_clauses : (e : DriveError) (old new : Option (List ℕ)) (text : List ℕ) → LeftOfText e old new text

@@ -11,7 +11,7 @@ LeftOfLine errors.Read old new line = ⊥
 LeftOfLine errors.Write old new line = WroteFront old new line
 LeftOfLine errors.Memory old new line = Keeps old new
 
--- The same of a text, of which something is missing where memory ran out.
+-- The same of a text, of which whole lines were written where memory ran out, and something is missing.
 abbrev pub LeftOfText : DriveError → Option (List ℕ) → Option (List ℕ) → List ℕ → Type 0
 LeftOfText errors.Read old new text = ⊥
 LeftOfText errors.Write old new text = WroteFront old new text

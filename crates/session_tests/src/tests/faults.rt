@@ -3,6 +3,7 @@
 use super::devices::{FailingReader, KINDS, OnceFailingReader, ShortWriter};
 use super::with_host;
 use check_drive::drive::{Outcome, drive};
+use check_drive::drive_resumed::drive_resumed;
 use check_script::DriveError;
 use std::alloc::Global;
 use std::io::{ErrorKind, Read};
@@ -13,10 +14,14 @@ const LINES: &str = "[\"take\",0]\n[\"take\",0]\n";
 
 const TEXT: &[u8] = b"taken 1 h\nidle none\n";
 
-/// Compares a run whose reader fails: nothing is written.
-fn reads_in_vain<R: Read>(rt: &impl Abort, alloc: Global, reader: &mut R) {
+/// Compares a run whose reader fails, from an opening or from a saved state: nothing is written.
+fn reads_in_vain<R: Read>(rt: &impl Abort, alloc: Global, resumes: bool, reader: &mut R) {
     let mut writer = ShortWriter::new(alloc, 7);
-    let result = drive(alloc, 0, reader, &mut writer);
+    let result = if resumes {
+        drive_resumed(alloc, None, reader, &mut writer)
+    } else {
+        drive(alloc, 0, reader, &mut writer)
+    };
     assert_eq!(rt; result, Err(DriveError::Read));
     assert!(rt; writer.taken.is_empty());
 }
@@ -27,12 +32,14 @@ fn readers_fail(rt: HostRuntime) -> Result<(), Fail> {
     let input = with_host(alloc, LINES)?;
     for count in 0..=input.len() {
         for error in KINDS {
-            let mut reader = FailingReader {
-                bytes: &input.as_bytes()[..count],
-                most: 7,
-                error,
-            };
-            reads_in_vain(&rt, alloc, &mut reader);
+            for resumes in [false, true] {
+                let mut reader = FailingReader {
+                    bytes: &input.as_bytes()[..count],
+                    most: 7,
+                    error,
+                };
+                reads_in_vain(&rt, alloc, resumes, &mut reader);
+            }
         }
     }
     Ok(())
@@ -51,7 +58,7 @@ fn readers_fail_once(rt: HostRuntime) -> Result<(), Fail> {
                 fails_at: Some(count),
                 error,
             };
-            reads_in_vain(&rt, alloc, &mut reader);
+            reads_in_vain(&rt, alloc, false, &mut reader);
         }
     }
     Ok(())

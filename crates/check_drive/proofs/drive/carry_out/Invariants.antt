@@ -1,9 +1,9 @@
 use Rattle.std.proofs.Common.{drop}
-use Rattle.check_text.specs.Output.{WroteUpTo}
+use Rattle.check_text.specs.Output.{WroteLinesUpTo}
 use Rattle.check_text.specs.Text.{text_from}
 use Rattle.check_drive.proofs.drive.carry_out.Given as goal
 
 abbrev pub invariant-loop-command : goal.invariant-loop-command
 invariant-loop-command g l =
-    WroteUpTo (g.W.Write.contents l.initial.writer) (g.W.Write.contents l.writer)
+    WroteLinesUpTo (g.W.Write.contents l.initial.writer) (g.W.Write.contents l.writer)
     (text_from l.initial.sched l.commands) (text_from l.sched (drop l.command-index l.commands))

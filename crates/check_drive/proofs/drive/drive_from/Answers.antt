@@ -11,18 +11,18 @@ pub returns-in_err-outcome : goal.returns-in_err-outcome
 returns-in_err-outcome g c =
     let r = c.in_ok-input.ensures in
     let p = err_from_is_err_and c.from_residual-in_err-outcome.result c.from_residual-in_err-outcome.ensures.1 in
-    rw (p.1, p.2) (cut_run c.args.beginning _ _ _ _ _ c.in_ok-input.input.items r.all r.left (rw c.deref.ensures.value at c.in_err-outcome.ensures.wrote))
+    rw (p.1, p.2) (cut_run c.args.beginning _ _ _ _ _ c.in_ok-input.input.items r.all r.left.0 (rw c.deref.ensures.value at c.in_err-outcome.ensures.wrote))
 
 pub returns-in_err-flush : goal.returns-in_err-flush
 returns-in_err-flush g c =
     let r = c.in_ok-input.ensures in
     let p = err_from_is_err_and c.from_residual-in_err-flush.result c.from_residual-in_err-flush.ensures.1 in
-    rw (p.1, p.2) (unflushed_run c.args.beginning _ _ _ _ _ _ c.in_ok-input.input.items c.in_err-flush.ensures.kind r.all r.left
+    rw (p.1, p.2) (unflushed_run c.args.beginning _ _ _ _ _ _ c.in_ok-input.input.items c.in_err-flush.ensures.kind r.all r.left.0
     (rw c.deref.ensures.value at c.in_ok-outcome.ensures.wrote) c.flush.ensures.kept)
 
 pub returns : goal.returns
 returns g c =
     let r = c.in_ok-input.ensures in
-    flushed_run c.args.beginning _ _ _ _ _ _ c.in_ok-input.input.items r.all r.left
+    flushed_run c.args.beginning _ _ _ _ _ _ c.in_ok-input.input.items r.all r.left.0
     (rw c.deref.ensures.value at c.in_ok-outcome.ensures.wrote) c.flush.ensures.kept
     (rw c.deref.ensures.value at c.in_ok-outcome.ensures.outcome)

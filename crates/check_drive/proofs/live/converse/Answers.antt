@@ -3,6 +3,8 @@ use Rattle.std.proofs.lemmas.Result.{err_from_is_err_and}
 use Rattle.check_objects.specs.Setup.{setup_of}
 use Rattle.check_script.specs.Input.{first_line_of}
 use Rattle.check_script.specs.Script.{in_setup}
+use Rattle.check_script.specs.declared.live_input.TheConstants.{KEPT_SETUP_BYTES}
+use Rattle.check_script.proofs.LiveInputLemmas.{behind_size}
 use Rattle.check_drive.specs.Live.{TalkReads, talk_outcome, talk_text}
 use Rattle.check_drive.proofs.LiveLemmas.{gives_refused, live_unwritten, reads_spend, written_spends, written_told}
 use Rattle.check_drive.proofs.WentOnLemmas.{ends_short, if_later, setup_refusal, whole_gone}
@@ -13,6 +15,11 @@ go_on-requires-clause-end g c =
     let t = c.in_ok-setup.ensures in
     let s : in_setup (setup_of (first_line_of t.0)) ≡ Ok c.in-Ok.setup = rw (c.in-Ok.is) at t.3.0 in
     ends_short c.in-Ok.setup t.0 _ _ _ s t.3.1 t.3.2 t.3.3
+
+pub go_on-requires-clause-few : goal.go_on-requires-clause-few
+go_on-requires-clause-few g c =
+    let t = c.in_ok-setup.ensures in
+    rw (t.3.2) (behind_size KEPT_SETUP_BYTES t.0 t.2)
 
 pub returns-in_err-setup-clause-input : goal.returns-in_err-setup-clause-input
 returns-in_err-setup-clause-input g c =

@@ -13,7 +13,7 @@ use Rattle.check_drive.proofs.live.read_first.Goals as goal
 
 pub returns-in_err-whole : goal.returns-in_err-whole
 returns-in_err-whole g c =
-    let t = c.in_err-whole.ensures.took in
+    let t = rw (c.requires) at c.in_err-whole.ensures.took in
     let most : c.new-document.result.most ≡ KEPT_SETUP_BYTES = ap (λ (x : LineFront). x.most) c.new-document.ensures in
     let p = err_from_is_err_and c.from_residual.result c.from_residual.ensures.1 in
     let after : IfErr c.from_residual.result (AfterReads t.0) = rw (p.1, p.2) t.4 in
@@ -21,7 +21,7 @@ returns-in_err-whole g c =
 
 pub returns : goal.returns
 returns g c =
-    let t = c.in_ok-whole.ensures.took in
+    let t = rw (c.requires) at c.in_ok-whole.ensures.took in
     let most : c.new-document.result.most ≡ KEPT_SETUP_BYTES = ap (λ (x : LineFront). x.most) c.new-document.ensures in
     let kept = t.2.line_is ∙ ap (λ i. front_of i (first_line_of t.0)) most in
     let setup = ap (λ l. in_setup (setup_of l)) (c.bytes.ensures ∙ ap (λ (x : LineFront). x.bytes) kept) ∙ ap in_setup (kept_setup (first_line_of t.0)) in

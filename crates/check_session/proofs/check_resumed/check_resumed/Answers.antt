@@ -1,7 +1,7 @@
 use Rattle.std.proofs.lemmas.Result.{err_from_is_err_and}
 use Rattle.check_drive.proofs.DriveLemmas.{read_some}
 use Rattle.check_session.specs.CheckResumed.{IsResumedTold}
-use Rattle.check_session.proofs.CheckLemmas.{flushed_check, memory_is_no_write, torn_check, unflushed_check, unwritten_check}
+use Rattle.check_session.proofs.CheckLemmas.{flushed_check, memory_is_no_write, torn_check, unflushed_check, unwritten_check, write_is_no_memory}
 use Rattle.check_session.proofs.CheckResumedLemmas.{resumed_told_of}
 use Rattle.check_session.proofs.check_resumed.check_resumed.Goals as goal
 
@@ -39,4 +39,24 @@ returns-clause-input g c =
     can (rw c.deref-2.ensures.value at c.in_ok-write_text.ensures.ok) c.flush.ensures.kept
 
 pub returns-clause-read : goal.returns-clause-read
-returns-clause-read g c = read_some _ _ c.in_ok-input.input.items c.in_ok-input.ensures.all c.in_ok-input.ensures.left
+returns-clause-read g c = read_some _ _ c.in_ok-input.input.items c.in_ok-input.ensures.all c.in_ok-input.ensures.left.0
+
+pub returns-in_err-input-clause-memory : goal.returns-in_err-input-clause-memory
+returns-in_err-input-clause-memory g c =
+    let p = err_from_is_err_and c.from_residual.result c.from_residual.ensures.1 in
+    rw (p.1, p.2) c.in_err-input.ensures.memory
+
+pub returns-in_err-told-clause-memory : goal.returns-in_err-told-clause-memory
+returns-in_err-told-clause-memory g c =
+    let p = err_from_is_err_and c.from_residual-in_err-told.result c.from_residual-in_err-told.ensures.1 in
+    rw (p.1, p.2) (λ m. (c.in_ok-input.input.items, c.in_ok-input.ensures.left))
+
+pub returns-in_err-write_text-clause-memory : goal.returns-in_err-write_text-clause-memory
+returns-in_err-write_text-clause-memory g c =
+    let p = err_from_is_err_and c.from_residual-in_err-write_text.result c.from_residual-in_err-write_text.ensures.1 in
+    rw (p.1, p.2) (write_is_no_memory _ c.in_err-write_text.ensures.only)
+
+pub returns-in_err-flush-clause-memory : goal.returns-in_err-flush-clause-memory
+returns-in_err-flush-clause-memory g c =
+    let p = err_from_is_err_and c.from_residual-in_err-flush.result c.from_residual-in_err-flush.ensures.1 in
+    rw (p.1, p.2) (write_is_no_memory _ c.in_err-flush.ensures.kind)

@@ -12,12 +12,12 @@ pub returns-in_err-outcome-clause-fault : goal.returns-in_err-outcome-clause-fau
 returns-in_err-outcome-clause-fault g c =
     let p = err_from_is_err_and c.from_residual-in_err-outcome.result c.from_residual-in_err-outcome.ensures.1 in
     rw (p.1, p.2) (drill_write_fault _ _ _ _ _ _ _ _ c.in_ok-input.input.items c.in_err-outcome.ensures.wrote.kind c.in_ok-input.ensures.all
-    c.in_ok-input.ensures.left (rw c.deref.ensures.value at c.in_err-outcome.ensures.wrote.front))
+    c.in_ok-input.ensures.left.0 (rw c.deref.ensures.value at c.in_err-outcome.ensures.wrote.front))
 
 pub returns-in_err-flush-clause-fault : goal.returns-in_err-flush-clause-fault
 returns-in_err-flush-clause-fault g c =
     let p = err_from_is_err_and c.from_residual-in_err-flush.result c.from_residual-in_err-flush.ensures.1 in
-    rw (p.1, p.2) (drill_flush_fault _ _ _ _ _ _ _ _ _ c.in_ok-input.input.items c.in_ok-input.ensures.all c.in_ok-input.ensures.left
+    rw (p.1, p.2) (drill_flush_fault _ _ _ _ _ _ _ _ _ c.in_ok-input.input.items c.in_ok-input.ensures.all c.in_ok-input.ensures.left.0
     (rw c.deref.ensures.value at c.in_ok-outcome.ensures.wrote.written) c.flush.ensures.kept c.in_err-flush.ensures.kind)
 
 pub returns-in_err-outcome-clause-memory : goal.returns-in_err-outcome-clause-memory

@@ -1,10 +1,10 @@
 use Rattle.std.proofs.Common.{◌++◌, drop, length}
 use Rattle.std.specs.Prelude.{flat_map}
-use Rattle.check_text.specs.Output.{WroteUpTo}
+use Rattle.check_text.specs.Output.{WroteLinesUpTo}
 use Rattle.check_text.specs.Text.{drill_text, entry_line, total_line}
 use Rattle.check_session.proofs.drill.write_history.Given as goal
 
 abbrev pub invariant-loop-entry : goal.invariant-loop-entry
 invariant-loop-entry g l =
-    WroteUpTo (g.W.Write.contents l.initial.writer) (g.W.Write.contents l.writer) (drill_text l.setup l.entries l.refused)
+    WroteLinesUpTo (g.W.Write.contents l.initial.writer) (g.W.Write.contents l.writer) (drill_text l.setup l.entries l.refused)
     (flat_map (entry_line l.setup) (drop l.entry-index l.entries) ++ total_line (length l.entries) l.refused)

@@ -37,7 +37,7 @@ pub returns-in-CheckResumed-clause-did : goal.returns-in-CheckResumed-clause-did
 returns-in-CheckResumed-clause-did g c = rw c.in-CheckResumed.is (both_checked_did c.in-CheckResumed.start c.check_resumed.result _ _ _ _ c.check_resumed.ensures.input c.check_resumed.ensures.read)
 
 pub returns-in-CheckResumed-clause-failed : goal.returns-in-CheckResumed-clause-failed
-returns-in-CheckResumed-clause-failed g c = rw c.in-CheckResumed.is (both_checked_failed c.in-CheckResumed.start c.check_resumed.result _ _ _ c.check_resumed.ensures.input)
+returns-in-CheckResumed-clause-failed g c = rw c.in-CheckResumed.is (both_checked_failed c.in-CheckResumed.start c.check_resumed.result _ _ _ _ c.check_resumed.ensures.input c.check_resumed.ensures.memory)
 
 pub returns-in-Drill-clause-did : goal.returns-in-Drill-clause-did
 returns-in-Drill-clause-did g c = rw c.in-Drill.is (drilled_did c.in-Drill.start c.in-Drill.workers c.in-Drill.room c.drill.result _ _ _ _ c.drill.ensures.input c.drill.ensures.read)

@@ -1,0 +1,84 @@
+-- What the figures add up to.
+use Rattle.std.proofs.Common.{◌≡◌, Bool, true, false, ℕ, zero, suc, ◌+◌, ◌||◌, ◌==◌, List, [], ◌∷◌, ◌++◌, cond, drop, length, map, not, take, Option, Some, None, refl, sym, ap, ◌∙◌, arith}
+use Rattle.std.proofs.lemmas.List.Sums.{sum_by-append, sum_by-cons}
+use Rattle.std.specs.Prelude.{count_by, is_none, is_some, nat_lt}
+use Rattle.check_objects.specs.Configuration.{Configuration, Named, host_count, object_count, objects_of}
+use Rattle.check_saved.specs.Saved.{Saved, SavedObject, saved_named}
+use Rattle.check_saved.specs.Scheduling.{OpenRun, Scheduling}
+use Rattle.check_sched.specs.Roster.{running_among}
+use Rattle.check_sched.specs.Saved.{given_up, keeps_limit, objects_kept, objects_resumed, within_limit}
+use Rattle.check_sched.specs.State.{limit_of}
+use Rattle.check_sched.proofs.LimitLaws.{busy_cons, busy_none}
+use Rattle.check_changes.specs.Changes.{given_up_count, kept_count, new_count}
+use Rattle.check_changes.proofs.FigureLemmas.{out_from}
+
+-- ---- kept and new
+
+one_of : (b : Bool) → cond b 1 0 + cond (not b) 1 0 ≡ 1
+one_of true = refl
+one_of false = refl
+
+yes_and_no : {X : Type 0} (p q : X → Bool) (xs : List X) → ((x : X) → q x ≡ not (p x)) → count_by p xs + count_by q xs ≡ length xs
+yes_and_no p q [] h = refl
+yes_and_no p q (x ∷ xs) h =
+    let again = yes_and_no p q xs h in
+    let yes = sum_by-cons (λ y. cond (p y) 1 0) x xs in
+    let no = sum_by-cons (λ y. cond (q y) 1 0) x xs in
+    let one : cond (p x) 1 0 + cond (q x) 1 0 ≡ 1 = ap (λ b. cond (p x) 1 0 + cond b 1 0) (h x) ∙ one_of (p x) in
+    omega (arith, again, yes, no, one)
+
+none_is : (found : Option SavedObject) → is_none found ≡ not (is_some found)
+none_is None = refl
+none_is (Some x) = refl
+
+pub kept_or_new : (c : Configuration) (saved : Saved) → kept_count c saved + new_count c saved ≡ object_count c
+kept_or_new c saved =
+    yes_and_no (λ (n : Named). is_some (saved_named saved n.name)) (λ (n : Named). is_none (saved_named saved n.name)) (objects_of c)
+    (λ n. none_is (saved_named saved n.name))
+
+-- ---- runs that are given up
+
+idle_by : (now : ℕ) (o : Scheduling) (run : Option OpenRun) → o.run ≡ run → is_some (given_up now o).run ≡ false
+idle_by now o None e = rw e refl
+idle_by now o (Some run) e = rw e refl
+
+none_given : (now : ℕ) (os : List Scheduling) → running_among (map (given_up now) os) ≡ 0
+none_given now os = busy_none (given_up now) os (λ o. idle_by now o o.run refl)
+
+apart : (n : ℕ) (os : List Scheduling) → running_among os ≡ running_among (take n os) + running_among (drop n os)
+apart zero os = omega arith
+apart (suc n) [] = refl
+apart (suc n) (o ∷ os) =
+    let again = apart n os in
+    let all = busy_cons o os in
+    let some = busy_cons o (take n os) in
+    omega (arith, again, all, some)
+
+-- what is out is out afterwards, or is given up
+given_back : (hosts now : ℕ) (os : List Scheduling) (keeps : Bool)
+    → running_among os
+    ≡ running_among (cond keeps os (take hosts os ++ map (given_up now) (drop hosts os))) + cond keeps 0 (running_among (drop hosts os))
+given_back hosts now os true = omega arith
+given_back hosts now os false =
+    let parts = apart hosts os in
+    let both = sum_by-append (λ (o : Scheduling). cond (is_some o.run) 1 0) (take hosts os) (map (given_up now) (drop hosts os)) in
+    let none = none_given now (drop hosts os) in
+    omega (arith, parts, both, none)
+
+-- first times say nothing of what is out
+same_out : (c : Configuration) (saved : Saved) (n : ℕ) (times others : List (Option ℕ))
+    → running_among (drop n (objects_kept c saved times)) ≡ running_among (drop n (objects_kept c saved others))
+same_out c saved n times others = sym (out_from c saved times n 0 (objects_of c)) ∙ out_from c saved others n 0 (objects_of c)
+
+given_up_by : (c : Configuration) (saved : Saved) (start : ℕ) (times others : List (Option ℕ))
+    → running_among (objects_kept c saved times) ≡ running_among (within_limit c start (objects_kept c saved others)) + given_up_count c saved
+given_up_by c saved start times others =
+    let objects = objects_kept c saved others in
+    same_out c saved 0 times others
+    ∙ given_back (host_count c) start objects (keeps_limit c objects)
+    ∙ ap (λ out. running_among (within_limit c start objects) + cond (limit_of c == 0 || not (nat_lt (limit_of c) out)) 0 out)
+    (same_out c saved (host_count c) others [])
+
+pub out_or_given_up : (c : Configuration) (saved : Saved) (start : ℕ) (times : List (Option ℕ))
+    → running_among (objects_kept c saved times) ≡ running_among (objects_resumed c saved start) + given_up_count c saved
+out_or_given_up c saved start times = given_up_by c saved start times _
