@@ -103,7 +103,7 @@ class Plugins(unittest.TestCase):
         self.assertEqual(result["output"], words)
 
     def test_signals_are_as_usual_in_a_plugin(self) -> None:
-        (result,) = self.ran(shell(1, "grep -E '^Sig(Blk|Ign)' /proc/self/status"))
+        (result,) = self.ran({"job": 1, "words": ["grep", "-E", "^Sig(Blk|Ign)", "/proc/self/status"], "limit": 60})  # a shell would unblock them by itself
         self.assertEqual(result["output"].split(), ["SigBlk:", "0" * 16, "SigIgn:", "0" * 16])
 
     def test_a_plugin_has_no_file_of_the_runner(self) -> None:
@@ -215,7 +215,7 @@ class Troubles(unittest.TestCase):
         cls.folder = tempfile.TemporaryDirectory()
         cls.addClassCleanup(cls.folder.cleanup)
         subprocess.run(["cc", "-shared", "-fPIC", "-o", f"{cls.folder.name}/trouble.so", MONITOR / "tests/trouble.c"], check=True)
-        subprocess.run([MONITOR / "build_runner.sh", f"{cls.folder.name}/nagsched-runner"], env={**os.environ, "CFLAGS": ""}, check=True)
+        subprocess.run([MONITOR / "build_runner.sh", f"{cls.folder.name}/nagsched-runner"], env={**os.environ, "CFLAGS": "-DMOST_PLUGINS=40"}, check=True)
 
     def runner(self, trouble: str) -> OneRunner:
         return OneRunner(program=f"{self.folder.name}/nagsched-runner", environment={"LD_PRELOAD": f"{self.folder.name}/trouble.so", "TROUBLE": trouble})
@@ -237,6 +237,14 @@ class Troubles(unittest.TestCase):
         told = [it.get("lost", (it.get("end"), it.get("code"))) for it in results]
         self.assertEqual(set(told), {("exited", 2), "/bin/sh: Too many open files"})
         self.assertEqual(len(told), 40)
+
+    def test_no_place(self) -> None:
+        """More plugins than a runner can run at once are lost, and their places are used again."""
+        with self.runner("nothing") as runner:
+            results = runner.ran(*(shell(number, "sleep 3") for number in range(60)))
+            self.assertEqual([it.get("lost", it.get("code")) for it in results], [0] * 40 + ["/bin/sh: Resource temporarily unavailable"] * 20)
+            for _ in range(4):
+                self.assertEqual({it.get("code") for it in runner.ran(*(shell(number, "exit 2") for number in range(30)))}, {2})
 
     def test_no_memory(self) -> None:
         """A plugin that the kernel ended is lost; one that somebody killed isn't, and neither is one that ended by itself meanwhile."""
