@@ -388,7 +388,7 @@ class Only(unittest.TestCase):
                          [True, False, False, False, False, True, False, True, False, False, True, False, False])
 
     def test_wildcards(self) -> None:
-        for pattern, word, fits in (("*", "", True), ("*", "a b", True), ("a*b*c", "aXbXbc", True), ("a*b*c", "aXbXb", False), ("*.example", "web.example", True),
+        for pattern, word, fits in (("*", "", True), ("*", "a b", True), ("a*b*c", "aXbXbc", True), ("*ab", "aab", True), ("a*b*c", "aXbXb", False), ("*.example", "web.example", True),
                                     ("*.example", "-oProxyCommand=x.example", False), ("?*", "-x", False), ("-*", "-x", True), ("a*", "a-x", True), ("*a" * 12 + "b", "a" * 200, False),
                                     ("[ab]", "a", False), ("[ab]", "[ab]", True), ("*", "a\1b", False), ("''", "", True)):
             with self.subTest(pattern=pattern, word=word):
