@@ -6,7 +6,9 @@
 #include <sys/types.h>
 
 /* How many plugins one runner can run at once. */
-enum { MOST_PLUGINS = 16384 };
+#ifndef MOST_PLUGINS
+#define MOST_PLUGINS 16384
+#endif
 
 /* Prepares what all starts share, raises the limit of open files as far as it may be raised, and starts the guard: a process that kills the plugins if the
  * runner ends in any way. False if one of them can't be had. */

@@ -19,11 +19,12 @@ def shell(job: int, line: str, limit: float = LONG) -> Dict[str, Any]:
 
 
 class OneRunner:
-    """A runner process, for a `with`."""
+    """A runner process in a group of its own, for a `with`."""
 
     def __init__(self, *words: str, program: str = "", environment: Optional[Dict[str, str]] = None, before: Sequence[str] = ()) -> None:
         command = [*before, program or os.environ["NAGSCHED_RUNNER"], *words]
-        self.process = subprocess.Popen(command, stdin=subprocess.PIPE, stdout=subprocess.PIPE, env={**os.environ, **(environment or {})}, bufsize=0)
+        environment = {**os.environ, **(environment or {})}
+        self.process = subprocess.Popen(command, stdin=subprocess.PIPE, stdout=subprocess.PIPE, env=environment, bufsize=0, start_new_session=True)
         assert self.process.stdin is not None and self.process.stdout is not None
         self._jobs, self._results = self.process.stdin, self.process.stdout
         self._unread = b""

@@ -1,4 +1,5 @@
 """The runner: each job has one result, whatever its plugin does and whatever the machine lacks, and no plugin outlives its runner."""
+import fcntl
 import json
 import os
 import pathlib
@@ -15,6 +16,11 @@ from .one_runner import MONITOR, OneRunner, shell
 from .waiting import comes
 
 MOST_KEPT = 4096
+F_SETPIPE_SZ = 1031  # Python 3.9 has no name for it
+
+
+def is_zombie(process: int) -> bool:
+    return pathlib.Path(f"/proc/{process}/stat").read_text().rpartition(")")[2].split()[0] == "Z"
 
 
 def living(marks: str) -> Set[int]:
@@ -22,7 +28,7 @@ def living(marks: str) -> Set[int]:
     found = set()
     for folder in pathlib.Path("/proc").glob("[0-9]*"):
         try:
-            if marks.encode() in (folder / "cmdline").read_bytes().split(b"\0") and (folder / "stat").read_text().rpartition(")")[2].split()[0] != "Z":
+            if marks.encode() in (folder / "cmdline").read_bytes().split(b"\0") and not is_zombie(int(folder.name)):
                 found.add(int(folder.name))
         except OSError:
             pass  # it has just ended
@@ -97,7 +103,7 @@ class Plugins(unittest.TestCase):
         self.assertEqual(result["output"], words)
 
     def test_signals_are_as_usual_in_a_plugin(self) -> None:
-        (result,) = self.ran(shell(1, "grep -E '^Sig(Blk|Ign)' /proc/self/status"))
+        (result,) = self.ran({"job": 1, "words": ["grep", "-E", "^Sig(Blk|Ign)", "/proc/self/status"], "limit": 60})  # a shell would unblock them by itself
         self.assertEqual(result["output"].split(), ["SigBlk:", "0" * 16, "SigIgn:", "0" * 16])
 
     def test_a_plugin_has_no_file_of_the_runner(self) -> None:
@@ -123,8 +129,8 @@ class Plugins(unittest.TestCase):
 
     def test_many_at_once(self) -> None:
         with OneRunner() as runner:
-            runner.give(*(shell(number, f"sleep 0.2; exit {number % 4}") for number in range(300)))
-            self.assertEqual([(it["job"], it["code"]) for it in runner.results(300)], [(number, number % 4) for number in range(300)])
+            runner.give(*(shell(number, f"sleep 0.2; echo {number}; exit {number % 4}") for number in range(300)))
+            self.assertEqual([(it["job"], it["code"], it["output"]) for it in runner.results(300)], [(number, number % 4, f"{number}\n") for number in range(300)])
 
 
 class Ends(unittest.TestCase):
@@ -151,6 +157,25 @@ class Ends(unittest.TestCase):
             self.begin(runner)
             runner.process.kill()
             self.assertTrue(comes(lambda: not living(self.seconds)))
+
+    def test_its_group_is_killed(self) -> None:
+        with OneRunner() as runner:
+            self.begin(runner)
+            os.killpg(runner.process.pid, signal.SIGKILL)
+            self.assertTrue(comes(lambda: not living(self.seconds)))
+
+    def test_it_is_killed_with_its_guard(self) -> None:
+        """A plugin ends with it even then; only the plugin's own children are left."""
+        with OneRunner() as runner:
+            self.begin(runner)
+            runner.process.send_signal(signal.SIGSTOP)
+            guard, *plugins = children_of(runner.process.pid)
+            children = living(self.seconds) - set(plugins)
+            os.kill(guard, signal.SIGKILL)
+            runner.process.kill()
+            self.assertTrue(comes(lambda: living(self.seconds) == children))
+            for child in children:
+                os.kill(child, signal.SIGKILL)
 
     def test_its_guard_is_killed(self) -> None:
         """Another one takes its place."""
@@ -190,7 +215,7 @@ class Troubles(unittest.TestCase):
         cls.folder = tempfile.TemporaryDirectory()
         cls.addClassCleanup(cls.folder.cleanup)
         subprocess.run(["cc", "-shared", "-fPIC", "-o", f"{cls.folder.name}/trouble.so", MONITOR / "tests/trouble.c"], check=True)
-        subprocess.run([MONITOR / "build_runner.sh", f"{cls.folder.name}/nagsched-runner"], env={**os.environ, "CFLAGS": ""}, check=True)
+        subprocess.run([MONITOR / "build_runner.sh", f"{cls.folder.name}/nagsched-runner"], env={**os.environ, "CFLAGS": "-DMOST_PLUGINS=40"}, check=True)
 
     def runner(self, trouble: str) -> OneRunner:
         return OneRunner(program=f"{self.folder.name}/nagsched-runner", environment={"LD_PRELOAD": f"{self.folder.name}/trouble.so", "TROUBLE": trouble})
@@ -212,6 +237,14 @@ class Troubles(unittest.TestCase):
         told = [it.get("lost", (it.get("end"), it.get("code"))) for it in results]
         self.assertEqual(set(told), {("exited", 2), "/bin/sh: Too many open files"})
         self.assertEqual(len(told), 40)
+
+    def test_no_place(self) -> None:
+        """More plugins than a runner can run at once are lost, and their places are used again."""
+        with self.runner("nothing") as runner:
+            results = runner.ran(*(shell(number, "sleep 3") for number in range(60)))
+            self.assertEqual([it.get("lost", it.get("code")) for it in results], [0] * 40 + ["/bin/sh: Resource temporarily unavailable"] * 20)
+            for _ in range(4):
+                self.assertEqual({it.get("code") for it in runner.ran(*(shell(number, "exit 2") for number in range(30)))}, {2})
 
     def test_no_memory(self) -> None:
         """A plugin that the kernel ended is lost; one that somebody killed isn't, and neither is one that ended by itself meanwhile."""
@@ -240,7 +273,17 @@ class Troubles(unittest.TestCase):
 
 
 class Lines(unittest.TestCase):
-    """No line ends the runner."""
+    """No line ends the runner, and no result is lost in it. It is built so that it ends where it would touch memory that isn't its own."""
+
+    @classmethod
+    def setUpClass(cls) -> None:
+        folder = tempfile.TemporaryDirectory()
+        cls.addClassCleanup(folder.cleanup)
+        cls.program = f"{folder.name}/nagsched-runner"
+        flags = "-fsanitize=address,undefined -fno-sanitize-recover=all"
+        subprocess.run([MONITOR / "build_runner.sh", cls.program], env={**os.environ, "CFLAGS": flags}, check=True)
+
+    program: str
 
     def test_lines_that_are_no_jobs(self) -> None:
         for line in ("", "[]", "{}", '{"job":-1,"words":["true"],"limit":1}', '{"words":["true"],"limit":1}', '{"job":"1","words":["true"],"limit":1}', "[" * 9000,
@@ -272,26 +315,37 @@ class Lines(unittest.TestCase):
         self.assertEqual((result["end"], result["output"]), ("failed", "true: Argument list too long"))
 
     def test_damaged_lines(self) -> None:
-        """None runs another program, and the runner goes on. It is built so that it ends where it would touch memory that isn't its own."""
+        """None runs another program, and the runner goes on."""
         chance = random.Random(11)
-        with tempfile.TemporaryDirectory() as folder:
-            program = f"{folder}/nagsched-runner"
-            subprocess.run([MONITOR / "build_runner.sh", program], env={**os.environ, "CFLAGS": "-fsanitize=address,undefined -fno-sanitize-recover=all"}, check=True)
-            whole = json.dumps({"job": 1, "words": ["/plugins/none", "\u20ac \U0001f600\"\\"], "limit": 5}).encode()
-            lines = []
-            for _ in range(3_000):
-                line = bytearray(whole)
-                for _ in range(chance.randint(1, 4)):
-                    place = chance.randrange(len(line))
-                    line[place : place + chance.randint(0, 3)] = bytes(chance.choice(b'{}[]",:\\u0\0\xff19eE-') for _ in range(chance.randint(0, 3)))
-                lines.append(bytes(line).replace(b"\n", b" ") + b"\n")
-            with OneRunner(program=program) as runner:
-                for place in range(0, len(lines), 100):
-                    results = runner.ran(*lines[place : place + 100])
-                    self.assertEqual(len(results), 100)
-                    self.assertLessEqual({it.get("end", "lost") for it in results}, {"failed", "lost"})
-                self.assertEqual(runner.ran(shell(2, "echo fine"))[0]["output"], "fine\n")
-                self.assertEqual(runner.end(), 0)
+        whole = json.dumps({"job": 1, "words": ["/plugins/none", "\u20ac \U0001f600\"\\"], "limit": 5}).encode()
+        lines = []
+        for _ in range(3_000):
+            line = bytearray(whole)
+            for _ in range(chance.randint(1, 4)):
+                place = chance.randrange(len(line))
+                line[place : place + chance.randint(0, 3)] = bytes(chance.choice(b'{}[]",:\\u0\0\xff19eE-') for _ in range(chance.randint(0, 3)))
+            lines.append(bytes(line).replace(b"\n", b" ") + b"\n")
+        with OneRunner(program=self.program) as runner:
+            for place in range(0, len(lines), 100):
+                results = runner.ran(*lines[place : place + 100])
+                self.assertEqual(len(results), 100)
+                self.assertLessEqual({it.get("end", "lost") for it in results}, {"failed", "lost"})
+            self.assertEqual(runner.ran(shell(2, "echo fine"))[0]["output"], "fine\n")
+            self.assertEqual(runner.end(), 0)
+
+    def test_more_results_than_it_can_keep(self) -> None:
+        """Plugins that end together have longer results than it has room for; their reader takes each piece at once."""
+        with OneRunner(program=self.program) as runner, tempfile.TemporaryDirectory() as folder:
+            fcntl.fcntl(runner.process.stdout or 0, F_SETPIPE_SZ, 1 << 20)
+            go = pathlib.Path(folder, "go")
+            runner.give(*(shell(number, f"until [ -e {go} ]; do sleep 0.1; done; head -c 4096 /dev/zero | tee /dev/stderr", 600) for number in range(60)))
+            self.assertTrue(comes(lambda: len(children_of(runner.process.pid)) == 61))
+            runner.process.send_signal(signal.SIGSTOP)
+            go.touch()
+            self.assertTrue(comes(lambda: all(is_zombie(child) for child in children_of(runner.process.pid)[1:])))
+            runner.process.send_signal(signal.SIGCONT)
+            results = runner.results(60)
+        self.assertEqual([(it["job"], len(it["output"]), len(it["stderr"])) for it in results], [(number, MOST_KEPT, MOST_KEPT) for number in range(60)])
 
     def test_results_that_nobody_reads_for_a_while(self) -> None:
         """They wait, limits are kept, and each comes once."""
@@ -334,7 +388,7 @@ class Only(unittest.TestCase):
                          [True, False, False, False, False, True, False, True, False, False, True, False, False])
 
     def test_wildcards(self) -> None:
-        for pattern, word, fits in (("*", "", True), ("*", "a b", True), ("a*b*c", "aXbXbc", True), ("a*b*c", "aXbXb", False), ("*.example", "web.example", True),
+        for pattern, word, fits in (("*", "", True), ("*", "a b", True), ("a*b*c", "aXbXbc", True), ("*ab", "aab", True), ("a*b*c", "aXbXb", False), ("*.example", "web.example", True),
                                     ("*.example", "-oProxyCommand=x.example", False), ("?*", "-x", False), ("-*", "-x", True), ("a*", "a-x", True), ("*a" * 12 + "b", "a" * 200, False),
                                     ("[ab]", "a", False), ("[ab]", "[ab]", True), ("*", "a\1b", False), ("''", "", True)):
             with self.subTest(pattern=pattern, word=word):
