@@ -74,7 +74,6 @@ QUIET = host(check_interval=0)  # a host that is up because it is never checked
 FLAPS = {"low_host_flap_threshold": 10, "high_host_flap_threshold": 10}
 FAST = {"interval_length": 1}
 LIMIT = {"max_concurrent_checks": 1}
-TURNS = " ".join(["2 0"] * 30)
 
 SHOWN = (
     Shown("soft recovery", history(60, host(attempts=2), checks={"h": "2 0"}), "standing",
@@ -110,19 +109,20 @@ SHOWN = (
     Shown("criteria with n", history(300, host(), host("i"), checks={"h": "0", "i": "2"}, links=(link("h", "i", "d,n"),)), "turn", "putoff", "start"),
     Shown("put off by the retry interval", history(60, host(attempts=3), host("i"), checks={"h": "2", "i": "2"}, links=(link("h", "i", "d"),)),
           "time after a turn", 360_000, 120_000),
-    Shown("five minutes", history(0, host(attempts=2, check_interval=1, retry_interval=0), host("i"), checks={"h": "2", "i": "2"}, links=(link("h", "i", "d"),)),
-          "time after a turn", 60_000, 300_000),
+    Shown("five minutes", history(0, host(attempts=2, check_interval=1, retry_interval=0), host("i"), checks={"h": "2", "i": "2"},
+                                  links=(link("h", "i", "d"),)), "time after a turn", 60_000, 300_000),
     Shown("recent result", history(5, host(), checks={"h": "0"}, options=FAST, keeps=True), "turn", "start", "putoff"),
     Shown("dropped from the queue", history(600, host(), host("i", parents=["h"]), checks={"h": "2", "i": "0"}, options=FAST, keeps=True),
           "turn", "start", "putoff"),
     Shown("checks on demand", history(300, host(check_interval=10), service(attempts=2), checks={"h": "0", "h;s": "0 2"}), "check on demand", None, 300_000),
     Shown("fewer than 21 results", history(300, host(), checks={"h": "2 0"}, options=FLAPS), "flapping", False, True),
-    Shown("soft problems", history(1300, QUIET, service(attempts=3), checks={"h;s": TURNS}), "flapping", True, False),
-    Shown("results of services", history(1500, host(check_interval=1), *(service(name, check_interval=1) for name in "abc"), checks={"h": TURNS, "h;a": "0", "h;b": "0", "h;c": "0"}),
-          "flapping", True, False),
+    Shown("soft problems", history(1300, QUIET, service(attempts=3), checks={"h;s": "2 0"}), "flapping", True, False),
+    Shown("results of services", history(1500, host(check_interval=1), *(service(name, check_interval=1) for name in "abc"),
+                                         checks={"h": "2 0", "h;a": "0", "h;b": "0", "h;c": "0"}), "flapping", True, False),
     Shown("stop", history(6900, host(), checks={"h": "0 2 0 2 2 2 2 2 2 2 0 2 2 2 2 2 0 2 2 2 2 2 2 2"}), "flapping", True, False),
     Shown("equal thresholds", history(6000, host(), checks={"h": "2" + " 0" * 19 + " 2"}, options=FLAPS), "flapping", True, False),
-    Shown("reschedule", history(6, host(), checks={"h": "0"}, commands=((6, "reschedule", "h", 406),)), "time after a call", (406_000, False), (300_000, False)),
+    Shown("reschedule", history(6, host(), checks={"h": "0"}, commands=((6, "reschedule", "h", 406),)),
+          "time after a call", (406_000, False), (300_000, False)),
     Shown("switching on", history(82, host(), checks={"h": "0"}, commands=((80, "disable", "h", 0), (82, "enable", "h", 0))),
           "time after a call", (300_000, False), (82_000, False)),
     Shown("switching off", history(300, host(), checks={"h": "0"}, commands=((80, "disable", "h", 0),)), "time after a turn", 300_000, None),
@@ -136,7 +136,8 @@ PERCENTS = ("1 100.000000000", "1 50.657894737", "1 35.460526316", "0 25.9868421
 
 def to_and_fro(count: int, percent: str) -> Told:
     services = [service(f"s{number}", check_interval=1) for number in range(count)]
-    return Told("results of services", history(3540, host(check_interval=1), *services, checks={"h": "2 0", **{f"h;s{number}": "0" for number in range(count)}}),
+    checks = {"h": "2 0", **{f"h;s{number}": "0" for number in range(count)}}
+    return Told("results of services", history(3540, host(check_interval=1), *services, checks=checks),
                 (f"result h 3540 0 3540 0 1 1 0 1 {percent}",), (), ())
 
 

@@ -374,11 +374,11 @@ class Judge:
     def on_asked(self, words: list[str]) -> None:
         self.asked.append((words[1], int(words[3])))
 
-    def requests(self, result: model.Result, now: int, what: str) -> None:
+    def requests(self, of: Object, result: model.Result, now: int, what: str) -> None:
         """The checks that Nagios asked for are those of the model; nagsched asks for none."""
         moved = []
         for o, on_demand in result.asked:
-            self.counts.requests[f"{what} asks for {relation(o, self.subject)}"] += 1
+            self.counts.requests[f"{what} asks for {relation(o, of)}"] += 1
             before = o.event, o.next_check, o.forced_option
             if self.nagios.schedule(o, now, now, False, on_demand):
                 moved.append((o.name, now))
@@ -417,19 +417,43 @@ class Judge:
         self.follow(o)
 
     def on_result(self, words: list[str]) -> None:
+        """A result: what Nagios makes of it, what nagsched is told, and both sides' answers."""
         o, now, code, begun = self.objects[words[1]], int(words[2]), int(words[3]), int(words[4])
-        self.subject = o
-        names = model.HOST_STATES if o.is_host else model.SERVICE_STATES
+        names, host = model.HOST_STATES if o.is_host else model.SERVICE_STATES, o.host or o
         there = Standing(names[int(words[5])], KINDS[int(words[6])], int(words[7]), names[int(words[8])])
-        host = o.host or o
-        before, before_here, host_before = o.there, o.here, "never checked" if not host.checked else host.there.state
-        is_behind = self.rules.is_behind(o)
-        state = self.rules.state_of(o, code)
-        waiting = o.event
+        before, before_here, waiting = o.there, o.here, o.event
+        what_before = before.state, host.there.state if host.checked else "never checked"
+        state, is_behind = self.rules.state_of(o, code), self.rules.is_behind(o)
         result = self.nagios.result(o, state, begun, now)
         self.expect("the standing", o.there, there)
-        self.requests(result, now, situation(o, before.state, state, host_before))
-        # Ours: the run may have to be begun late.
+        self.expect("the percent", f"{model.percent(o.flaps.all.changes):.9f}", words[11])
+        self.expect("the host's percent and flag", (f"{model.percent(host.flaps.all.changes):.9f}", host.flaps.flags[5]), (words[16], words[15] == "1"))
+        self.requests(o, result, now, situation(o, state, *what_before))
+        changed = self.rules.changed(before_here.state, state)
+        flag = self.rules.flag(o)
+        ours = self.report(o, code, begun, self.rules.verdict(before_here, state, o.most, is_behind), changed, flag)
+        by_table = self.rules.verdict(before, state, o.most, is_behind)
+        row = self.standing_row(o, before, by_table, is_behind)
+        # The standing by our table after Nagios's standing: it differs from ours if the two were different before.
+        other = [("after a problem behind a down host", by_table)] if before_here != before else []
+        flags = o.flaps.flags
+        flag_steps = [(name, later) for name, earlier, later in zip(model.Flaps.ROWS, flags, flags[1:]) if earlier != later]
+        equal = [self.compare("standing", o.here, there, *other, (row, o.there)),
+                 self.compare("changed", changed, names[int(words[9])] != there.state),
+                 self.compare("flapping", flag, words[10] == "1", *flag_steps)]
+        self.logged(o, words[14], names, result, by_table, other, row)
+        due = self.nagios_next(o, result, now)
+        self.expect("the waiting check", due, (seconds(words[12]), words[13] == "1"))
+        steps = list(self.next_steps(o, result, begun, now, by_table, row))
+        if waiting is not None:
+            steps = [("checks on demand" if waiting.on_demand else "reschedule", due[0])]
+        equal.append(self.compare("next check", ours, due[0], *steps))
+        self.counts.equal_results += all(equal)
+        o.checked = True
+        self.follow(o)
+
+    def report(self, o: Object, code: int, begun: int, after: Standing, changed: bool, flag: bool) -> Moment:
+        """Reports a result to nagsched, whose run begins only now if nagsched couldn't begin it before. The next time by our rules."""
         if o.run is None or o.run[1] != begun * 1000:
             o.missing.remove(next(missing for missing in o.missing if missing[0] == begun))
             if o.run is not None:
@@ -438,36 +462,13 @@ class Judge:
             self.follow(o)
         assert o.run is not None
         number, _ = o.run
-        o.here = self.rules.verdict(before_here, state, o.most, is_behind)
-        ours = o.next if o.next is not None else self.rules.after(o, begun * 1000, o.here)
-        o.run, o.next = None, ours
-        flag = self.rules.flag(o)
-        changed = self.rules.changed(before_here.state, state)
-        self.call(f"standing {o.here.state} {o.here.kind} {o.here.attempt} {'yes' if changed else 'no'} {'FLAPPING' if flag else 'STEADY'} "
-                  f"{'none' if ours is None else ours} {o.name}", f'["report","{o.name}",{number},{code}]')
-        self.call(f"last hard {o.here.last_hard} {o.number}", '["save"]')
-        # The answers, one by one.
-        by_table = self.rules.verdict(before, state, o.most, is_behind)
-        row = self.standing_row(o, before, by_table, is_behind)
-        other = [("after a problem behind a down host", by_table)] if before_here != before else []
-        equal = [self.compare("standing", o.here, there, *other, (row, o.there))]
-        equal.append(self.compare("changed", changed, names[int(words[9])] != there.state))
-        self.logged(o, words[14], names, result, by_table, other, row)
-        flags = o.flaps.flags
-        steps_of_flag = [(name, later) for name, earlier, later in zip(model.Flaps.ROWS, flags, flags[1:]) if earlier != later]
-        equal.append(self.compare("flapping", flag, words[10] == "1", *steps_of_flag))
-        self.expect("the percent", f"{model.percent(o.flaps.all.changes):.9f}", words[11])
-        self.expect("the host's percent and flag", (f"{model.percent(host.flaps.all.changes):.9f}", host.flaps.flags[5]), (words[16], words[15] == "1"))
-        due = self.nagios_next(o, result, waiting, now)
-        self.expect("the waiting check", due, (seconds(words[12]), words[13] == "1"))
-        if waiting is not None:
-            steps = [("reschedule", due[0])]
-        else:
-            steps = list(self.next_steps(o, result, begun, now, by_table, row))
-        equal.append(self.compare("next check", ours, due[0], *steps))
-        self.counts.equal_results += all(equal)
-        o.checked = True
-        self.follow(o)
+        o.here, o.run = after, None
+        if o.next is None:
+            o.next = self.rules.after(o, begun * 1000, after)
+        self.call(f"standing {after.state} {after.kind} {after.attempt} {'yes' if changed else 'no'} {'FLAPPING' if flag else 'STEADY'} "
+                  f"{'none' if o.next is None else o.next} {o.name}", f'["report","{o.name}",{number},{code}]')
+        self.call(f"last hard {after.last_hard} {o.number}", '["save"]')
+        return o.next
 
     def standing_row(self, o: Object, before: Standing, by_table: Standing, is_behind: bool) -> str:
         """By which row Nagios leaves the table of verdicts at this result."""
@@ -492,7 +493,8 @@ class Judge:
             row = "hard recovery in the log"
         self.compare("log", o.here[:3], logged[:3], *[(name, standing[:3]) for name, standing in other], (row, logged[:3]))
 
-    def nagios_next(self, o: Object, result: model.Result, waiting: Optional[model.Event], now: int) -> tuple[Moment, bool]:
+    def nagios_next(self, o: Object, result: model.Result, now: int) -> tuple[Moment, bool]:
+        """The check that waits in Nagios's queue after the result, and whether it is forced."""
         if o.scheduled:
             time = max(result.base + result.interval, now)
             o.next_check = time
@@ -548,7 +550,7 @@ def nagios_delay(options: dict[str, Any], sort: str, scheduled: list[Object]) ->
     return milliseconds / 1000
 
 
-def situation(o: Object, was: str, state: str, host: str) -> str:
+def situation(o: Object, state: str, was: str, host: str) -> str:
     """A result, as far as Nagios's requests depend on it."""
     if o.is_host:
         return f"host {was} to {state}"
@@ -634,18 +636,23 @@ def check_told(case: directed.Told, told: Told, program: Optional[str]) -> None:
             raise Failure(f"'{case.row}': the program answers {answers}")
 
 
-def play_directed(built: pathlib.Path, program: Optional[str], known: set[str]) -> tuple[set[str], list[str]]:
+def directed_told(built: pathlib.Path) -> list[Told]:
+    """What the harness makes of the directed histories."""
+    return histories.play(built, [shown.history for shown in directed.SHOWN] + [case.history for case in directed.TOLD])
+
+
+def check_directed(all_told: list[Told], program: Optional[str], known: set[str]) -> tuple[set[str], list[str]]:
     """The rows that the directed histories show, and what failed."""
     rows: set[str] = set()
     failures: list[str] = []
-    for shown, told in zip(directed.SHOWN, histories.play(built, [shown.history for shown in directed.SHOWN])):
+    for shown, told in zip(directed.SHOWN, all_told):
         try:
             judge = judged(shown.history, told, program, known)
             check_shown(shown, judge)
             rows |= judge.counts.shown()
         except (Failure, AssertionError) as failure:
             failures.append(f"the history of '{shown.row}': {failure}")
-    for case, told in zip(directed.TOLD, histories.play(built, [case.history for case in directed.TOLD])):
+    for case, told in zip(directed.TOLD, all_told[len(directed.SHOWN):]):
         try:
             check_told(case, told, program)
             rows.add(case.row)
@@ -703,7 +710,7 @@ def main() -> int:
     known = named_rows(options.page)
     program = None if options.program == "none" else options.program
     total, begun, played = Counts(), time.time(), 0
-    rows, failures = play_directed(options.built, program, known)
+    rows, failures = check_directed(directed_told(options.built), program, known)
     print("".join(failure + "\n" for failure in failures), end="")
     numbered: Iterator[tuple[int, History]] = enumerate(sequences())
     if options.histories != "sequences":

@@ -1,10 +1,10 @@
 #!/usr/bin/env python3
-"""Does the judge have teeth? Each of these wrong rules takes the place of ours, and Nagios's own code must show that it is wrong.
+"""Does the judge have teeth? Wrong rules take the place of ours, one at a time, and Nagios's own code must show that they are wrong.
 
-    conformance/nagios/teeth.py BUILT [HISTORIES [SEED]]     500 histories where no number is given
+    conformance/nagios/teeth.py BUILT [HISTORIES [SEED]]     500 histories if no number is given
 
-A wrong rule stands for a program that answers by it, so nothing but Nagios can detect it. The output has the number of the first history that
-does. The status is 1 if a wrong rule is not detected.
+A wrong rule stands for a program that answers by it, so only Nagios can detect it. The output has the number of the first history that does.
+Then each row of docs/NAGIOS.md is left out, one at a time, and the directed histories must fail. The status is 1 if something isn't detected.
 """
 from __future__ import annotations
 
@@ -232,6 +232,16 @@ WRONG: tuple[type[Rules], ...] = (
     OneMoreThanTheLimit, PutOffTwice, NoInterleaving, NoMaximumSpread)
 
 
+def first_to_detect(rules: type[Rules], played: list[histories.History], told: list[histories.Told], known: set[str]) -> Optional[int]:
+    """The number of the first history that fails with these rules."""
+    for number, (history, lines) in enumerate(zip(played, told), 1):
+        try:
+            judge.Judge(history, lines, known, rules)
+        except (judge.Failure, AssertionError):
+            return number
+    return None
+
+
 def main() -> int:
     built, count, seed = pathlib.Path(sys.argv[1]), int((sys.argv[2:] or ["500"])[0]), (sys.argv[3:] or ["teeth"])[0]
     known = judge.named_rows(judge.TOP / "docs/NAGIOS.md")
@@ -239,17 +249,14 @@ def main() -> int:
     told = histories.play(built, played)
     missed = 0
     for rules in WRONG:
-        for number, (history, lines) in enumerate(zip(played, told), 1):
-            try:
-                judge.Judge(history, lines, known, rules)
-            except (judge.Failure, AssertionError):
-                print(f"detected by history {number:3}: {rules.__doc__}")
-                break
-        else:
-            missed += 1
-            print(f"NOT DETECTED: {rules.__doc__}")
-    print(f"teeth: {len(WRONG) - missed} wrong rules detected, {missed} not")
-    return 1 if missed else 0
+        number = first_to_detect(rules, played, told, known)
+        missed += number is None
+        print("NOT DETECTED" if number is None else f"detected by history {number}", rules.__doc__, sep=": ")
+    all_told = judge.directed_told(built)
+    unmissed = [row for row in sorted(known) if not judge.check_directed(all_told, None, known - {row})[1]]
+    print("".join(f"NOT MISSED: the row '{row}'\n" for row in unmissed), end="")
+    print(f"teeth: {len(WRONG) - missed} of {len(WRONG)} wrong rules detected, {len(known) - len(unmissed)} of {len(known)} rows missed when left out")
+    return 1 if missed or unmissed else 0
 
 
 if __name__ == "__main__":
