@@ -242,7 +242,7 @@ Told = list[list[str]]  # the words of each line that the harness writes about a
 
 
 def play(built: pathlib.Path, played: Sequence[History]) -> list[Told]:
-    """What Nagios's own code makes of histories."""
+    """The harness's lines about each history."""
     memory = pathlib.Path("/dev/shm")
     with tempfile.TemporaryDirectory(prefix="nagios-", dir=memory if memory.is_dir() else None) as name:
         lines: list[str] = []

@@ -60,7 +60,7 @@ class Difference(NamedTuple):
 
 
 class Counts:
-    """What a run found."""
+    """The figures of a run."""
 
     def __init__(self) -> None:
         self.compared: collections.Counter[str] = collections.Counter()
@@ -81,7 +81,7 @@ class Counts:
 
 
 class Judge:
-    """One history: what the harness told, and the calls and answers of nagsched beside it."""
+    """One history: the harness's lines about Nagios, next to nagsched's calls and answers."""
 
     def __init__(self, history: History, told: Told, known: set[str], rules: type[model.Rules] = model.Rules) -> None:
         self.history, self.known = history, known
@@ -172,7 +172,7 @@ class Judge:
         self.take(begun)
 
     def follow(self, o: Object) -> None:
-        """Sets our next time to Nagios's, so that each answer is compared by itself."""
+        """Sets our next time to Nagios's, so that an earlier difference doesn't show again."""
         if o.event is None:
             if visible(o.next) is not None and o.run is not None:
                 self.begin(o, o.run[1])
@@ -211,7 +211,7 @@ class Judge:
             self.follow(o)
 
     def spread(self, scheduled: list[Object], place: int, ours: Fraction, exact: Fraction, rough: float) -> Iterator[tuple[str, Fraction]]:
-        """What becomes of a first time by one row of Nagios's after the other, in seconds from the start."""
+        """A first time, changed by one row after the other, in seconds from the start."""
         time, whole = ours, int(place * rough)
         if not scheduled[0].is_host:
             own, count = scheduled[place].check, len(scheduled)
@@ -267,7 +267,7 @@ class Judge:
         self.follow(o)
 
     def here(self, o: Object, runs: bool, off: bool, full: bool, forbidden: bool) -> str:
-        """What becomes of the object when its time has come."""
+        """The outcome for the object when its time has come."""
         if runs or off:
             return "runs" if runs else "off"
         if full and not o.is_host:
@@ -320,7 +320,7 @@ class Judge:
         if any(link.there != link.here - {"p"} for link in links):
             yield "criteria with n", forbids(o, True)
         if any(link.master.here != link.master.there for link in links):
-            yield "after a problem behind a down host", self.nagios.is_forbidden(o)
+            yield "after a problem while the host was down", self.nagios.is_forbidden(o)
 
     def counted(self, standing: Standing) -> str:
         return standing.state if self.rules.options["soft_state_dependencies"] else standing.last_hard
@@ -417,13 +417,13 @@ class Judge:
         self.follow(o)
 
     def on_result(self, words: list[str]) -> None:
-        """A result: what Nagios makes of it, what nagsched is told, and both sides' answers."""
+        """A result: Nagios has handled it, nagsched gets it, and their answers are compared."""
         o, now, code, begun = self.objects[words[1]], int(words[2]), int(words[3]), int(words[4])
         names, host = model.HOST_STATES if o.is_host else model.SERVICE_STATES, o.host or o
         there = Standing(names[int(words[5])], KINDS[int(words[6])], int(words[7]), names[int(words[8])])
         before, before_here, waiting = o.there, o.here, o.event
         what_before = before.state, host.there.state if host.checked else "never checked"
-        state, is_behind = self.rules.state_of(o, code), self.rules.is_behind(o)
+        state, host_down = self.rules.state_of(o, code), self.rules.host_down(o)
         result = self.nagios.result(o, state, begun, now)
         self.expect("the standing", o.there, there)
         self.expect("the percent", f"{model.percent(o.flaps.all.changes):.9f}", words[11])
@@ -431,11 +431,11 @@ class Judge:
         self.requests(o, result, now, situation(o, state, *what_before))
         changed = self.rules.changed(before_here.state, state)
         flag = self.rules.flag(o)
-        ours = self.report(o, code, begun, self.rules.verdict(before_here, state, o.most, is_behind), changed, flag)
-        by_table = self.rules.verdict(before, state, o.most, is_behind)
-        row = self.standing_row(o, before, by_table, is_behind)
+        ours = self.report(o, code, begun, self.rules.verdict(before_here, state, o.most, host_down), changed, flag)
+        by_table = self.rules.verdict(before, state, o.most, host_down)
+        row = self.standing_row(o, before, by_table, host_down)
         # The standing by our table after Nagios's standing: it differs from ours if the two were different before.
-        other = [("after a problem behind a down host", by_table)] if before_here != before else []
+        other = [("after a problem while the host was down", by_table)] if before_here != before else []
         flags = o.flaps.flags
         flag_steps = [(name, later) for name, earlier, later in zip(model.Flaps.ROWS, flags, flags[1:]) if earlier != later]
         equal = [self.compare("standing", o.here, there, *other, (row, o.there)),
@@ -470,19 +470,19 @@ class Judge:
         self.call(f"last hard {after.last_hard} {o.number}", '["save"]')
         return o.next
 
-    def standing_row(self, o: Object, before: Standing, by_table: Standing, is_behind: bool) -> str:
+    def standing_row(self, o: Object, before: Standing, by_table: Standing, host_down: bool) -> str:
         """By which row Nagios leaves the table of verdicts at this result."""
         is_good = before.state in model.GOOD
         if not is_good and not (before.attempt == o.most and before.last_hard == before.state if before.kind == HARD
-                                else before.attempt < o.most and before.last_hard in model.GOOD and not o.was_behind):
-            return "after a problem behind a down host"
+                                else before.attempt < o.most and before.last_hard in model.GOOD and not o.had_host_problem):
+            return "after a problem while the host was down"
         if o.there.state in model.GOOD:
             return "soft recovery" if before.is_soft_problem() and by_table[1:3] == (SOFT, before.attempt + 1) else UNEXPLAINED
-        return "problem behind a down host" if is_good and is_behind and by_table[1:3] == (HARD, o.most) else UNEXPLAINED
+        return "problem while the host is down" if is_good and host_down and by_table[1:3] == (HARD, o.most) else UNEXPLAINED
 
     def logged(self, o: Object, told: str, names: tuple[str, ...], result: model.Result, by_table: Standing,
                other: list[tuple[str, Standing]], row: str) -> None:
-        """What Nagios logs, which isn't always what it keeps."""
+        """The log, which doesn't always have the standing that Nagios keeps."""
         logged = result.logged
         if logged is None:
             self.expect("the log", "-", told)
@@ -505,7 +505,7 @@ class Judge:
         """From our next time to Nagios's, row by row, in milliseconds."""
         interval = self.rules.interval(o, by_table)
         if interval != self.rules.interval(o, o.here):
-            yield "after a problem behind a down host", self.rules.after(o, begun * 1000, by_table)
+            yield "after a problem while the host was down", self.rules.after(o, begun * 1000, by_table)
         if not o.enabled:
             yield "result of a disabled object", None
             return
@@ -637,7 +637,7 @@ def check_told(case: directed.Told, told: Told, program: Optional[str]) -> None:
 
 
 def directed_told(built: pathlib.Path) -> list[Told]:
-    """What the harness makes of the directed histories."""
+    """The harness's lines about the directed histories."""
     return histories.play(built, [shown.history for shown in directed.SHOWN] + [case.history for case in directed.TOLD])
 
 

@@ -1,7 +1,7 @@
 """The rules of both sides: those of docs/SCHEDULING.md (`Rules`), and what Nagios Core 4.4.6 does (`Nagios`).
 
 `Rules` says what the program must answer. `Nagios` says what Nagios's own code must report. judge.py holds each of them to that, and explains
-each difference between the two by rows of docs/NAGIOS.md. Times are in seconds, but for the times that nagsched keeps, in milliseconds.
+each difference between the two by rows of docs/NAGIOS.md. Times are in seconds, except nagsched's own, which are in milliseconds.
 """
 from __future__ import annotations
 
@@ -85,8 +85,8 @@ class Object:
     forced_option: bool = False
     executing: bool = False
     last_check: int = 0
-    behind: bool = False  # a service's host_problem_at_last_check, and what it was before the last result
-    was_behind: bool = False
+    host_problem: bool = False  # a service's host_problem_at_last_check, and its value before the last result
+    had_host_problem: bool = False
     flaps: Flaps = dataclasses.field(init=False)
     missing: list[tuple[int, str]] = dataclasses.field(default_factory=list)  # starts that nagsched can't make, each with the row
 
@@ -171,7 +171,7 @@ class Flaps:
 
 
 def criteria(letters: str, is_host: bool) -> Optional[frozenset[str]]:
-    """What Nagios's reader makes of a dependency's criteria. In both sorts it never looks at `p`."""
+    """The criteria that Nagios's reader leaves of these. Nagios never looks at `p`."""
     words = letters.split(",")
     if "n" in words:
         if not is_host:
@@ -205,7 +205,7 @@ def objects_of(setup: histories.Setup, options: dict[str, Any]) -> list[Object]:
     return found
 
 
-# ---- what nagsched does
+# ---- nagsched's rules
 
 
 class Rules:
@@ -217,11 +217,11 @@ class Rules:
         self.limit: int = self.options["max_concurrent_checks"]
         self.runs = 0
 
-    def verdict(self, before: Standing, state: str, most: int, is_behind: bool) -> Standing:
+    def verdict(self, before: Standing, state: str, most: int, host_down: bool) -> Standing:
         was_problem = before.state not in GOOD
         if state in GOOD:
             kind, attempt = (SOFT, before.attempt + 1) if before.is_soft_problem() else (HARD, 1)
-        elif is_behind or (was_problem and before.kind == HARD):
+        elif host_down or (was_problem and before.kind == HARD):
             kind, attempt = HARD, most
         else:
             attempt = before.attempt + 1 if was_problem else 1
@@ -238,7 +238,7 @@ class Rules:
     def changed(self, before: str, after: str) -> bool:
         return before != after
 
-    def is_behind(self, o: Object) -> bool:
+    def host_down(self, o: Object) -> bool:
         """Whether the object is a service whose host isn't up."""
         return o.host is not None and o.host.here.state != "UP"
 
@@ -266,7 +266,7 @@ class Rules:
         return bool(self.limit) and sum(o.run is not None for o in self.objects if not o.is_host) >= self.limit
 
     def choice(self, now: int) -> tuple[str, Optional[Object]]:
-        """What a take is answered at this moment, and the object."""
+        """The answer of a take at this moment, and the object."""
         due = [o for o in self.objects if o.next is not None and o.next <= now and o.run is None and (o.enabled or o.forced)]
         is_full = self.is_full()
         eligible = [o for o in due if o.is_host or not is_full]
@@ -306,11 +306,11 @@ class Rules:
         return sum(other.scheduled and visit(place) < mine for place, other in enumerate(services))
 
 
-# ---- what Nagios does
+# ---- Nagios
 
 
 class Result(NamedTuple):
-    """What Nagios makes of a result, beside the object's standing."""
+    """How Nagios handles a result, without the object's standing."""
 
     logged: Optional[Standing]
     base: int  # the next check counts from here, in seconds
@@ -384,7 +384,7 @@ class Nagios:
 
     def result(self, o: Object, state: str, begun: int, now: int) -> Result:
         """Handles a result: the standing, and all that the next check depends on. UNREACHABLE is decided by our rule, which is Nagios's."""
-        o.last_check, o.executing, o.scheduled, o.was_behind = begun, False, True, o.behind
+        o.last_check, o.executing, o.scheduled, o.had_host_problem = begun, False, True, o.host_problem
         found = self.host_result(o, state, begun, now) if o.host is None else self.service_result(o, o.host, state, begun, now)
         if not o.is_host:
             self.running = max(0, self.running - 1)
@@ -396,11 +396,11 @@ class Nagios:
         asked = self.asked_by_service(host, was, state, now)
         kind_before = kind
         if is_good:
-            o.behind = o.behind or (host.checked and not is_up)
+            o.host_problem = o.host_problem or (host.checked and not is_up)
         else:
-            if is_up and o.behind and kind == SOFT:
+            if is_up and o.host_problem and kind == SOFT:
                 attempt = 1
-            o.behind = not is_up
+            o.host_problem = not is_up
         becomes_hard = not is_up and last_hard != state
         if becomes_hard:
             kind, attempt, last_hard = HARD, o.most, state
@@ -408,7 +408,7 @@ class Nagios:
             attempt = 1
             if is_good:
                 kind = HARD
-            elif not o.behind and not becomes_hard:
+            elif not o.host_problem and not becomes_hard:
                 kind = SOFT
         base, interval = (now, o.retry) if kind == SOFT else (begun, o.check)
         if kind == SOFT:
@@ -427,7 +427,7 @@ class Nagios:
         o.there = shown
         if is_good and state != was:
             o.there = Standing(state, HARD, 1, state)
-            o.behind = o.behind and not becomes_hard
+            o.host_problem = o.host_problem and not becomes_hard
         o.flaps.add(state, shown.is_soft_problem())
         host.flaps.of_service()
         self.settle(o, shown)
@@ -480,6 +480,6 @@ class Nagios:
         return Result(o.there if state != was or becomes_hard else None, base, interval, False, asked)
 
     def settle(self, o: Object, shown: Standing) -> None:
-        """Whether the object is checked again by itself."""
+        """Whether Nagios schedules another check."""
         if not o.enabled or (o.check == 0 and not shown.is_soft_problem()):
             o.scheduled = False

@@ -14,7 +14,7 @@ PLAIN: tuple[tuple[str, Any], ...] = (("parents", []), ("enabled", True), ("chec
 
 
 def without_object(setup: Setup, name: str) -> Setup:
-    """The setup without an object, its services, and whatever names it."""
+    """The setup without an object, its services, and all that names it."""
     less = copy.deepcopy(setup)
     less["hosts"] = [host for host in less["hosts"] if host["name"] != name]
     less["services"] = [service for service in less.get("services", ()) if name not in (service["host"], f"{service['host']};{service['description']}")]

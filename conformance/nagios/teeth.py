@@ -3,7 +3,7 @@
 
     conformance/nagios/teeth.py BUILT [HISTORIES [SEED]]     500 histories if no number is given
 
-A wrong rule stands for a program that answers by it, so only Nagios can detect it. The output has the number of the first history that does.
+A wrong rule acts as a program that answers by it, so only Nagios can detect it. The output has the number of the first history that does.
 Then each row of docs/NAGIOS.md is left out, one at a time, and the directed histories must fail. The status is 1 if something isn't detected.
 """
 from __future__ import annotations
@@ -22,70 +22,70 @@ from model import GOOD, HARD, SOFT, Link, Object, Rules, Standing
 class FirstProblemIsTheSecond(Rules):
     """a first problem has attempt 2"""
 
-    def verdict(self, before: Standing, state: str, most: int, is_behind: bool) -> Standing:
-        after = super().verdict(before, state, most, is_behind)
+    def verdict(self, before: Standing, state: str, most: int, host_down: bool) -> Standing:
+        after = super().verdict(before, state, most, host_down)
         return after._replace(attempt=2) if after.is_soft_problem() and before.state in GOOD and most > 2 else after
 
 
 class FirstProblemIsHard(Rules):
     """a first problem is hard"""
 
-    def verdict(self, before: Standing, state: str, most: int, is_behind: bool) -> Standing:
-        return super().verdict(before, state, most, is_behind or before.state in GOOD)
+    def verdict(self, before: Standing, state: str, most: int, host_down: bool) -> Standing:
+        return super().verdict(before, state, most, host_down or before.state in GOOD)
 
 
 class HardTooLate(Rules):
     """a problem is hard one attempt late"""
 
-    def verdict(self, before: Standing, state: str, most: int, is_behind: bool) -> Standing:
-        after = super().verdict(before, state, most, is_behind)
-        return after._replace(kind=SOFT) if after.kind == HARD and before.is_soft_problem() and state not in GOOD and not is_behind else after
+    def verdict(self, before: Standing, state: str, most: int, host_down: bool) -> Standing:
+        after = super().verdict(before, state, most, host_down)
+        return after._replace(kind=SOFT) if after.kind == HARD and before.is_soft_problem() and state not in GOOD and not host_down else after
 
 
 class OtherProblemsBeginAgain(Rules):
     """a soft problem that becomes another problem begins at attempt 1"""
 
-    def verdict(self, before: Standing, state: str, most: int, is_behind: bool) -> Standing:
+    def verdict(self, before: Standing, state: str, most: int, host_down: bool) -> Standing:
         is_other = before.is_soft_problem() and state != before.state and state not in GOOD
-        return super().verdict(before._replace(state="OK") if is_other else before, state, most, is_behind)
+        return super().verdict(before._replace(state="OK") if is_other else before, state, most, host_down)
 
 
 class HardProblemsTurnSoft(Rules):
     """a hard problem that becomes another problem is soft"""
 
-    def verdict(self, before: Standing, state: str, most: int, is_behind: bool) -> Standing:
-        after = super().verdict(before, state, most, is_behind)
+    def verdict(self, before: Standing, state: str, most: int, host_down: bool) -> Standing:
+        after = super().verdict(before, state, most, host_down)
         return after._replace(kind=SOFT) if before.kind == HARD and before.state not in GOOD and state not in (before.state, *GOOD) else after
 
 
-class NeverBehind(Rules):
+class HostDoesNotCount(Rules):
     """a service's host doesn't count"""
 
-    def is_behind(self, o: Object) -> bool:
+    def host_down(self, o: Object) -> bool:
         return False
 
 
 class AlwaysSoftRecoveries(Rules):
     """a hard problem recovers softly"""
 
-    def verdict(self, before: Standing, state: str, most: int, is_behind: bool) -> Standing:
-        after = super().verdict(before, state, most, is_behind)
+    def verdict(self, before: Standing, state: str, most: int, host_down: bool) -> Standing:
+        after = super().verdict(before, state, most, host_down)
         return after._replace(kind=SOFT) if before.kind == HARD and before.state not in GOOD and state in GOOD else after
 
 
 class LastHardStays(Rules):
     """the last hard state stays as it was at a recovery"""
 
-    def verdict(self, before: Standing, state: str, most: int, is_behind: bool) -> Standing:
-        after = super().verdict(before, state, most, is_behind)
+    def verdict(self, before: Standing, state: str, most: int, host_down: bool) -> Standing:
+        after = super().verdict(before, state, most, host_down)
         return after._replace(last_hard=before.last_hard) if state in GOOD else after
 
 
 class LastHardFollows(Rules):
     """the last hard state follows soft problems"""
 
-    def verdict(self, before: Standing, state: str, most: int, is_behind: bool) -> Standing:
-        return super().verdict(before, state, most, is_behind)._replace(last_hard=state)
+    def verdict(self, before: Standing, state: str, most: int, host_down: bool) -> Standing:
+        return super().verdict(before, state, most, host_down)._replace(last_hard=state)
 
 
 class OneParent(Rules):
@@ -189,7 +189,7 @@ class AllMastersMustFail(Rules):
 
 
 class SoftStatesAlwaysCount(Rules):
-    """a master's soft state counts, whatever the option says"""
+    """a master's soft state counts even if the option is off"""
 
     def fails(self, link: Link) -> bool:
         return model.LETTERS[link.master.here.state] in link.here if link.master.checked else super().fails(link)
@@ -226,7 +226,7 @@ class NoMaximumSpread(Rules):
 
 
 WRONG: tuple[type[Rules], ...] = (
-    FirstProblemIsTheSecond, FirstProblemIsHard, HardTooLate, OtherProblemsBeginAgain, HardProblemsTurnSoft, NeverBehind, AlwaysSoftRecoveries,
+    FirstProblemIsTheSecond, FirstProblemIsHard, HardTooLate, OtherProblemsBeginAgain, HardProblemsTurnSoft, HostDoesNotCount, AlwaysSoftRecoveries,
     LastHardStays, LastHardFollows, OneParent, NeverUnreachable, AlwaysAggressive, EqualWeights, OldChangesWeighMore, AlwaysTheCheckInterval,
     AlwaysTheRetryInterval, ASecondLate, NothingChanges, NoInheritance, AlwaysInheritance, AllMastersMustFail, SoftStatesAlwaysCount,
     OneMoreThanTheLimit, PutOffTwice, NoInterleaving, NoMaximumSpread)
