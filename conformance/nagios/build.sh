@@ -10,7 +10,7 @@ sources=$work/nagios-4.4.6
 
 if [[ ! -d $sources ]]; then
     mkdir -p "$work/lists" "$work/sources"
-    # The machine's package sources again, but for source packages. --tar-only: Debian's patches touch none of the daemon's own files.
+    # The machine's package sources again, for source packages. Only the original sources are fetched, without Debian's patches.
     for list in /etc/apt/sources.list.d/*.sources; do
         [[ ! -f $list ]] || sed 's/^Types:.*/Types: deb-src/' "$list" > "$work/sources/${list##*/}"
     done

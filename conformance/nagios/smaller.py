@@ -8,7 +8,7 @@ from typing import Any, Callable, Iterator
 import histories
 from histories import START, History, Setup
 
-TRIES = 3000  # of one history
+TRIES = 1000  # of one history
 PLAIN: tuple[tuple[str, Any], ...] = (("parents", []), ("enabled", True), ("check_interval", 5), ("retry_interval", 1), ("max_check_attempts", 1),
                                       ("max_check_attempts", 2), ("max_check_attempts", 3))
 
