@@ -16,6 +16,7 @@ from typing import Optional
 import histories
 import judge
 import model
+from comparison import Comparison, Failure
 from model import GOOD, HARD, SOFT, Link, Object, Rules, Standing
 
 
@@ -236,8 +237,8 @@ def first_to_detect(rules: type[Rules], played: list[histories.History], told: l
     """The number of the first history that fails with these rules."""
     for number, (history, lines) in enumerate(zip(played, told), 1):
         try:
-            judge.Judge(history, lines, known, rules)
-        except (judge.Failure, AssertionError):
+            Comparison(history, lines, known, rules)
+        except (Failure, AssertionError):
             return number
     return None
 
