@@ -10,7 +10,7 @@ import subprocess
 import tempfile
 
 TOP = pathlib.Path(__file__).resolve().parent.parent
-SCRIPT = r"(?:(?:tools|bench|tests|\.ci|examples)/\w+\.(?:py|sh)|conformance/check|\.ci/run|monitor/nagsched-(?:monitor|gearman-worker)|monitor/build_runner\.sh)"
+SCRIPT = r"(?:(?:tools|bench|tests|\.ci|examples)/\w+\.(?:py|sh)|conformance/check|conformance/nagios/(?:build|judge|teeth)\.(?:py|sh)|\.ci/run|monitor/nagsched-(?:monitor|gearman-worker)|monitor/build_runner\.sh)"
 BEGINS = rf"(?:nagsched|crates/nagsched/out/nagsched|nagios4|bash|cc|\(cd|{SCRIPT})"
 LINE = re.compile(rf"^(?: {{4}}|\$ )?({BEGINS}(?: .*)?)$", re.M)
 SPAN = re.compile(rf"`({BEGINS} [^`\n]*|{SCRIPT})`")
@@ -93,6 +93,10 @@ BY_HAND = {
     "nagios4 -vp /etc/nagios4/nagios.cfg": NAGIOS,
     "nagios4 -s /etc/nagios4/nagios.cfg": NAGIOS,
     "bench/nagios.sh DIRECTORY": NAGIOS,
+    "conformance/nagios/build.sh DIRECTORY": NAGIOS,
+    "conformance/nagios/judge.py DIRECTORY 2000 --seed 1": NAGIOS,
+    "conformance/nagios/judge.py DIRECTORY sequences": NAGIOS,
+    "conformance/nagios/teeth.py DIRECTORY": NAGIOS,
 }
 
 

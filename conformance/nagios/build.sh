@@ -1,6 +1,7 @@
 #!/usr/bin/env bash
-# Fetches Nagios Core 4.4.6 as Debian's source package, and builds of it what is compared with nagsched. Run by hand; no part of the gate.
-#   conformance/nagios/build.sh DIRECTORY     wants apt-get, a C compiler and make; leaves DIRECTORY/results, cycle and queue
+# Fetches the source package nagios4 (Nagios Core 4.4.6) from the machine's own package sources, and builds it and what runs beside nagsched.
+# Run it manually; it isn't part of the gate. It needs apt-get, a C compiler and make, and takes about a minute. Nothing is installed.
+#   conformance/nagios/build.sh DIRECTORY     leaves DIRECTORY/harness (for judge.py), and cycle and queue (for bench/nagios.sh)
 set -eu
 here=$(cd "$(dirname "$0")" && pwd)
 mkdir -p "$1"
@@ -8,32 +9,40 @@ work=$(cd "$1" && pwd)
 sources=$work/nagios-4.4.6
 
 if [[ ! -d $sources ]]; then
-    mkdir -p "$work/lists"
-    echo 'deb-src http://deb.debian.org/debian bookworm main' > "$work/sources.list"
-    options=(-qq -o "Dir::Etc::sourcelist=$work/sources.list" -o Dir::Etc::sourceparts=/nonexistent -o "Dir::State::lists=$work/lists")
+    mkdir -p "$work/lists" "$work/sources"
+    # The machine's package sources again, for source packages. Only the original sources are fetched, without Debian's patches.
+    for list in /etc/apt/sources.list.d/*.sources; do
+        [[ ! -f $list ]] || sed 's/^Types:.*/Types: deb-src/' "$list" > "$work/sources/${list##*/}"
+    done
+    cat /etc/apt/sources.list /etc/apt/sources.list.d/*.list 2> /dev/null | sed -n 's/^deb /deb-src /p' > "$work/sources.list"
+    options=(-qq -o "Dir::Etc::sourcelist=$work/sources.list" -o "Dir::Etc::sourceparts=$work/sources" -o "Dir::State::lists=$work/lists" -o APT::Sandbox::User=root)
     apt-get "${options[@]}" update
-    (cd "$work" && apt-get "${options[@]}" source --download-only nagios4 && tar xzf nagios4_4.4.6.orig.tar.gz)
+    (cd "$work" && apt-get "${options[@]}" source --download-only --tar-only nagios4 && tar xzf nagios4_4.4.6.orig.tar.gz)
 fi
-if [[ ! -f $sources/base/flapping.o ]]; then
+if [[ ! -f $sources/base/nagios ]]; then
     (cd "$sources" && ./configure --enable-event-broker "--prefix=$work/installed" && make nagios) > "$work/build.log" 2>&1 || { tail "$work/build.log"; exit 1; }
 fi
 
-# Compiles a source of ours among Nagios's stubs, to an object of this name.
+# The harness: every object of the daemon, with its main renamed, and ten functions that --wrap sends to harness.c.
+wrapped=(time gettimeofday iobroker_poll wproc_can_spawn wproc_reap wproc_run_check logit log_service_event log_host_event broker_timed_event)
+cd "$sources/base"
+objcopy --redefine-sym main=nagios_main nagios.o "$work/daemon.object"
+mapfile -t others < <(find . -maxdepth 1 -name '*.o' ! -name nagios.o ! -name nagiostats.o | sort)
+cc -O2 -Wall -Wno-unused-result -D_GNU_SOURCE=1 -DHAVE_CONFIG_H -DNSCORE -I../include -I.. "$here/harness.c" \
+    -x none "$work/daemon.object" "${others[@]}" ../common/shared.o ../lib/libnagios.a -o "$work/harness" -lm -ldl "${wrapped[@]/#/-Wl,--wrap=}"
+
+# Compiles a source of bench/ with Nagios's empty stubs for macros, logs and notifications, as an object of this name.
 compile() {
     (cd "$sources/t-tap" && cc -O2 -w -fcommon -DHAVE_CONFIG_H -DNSCORE "${@:3}" -I. -I../include -I.. -c "$2" -o "$work/$1.o")
 }
 
 # Links it with objects of Nagios's.
 link() {
-    (cd "$sources/base" && cc -o "$work/$1" "$work/$1.o" "${@:2}" ../lib/libnagios.a -lm -Wl,--allow-multiple-definition)
+    cc -o "$work/$1" "$work/$1.o" "${@:2}" ../lib/libnagios.a -lm -Wl,--allow-multiple-definition
 }
 
-others=(utils.o ../common/shared.o objects-base.o)
-compile results "$here/results.c"
-link results checks.o flapping.o "${others[@]}"
-# Two functions of the stubs are ours there.
 compile cycle "$here/../../bench/nagios_cycle.c" -Dget_raw_command_line_r=command_line
-objcopy --redefine-sym get_raw_command_line_r=command_line --redefine-sym process_macros_r=macros_of "$sources/base/checks.o" "$work/checks_of_cycle.o"
-link cycle "$work/checks_of_cycle.o" events.o "${others[@]}"
+objcopy --redefine-sym get_raw_command_line_r=command_line --redefine-sym process_macros_r=macros_of checks.o "$work/checks_of_cycle.o"
+link cycle "$work/checks_of_cycle.o" events.o utils.o ../common/shared.o objects-base.o
 compile queue "$here/../../bench/nagios_queue.c"
 link queue
