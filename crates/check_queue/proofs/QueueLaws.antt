@@ -1,12 +1,14 @@
 -- What the calls of the queue leave.
-use Rattle.std.proofs.Common.{◌≡◌, ◌≢◌, ℕ, zero, suc, ◌+◌, ◌<◌, ◌^◌, false, cond, List, ◌∷◌, length, Option, Some, None, replicate, Vec, Global}
+use Rattle.std.proofs.Common.{◌≡◌, ◌≢◌, ℕ, zero, suc, ◌+◌, ◌<◌, ◌^◌, false, List, ◌∷◌, length, Option, Some, None, replicate, Vec, Global}
 use Rattle.std.proofs.Common.{refl, sym, ap, ◌∙◌, arith, inl, inr}
-use Rattle.std.specs.Prelude.{count_by, is_some, option_map}
+use Rattle.std.specs.Prelude.{option_map}
 use Rattle.std.specs.Vec.{with_items}
 use Rattle.std.proofs.Math.ListN.{set}
-use Rattle.std.proofs.lemmas.Bool.{cases_eq}
+use Rattle.std.proofs.Math.Dec.{eqb}
+use Rattle.std.proofs.lemmas.Bool.{cases_eq, eq-eqb}
 use Rattle.std.proofs.lemmas.List.{length-replicate, length-set, set-get_or, with_items_is}
-use Rattle.std.proofs.lemmas.List.Sums.{sum_by-set, count_by-le-length}
+use Rattle.std.proofs.lemmas.List.Folds.{list_any_at}
+use Rattle.std.proofs.lemmas.Map.Steps.{le-length_from_below}
 use Rattle.check_queue.specs.declared.entry.Entry.{Entry}
 use Rattle.check_queue.specs.Entries.{entry_at}
 use Rattle.check_queue.specs.Order.{is_before, least}
@@ -19,47 +21,21 @@ use Rattle.check_queue.proofs.HeapLaws.{root_first}
 use Rattle.check_queue.proofs.LeastLaws.{least_found}
 use Rattle.check_queue.proofs.TimesLaws.{least_by_times, none_by_times, time_at}
 
--- ---- counts
-
-abbrev count : List (Option ℕ) → ℕ
-count ts = count_by (λ t. is_some t) ts
-
-abbrev one : Option ℕ → ℕ
-one o = cond (is_some o) 1 0
-
-counted : (ts : List (Option ℕ)) (k : ℕ) (o w : Option ℕ) → k < length ts → time_at ts k ≡ w → count (set ts k o) + one w ≡ count ts + one o
-counted ts k o w l e = ap (λ v. count (set ts k o) + one v) (sym e) ∙ sum_by-set one ts k o None l
-
--- where a number has no time, one more fits
-has_room : (ts : List (Option ℕ)) (k : ℕ) → k < length ts → time_at ts k ≡ None → count ts < length ts
-has_room ts k l e =
-    let more : count (set ts k (Some 0)) + 0 ≡ count ts + 1 = counted ts k (Some 0) None l e in
-    let most = count_by-le-length (λ (t : Option ℕ). is_some t) (set ts k (Some 0)) in
-    let long = length-set ts k (Some 0) in
-    omega arith
-
 -- ---- a number with a position, and one without
 
-pub record IsFound (es : List Entry) (ps : List ℕ) (n k p : ℕ) : Type 0 where
+pub record IsFound (ps : List ℕ) (n k p : ℕ) : Type 0 where
   pub at : position_at ps k ≡ p
   pub inside : p < n
-  pub below : k < length (times_in es ps)
-  pub time : time_at (times_in es ps) k ≡ Some (entry_at es p).time
+  pub below : k < length ps
 
-found : (es : List Entry) (ps : List ℕ) (n k p : ℕ) → AreLinked es ps n n → position_of ps k ≡ Some p → IsFound es ps n k p
+found : (es : List Entry) (ps : List ℕ) (n k p : ℕ) → AreLinked es ps n n → position_of ps k ≡ Some p → IsFound ps n k p
 found es ps n k p a e = elim (cases_eq (position_at ps k) absent) [
   | inl f ↦ let none : position_of ps k ≡ None = ap (λ q. position_from q) f in cc
   | inr u ↦
       let some = present (position_at ps k) u in
       let at : position_at ps k ≡ p = cc in
-      let inside = (a.entry k u).within in let room = a.room in let few = a.few in let long = times_length es ps in
-      let under = below ps k p at (omega arith) in
-      record {
-        at = at;
-        inside = omega arith;
-        below = omega arith;
-        time = time_is es ps k ∙ time_there es _ u ∙ ap (λ q. Some (entry_at es q).time) at;
-      }
+      let inside = (a.entry k u).within in let room = a.room in let few = a.few in
+      record { at = at; inside = omega arith; below = below ps k p at (omega arith) }
 ]
 
 no_position : (es : List Entry) (ps : List ℕ) (k : ℕ) → time_at (times_in es ps) k ≡ None → position_at ps k ≡ absent
@@ -68,21 +44,33 @@ no_position es ps k e = elim (cases_eq (position_at ps k) absent) [
   | inr u ↦ let some = time_is es ps k ∙ time_there es _ u in cc
 ]
 
+-- where a number isn't in the heap, there is room for it
+has_room : (es : List Entry) (ps : List ℕ) (n k : ℕ) → AreLinked es ps n n → k < length ps → position_at ps k ≡ absent → n < length ps
+has_room es ps n k a under none =
+    let long = length-set ps k n in let room = a.room in let few = a.few in
+    let most = le-length_from_below (set ps k n) (n + 1) (λ q l. elim (cases_eq q n) [
+      | inl e ↦ list_any_at (eqb q) (set ps k n) k absent (omega arith) (eq-eqb q _ (e ∙ sym (placed ps k k n under refl)))
+      | inr u ↦
+          let is = a.position q (omega (arith, l, u)) u in
+          let apart : (entry_at es q).number ≢ k = λ e. some_position es ps n n q a (omega (arith, l, u)) (sym is ∙ ap (λ j. position_at ps j) e ∙ none) in
+          let under' = below ps _ q is (omega (arith, l, u, room, few)) in
+          list_any_at (eqb q) (set ps k n) (entry_at es q).number absent (omega arith) (eq-eqb q _ (sym (unplaced ps k _ n apart ∙ is)))
+    ]) in
+    omega arith
+
 -- ---- a heap whose times are ts
 
 pub record Holds (es : List Entry) (ps : List ℕ) (n : ℕ) (ts : List (Option ℕ)) : Type 0 where
   pub ordered : IsOrdered es ps n
   pub times : times_in es ps ≡ ts
-  pub size : count (times_in es ps) ≡ n
 
--- what the code holds once an entry was put into the hole
+-- what the code holds once the entries and positions are put back
 pub settles : (v : Vec Entry Global) (w : Vec ℕ Global) (es : List Entry) (ps : List ℕ) (n : ℕ) (ts : List (Option ℕ)) → length ts ≡ length v.items
-    → length ts ≡ length w.items → IsOrdered es ps n → times_in es ps ≡ ts → count ts ≡ n → Holds (with_items v es).items (with_items w ps).items n ts
-settles v w es ps n ts long long' ordered times size =
-    let sizes = ordered.linked.sizes in
-    let same = sym (times_length es ps) ∙ ap length times in
+    → length ts ≡ length w.items → IsOrdered es ps n → times_in es ps ≡ ts → Holds (with_items v es).items (with_items w ps).items n ts
+settles v w es ps n ts long long' ordered times =
+    let sizes = ordered.linked.sizes in let same = sym (times_length es ps) ∙ ap length times in
     let held = v.ok.0 in let held' = w.ok.0 in
-    rw (with_items_is v es (omega arith), with_items_is w ps (omega arith)) (record { ordered = ordered; times = times; size = ap count times ∙ size })
+    rw (with_items_is v es (omega arith), with_items_is w ps (omega arith)) (record { ordered = ordered; times = times })
 
 -- the entries but that at the hole are a heap
 around : (es : List Entry) (n m hole : ℕ) → ((j : ℕ) → j < m → j ≢ hole → j < n) → IsHeap es n → IsHeapAround es m hole
@@ -101,14 +89,13 @@ pub record Takes (es : List Entry) (ps : List ℕ) (n hole : ℕ) (x : Entry) (t
   pub outside : IsOutside ps x.number
   pub long : length ts ≡ length ps
   pub times : set (times_in es ps) x.number (Some x.time) ≡ ts
-  pub size : count ts ≡ n
 
-pub takes_new : (es : List Entry) (ps : List ℕ) (n k t : ℕ) → IsOrdered es ps n → count (times_in es ps) ≡ n → k < length (times_in es ps)
-    → time_at (times_in es ps) k ≡ None → Takes es ps (n + 1) n (record { time = t; number = k }) (set (times_in es ps) k (Some t))
-takes_new es ps n k t o size below none =
+pub takes_new : (es : List Entry) (ps : List ℕ) (n k t : ℕ) → IsOrdered es ps n → k < length (times_in es ps) → time_at (times_in es ps) k ≡ None
+    → Takes es ps (n + 1) n (record { time = t; number = k }) (set (times_in es ps) k (Some t))
+takes_new es ps n k t o under e =
     let a = o.linked in let few = a.few in let sizes = a.sizes in let long = times_length es ps in
-    let long' = length-set (times_in es ps) k (Some t) in let room = has_room (times_in es ps) k below none in
-    let more : count (set (times_in es ps) k (Some t)) + 0 ≡ count (times_in es ps) + 1 = counted (times_in es ps) k (Some t) None below none in
+    let none = no_position es ps k e in
+    let room = has_room es ps n k a (omega arith) none in
     record {
       around = record {
         inside = omega arith;
@@ -121,19 +108,17 @@ takes_new es ps n k t o size below none =
           entry = λ j v. let at = a.entry j v in let within = at.within in record { within = omega arith; apart = at.apart; number = at.number };
         };
       };
-      outside = record { below = omega arith; is = no_position es ps k none };
-      long = omega arith;
+      outside = record { below = omega arith; is = none };
+      long = length-set (times_in es ps) k (Some t) ∙ long;
       times = refl;
-      size = omega arith;
     }
 
 -- ---- a number less
 
 -- number k leaves position p, which is the hole then
-vacates : (es : List Entry) (ps : List ℕ) (n k p : ℕ) → AreLinked es ps n n → IsFound es ps n k p → AreLinked es (set ps k absent) n p
+vacates : (es : List Entry) (ps : List ℕ) (n k p : ℕ) → AreLinked es ps n n → IsFound ps n k p → AreLinked es (set ps k absent) n p
 vacates es ps n k p a f =
-    let sizes = a.sizes in let sizes' = length-set ps k absent in let long = times_length es ps in
-    let under = f.below in
+    let sizes = a.sizes in let sizes' = length-set ps k absent in
     record {
       room = a.room;
       few = a.few;
@@ -141,7 +126,7 @@ vacates es ps n k p a f =
       position = λ i l u.
           let is = a.position i l (omega arith) in unplaced ps k _ absent (λ e. u (sym is ∙ ap (λ j. position_at ps j) e ∙ f.at)) ∙ is;
       entry = λ j v.
-          let u : j ≢ k = λ e. v (placed ps k j absent (omega arith) e) in
+          let u : j ≢ k = λ e. v (placed ps k j absent f.below e) in
           let same = unplaced ps k j absent u in
           let at = a.entry j (λ e. v (same ∙ e)) in
           rw same (record {
@@ -156,20 +141,15 @@ pub record Leaves (es : List Entry) (ps : List ℕ) (n hole : ℕ) (ts : List (O
   pub around : HasHole es ps n hole
   pub long : length ts ≡ length ps
   pub times : times_in es ps ≡ ts
-  pub size : count ts + 1 ≡ n
 
-pub leaves : (es : List Entry) (ps : List ℕ) (n k p : ℕ) → IsOrdered es ps n → count (times_in es ps) ≡ n → position_of ps k ≡ Some p
+pub leaves : (es : List Entry) (ps : List ℕ) (n k p : ℕ) → IsOrdered es ps n → position_of ps k ≡ Some p
     → Leaves es (set ps k absent) n p (set (times_in es ps) k None)
-leaves es ps n k p o size e =
+leaves es ps n k p o e =
     let f = found es ps n k p o.linked e in
-    let less : count (set (times_in es ps) k None) + 1 ≡ count (times_in es ps) + 0 = counted (times_in es ps) k None (Some _) f.below f.time in
-    let sizes = length-set ps k absent in let long = times_length es ps in
-    let long' = length-set (times_in es ps) k None in
     record {
       around = record { inside = f.inside; around = around es n n p (λ j l u. l) o.heap; linked = vacates es ps n k p o.linked f };
-      long = omega arith;
+      long = sym (ap length (without es ps k)) ∙ times_length es (set ps k absent);
       times = without es ps k;
-      size = omega arith;
     }
 
 -- a number without a time keeps none
@@ -189,10 +169,6 @@ no_times : (es : List Entry) (n : ℕ) → times_in es (replicate n absent) ≡ 
 no_times es zero = refl
 no_times es (suc n) = ap (λ ts. None ∷ ts) (no_times es n)
 
-none_counted : (n : ℕ) → count (replicate n None) ≡ 0
-none_counted zero = refl
-none_counted (suc n) = none_counted n
-
 pub starts : (es : List Entry) (ps : List ℕ) (n : ℕ) → length es ≡ n → ps ≡ replicate n absent → n < 2 ^ 32 → Holds es ps 0 (replicate n None)
 starts es ps n size e few =
     let sizes = length-replicate n absent in
@@ -208,7 +184,6 @@ starts es ps n size e few =
         };
       };
       times = no_times es n;
-      size = ap count (no_times es n) ∙ none_counted n;
     })
 
 -- ---- the first
@@ -240,8 +215,11 @@ first_is es ps n o l =
       least = least_found (Some (e.time, e.number)) _ (least_by_times (e.time, e.number) (times_in es ps) time (λ k t f. none_earlier es ps n k t o f));
     }
 
-pub no_first : (es : List Entry) (ps : List ℕ) (n : ℕ) → IsOrdered es ps n → n ≡ 0 → None ≡ least (pairs_of (times_in es ps))
-no_first es ps n o e = least_found None _ (none_by_times 0 (times_in es ps) (λ k. elim (cases_eq (position_at ps k) absent) [
+pub no_time : (es : List Entry) (ps : List ℕ) (n k : ℕ) → IsOrdered es ps n → n ≡ 0 → time_at (times_in es ps) k ≡ None
+no_time es ps n k o e = elim (cases_eq (position_at ps k) absent) [
   | inl f ↦ time_is es ps k ∙ time_nowhere es _ f
   | inr u ↦ let l = (o.linked.entry k u).within in absurd (omega arith)
-]))
+]
+
+pub no_first : (es : List Entry) (ps : List ℕ) (n : ℕ) → IsOrdered es ps n → n ≡ 0 → None ≡ least (pairs_of (times_in es ps))
+no_first es ps n o e = least_found None _ (none_by_times 0 (times_in es ps) (λ k. no_time es ps n k o e))

@@ -13,6 +13,29 @@ use crate::entry::{Entry, is_before};
 /// at most `u32::MAX` numbers.
 pub(crate) const ABSENT: u32 = u32::MAX;
 
+/// Writes an entry to a position, and the position to the entry's number.
+fn put_at(entries: &mut [Entry], positions: &mut [u32], position: usize, entry: Entry)
+    requires position { position < length entries.old }
+    requires number { entry.number < length positions.old }
+    requires few { length entries.old < 2 ^ 32 }
+    ensures entries { entries.new ≡ slice_set entries.old position entry }
+    ensures positions { positions.new ≡ slice_set positions.old entry.number position }
+{
+    entries[position] = entry;
+    positions[entry.number as usize] = position as u32;
+}
+
+/// The position of that of the two children of `hole` which comes first.
+fn first_child(entries: &[Entry], len: usize, hole: usize) -> usize
+    requires room { len ≤ length entries.now }
+    requires few { length entries.now < 2 ^ 32 }
+    requires children { 2 * hole + 2 < len }
+    ensures { IsFirstChild entries.now len hole result }
+{
+    let left = 2 * hole + 1;
+    left + usize::from(is_before(entries[left + 1], entries[left]))
+}
+
 /// Moves the hole up to where `held` fits, and puts `held` there.
 pub(crate) fn sift_up(
     entries: &mut [Entry],
@@ -59,27 +82,4 @@ pub(crate) fn close_hole(entries: &mut [Entry], positions: &mut [u32], len: usiz
         positions[last.number as usize] = ABSENT;
         sift_up(entries, positions, len - 1, hole, last);
     }
-}
-
-/// The position of that of the two children of `hole` which comes first.
-fn first_child(entries: &[Entry], len: usize, hole: usize) -> usize
-    requires room { len ≤ length entries.now }
-    requires few { length entries.now < 2 ^ 32 }
-    requires children { 2 * hole + 2 < len }
-    ensures { IsFirstChild entries.now len hole result }
-{
-    let left = 2 * hole + 1;
-    left + usize::from(is_before(entries[left + 1], entries[left]))
-}
-
-/// Writes an entry to a position, and the position to the entry's number.
-fn put_at(entries: &mut [Entry], positions: &mut [u32], position: usize, entry: Entry)
-    requires position { position < length entries.old }
-    requires number { entry.number < length positions.old }
-    requires few { length entries.old < 2 ^ 32 }
-    ensures entries { entries.new ≡ slice_set entries.old position entry }
-    ensures positions { positions.new ≡ slice_set positions.old entry.number position }
-{
-    entries[position] = entry;
-    positions[entry.number as usize] = position as u32;
 }

@@ -10,7 +10,7 @@ new c =
     (c.in_ok-positions.ensures.items_if_clones_equal (λ y e. e)) c.ranges.n.fits
 
 pub invariant_of-result : goal.invariant_of-result
-invariant_of-result c = let h = new (goal.at.invariant_of-result c).In_ok-positions in record { ordered = h.ordered; size = h.size }
+invariant_of-result c = (new (goal.at.invariant_of-result c).In_ok-positions).ordered
 
 pub returns : goal.returns
 returns c = (new (goal.at.returns c).In_ok-positions).times

@@ -17,7 +17,7 @@ takes c =
     let long = ap length gone ∙ length-set c.args.self.now k None in
     let below = c.requires in
     rw (c.deref_mut.ensures.value, c.deref_mut-2.ensures.value)
-    (takes_new _ _ _ k c.args.time c.self.invariant.ordered c.self.invariant.size (omega arith)
+    (takes_new _ _ _ k c.args.time c.self.invariant (omega arith)
     (ap (λ ts. time_at ts k) gone ∙ get_or-set_same c.args.self.now k None None below))
 
 pub sift_up-requires-clause-around : goal.sift_up-requires-clause-around
@@ -30,12 +30,12 @@ pub invariant_of-self : goal.invariant_of-self
 invariant_of-self c =
     let t = takes (goal.at.invariant_of-self c).After-deref_mut-2 in
     let h = settles c.self.inside.entries c.self.inside.positions _ _ _ _ (t.long ∙ t.around.linked.sizes ∙ ap length c.deref_mut.ensures.value)
-    (t.long ∙ ap length c.deref_mut-2.ensures.value) c.sift_up.ensures.ordered (c.sift_up.ensures.times ∙ t.times) t.size in
-    record { ordered = h.ordered; size = h.size }
+    (t.long ∙ ap length c.deref_mut-2.ensures.value) c.sift_up.ensures.ordered (c.sift_up.ensures.times ∙ t.times) in
+    h.ordered
 
 pub returns : goal.returns
 returns c =
     let t = takes (goal.at.returns c).After-deref_mut-2 in
     let h = settles c.self.inside.entries c.self.inside.positions _ _ _ _ (t.long ∙ t.around.linked.sizes ∙ ap length c.deref_mut.ensures.value)
-    (t.long ∙ ap length c.deref_mut-2.ensures.value) c.sift_up.ensures.ordered (c.sift_up.ensures.times ∙ t.times) t.size in
+    (t.long ∙ ap length c.deref_mut-2.ensures.value) c.sift_up.ensures.ordered (c.sift_up.ensures.times ∙ t.times) in
     h.times ∙ ap (λ ts. set ts c.args.number (Some c.args.time)) (c.self.view_is ∙ c.remove.ensures.after) ∙ set-set c.args.self.now c.args.number None _

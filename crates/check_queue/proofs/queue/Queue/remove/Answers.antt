@@ -1,4 +1,4 @@
-use Rattle.std.proofs.Common.{length, None, sym, ap, ◌∙◌, arith}
+use Rattle.std.proofs.Common.{length, None, sym, ap, ◌∙◌}
 use Rattle.std.specs.Vec.{with_item}
 use Rattle.std.proofs.Math.ListN.{set}
 use Rattle.check_queue.specs.Positions.{absent, position_of, times_in}
@@ -16,7 +16,7 @@ left : (c : After-deref_mut-2)
     → Leaves c.deref_mut.result.now c.deref_mut-2.result.now c.self.inside.len c.in-Some.hole
     (set (times_in c.self.inside.entries.items c.self.inside.positions.items) c.args.number None)
 left c =
-    rw (c.deref_mut.ensures.value, c.deref_mut-2.ensures.value) (leaves _ _ _ c.args.number _ c.self.invariant.ordered c.self.invariant.size
+    rw (c.deref_mut.ensures.value, c.deref_mut-2.ensures.value) (leaves _ _ _ c.args.number _ c.self.invariant
     (sym (c.position_of.ensures ∙ ap (λ ps. position_of ps c.args.number) c.deref.ensures.value) ∙ c.in-Some.is))
 
 pub close_hole-requires : goal.close_hole-requires
@@ -25,17 +25,15 @@ close_hole-requires c = (left (goal.at.close_hole-requires c).After-deref_mut-2)
 pub invariant_of-self : goal.invariant_of-self
 invariant_of-self c =
     let t = left (goal.at.invariant_of-self c).After-deref_mut-2 in
-    let size = t.size in
     let h = settles c.self.inside.entries (with_item c.self.inside.positions c.args.number absent) _ _ _ _
     (t.long ∙ t.around.linked.sizes ∙ ap length c.deref_mut.ensures.value) (t.long ∙ ap length c.deref_mut-2.ensures.value) c.close_hole.ensures.ordered
-    (c.close_hole.ensures.times ∙ t.times) (omega arith) in
-    record { ordered = h.ordered; size = h.size }
+    (c.close_hole.ensures.times ∙ t.times) in
+    h.ordered
 
 pub returns-clause-after : goal.returns-clause-after
 returns-clause-after c =
     let t = left (goal.at.returns-clause-after c).After-deref_mut-2 in
-    let size = t.size in
     let h = settles c.self.inside.entries (with_item c.self.inside.positions c.args.number absent) _ _ _ _
     (t.long ∙ t.around.linked.sizes ∙ ap length c.deref_mut.ensures.value) (t.long ∙ ap length c.deref_mut-2.ensures.value) c.close_hole.ensures.ordered
-    (c.close_hole.ensures.times ∙ t.times) (omega arith) in
+    (c.close_hole.ensures.times ∙ t.times) in
     h.times ∙ ap (λ ts. set ts c.args.number None) c.self.view_is
