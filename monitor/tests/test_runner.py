@@ -302,6 +302,12 @@ class Lines(unittest.TestCase):
             results = runner.ran(*(f'{{"job":{number},{line}}}\n'.encode() for number, line in enumerate(lines)))
         self.assertEqual(results, [{"job": number, "lost": "the line is no job"} for number in range(len(lines))])
 
+    def test_members_in_another_order(self) -> None:
+        words = b'"words":["printf","%s","fine"]'
+        with OneRunner() as runner:
+            results = runner.ran(b'{"job":1,"limit":9,' + words + b"}\n", b"{" + words + b',"limit":9,"job":2}\n', b' { "limit" : 9.0e0 , ' + words + b' ,\t"job" : 3 } \r\n')
+        self.assertEqual([(it["job"], it["output"]) for it in results], [(1, "fine"), (2, "fine"), (3, "fine")])
+
     def test_a_line_that_is_too_long(self) -> None:
         with OneRunner() as runner:
             runner.give(b'{"job":1,"words":["' + b"x" * 5_000_000 + b"\n")
