@@ -350,7 +350,7 @@ class Lines(unittest.TestCase):
             go.touch()
             self.assertTrue(comes(lambda: all(is_zombie(child) for child in children_of(runner.process.pid)[1:])))
             runner.process.send_signal(signal.SIGCONT)
-            results = runner.results(60)
+            results = runner.results(60, 50)  # it would look again after a minute, whatever comes
         self.assertEqual([(it["job"], len(it["output"]), len(it["stderr"])) for it in results], [(number, MOST_KEPT, MOST_KEPT) for number in range(60)])
 
     def test_results_that_nobody_reads_for_a_while(self) -> None:
