@@ -164,6 +164,8 @@ def kills_of_jobs() -> List[str]:
         trial.close()
     ends = jobs.ends()
     print(f"kills: of {jobs.sent} jobs {ends}, {jobs.sent - sum(ends.values())} without an answer")
+    reasons = collections.Counter(str(answers[0]["lost"]) for answers in jobs.answers.values() if "lost" in answers[0])
+    print("".join(f"kills: {count} lost: {why}\n" for why, count in reasons.items()), end="")
     return [] if is_answered and ends == {"exited": jobs.sent} else [f"kills: of {jobs.sent} jobs came {ends}"]
 
 

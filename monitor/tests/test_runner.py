@@ -302,6 +302,12 @@ class Lines(unittest.TestCase):
             results = runner.ran(*(f'{{"job":{number},{line}}}\n'.encode() for number, line in enumerate(lines)))
         self.assertEqual(results, [{"job": number, "lost": "the line is no job"} for number in range(len(lines))])
 
+    def test_members_in_another_order(self) -> None:
+        words = b'"words":["printf","%s","fine"]'
+        with OneRunner() as runner:
+            results = runner.ran(b'{"job":1,"limit":9,' + words + b"}\n", b"{" + words + b',"limit":9,"job":2}\n', b' { "limit" : 9.0e0 , ' + words + b' ,\t"job" : 3 } \r\n')
+        self.assertEqual([(it["job"], it["output"]) for it in results], [(1, "fine"), (2, "fine"), (3, "fine")])
+
     def test_a_line_that_is_too_long(self) -> None:
         with OneRunner() as runner:
             runner.give(b'{"job":1,"words":["' + b"x" * 5_000_000 + b"\n")
@@ -344,7 +350,7 @@ class Lines(unittest.TestCase):
             go.touch()
             self.assertTrue(comes(lambda: all(is_zombie(child) for child in children_of(runner.process.pid)[1:])))
             runner.process.send_signal(signal.SIGCONT)
-            results = runner.results(60)
+            results = runner.results(60, 50)  # it would look again after a minute, whatever comes
         self.assertEqual([(it["job"], len(it["output"]), len(it["stderr"])) for it in results], [(number, MOST_KEPT, MOST_KEPT) for number in range(60)])
 
     def test_results_that_nobody_reads_for_a_while(self) -> None:
