@@ -230,6 +230,7 @@ def mistakes(held, library):
     counting(held, "texts in C", ran(library.compiled(TESTS / "c" / "texts.c", *common)))
     counting(held, "desks in C", ran(library.compiled(TESTS / "c" / "desks.c", *common)))
     counting(held, "books in C", ran(library.compiled(TESTS / "c" / "books.c", *common)))
+    counting(held, "days in C", ran(library.compiled(TESTS / "c" / "days.c", *common)))
     counting(held, "saved states in C", ran(library.compiled(TESTS / "c" / "saved.c", *common)))
     counting(held, "gatherings in C", ran(library.compiled(TESTS / "c" / "gatherings.c", *common)))
     counting(held, "numbers in C", ran(library.compiled(TESTS / "c" / "numbers.c", *common)))

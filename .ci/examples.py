@@ -13,7 +13,7 @@ from program import EXAMPLES, TOP, Held
 EMBEDDING = TOP / "docs" / "EMBEDDING_RATTLE.md"
 EMBEDDED = TOP / "crates" / "desk_tests" / "src" / "workers" / "own_threads.rt"
 # The sections whose code is machine_room's, and how many blocks each shows.
-SECTIONS = {"## The loop": 5, "## For months": 4}
+SECTIONS = {"## The loop": 1, "## For months": 1}
 MACHINE_ROOM = TOP / "crates" / "machine_room" / "src"
 RUNS = {"office": ["run"], "sequence": ["run"], "drill": ["drill", "--workers", "1"]}
 

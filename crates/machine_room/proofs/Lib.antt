@@ -1,2 +1,4 @@
 mod FaultLemmas
+mod MonthLemmas
 mod RoundLemmas
+mod RunLemmas

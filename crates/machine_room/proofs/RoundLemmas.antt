@@ -1,52 +1,129 @@
 -- A round's calls, one after another.
-use Rattle.std.proofs.Common.{◌≡◌, ℕ, ◌<◌, List, [], ◌∷◌, ◌++◌, refl, subst, ◌∙◌}
+use Rattle.std.proofs.Common.{◌≡◌, ℕ, ◌+◌, ◌<◌, ◌≤◌, List, [], ◌∷◌, ◌++◌, length, Some, None, inl, inr, refl, sym, ap, subst, ◌∙◌, length-append, arith}
+use mathlib.Core.List.{IsPrefix}
+use Rattle.std.specs.Prelude.{Contains}
 use Rattle.std.specs.List.{All}
-use Rattle.std.proofs.lemmas.List.Elements.{All-append, All-cons, All-nil}
+use Rattle.std.proofs.lemmas.Grind.{flat_map-append}
+use Rattle.std.proofs.lemmas.List.Elements.{All-append, All-cons, All-contains, All-nil}
 use Rattle.ticket_steps.specs.declared.kept.Entry.{Entry}
 use Rattle.ticket_steps.specs.History.{entry}
 use Rattle.ticket_lock.specs.Callers.{Caller}
 use Rattle.check_sched.specs.declared.call.Call.{Call}
 use Rattle.check_sched.specs.declared.call.Call.TheVariants as call
 use Rattle.check_sched.specs.declared.call.Reply.{Reply}
+use Rattle.check_sched.specs.declared.call.Reply.TheVariants as reply
 use Rattle.check_desk.specs.Desks.{HasRecorded}
 use Rattle.check_workers.specs.Shifts.{HasMade}
-use Rattle.check_workers.proofs.CallerLemmas.{made_reply, made_then}
-use Rattle.machine_room.specs.Loop.{HasCalled, HasGivenUp, HasTaken, IsBegun, IsGivenUp}
+use Rattle.check_workers.proofs.CallerLemmas.{made_none, made_reply, made_then}
+use Rattle.machine_room.specs.Deeds.{Deed, Does, answers, asks}
+use Rattle.machine_room.specs.Loop.{HasCalled, HasGivenUp, HasSlept, HasTaken, IsBegun, IsGivenUp, KeepsRuns, deeds_of, left_by, left_of}
+use Rattle.machine_room.specs.Loop.{limit_at, run_of}
+use Rattle.machine_room.specs.declared.outside.News.TheVariants as news
 use Rattle.machine_room.specs.declared.runs.Run.{Run}
+use Rattle.machine_room.proofs.RunLemmas.{keeps_pushed, keeps_same, left_more, left_none, left_of_within, left_then}
 
--- one call more
-pub called_more : (asked : Call) (reply : Reply) (a b c : Caller Call Reply)
-    → HasCalled a b → HasRecorded asked reply b c → HasCalled a c
-called_more asked reply a b c f h =
-    let e = entry b.own asked reply in
-    (f.0 ++ e ∷ [], made_then f.0 (e ∷ []) 0 0 a b c f.1 (made_reply asked reply b c h))
+-- one call more, beside the entries that there were
+made_more : (es : List (Entry Call Reply)) (asked : Call) (reply : Reply) (a b c : Caller Call Reply)
+    → HasMade es 0 a b → HasRecorded asked reply b c → HasMade (es ++ entry a.own asked reply ∷ []) 0 a c
+made_more es asked reply a b c f h =
+    subst (λ own. HasMade (es ++ entry own asked reply ∷ []) 0 a c) f.own
+    (made_then es (entry b.own asked reply ∷ []) 0 0 a b c f (made_reply asked reply b c h))
+
+module _ {S : Type 0} (does : S → Deed → S → Type 0) where
+  pub does_then : (ds es : List Deed) (s t u : S) → Does does ds s t → Does does es t u → Does does (ds ++ es) s u
+  does_then [] es s t u f g = subst (λ v. Does does es v u) (sym f) g
+  does_then (d ∷ ds) es s t u f g = (f.0, f.1, does_then ds es f.0 t u f.2 g)
+
+  -- So many calls have come in, and each was answered.
+  pub record HasAnswered (count : ℕ) (before after : Caller Call Reply) (runs left : List Run) (s t : S) : Type 0 where
+    pub entries : List (Entry Call Reply)
+    pub many : length entries ≡ count
+    pub deeds : Does does (deeds_of entries) s t
+    pub made : HasMade entries 0 before after
+    pub left_are : left ≡ left_of entries runs
+
+  pub answered_none : (c : Caller Call Reply) (runs : List Run) (s : S) → HasAnswered 0 c c runs runs s s
+  answered_none c runs s = record { entries = []; many = refl; deeds = refl; made = made_none c; left_are = left_none runs }
+
+  pub answered_more : (count : ℕ) (asked : Call) (reply : Reply) (a b c : Caller Call Reply) (first runs left : List Run) (s t u v : S)
+      → HasAnswered count a b first runs s t → does t (asks (Some (news.Call asked))) u → HasRecorded asked reply b c → does u (answers asked reply) v
+      → left ≡ left_by asked runs → HasAnswered (count + 1) a c first left s v
+  answered_more count asked reply a b c first runs left s t u v f come h answer is =
+      let e = entry a.own asked reply in
+      let long = length-append f.entries (e ∷ []) in
+      let many = f.many in
+      record {
+        entries = f.entries ++ e ∷ [];
+        many = omega arith;
+        deeds =
+            subst (λ ds. Does does ds s v) (sym (flat_map-append (λ x. asks (Some (news.Call x.call)) ∷ answers x.call x.reply ∷ []) f.entries (e ∷ [])))
+            (does_then (deeds_of f.entries) (deeds_of (e ∷ [])) s t v f.deeds (u, come, (v, answer, refl)));
+        made = made_more f.entries asked reply a b c f.made h;
+        left_are = left_more f.entries e first runs left f.left_are is;
+      }
+
+  -- the calls that came in, where there is no more
+  pub called_all : (count : ℕ) (a b : Caller Call Reply) (runs left : List Run) (s t u : S)
+      → HasAnswered count a b runs left s t → does t (asks None) u → HasCalled does a b runs left s u
+  called_all count a b runs left s t u f none = record {
+    entries = f.entries;
+    came = inl (does_then (deeds_of f.entries) (asks None ∷ []) s t u f.deeds (u, none, refl));
+    made = f.made;
+    left_are = f.left_are;
+  }
+
+  -- the calls that came in, where there are as many as a round takes
+  pub called_most : (a b : Caller Call Reply) (runs left : List Run) (s t : S)
+      → HasAnswered 1000 a b runs left s t → HasCalled does a b runs left s t
+  called_most a b runs left s t f = record { entries = f.entries; came = inr (f.many, f.deeds); made = f.made; left_are = f.left_are }
+
+  -- a take forgets no run
+  pub begun_keeps : (now : ℕ) (answer : Reply) (runs left : List Run) (a b : List (Entry Call Reply)) (s t : S)
+      → IsBegun does now answer runs left s t → IsPrefix a b → KeepsRuns a b runs left
+  begun_keeps now (reply.Taken object number) runs left a b s t h seen =
+      subst (KeepsRuns a b runs) (sym h.2) (keeps_pushed a b runs (run_of object number (limit_at h.0 now) ∷ []) seen)
+  begun_keeps now other runs left a b s t h seen = subst (KeepsRuns a b runs) (sym h.0) (keeps_same a b runs seen)
+
+  -- a round: the calls that came in, the runs that are given up, the take, and sleep
+  pub taken_round : (now : ℕ) (answer : Reply) (first runs list left : List Run) (a b c d : Caller Call Reply) (s t u v : S)
+      → HasCalled does a b first runs s t → HasGivenUp now b c runs list → All (λ run. now < run.limit) list
+      → HasRecorded (call.Take now) answer c d → IsBegun does now answer list left t u → HasSlept does now answer left u v
+      → HasTaken does now a d first left s v
+  taken_round now answer first runs list left a b c d s t u v f g in_time h begun slept =
+      let is : list ≡ left_of (f.entries ++ g.entries) first =
+      g.left_are ∙ ap (left_of g.entries) f.left_are ∙ sym (left_then f.entries g.entries first) in
+      record {
+        came_in = f.entries;
+        given_up = g.entries;
+        answer = answer;
+        asked = t;
+        begun = u;
+        came = f.came;
+        are_given_up = subst (λ l. All (IsGivenUp now l) g.entries) f.left_are g.are_given_up;
+        in_time = subst (All (λ run. now < run.limit)) is in_time;
+        made =
+            made_more (f.entries ++ g.entries) (call.Take now) answer a c d (made_then f.entries g.entries 0 0 a b c f.made g.made) h;
+        taken = subst (λ l. IsBegun does now answer l left t u) is begun;
+        slept = slept;
+      }
+
+pub given_up_none : (now : ℕ) (c : Caller Call Reply) (runs : List Run) → HasGivenUp now c c runs runs
+given_up_none now c runs =
+    record { entries = []; are_given_up = All-nil (IsGivenUp now runs); made = made_none c; left_are = left_none runs }
 
 -- one run more that is given up
-pub given_up_more : (object number now : ℕ) (reply : Reply) (a b c : Caller Call Reply)
-    → HasGivenUp now a b → HasRecorded (call.Abandon object number now) reply b c → HasGivenUp now a c
-given_up_more object number now reply a b c f h =
-    let e = entry b.own (call.Abandon object number now) reply in (
-      f.0 ++ e ∷ [],
-      All-append (IsGivenUp now) f.0 (e ∷ []) f.1 (All-cons (IsGivenUp now) e [] (object, number, refl) (All-nil (IsGivenUp now))),
-      made_then f.0 (e ∷ []) 0 0 a b c f.2 (made_reply (call.Abandon object number now) reply b c h),
-    )
-
--- a round: the calls that came in, the runs that are given up, and the take
-pub taken_round : (now : ℕ) (reply : Reply) (list runs : List Run) (a b c d : Caller Call Reply)
-    → HasCalled a b → HasGivenUp now b c → All (λ run. now < run.limit) list
-    → HasRecorded (call.Take now) reply c d → IsBegun now reply list runs → HasTaken now runs a d
-taken_round now reply list runs a b c d f g in_time h begun =
-    let own = g.2.own ∙ f.1.own in
-    let take = subst (λ number. HasMade (entry number (call.Take now) reply ∷ []) 0 c d) own
-    (made_reply (call.Take now) reply c d h) in record {
-      came_in = f.0;
-      given_up = g.0;
-      are_given_up = g.1;
-      reply = reply;
-      made =
-          made_then (f.0 ++ g.0) (entry a.own (call.Take now) reply ∷ []) 0 0 a c d
-          (made_then f.0 g.0 0 0 a b c f.1 g.2) take;
-      list = list;
-      in_time = in_time;
-      begun = begun;
+pub given_up_more : (now : ℕ) (run : Run) (reply : Reply) (a b c : Caller Call Reply) (first runs left : List Run)
+    → HasGivenUp now a b first runs → Contains runs run → run.limit ≤ now → HasRecorded (call.Abandon run.object run.number now) reply b c
+    → left ≡ left_by (call.Abandon run.object run.number now) runs → HasGivenUp now a c first left
+given_up_more now run reply a b c first runs left f at past h is =
+    let asked = call.Abandon run.object run.number now in
+    let e = entry a.own asked reply in
+    let within = subst (All (Contains first)) (sym f.left_are) (left_of_within f.entries first) in
+    record {
+      entries = f.entries ++ e ∷ [];
+      are_given_up =
+          All-append (IsGivenUp now first) f.entries (e ∷ []) f.are_given_up
+          (All-cons (IsGivenUp now first) e [] (run, All-contains (Contains first) runs run within at, past, refl) (All-nil (IsGivenUp now first)));
+      made = made_more f.entries asked reply a b c f.made h;
+      left_are = left_more f.entries e first runs left f.left_are is;
     }

@@ -1,2 +1,4 @@
+pub mod Deeds
 pub mod Faults
 pub mod Loop
+pub mod Months

@@ -5,10 +5,15 @@
 //! `outside` has what the program brings, `round` a round, `runs` the list of the checks that are
 //! out and how long all takes, `restart` the text of a state.
 
-ghost use Rattle.std.specs.Prelude.{◌≡◌, [], Some, IfOk};
+ghost use Rattle.std.specs.Prelude.{◌≡◌, List, [], Some, IfOk};
+ghost use Rattle.ticket_steps.specs.declared.kept.Entry.{Entry};
 ghost use Rattle.check_book.specs.Books.{entries_of, refused_of, sched_of};
 ghost use Rattle.check_desk.specs.Desks.{IsPassOf};
-ghost use Rattle.machine_room.specs.Loop.{saved_text_of};
+ghost use Rattle.check_desk.specs.Passes.{pass_of};
+ghost use Rattle.check_sched.specs.declared.call.Call.{Call};
+ghost use Rattle.check_sched.specs.declared.call.Reply.{Reply};
+ghost use Rattle.machine_room.specs.Loop.{IsKept, IsReturned};
+ghost use Rattle.machine_room.specs.Months.{IsGeneration, IsWatched, saved_text_of};
 
 use crate::fault::Fault;
 use crate::outside::{End, Files, Outside};
@@ -54,8 +59,10 @@ fn watch_setup<O: Outside, F: Files>(
     files: &mut F,
     room: usize,
 ) -> Result<(Book, End), Fault>
-    ensures { IfOk result (λ made.
+    ensures kept { IfOk result (λ made.
         F.kept files.new ≡ Some (saved_text_of (sched_of made.0))) }
+    ensures watched { IfOk result (λ made.
+        IsWatched O.does F.gives F.past (F.kept files.old) outside.old (sched_of made.0)) }
 {
     let start = outside.now();
     let setup = files.setup(alloc)?;
@@ -86,6 +93,9 @@ fn generation<O: Outside, F: Files>(
     requires { (entries_of book ≡ []) × (refused_of book ≡ 0) }
     ensures empty { IfOk result (λ made. (entries_of made.0 ≡ []) × (refused_of made.0 ≡ 0)) }
     ensures kept { IfOk result (λ made. F.kept files.new ≡ Some (saved_text_of (sched_of made.0))) }
+    ensures led { IfOk result (λ made. (history : List (Entry Call Reply))
+        × IsGeneration F.past history (sched_of book) (sched_of made.0)
+        × IsKept history runs.old.items runs.new.items) }
 {
     let Ok((desk, mut passes)) = Desk::open(alloc, book, 1) else {
         return Err(Fault::Memory);
@@ -107,7 +117,7 @@ fn generation<O: Outside, F: Files>(
 
 /// Works at a desk by one pass, so many rounds at most. Where several threads work at a desk,
 /// each has a pass, an outside and a list of runs of its own.
-pub(crate) fn watch<O: Outside>(
+fn watch<O: Outside>(
     rt: &impl Wait,
     desk: &Desk,
     pass: Pass,
@@ -116,7 +126,7 @@ pub(crate) fn watch<O: Outside>(
     rounds: usize,
 ) -> Ended
     requires { IsPassOf desk.now pass }
-    ensures { IsPassOf desk.now result.pass }
+    ensures { IsReturned desk.now (pass_of pass) runs.old.items runs.new.items result.pass }
 {
     let mut pass = pass;
     for _round in 0..rounds {

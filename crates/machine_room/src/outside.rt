@@ -1,7 +1,7 @@
 //! What a loop that watches for months has to do with: the clock, the plugins, the operators, and
-//! the files. A program brings these two traits; the room brings a simulated one of each.
+//! the files. A program brings these two traits; `simulated` has one of each.
 
-ghost use Rattle.std.specs.Prelude.{◌≡◌, ℕ, ◌≤◌, List, Option, Some, option_map, IfOk, OnOk};
+ghost use Rattle.std.specs.Prelude.{◌≡◌, ◌≤◌, Some, option_map, IfOk, OnOk};
 
 use crate::fault::Fault;
 use check_objects::Setup;
@@ -32,33 +32,61 @@ pub(crate) enum End {
 
 /// The clock, the plugins and the operators. A program runs the plugins in threads or processes
 /// of its own, which no call of this waits for.
+///
+/// `does` is for contracts only: it says which deeds lead from one state of the outside to which. A
+/// program that has nothing to prove of its own names all: `ghost does = { λ before deed after. ⊤ };`.
 pub(crate) trait Outside {
+    ghost use Rattle.std.specs.Prelude.{◌≤◌};
+    ghost use Rattle.machine_room.specs.Deeds.{Deed, answers, asks, begins, reads, sleeps};
+
+    ghost does: { Self → Deed → Self → Type 0 };
+
     /// The moment now, in milliseconds of a clock that never goes back.
     fn now(&mut self) -> u64
-        ensures { result ≤ LAST_MOMENT };
+        ensures moment { result ≤ LAST_MOMENT }
+        ensures does { does self.old (reads result) self.new };
 
     /// Starts the plugin of a check that was taken. False where it can't be started.
-    fn begin(&mut self, object: u32, run: u64, now: u64) -> bool;
+    fn begin(&mut self, object: u32, run: u64, now: u64) -> bool
+        ensures { does self.old (begins object run now result) self.new };
 
     /// What has come in, one by one. A call stays until it was answered: it is given again where
     /// there was no memory for it.
-    fn came_in(&mut self) -> Option<News>;
+    fn came_in(&mut self) -> Option<News>
+        ensures { does self.old (asks result) self.new };
 
     /// Is handed the reply to the call that `came_in` gave last, which is done with: how an object
     /// stands after a report, or why the call was refused.
-    fn answered(&mut self, call: Call, reply: Reply);
+    fn answered(&mut self, call: Call, reply: Reply)
+        ensures { does self.old (answers call reply) self.new };
 
     /// Sleeps until this moment, or until something comes in. It may end earlier.
-    fn sleep(&mut self, until: u64);
+    fn sleep(&mut self, until: u64)
+        ensures { does self.old (sleeps until) self.new };
 }
 
 /// The file with the setup, the one that keeps the state, and where the history goes.
+///
+/// For contracts only: `kept` is the text that was kept last, `gives` says of which setups the file
+/// may give one, and `past` which histories it may be handed; a program that has nothing to prove of
+/// these two names all, by `⊤`.
 pub(crate) trait Files {
+    ghost use Rattle.std.specs.Prelude.{ℕ, List, Option};
+    ghost use Rattle.ticket_steps.specs.declared.kept.Entry.{Entry as EntryOf};
+    ghost use Rattle.check_objects.specs.Configuration.{Configuration};
+    ghost use Rattle.check_sched.specs.declared.call.Call.{Call as CallOf};
+    ghost use Rattle.check_sched.specs.declared.call.Reply.{Reply as ReplyOf};
+
     ghost kept: { Self → Option (List ℕ) };
+
+    ghost gives: { Configuration → Type 0 };
+
+    ghost past: { Configuration → List (EntryOf CallOf ReplyOf) → Type 0 };
 
     /// The setup as it is now.
     fn setup(&mut self, alloc: Global) -> Result<Setup, Fault>
-        ensures { kept self.new ≡ kept self.old };
+        ensures kept { kept self.new ≡ kept self.old }
+        ensures given { IfOk result gives };
 
     /// The text that was kept last, by this run of the program or by an earlier one.
     fn state(&self, alloc: Global) -> Result<Option<Vec<u8>>, Fault>
@@ -70,5 +98,6 @@ pub(crate) trait Files {
 
     /// Is handed the history of a generation that has ended.
     fn past(&mut self, setup: &Setup, entries: &[Entry<Call, Reply>]) -> Result<(), Fault>
-        ensures { kept self.new ≡ kept self.old };
+        ensures kept { kept self.new ≡ kept self.old }
+        ensures past { OnOk result (past setup.now entries.now) };
 }

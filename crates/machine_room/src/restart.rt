@@ -1,11 +1,10 @@
 //! A restart: the book is put down as text, and another one goes on from that text. A program
 //! that really ends keeps the text in a file, and reads its setup anew.
 
-ghost use Rattle.std.specs.Prelude.{◌≡◌, ◌≤◌, [], None, IfErr, IfNone, IfOk, IfSome};
+ghost use Rattle.std.specs.Prelude.{◌≡◌, ◌≤◌, [], option_map, IfErr, IfNone, IfOk, IfSome};
 ghost use Rattle.check_book.specs.Books.{entries_of, refused_of, sched_of};
-ghost use Rattle.check_sched.specs.State.{opening};
 ghost use Rattle.machine_room.specs.Faults.{IsNotTakenUp};
-ghost use Rattle.machine_room.specs.Loop.{IsResumed, saved_text_of};
+ghost use Rattle.machine_room.specs.Months.{IsFirst, IsResumed, saved_text_of};
 
 use crate::fault::Fault;
 use check_book::Book;
@@ -51,9 +50,8 @@ pub(crate) fn begin(
 ) -> Result<Book, Fault>
     requires { start ≤ LAST_MOMENT }
     ensures empty { IfOk result (λ book. (entries_of book ≡ []) × (refused_of book ≡ 0)) }
-    ensures anew { kept ≡ None → IfOk result (λ book. sched_of book ≡ opening setup start) }
-    ensures resumed { IfSome kept (λ text. IfOk result (λ book.
-        IsResumed setup text.items start (sched_of book))) }
+    ensures first { IfOk result (λ book.
+        IsFirst setup (option_map (λ text. text.items) kept) start (sched_of book)) }
     ensures refused { IfSome kept (λ text. IfErr result (IsNotTakenUp text.items)) }
     ensures memory { IfNone kept (IfErr result (λ fault. fault ≡ Fault.Memory)) }
 {

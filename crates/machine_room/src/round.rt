@@ -1,14 +1,16 @@
 //! A round of the loop: it makes the calls that have come in, gives up what takes too long, takes
 //! what is due, and sleeps.
 
-ghost use Rattle.std.specs.Prelude.{◌≡◌, ℕ, ◌<◌, ◌≤◌, ◌∷◌, ◌++◌, []};
-ghost use Rattle.std.specs.Prelude.{IfOk, OnErr, OnOk, vec_capacity, vec_len};
+ghost use Rattle.std.specs.Prelude.{◌≡◌, ℕ, Bool, ◌<◌, ◌≤◌, ◌∷◌, ◌++◌, []};
+ghost use Rattle.std.specs.Prelude.{Contains, IfOk, OnErr, OnOk, vec_capacity, vec_len};
 ghost use Rattle.std.specs.List.{All};
 ghost use Rattle.check_desk.specs.Desks.{HasRecorded, IsPassOf};
 ghost use Rattle.check_desk.specs.Passes.{pass_of};
 ghost use Rattle.check_sched.specs.declared.call.Call.TheVariants as call;
 ghost use Rattle.check_sched.specs.declared.call.Reply.{Reply as ReplyOf};
-ghost use Rattle.machine_room.specs.Loop.{HasCalled, HasGivenUp, HasTaken, IsBack, IsBackWith, IsBegun, run_of};
+ghost use Rattle.machine_room.specs.Deeds.{answers, begins};
+ghost use Rattle.machine_room.specs.Loop.{HasCalled, HasGivenUp, HasSlept, HasTaken, IsBack, IsBackWith, IsBegun};
+ghost use Rattle.machine_room.specs.Loop.{left_by, limit_at, run_of};
 
 use crate::outside::{End, News, Outside};
 use crate::runs::{Run, forget, limit_of, overdue, wake};
@@ -38,17 +40,14 @@ pub(crate) fn round<O: Outside>(
 ) -> Result<Pass, Ended>
     requires desk { IsPassOf desk.now pass }
     requires moment { now ≤ LAST_MOMENT }
-    ensures desk { IsBack desk.now result }
-    ensures taken { IfOk result (λ back.
-        HasTaken now runs.new.items (pass_of pass) (pass_of back)) }
+    ensures back { IsBack desk.now (pass_of pass) runs.old.items runs.new.items result }
+    ensures taken { IfOk result (λ back. HasTaken O.does now (pass_of pass) (pass_of back)
+        runs.old.items runs.new.items outside.old outside.new) }
 {
     let pass = make_calls(rt, desk, pass, outside, runs)?;
     let pass = give_up_overdue(rt, desk, pass, runs, now)?;
     let (pass, reply) = take(rt, desk, pass, outside, runs, now)?;
-    match reply {
-        Reply::Taken { .. } | Reply::PutOff { .. } => {}
-        _ => outside.sleep(wake(now, reply, runs.as_slice())),
-    }
+    rest(outside, now, reply, runs.as_slice());
     Ok(pass)
 }
 
@@ -61,8 +60,9 @@ fn make_calls<O: Outside>(
     runs: &mut Vec<Run>,
 ) -> Result<Pass, Ended>
     requires { IsPassOf desk.now pass }
-    ensures desk { IsBack desk.now result }
-    ensures made { IfOk result (λ back. HasCalled (pass_of pass) (pass_of back)) }
+    ensures back { IsBack desk.now (pass_of pass) runs.old.items runs.new.items result }
+    ensures called { IfOk result (λ back. HasCalled O.does (pass_of pass) (pass_of back)
+        runs.old.items runs.new.items outside.old outside.new) }
 {
     let mut pass = pass;
     for _call in 0..CALLS_AT_ONCE {
@@ -87,9 +87,11 @@ fn make_call<O: Outside>(
     call: Call,
 ) -> Result<Pass, Ended>
     requires { IsPassOf desk.now pass }
-    ensures desk { IsBack desk.now result }
+    ensures back { IsBack desk.now (pass_of pass) runs.old.items runs.new.items result }
     ensures made { IfOk result (λ back. (reply : ReplyOf)
-        × HasRecorded call reply (pass_of pass) (pass_of back)) }
+        × HasRecorded call reply (pass_of pass) (pass_of back)
+        × O.does outside.old (answers call reply) outside.new
+        × (runs.new.items ≡ left_by call runs.old.items)) }
     ensures stays { OnErr result ((outside.new ≡ outside.old)
         × (runs.new.items ≡ runs.old.items)) }
 {
@@ -108,34 +110,42 @@ fn give_up_overdue(
     now: u64,
 ) -> Result<Pass, Ended>
     requires { IsPassOf desk.now pass }
-    ensures desk { IsBack desk.now result }
-    ensures given_up { IfOk result (λ back. HasGivenUp now (pass_of pass) (pass_of back)) }
+    ensures back { IsBack desk.now (pass_of pass) runs.old.items runs.new.items result }
+    ensures given_up { IfOk result (λ back. HasGivenUp now (pass_of pass) (pass_of back)
+        runs.old.items runs.new.items) }
     ensures none_left { OnOk result (All (λ run. now < run.limit) runs.new.items) }
 {
     let mut pass = pass;
-    while let Some((place, run)) = overdue(runs.as_slice(), now) {
-        pass = give_up(rt, desk, pass, run, now)?;
-        runs.swap_remove(place);
+    while let Some(run) = overdue(runs.as_slice(), now) {
+        pass = give_up(rt, desk, pass, runs, run, now)?;
     }
     Ok(pass)
 }
 
-/// Gives up a run that is past its limit.
-fn give_up(rt: &impl Wait, desk: &Desk, pass: Pass, run: Run, now: u64) -> Result<Pass, Ended>
+/// Gives up a run, which leaves the list.
+fn give_up(
+    rt: &impl Wait,
+    desk: &Desk,
+    pass: Pass,
+    runs: &mut Vec<Run>,
+    run: Run,
+    now: u64,
+) -> Result<Pass, Ended>
     requires desk { IsPassOf desk.now pass }
     requires overdue { run.limit ≤ now }
-    ensures desk { IsBack desk.now result }
+    ensures back { IsBack desk.now (pass_of pass) runs.old.items runs.new.items result }
     ensures given_up { IfOk result (λ back. (reply : ReplyOf)
         × HasRecorded (call.Abandon run.object run.number now) reply
-        (pass_of pass) (pass_of back)) }
+        (pass_of pass) (pass_of back)
+        × (runs.new.items ≡ left_by (call.Abandon run.object run.number now) runs.old.items)) }
 {
-    let Run { object, number, .. } = run;
     let given_up = Call::Abandon {
-        object,
-        run: number,
+        object: run.object,
+        run: run.number,
         now,
     };
     let (pass, _reply) = ask(rt, desk, pass, given_up)?;
+    forget(runs, given_up);
     Ok(pass)
 }
 
@@ -150,10 +160,12 @@ fn take<O: Outside>(
 ) -> Result<(Pass, Reply), Ended>
     requires desk { IsPassOf desk.now pass }
     requires moment { now ≤ LAST_MOMENT }
-    ensures desk { IsBackWith desk.now result }
+    ensures back { IsBackWith desk.now (pass_of pass) result }
     ensures taken { IfOk result (λ made.
         HasRecorded (call.Take now) made.1 (pass_of pass) (pass_of made.0)) }
-    ensures begun { IfOk result (λ made. IsBegun now made.1 runs.old.items runs.new.items) }
+    ensures begun { IfOk result (λ made. IsBegun O.does now made.1
+        runs.old.items runs.new.items outside.old outside.new) }
+    ensures stays { OnErr result (runs.new.items ≡ runs.old.items) }
 {
     if runs.reserve(1).is_err() {
         let end = End::Renewal;
@@ -170,8 +182,9 @@ fn take<O: Outside>(
 fn start<O: Outside>(outside: &mut O, runs: &mut Vec<Run>, object: u32, number: u64, now: u64)
     requires moment { now ≤ LAST_MOMENT }
     requires room { vec_len runs.old < vec_capacity runs.old }
-    ensures { (limit : ℕ) × (now ≤ limit)
-        × (runs.new.items ≡ runs.old.items ++ run_of object number limit ∷ []) }
+    ensures { (is_begun : Bool)
+        × O.does outside.old (begins object number now is_begun) outside.new
+        × (runs.new.items ≡ runs.old.items ++ run_of object number (limit_at is_begun now) ∷ []) }
 {
     let is_begun = outside.begin(object, number, now);
     let limit = limit_of(is_begun, now);
@@ -182,10 +195,21 @@ fn start<O: Outside>(outside: &mut O, runs: &mut Vec<Run>, object: u32, number: 
     });
 }
 
+/// Sleeps, unless a check was taken or put off.
+fn rest<O: Outside>(outside: &mut O, now: u64, reply: Reply, runs: &[Run])
+    requires { now ≤ LAST_MOMENT }
+    ensures { HasSlept O.does now reply runs.now outside.old outside.new }
+{
+    match reply {
+        Reply::Taken { .. } | Reply::PutOff { .. } => {}
+        _ => outside.sleep(wake(now, reply, runs)),
+    }
+}
+
 /// Makes a call. Where that can't be the generation ends: the next one has room and calls again.
 fn ask(rt: &impl Wait, desk: &Desk, pass: Pass, call: Call) -> Result<(Pass, Reply), Ended>
     requires { IsPassOf desk.now pass }
-    ensures desk { IsBackWith desk.now result }
+    ensures back { IsBackWith desk.now (pass_of pass) result }
     ensures made { IfOk result (λ made.
         HasRecorded call made.1 (pass_of pass) (pass_of made.0)) }
 {

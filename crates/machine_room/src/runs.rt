@@ -1,10 +1,10 @@
 //! The checks that a loop has out, and until when it may sleep.
 
-ghost use Rattle.std.specs.Prelude.{◌≡◌, ℕ, ◌+◌, ◌<◌, ◌≤◌, Some, None};
-ghost use Rattle.std.specs.Prelude.{IfOk, IfSome, length, slice_get};
+ghost use Rattle.std.specs.Prelude.{◌≡◌, ℕ, ◌≤◌, ◌<◌, ◌⊎◌, Some, None};
+ghost use Rattle.std.specs.Prelude.{Any, Contains, IfOk, IfSome};
 ghost use Rattle.std.specs.List.{All};
-ghost use Rattle.check_sched.specs.declared.call.Reply.TheVariants as answer;
-ghost use Rattle.machine_room.specs.Loop.{IsOut};
+ghost use Rattle.check_sched.specs.State.{run_number_of};
+ghost use Rattle.machine_room.specs.Loop.{IsOut, IsWake, due_after, left_by, limit_at, names, run_of};
 
 use check_sched::{Call, LAST_MOMENT, Reply, Sched};
 use std::alloc::{AllocError, Global};
@@ -26,10 +26,13 @@ pub(crate) struct Run {
     pub(crate) limit: u64,
 }
 
-/// The checks that a scheduler has out, all with this limit.
+/// The checks that a scheduler has out, all of them, with this limit.
 pub(crate) fn out_at(alloc: Global, sched: &Sched, limit: u64) -> Result<Vec<Run>, AllocError>
-    ensures { IfOk result (λ runs.
+    ensures out { IfOk result (λ runs.
         All (λ run. IsOut sched.now run × (run.limit ≡ limit)) runs.items) }
+    ensures all { IfOk result (λ runs. (object number : ℕ)
+        → run_number_of object sched.now ≡ Some number
+        → Contains runs.items (run_of object number limit)) }
 {
     let mut runs = Vec::new(alloc);
     for place in 0..sched.setup().len() {
@@ -42,73 +45,84 @@ pub(crate) fn out_at(alloc: Global, sched: &Sched, limit: u64) -> Result<Vec<Run
             })?;
         }
     }
+    // for the proof: it has as many objects as its setup
+    sched.is_state();
     Ok(runs)
 }
 
-/// The first run that is past its limit, and its place.
-pub(crate) fn overdue(runs: &[Run], now: u64) -> Option<(usize, Run)>
-    ensures place { IfSome result (λ found. found.0 < length runs.now) }
-    ensures found { IfSome result (λ found. slice_get runs.now found.0 ≡ Some found.1) }
-    ensures past { IfSome result (λ found. found.1.limit ≤ now) }
+/// The first run that is past its limit.
+pub(crate) fn overdue(runs: &[Run], now: u64) -> Option<Run>
+    ensures there { IfSome result (λ run. Contains runs.now run) }
+    ensures past { IfSome result (λ run. run.limit ≤ now) }
     ensures none { result ≡ None → All (λ run. now < run.limit) runs.now }
 {
-    for (place, run) in runs.iter().enumerate() {
+    for run in runs {
         if run.limit <= now {
-            return Some((place, *run));
+            return Some(*run);
         }
     }
     None
 }
 
-/// Drops the run that a call ended.
-pub(crate) fn forget(runs: &mut Vec<Run>, call: Call) {
-    let ended = match call {
-        Call::Report { object, run, .. } | Call::Abandon { object, run, .. } => (object, run),
-        _ => return,
-    };
-    let place = runs
-        .iter()
-        .position(|run| (run.object, run.number) == ended);
-    if let Some(place) = place {
-        runs.swap_remove(place);
+/// Drops the run that a call reports or abandons, and no other.
+pub(crate) fn forget(runs: &mut Vec<Run>, call: Call)
+    ensures { runs.new.items ≡ left_by call runs.old.items }
+{
+    runs.retain(|run| !is_named(call, *run));
+}
+
+/// Whether a call reports or abandons this run.
+fn is_named(call: Call, run: Run) -> bool
+    ensures { result ≡ names call run }
+{
+    match call {
+        Call::Report {
+            object,
+            run: number,
+            ..
+        }
+        | Call::Abandon {
+            object,
+            run: number,
+            ..
+        } => object == run.object && number == run.number,
+        _ => false,
     }
 }
 
 /// Until when a plugin may run that was started at this moment, or couldn't be.
 pub(crate) fn limit_of(is_begun: bool, now: u64) -> u64
     requires { now ≤ LAST_MOMENT }
-    ensures { now ≤ result }
+    ensures { result ≡ limit_at is_begun now }
 {
     if is_begun { now + PLUGIN_LIMIT } else { now }
 }
 
-/// Until when to sleep where no check was taken: until the next is due, a second at the limit,
-/// and never past the limit of a run.
+/// Until when to sleep where no check was taken: until the next is due, a second at the limit of
+/// checks that run at once, an hour where none is due, and never past the limit of a run.
 pub(crate) fn wake(now: u64, reply: Reply, runs: &[Run]) -> u64
     requires { now ≤ LAST_MOMENT }
-    ensures due { (time : ℕ) → reply ≡ answer.Idle (Some time) → result ≤ time }
-    ensures at_limit { reply ≡ answer.AtLimit → result ≤ now + 1000 }
-    ensures runs { All (λ run. result ≤ run.limit) runs.now }
+    ensures { IsWake now reply runs.now result }
 {
-    until_limits(due(now, reply), runs)
+    earliest(due(now, reply), runs)
 }
 
 /// This moment, or the least limit of the runs, if that is earlier.
-fn until_limits(until: u64, runs: &[Run]) -> u64
+fn earliest(until: u64, runs: &[Run]) -> u64
     ensures until { result ≤ until }
-    ensures runs { All (λ run. result ≤ run.limit) runs.now }
+    ensures limits { All (λ run. result ≤ run.limit) runs.now }
+    ensures earliest { (result ≡ until) ⊎ Any (λ run. result ≡ run.limit) runs.now }
 {
     match runs {
         [] => until,
-        [run, others @ ..] => until_limits(until.min(run.limit), others),
+        [run, others @ ..] => earliest(until.min(run.limit), others),
     }
 }
 
 /// Until when to sleep, whatever is out.
 fn due(now: u64, reply: Reply) -> u64
     requires { now ≤ LAST_MOMENT }
-    ensures due { (time : ℕ) → reply ≡ answer.Idle (Some time) → result ≤ time }
-    ensures at_limit { reply ≡ answer.AtLimit → result ≤ now + 1000 }
+    ensures { result ≡ due_after now reply }
 {
     match reply {
         Reply::Idle { next: Some(time) } => time,

@@ -1,18 +1,17 @@
 //! What is outside of the loop, simulated: a clock that goes on only while the loop sleeps,
-//! machines that answer after minutes or never, an operator, a setup that changes, and files that
+//! machines that answer after seconds or never, an operator, a setup that changes, and files that
 //! are kept in memory.
 
-ghost use Rattle.std.specs.Prelude.{option_map};
+ghost use Rattle.std.specs.Prelude.{⊤, option_map};
 
 use crate::fault::Fault;
 use crate::outside::{End, Files, News, Outside};
 use crate::room::{
-    CHANGED_ROOM, GATEWAY, HOUR, MACHINE_ROOM, MINUTE, Machines, OBJECTS, morning, next_noon,
+    ANSWER, CHANGED_ROOM, GATEWAY, HOUR, MACHINE_ROOM, OBJECTS, code_at, morning, next_noon,
 };
 use crate::told;
 use check_objects::Setup;
 use check_sched::{Call, LAST_MOMENT, Reply};
-use check_workers::Plugin;
 use std::alloc::Global;
 use std::io::Write;
 use ticket_steps::Entry;
@@ -74,11 +73,13 @@ impl Days {
 }
 
 impl Outside for Days {
+    ghost does = { λ before deed after. ⊤ };
+
     fn now(&mut self) -> u64 {
         self.now.min(LAST_MOMENT)
     }
 
-    /// A check takes some minutes. Now and then a machine doesn't answer, or its plugin can't be
+    /// A check takes some seconds. Now and then a machine doesn't answer, or its plugin can't be
     /// started.
     fn begin(&mut self, object: u32, run: u64, now: u64) -> bool {
         if run % 31 == 0 {
@@ -88,9 +89,9 @@ impl Outside for Days {
             return false;
         };
         if run % 17 != 0 {
-            let code = Machines.check(object, run, now);
+            let code = code_at(object, now);
             *place = Some(Pending {
-                time: now.saturating_add((1 + u64::from(object % 4)) * MINUTE),
+                time: now.saturating_add((1 + u64::from(object % 4)) * ANSWER),
                 call: Call::Report { object, run, code },
             });
         }
@@ -168,6 +169,10 @@ impl<W: Write> Memory<W> {
 
 impl<W: Write> Files for Memory<W> {
     ghost kept = { λ files. option_map (λ text. text.items) files.text };
+
+    ghost gives = { λ setup. ⊤ };
+
+    ghost past = { λ setup history. ⊤ };
 
     /// The room's setup first, and then the changed one.
     fn setup(&mut self, alloc: Global) -> Result<Setup, Fault> {

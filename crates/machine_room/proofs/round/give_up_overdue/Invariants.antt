@@ -1,12 +1,12 @@
-use Rattle.std.proofs.Common.{vec_len}
-use Rattle.check_desk.specs.Desks.{IsPassOf}
+use Rattle.std.proofs.Common.{length}
 use Rattle.check_desk.specs.Passes.{pass_of}
-use Rattle.machine_room.specs.Loop.{HasGivenUp}
+use Rattle.machine_room.specs.Loop.{HasGivenUp, IsReturned}
 use Rattle.machine_room.proofs.round.give_up_overdue.Given as goal
 
-abbrev pub invariant-loop-place : goal.invariant-loop-place
-invariant-loop-place g l =
-    IsPassOf l.desk l.pass × HasGivenUp l.now (pass_of l.initial.pass) (pass_of l.pass)
+abbrev pub invariant-loop-run : goal.invariant-loop-run
+invariant-loop-run g l =
+    IsReturned l.desk (pass_of l.initial.pass) l.initial.runs.items l.runs.items l.pass
+    × HasGivenUp l.now (pass_of l.initial.pass) (pass_of l.pass) l.initial.runs.items l.runs.items
 
-abbrev pub decreases-loop-place : goal.decreases-loop-place
-decreases-loop-place g l = vec_len l.runs
+abbrev pub decreases-loop-run : goal.decreases-loop-run
+decreases-loop-run g l = length l.runs.items

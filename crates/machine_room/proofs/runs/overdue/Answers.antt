@@ -5,17 +5,14 @@ use Rattle.std.specs.List.{All}
 use Rattle.machine_room.specs.declared.runs.Run.{Run}
 use Rattle.machine_room.proofs.runs.overdue.Goals as goal
 
-pub loop-place-preserved : goal.loop-place-preserved
-loop-place-preserved c =
-    All-more (λ (run : Run). c.args.now < run.limit) c.args.runs.now c.loop-place.place _
-    (omega arith) c.loop-place.invariant c.if-run-now.false
-
-pub returns-then-run-now-clause-past : goal.returns-then-run-now-clause-past
-returns-then-run-now-clause-past c = c.if-run-now.true
+pub loop-run-preserved : goal.loop-run-preserved
+loop-run-preserved c =
+    All-more (λ (run : Run). c.args.now < run.limit) c.args.runs.now c.loop-run.run-index _
+    (omega arith) c.loop-run.invariant c.if-run-now.false
 
 pub returns-clause-none : goal.returns-clause-none
 returns-clause-none c =
     let runs : List Run = c.args.runs.now in
-    let all : take c.loop-place.place runs ≡ runs = take_all _ _ (omega arith) in
+    let all : take c.loop-run.run-index runs ≡ runs = take_all _ _ (omega arith) in
     λ _. subst (λ (list : List Run). All (λ run. c.args.now < run.limit) list)
-    all c.loop-place.invariant
+    all c.loop-run.invariant

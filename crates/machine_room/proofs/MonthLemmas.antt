@@ -1,0 +1,52 @@
+-- Generations, one after another.
+use Rattle.std.proofs.Common.{◌≡◌, ℕ, ◌+◌, List, [], ◌∷◌, ◌++◌, refl, sym, ap, subst, ◌∙◌}
+use Rattle.ticket_steps.specs.Books.{IsLawfulBook, book_state}
+use Rattle.ticket_steps.specs.History.{IsLegal, replay}
+use Rattle.ticket_steps.specs.declared.kept.Entry.{Entry}
+use Rattle.check_objects.specs.Configuration.{Configuration}
+use Rattle.check_sched.specs.State.{State}
+use Rattle.check_sched.specs.Step.{step}
+use Rattle.check_sched.specs.declared.call.Call.{Call}
+use Rattle.check_sched.specs.declared.call.Reply.{Reply}
+use Rattle.check_book.specs.BookState.{BookState, book_step}
+use Rattle.check_book.specs.Books.{entries_of, opening_of, sched_of}
+use Rattle.check_book.specs.declared.book.Book.{Book}
+use Rattle.check_book.proofs.HistoryLaws.{book_is_legal, book_sched}
+use Rattle.check_desk.specs.Desks.{AreNewPassesWith}
+use Rattle.check_desk.specs.Passes.{pass_of}
+use Rattle.check_desk.specs.declared.desk.Desk.{Desk}
+use Rattle.check_desk.specs.declared.passes.Pass.{Pass}
+use Rattle.machine_room.specs.Loop.{IsKept, KeepsRuns}
+use Rattle.machine_room.specs.Months.{AreGenerations, IsGeneration}
+use Rattle.machine_room.specs.declared.runs.Run.{Run}
+
+-- a book without entries stands where it was opened
+pub opened_at : (book : Book) → entries_of book ≡ [] → (opening_of book).sched ≡ sched_of book
+opened_at book none = sym (ap (λ s. s.sched) (book.replayed ∙ ap (replay book_step (opening_of book)) none))
+
+-- the history of a book leads its scheduler from where it was opened to where it stands
+pub history_leads : (past : Configuration → List (Entry Call Reply) → Type 0) (opened state : BookState) (history : List (Entry Call Reply)) (refused : ℕ) (from to : State)
+    → IsLawfulBook book_step opened (book_state state history refused) → opened.sched ≡ from → to ≡ state.sched → past to.setup history
+    → IsGeneration past history from to
+history_leads past opened state history refused from to h e f told = record {
+  legal = subst (λ s. IsLegal step s history) e (book_is_legal opened.sched opened.room history h.legal);
+  leads = f ∙ ap (λ s. s.sched) h.replayed ∙ book_sched opened history ∙ ap (λ s. replay step s history) e;
+  handed_over = told;
+}
+
+-- what is new to a caller that had seen nothing is all that it has seen
+pub all_new : (before after history : List (Entry Call Reply)) (runs left : List Run)
+    → before ≡ [] → history ≡ after → KeepsRuns before after runs left → IsKept history runs left
+all_new before after history runs left none is k =
+    subst (λ es. IsKept es runs left) (ap (λ es. es ++ k.0) (sym none) ∙ k.1 ∙ sym is) k.2
+
+-- one generation more
+pub generations_more : (past : Configuration → List (Entry Call Reply) → Type 0) (histories : List (List (Entry Call Reply))) (history : List (Entry Call Reply)) (from mid to : State)
+    → AreGenerations past histories from mid → IsGeneration past history mid to → AreGenerations past (histories ++ history ∷ []) from to
+generations_more past [] history from mid to f g = (to, subst (λ s. IsGeneration past history s to) (sym f) g, refl)
+generations_more past (h ∷ hs) history from mid to f g = (f.0, f.1, generations_more past hs history f.0 mid to f.2 g)
+
+-- a pass as a desk hands it out has seen nothing
+pub new_unseen : (calls n : ℕ) (desk : Desk) (passes : List Pass) (pass : Pass) → AreNewPassesWith calls desk n (passes ++ pass ∷ []) → (pass_of pass).seen ≡ []
+new_unseen calls n desk [] pass h = ap (λ c. c.seen) h.1
+new_unseen calls n desk (other ∷ passes) pass h = new_unseen calls (n + 1) desk passes pass h.2
