@@ -17,7 +17,11 @@ Moment = Optional[int]
 
 
 class Failure(Exception):
-    """A difference that no row explains, or a side that doesn't do what the model says."""
+    """A difference that no row explains, or a side that doesn't do what the model says. `what` is the answer that is wrong."""
+
+    def __init__(self, what: str, text: str) -> None:
+        super().__init__(text)
+        self.what = what
 
 
 class Difference(NamedTuple):
@@ -77,7 +81,7 @@ class Comparison:
 
     def expect(self, what: str, modelled: object, nagios: object) -> None:
         if modelled != nagios:
-            raise Failure(f"{self.place}: {what}: Nagios has {nagios}, its model {modelled}")
+            raise Failure(what, f"{self.place}: {what}: Nagios has {nagios}, its model {modelled}")
 
     def compare(self, answer: str, here: object, there: object, *steps: tuple[str, object]) -> bool:
         """Counts an answer. The steps lead from ours to Nagios's, each with the row that makes it; whether the two are equal."""
@@ -88,11 +92,11 @@ class Comparison:
                 rows.add(row)
             last = value
         if last != there:
-            raise Failure(f"{self.place}: {answer}: {here} here, {there} in Nagios; no row explains it (rows lead to {last})")
+            raise Failure(answer, f"{self.place}: {answer}: {here} here, {there} in Nagios; no row explains it (rows lead to {last})")
         if here == there:
             return True
         if not rows <= self.known:
-            raise Failure(f"{self.place}: {answer}: {here} here, {there} in Nagios; the page has no row {sorted(rows - self.known)}")
+            raise Failure(answer, f"{self.place}: {answer}: {here} here, {there} in Nagios; the page has no row {sorted(rows - self.known)}")
         self.counts.different[answer] += 1
         self.counts.rows.update((row, answer) for row in rows)
         self.differences.append(Difference(answer, frozenset(rows), here, there))
@@ -164,7 +168,7 @@ class Comparison:
                 there = seconds(told[o.number][2])
                 steps = [(row, START * 1000 + int(1000 * value)) for row, value in self.spread(scheduled, place, ours, exact, rough)]
                 if o.is_host and steps and steps[-1][1] > (START + o.check) * 1000:
-                    self.expect(f"{o.name}'s first time", True, there is not None and START * 1000 <= there <= (START + o.check) * 1000)
+                    self.expect("the first time", True, there is not None and START * 1000 <= there <= (START + o.check) * 1000)
                     steps.append(("random first check", there or 0))
                 o.next = START * 1000 + int(1000 * ours)
                 self.compare("first check", o.next, there, *steps)
@@ -211,7 +215,7 @@ class Comparison:
         outcome, name, now = words[0], words[1], int(words[2])
         o = self.objects[name]
         if o.event is None or o.event.due > now or o.event.due > min(other.event.due for other in self.rules.objects if other.event is not None):
-            raise Failure(f"{self.place}: the model's queue has another event first")
+            raise Failure("queue", f"{self.place}: the model's queue has another event first")
         forced = o.event.forced
         if outcome == "start":
             self.expect("forced", forced, words[3] == "1")
@@ -377,6 +381,7 @@ class Comparison:
             if o.enabled != is_on:
                 o.enabled = is_on
                 o.scheduled = is_on and o.check != 0
+                o.next_check = now if is_on else o.next_check
                 if o.scheduled:
                     self.nagios.schedule(o, now, now, False)
             self.call(f"done {o.name}", f'["enable","{o.name}",{"true" if is_on else "false"}]')

@@ -10,6 +10,7 @@ import tempfile
 from typing import Any, Sequence
 
 START = 1_000_000_000  # when each history begins, in seconds
+TIMEOUT = 3600  # seconds for the harness to play the histories that it gets
 Setup = dict[str, Any]  # a setup document as nagsched reads it
 Plan = list[tuple[int, int]]  # how many seconds each check takes, and its return code
 
@@ -252,7 +253,7 @@ def play(built: pathlib.Path, played: Sequence[History]) -> list[Told]:
             (directory / "nagios.cfg").write_text(config(history, directory))
             (directory / "objects.cfg").write_text(objects(history.setup))
             lines += history.lines(directory)
-        done = subprocess.run([built / "harness"], input="\n".join(lines) + "\n", stdout=subprocess.PIPE, text=True, timeout=600, check=True)
+        done = subprocess.run([built / "harness"], input="\n".join(lines) + "\n", stdout=subprocess.PIPE, text=True, timeout=TIMEOUT, check=True)
     found: list[Told] = [[]]
     for line in done.stdout.splitlines():
         if line.startswith("broken"):

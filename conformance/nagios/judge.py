@@ -33,7 +33,7 @@ from model import Standing
 
 TOP = pathlib.Path(__file__).resolve().parent.parent.parent
 BATCH = 100  # histories that the harness plays at a time
-TIMEOUT = 600  # seconds for the program to answer one history, on a busy machine
+TIMEOUT = 600  # seconds for the program to answer one history
 EXAMPLES = 3  # failures that are cut down to small examples
 
 
@@ -59,13 +59,13 @@ def run_program(program: str, comparison: Comparison) -> None:
     try:
         done = subprocess.run([program, "live", "--start", str(START * 1000)], input=script, stdout=subprocess.PIPE, text=True, timeout=TIMEOUT)
     except subprocess.TimeoutExpired as late:
-        raise Failure(f"the program hasn't answered within {TIMEOUT} s") from late
+        raise Failure("program", f"the program hasn't answered within {TIMEOUT} s") from late
     for number, (call, wanted, line) in enumerate(itertools.zip_longest(comparison.calls[1:], comparison.answers, done.stdout.splitlines()), 2):
         if wanted is not None and line is not None and wanted.startswith("last hard "):
             *_, wanted, place = wanted.split()
             line = last_hard(line, int(place))
         if line != wanted:
-            raise Failure(f"line {number}, {call}: the program answers '{line}', by the rules it is '{wanted}'")
+            raise Failure("program", f"line {number}, {call}: the program answers '{line}', by the rules it is '{wanted}'")
 
 
 def judged(history: History, told: Told, program: Optional[str], known: set[str], rules: type[model.Rules] = model.Rules) -> Comparison:
@@ -108,7 +108,7 @@ def check_shown(shown: directed.Shown, comparison: Comparison) -> None:
     """The row explains a difference in that answer, with these values."""
     found = [difference for difference in comparison.differences if difference.answer == shown.answer and shown.row in difference.rows]
     if not any(from_start(difference.here) == shown.here and shown.there in (from_start(difference.there), directed.ANY) for difference in found):
-        raise Failure(f"'{shown.row}' doesn't make {shown.answer} {shown.here} here, {shown.there} in Nagios; it makes {found}")
+        raise Failure(shown.answer, f"'{shown.row}' doesn't make {shown.answer} {shown.here} here, {shown.there} in Nagios; it makes {found}")
 
 
 def check_told(case: directed.Told, told: Told, program: Optional[str]) -> None:
@@ -116,12 +116,12 @@ def check_told(case: directed.Told, told: Told, program: Optional[str]) -> None:
     lines = iter(" ".join(str(int(word) - START) if word.isdigit() and len(word) == len(str(START)) else word for word in words) + " " for words in told)
     for wanted in case.nagios:
         if not any(line.startswith(wanted + " ") for line in lines):
-            raise Failure(f"'{case.row}': Nagios doesn't write '{wanted}' there")
+            raise Failure("Nagios", f"'{case.row}': Nagios doesn't write '{wanted}' there")
     if program is not None and case.calls:
         script = "\n".join((histories.text(case.history.setup), *case.calls)) + "\n"
         answers = subprocess.run([program, "live"], input=script, stdout=subprocess.PIPE, text=True, timeout=60).stdout.splitlines()
         if tuple(answers) != case.answers:
-            raise Failure(f"'{case.row}': the program answers {answers}")
+            raise Failure("program", f"'{case.row}': the program answers {answers}")
 
 
 def directed_told(built: pathlib.Path) -> list[Told]:
@@ -153,16 +153,24 @@ def check_directed(all_told: list[Told], program: Optional[str], known: set[str]
 # ---- a whole run
 
 
-def example(built: pathlib.Path, history: History, program: Optional[str], known: set[str]) -> str:
-    """The smallest history found that fails too."""
-    def fails(less: History) -> Optional[str]:
+def failure_of(history: History, told: Told, program: Optional[str], known: set[str]) -> tuple[Optional[Comparison], Optional[Failure]]:
+    """The comparison of one history, or why it fails."""
+    try:
+        return judged(history, told, program, known), None
+    except Failure as failure:
+        return None, failure
+    except AssertionError as wrong:
+        return None, Failure("assertion", f"an assertion is wrong: {wrong!r}")
+
+
+def example(built: pathlib.Path, history: History, failed: Failure, program: Optional[str], known: set[str]) -> str:
+    """The smallest history found in which the same answer is wrong."""
+    def fails(less: History) -> Optional[Failure]:
         try:
-            judged(less, histories.play(built, [less])[0], program, known)
-        except (Failure, AssertionError) as failure:
-            return str(failure)
+            _, failure = failure_of(less, histories.play(built, [less])[0], program, known)
         except RuntimeError:
-            pass
-        return None
+            return None
+        return failure if failure is not None and failure.what == failed.what else None
 
     small = smaller.smallest(history, lambda less: fails(less) is not None)
     return f"{smaller.told(small)}\n  {fails(small)}"
@@ -208,18 +216,19 @@ def main() -> int:
     if options.histories != "sequences":
         numbers = range(int(options.histories)) if options.one is None else [options.one]
         numbered = iter((number, random_history(options.seed, number)) for number in numbers)
-    while batch := list(itertools.islice(numbered, BATCH)):
+    while batch := list(itertools.islice(numbered, 4 if options.histories == "sequences" else BATCH)):
         for (number, history), told in zip(batch, histories.play(options.built, [history for _, history in batch])):
             if options.one is not None:
                 print("\n".join(" ".join(words) for words in told))
             played += 1
-            try:
-                total.add(judged(history, told, program, known).counts)
-            except (Failure, AssertionError) as failure:
+            comparison, failure = failure_of(history, told, program, known)
+            if comparison is not None:
+                total.add(comparison.counts)
+            if failure is not None:
                 failures.append(f"history {number} of seed {options.seed}: {failure}")
                 print(failures[-1])
                 if len(failures) <= EXAMPLES:
-                    print(f"a small example:\n{example(options.built, history, program, known)}")
+                    print(f"a small example:\n{example(options.built, history, failure, program, known)}")
     report(total, begun, f"{played} histories of seed {options.seed}")
     print(f"judge: {len(rows)} rows shown, {len(failures)} failures")
     return 1 if failures else 0
