@@ -344,14 +344,15 @@ class Lines(unittest.TestCase):
         with OneRunner(program=self.program) as runner, tempfile.TemporaryDirectory() as folder:
             fcntl.fcntl(runner.process.stdout or 0, F_SETPIPE_SZ, 1 << 20)
             go = pathlib.Path(folder, "go")
-            runner.give(*(shell(number, f"until [ -e {go} ]; do sleep 0.1; done; head -c 4096 /dev/zero | tee /dev/stderr", 600) for number in range(60)))
-            self.assertTrue(comes(lambda: len(children_of(runner.process.pid)) == 61))
+            os.mkfifo(go)
+            runner.give(*(shell(number, f"read line < {go}; head -c 4096 /dev/zero | tee /dev/stderr", 600) for number in range(150)))
+            self.assertTrue(comes(lambda: len(children_of(runner.process.pid)) == 151))
             runner.process.send_signal(signal.SIGSTOP)
-            go.touch()
+            go.write_text(150 * "go\n")
             self.assertTrue(comes(lambda: all(is_zombie(child) for child in children_of(runner.process.pid)[1:])))
             runner.process.send_signal(signal.SIGCONT)
-            results = runner.results(60, 50)  # it would look again after a minute, whatever comes
-        self.assertEqual([(it["job"], len(it["output"]), len(it["stderr"])) for it in results], [(number, MOST_KEPT, MOST_KEPT) for number in range(60)])
+            results = runner.results(150)
+        self.assertEqual([(it["job"], len(it["output"]), len(it["stderr"])) for it in results], [(number, MOST_KEPT, MOST_KEPT) for number in range(150)])
 
     def test_results_that_nobody_reads_for_a_while(self) -> None:
         """They wait, limits are kept, and each comes once."""
