@@ -87,7 +87,7 @@ def ended(held: Held, entries: list[Entry], change: int) -> None:
             if start < 0 or word == "report" and limit is not None or word == "abandon" and members[2] not in (limit, change):
                 wrong.append((command, start))
     held.compare("checks that ended otherwise", [], wrong)
-    held.compare("many checks were given up", True, given_up > 10)
+    held.compare("some checks were given up", True, given_up > 5)
     held.compare("checks that are out at the end", [], [run for run, start in taken.items() if start + PLUGIN_LIMIT < DAYS * DAY])
 
 
