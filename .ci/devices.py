@@ -59,7 +59,7 @@ class Job(NamedTuple):
     answers: dict[bytes, bytes] = {}
 
     def answered(self, count: int) -> bytes:
-        """What is written when this many bytes of the input have been read, and its end hasn't."""
+        """The answers that are written after so many bytes of the input, before its end is known."""
         answers, rest = b"", count
         for line, answer in self.answers.items():
             rest -= len(line)
@@ -67,7 +67,7 @@ class Job(NamedTuple):
         return answers
 
     def calls(self, most: int) -> str:
-        """The reads and writes where a read gives at most so many bytes, and a write takes all of them."""
+        """The reads and writes, if a read gives at most this number of bytes, and a write takes all of them."""
         calls, written = "", b""
         for count in range(most, len(self.given) + most, most) if self.reads else ():
             calls += "r"
@@ -91,7 +91,7 @@ class Device(NamedTuple):
 
 
 class Ran(NamedTuple):
-    """What a run wrote, its exit status, and its calls."""
+    """The outcome of a run: its output, its exit status, and its calls."""
 
     text: bytes
     status: int
@@ -107,7 +107,7 @@ class Shim:
         subprocess.run(["cc", "-O2", "-shared", "-fPIC", "-o", self.library, HERE / "devices.c", "-ldl"], check=True)
 
     def run(self, job: Job, device: Device) -> Ran:
-        """What comes of a job."""
+        """Runs a job over a device."""
         with tempfile.TemporaryFile(dir=self.folder) as given, tempfile.NamedTemporaryFile(dir=self.folder) as calls:
             given.write(job.given)
             given.seek(0)
@@ -134,7 +134,7 @@ def conversation(name: str, setup: bytes, answers: dict[bytes, bytes], status: i
 
 
 def jobs() -> Iterator[Job]:
-    """Each kind of run: what ends well, and what is refused."""
+    """Each kind of run, good ones and refused ones."""
     yield case("rows/results", "eleven-results-of-a-service")
     yield case("rows/results", "code-four")
     yield case("rows/first-path", "duplicate-host")
@@ -165,22 +165,22 @@ def few(count: int) -> list[int]:
 
 
 class Trial(NamedTuple):
-    """A run over a device, and what has to come of it."""
+    """A run over a device, and the outcome that it must have."""
 
     what: str
     job: Job
     device: Device
     text: bytes
     status: int
-    # The calls, the number of reads and the number of writes, where they are settled.
+    # The calls, the number of reads and the number of writes, if they are fixed.
     calls: str = ""
     reads: int = 0
     writes: int = 0
-    # What was held back at a failure may have been written after it.
+    # The program may have written the rest of the text after the failure.
     more: bool = False
 
     def differences(self, ran: Ran) -> Iterator[tuple[str, bool]]:
-        """What can come out otherwise, and whether it does."""
+        """Each part of the outcome, and whether it differs."""
         is_front = ran.text.startswith(self.text) and self.job.text.startswith(ran.text)
         yield "the text", not is_front if self.more else ran.text != self.text
         yield "the status", ran.status != self.status
@@ -233,7 +233,7 @@ def trials() -> Iterator[Trial]:
 
 
 def main() -> int:
-    """Makes all runs, and counts what came of them."""
+    """Makes all runs, and counts the outcomes."""
     program = pathlib.Path(sys.argv[1]).resolve()
     with tempfile.TemporaryDirectory() as folder, ThreadPoolExecutor(os.cpu_count()) as threads:
         shim = Shim(str(program), folder)
